@@ -1,0 +1,1 @@
+// Lists, searches and tables: everything is in specs/ for now.
