@@ -1,4 +1,5 @@
 pub mod Ring
+pub mod Poly
 pub mod Solve
 pub mod Order
 pub mod Mul
@@ -6,3 +7,5 @@ pub mod Worked
 pub mod Mach
 pub mod Gcd
 pub mod Lowest
+pub mod Sign
+pub mod Tests
