@@ -1,0 +1,15 @@
+pub mod Limits
+pub mod Plane
+pub mod Graph
+pub mod Bytes
+pub mod Refusal
+pub mod Map
+pub mod Pieces
+pub mod Faces
+pub mod Tables
+pub mod Lent
+pub mod Ovfile
+pub mod Reader
+pub mod Listing
+pub mod Sample
+pub mod Sheets

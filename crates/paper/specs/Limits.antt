@@ -1,0 +1,48 @@
+-- The numbers of 01, each once: limits and byte widths. Everything else is defined from them. Assumes nothing.
+use Prim.Native.Nat.{ℕ, _*_}
+
+-- "V ≤ 200, E ≤ 300, coordinates from −2,000 to 2,000"
+abbrev pub mapVertices : ℕ
+mapVertices = 200
+
+abbrev pub mapEdges : ℕ
+mapEdges = 300
+
+abbrev pub reach : ℕ
+reach = 2000
+
+-- "D is at most 32,000,000": the cross product of two directions, each number of which is at most twice the reach
+abbrev pub denominators : ℕ
+denominators = 2 * (2 * reach * (2 * reach))
+
+-- "The overlay has at most 1,000 vertices, 2,000 edges (4,000 half-edges) and 1,334 faces"
+abbrev pub overlayVertices : ℕ
+overlayVertices = 1000
+
+abbrev pub overlayEdges : ℕ
+overlayEdges = 2000
+
+abbrev pub overlayFaces : ℕ
+overlayFaces = 1334
+
+-- the bytes before the first vertex, of a map file and of an overlay file
+abbrev pub mapHead : ℕ
+mapHead = 9
+
+abbrev pub overlayHead : ℕ
+overlayHead = 11
+
+-- "X and Y in five bytes each (two's complement) and D in four (unsigned)"
+abbrev pub coordinateBytes : ℕ
+coordinateBytes = 5
+
+abbrev pub denominatorBytes : ℕ
+denominatorBytes = 4
+
+-- "Two map files go in"
+abbrev pub maps : ℕ
+maps = 2
+
+-- "65,535 for face 0", "65,535 if none": no half-edge
+abbrev pub absent : ℕ
+absent = 65535

@@ -1,0 +1,1 @@
+// Document 01 as definitions: everything is in specs/. No code.
