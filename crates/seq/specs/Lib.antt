@@ -1,1 +1,11 @@
 pub mod Seq
+pub mod Terms
+pub mod Tests
+pub mod Members
+pub mod Least
+pub mod Count
+pub mod Select
+pub mod Table
+pub mod Best
+pub mod BestOf
+pub mod Position

@@ -1,0 +1,135 @@
+-- Searches below a bound: `least`, `someBelow`, `allBelow`. First what a theorem asks of the least number found (it is below, it has the property,
+-- no smaller one has it), then what a loop asks (nothing so far, one more, found, what was found is it), then the witnesses of `someBelow` and
+-- `allBelow`. A lemma goes by the tests that the definition makes, each as a Bool with the equation that says where it comes from. Assumes nothing.
+use mathlib.Core.Path.{_≡_, refl, sym, _∙_, ap}
+use Prim.Native.Nat.{_≤_, _<_}
+use native.Mathlib.Nat.{not-suc-le-zero, le-refl}
+use native.Mathlib.Decide.{decLt}
+use native.Mathlib.Omega.{arith}
+use native.Mathlib.Numerals.{add-one}
+use borrow.Author.Tests.{ltb-true, ltb-false, lt-ltb, le-ltb}
+use Rattle.seq.specs.Seq.{Bool, true, false, cond, not, ℕ, zero, suc, _+_, ltb, least, someBelow, allBelow}
+use Rattle.seq.specs.Tests.{clash, not-true, not-false}
+
+module _ (p : ℕ → Bool) where
+  -- ── what is found ──
+
+  le-step : (r n : ℕ) (b c : Bool) → ltb r n ≡ b → cond b r (cond c n (suc n)) ≤ suc n
+  le-step r n true c e = omega (arith, ltb-true r n e)
+  le-step r n false true e = omega arith
+  le-step r n false false e = omega arith
+
+  pub least-le : (n : ℕ) → least p n ≤ n
+  least-le zero = le-refl 0
+  least-le (suc n) = le-step (least p n) n (ltb (least p n) n) (p n) refl
+
+  holds-step : (r n : ℕ) (b c : Bool) → ltb r n ≡ b → p n ≡ c → (r < n → p r ≡ true) → cond b r (cond c n (suc n)) < suc n → p (cond b r (cond c n (suc n))) ≡ true
+  holds-step r n true c e f ih h = ih (ltb-true r n e)
+  holds-step r n false true e f ih h = f
+  holds-step r n false false e f ih h = absurd (omega arith)
+
+  -- where a number is found it has the property
+  pub least-holds : (n : ℕ) → least p n < n → p (least p n) ≡ true
+  least-holds zero h = absurd (not-suc-le-zero h)
+  least-holds (suc n) h = holds-step (least p n) n (ltb (least p n) n) (p n) refl refl (least-holds n) h
+
+  min-step : (r n : ℕ) (b c : Bool) → ltb r n ≡ b → p n ≡ c → ((k : ℕ) → k < r → p k ≡ false) → (k : ℕ) → k < cond b r (cond c n (suc n)) → p k ≡ false
+  min-step r n true c e f ih k h = ih k h
+  min-step r n false true e f ih k h = ih k (omega (arith, ltb-false r n e))
+  min-step r n false false e f ih k h =
+      elim (decLt k n) [
+        | yes q ↦ ih k (omega (arith, ltb-false r n e))
+        | no q ↦ let s : k ≡ n = omega arith in ap p s ∙ f
+      ]
+
+  -- and no smaller one has it
+  pub least-min : (n k : ℕ) → k < least p n → p k ≡ false
+  least-min zero k h = absurd (not-suc-le-zero h)
+  least-min (suc n) k h = min-step (least p n) n (ltb (least p n) n) (p n) refl refl (least-min n) k h
+
+  -- a number that has the property bounds the least
+  pub least-at-most : (n k : ℕ) → p k ≡ true → least p n ≤ k
+  least-at-most n k e = elim (decLt k (least p n)) [ yes q ↦ absurd (clash e (least-min n k q)) | no q ↦ omega arith ]
+
+  -- so that there is one
+  pub least-below : (n k : ℕ) → k < n → p k ≡ true → least p n < n
+  least-below n k h e = omega (arith, least-at-most n k e)
+
+  -- ── what a loop asks ──
+
+  -- k is found, and nothing before it
+  pub least-is : (n k : ℕ) → k < n → ((j : ℕ) → j < k → p j ≡ false) → p k ≡ true → least p n ≡ k
+  least-is n k h none e =
+      elim (decLt (least p n) k) [
+        | yes q ↦ absurd (clash (least-holds n (omega arith)) (none (least p n) q))
+        | no q ↦ omega (arith, least-at-most n k e)
+      ]
+
+  -- nothing is found at all
+  pub least-none : (n : ℕ) → ((j : ℕ) → j < n → p j ≡ false) → least p n ≡ n
+  least-none n none =
+      elim (decLt (least p n) n) [
+        | yes q ↦ absurd (clash (least-holds n q) (none (least p n) q))
+        | no q ↦ omega (arith, least-le n)
+      ]
+
+  -- and then none has the property
+  pub none-is : (n : ℕ) → least p n ≡ n → (k : ℕ) → k < n → p k ≡ false
+  none-is n e k h = least-min n k (omega arith)
+
+  -- nothing found so far, and not at n either
+  pub least-more : (n : ℕ) → least p n ≡ n → p n ≡ false → least p (n + 1) ≡ n + 1
+  least-more n e f = rw (add-one n, le-ltb (least p n) n (omega arith), f)
+
+  -- nothing found so far, and k is it
+  pub least-found : (n k : ℕ) → k < n → least p k ≡ k → p k ≡ true → least p n ≡ k
+  least-found n k h e f = least-is n k h (none-is k e) f
+
+  -- both ways out of a search in one
+  pub least-by : (n r : ℕ) → r ≤ n → ((k : ℕ) → k < r → p k ≡ false) → (r < n → p r ≡ true) → least p n ≡ r
+  least-by n r h none hit =
+      elim (decLt r n) [
+        | yes q ↦ least-is n r q none (hit q)
+        | no q ↦ let e : n ≡ r = omega arith in least-none n (λ j l. none j (omega arith)) ∙ e
+      ]
+
+  -- ── someBelow ──
+
+  pub some-has : (n k : ℕ) → k < n → p k ≡ true → someBelow p n ≡ true
+  some-has n k h e = lt-ltb (least p n) n (least-below n k h e)
+
+  pub some-witness : (n : ℕ) → someBelow p n ≡ true → (k : ℕ) × (k < n) × (p k ≡ true)
+  some-witness n e = let h : least p n < n = ltb-true (least p n) n e in (least p n, h, least-holds n h)
+
+  pub no-some : (n : ℕ) → ((k : ℕ) → k < n → p k ≡ false) → someBelow p n ≡ false
+  no-some n none = le-ltb (least p n) n (omega (arith, least-none n none))
+
+  pub no-some-is : (n : ℕ) → someBelow p n ≡ false → (k : ℕ) → k < n → p k ≡ false
+  no-some-is n e k h = least-min n k (omega (arith, ltb-false (least p n) n e))
+
+-- ── tests that agree below the bound ──
+
+module _ (p q : ℕ → Bool) where
+  pub least-ext : (n : ℕ) → ((k : ℕ) → k < n → p k ≡ q k) → least p n ≡ least q n
+  least-ext zero h = refl
+  least-ext (suc n) h = rw (least-ext n (λ k l. h k (omega arith)), h n (omega arith))
+
+  pub some-ext : (n : ℕ) → ((k : ℕ) → k < n → p k ≡ q k) → someBelow p n ≡ someBelow q n
+  some-ext n h = ap (λ (r : ℕ). ltb r n) (least-ext n h)
+
+-- ── allBelow ──
+
+module _ (p : ℕ → Bool) where
+  opp : (b : Bool) → not b ≡ false → b ≡ true
+  opp true e = refl
+  opp false e = sym e
+
+  pub all-is : (n : ℕ) → allBelow p n ≡ true → (k : ℕ) → k < n → p k ≡ true
+  all-is n e k h = opp (p k) (no-some-is (λ j. not (p j)) n (flip (someBelow (λ j. not (p j)) n) e) k h)
+    where
+      flip : (b : Bool) → not b ≡ true → b ≡ false
+      flip true f = sym f
+      flip false f = refl
+
+  pub all-has : (n : ℕ) → ((k : ℕ) → k < n → p k ≡ true) → allBelow p n ≡ true
+  all-has n h = ap not (no-some (λ j. not (p j)) n (λ k l. ap not (h k l)))

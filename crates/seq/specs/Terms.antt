@@ -1,0 +1,133 @@
+-- The words in which the laws are stated. None of them is computed by an operation; in order:
+--   Among, Every, Above, Rising      the members of a list, and lists in strict order
+--   Has, Strict, Order, Best         a candidate below a bound, what a comparison has to be, what is best
+--   iter, orbit, Reach, Injects      a function step by step, and one that takes no value twice
+--   sum, upto, ind                   sums in ℤ
+-- A list rises if each element is before all that come after it, not before the next alone: so a law on lists needs no transitivity.
+-- Assumes nothing.
+use mathlib.Core.Path.{_≡_}
+use mathlib.Core.Logic.{_⊎_}
+use Prim.Native.Nat.{_<_}
+use Rattle.seq.specs.Seq.{Bool, true, false, List, [], _∷_, Option, none, some, ℕ, zero, suc, eqb, getD, ℤ, pos, _+ℤ_}
+
+-- ── members ──
+
+abbrev pub Among : {A : Type 0} → A → List A → Type 0
+Among x [] = ⊥
+Among x (y ∷ ys) = (x ≡ y) ⊎ Among x ys
+
+abbrev pub Every : {A : Type 0} → (A → Type 0) → List A → Type 0
+Every P [] = Unit {0}
+Every P (x ∷ xs) = P x × Every P xs
+
+-- whether x stands in cell k
+abbrev pub standsAt : ℕ → List ℕ → ℕ → Bool
+standsAt x ys k = eqb x (getD ys k 0)
+
+-- ── lists in strict order by the test b ──
+
+module _ {A : Type 0} (b : A → A → Bool) where
+  -- x is before every element
+  abbrev pub Above : A → List A → Type 0
+  Above x l = (z : A) → Among z l → b x z ≡ true
+
+  abbrev pub Rising : List A → Type 0
+  Rising [] = Unit {0}
+  Rising (x ∷ xs) = Above x xs × Rising xs
+
+  -- each is before the next
+  abbrev pub Ahead : A → List A → Type 0
+  Ahead x [] = Unit {0}
+  Ahead x (y ∷ ys) = b x y ≡ true
+
+  abbrev pub Ordered : List A → Type 0
+  Ordered [] = Unit {0}
+  Ordered (x ∷ xs) = Ahead x xs × Ordered xs
+
+  -- b is transitive on what has P
+  abbrev pub Transitive : (A → Type 0) → Type 0
+  Transitive P = (x y z : A) → P x → P y → P z → b x y ≡ true → b y z ≡ true → b x z ≡ true
+
+  -- of two no two are each before the other, and so none is before itself
+  abbrev pub Asymmetric : Type 0
+  Asymmetric = (x y : A) → b x y ≡ true → b y x ≡ true → ⊥
+
+-- numbers in rising order
+abbrev pub Asc : List ℕ → Type 0
+Asc [] = Unit {0}
+Asc (x ∷ xs) = ((z : ℕ) → Among z xs → x < z) × Asc xs
+
+-- ── candidates ──
+
+module _ (p : ℕ → Bool) where
+  -- k is below n and has p
+  pub record Has (n k : ℕ) : Type 0 where
+    pub below : k < n
+    pub has : p k ≡ true
+
+  module _ (b : ℕ → ℕ → Bool) where
+    -- a strict order of the candidates
+    pub record Strict (n : ℕ) : Type 0 where
+      pub irr : (x : ℕ) → Has n x → b x x ≡ false
+      pub trans : (x y z : ℕ) → Has n x → Has n y → Has n z → b x y ≡ true → b y z ≡ true → b x z ≡ true
+
+    -- a transitive order in which any two differ
+    pub record Order (n : ℕ) : Type 0 where
+      pub trans : (x y z : ℕ) → Has n x → Has n y → Has n z → b x y ≡ true → b y z ≡ true → b x z ≡ true
+      pub total : (x y : ℕ) → Has n x → Has n y → (x ≡ y → ⊥) → b x y ≡ false → b y x ≡ true
+
+    -- r is a candidate and beats every other
+    pub record Best (n r : ℕ) : Type 0 where
+      pub is : Has n r
+      pub beats : (k : ℕ) → Has n k → (k ≡ r → ⊥) → b r k ≡ true
+
+    abbrev pub BestIs : ℕ → Option ℕ → Type 0
+    BestIs n none = (k : ℕ) → Has n k → ⊥
+    BestIs n (some r) = Best n r
+
+    -- r is a candidate and none is better
+    pub record Top (n r : ℕ) : Type 0 where
+      pub is : Has n r
+      pub none-better : (k : ℕ) → Has n k → b k r ≡ false
+
+    abbrev pub TopIs : ℕ → Option ℕ → Type 0
+    TopIs n none = (k : ℕ) → Has n k → ⊥
+    TopIs n (some r) = Top n r
+
+-- ── a function step by step ──
+
+module _ (f : ℕ → ℕ) where
+  abbrev pub iter : ℕ → ℕ → ℕ
+  iter zero x = x
+  iter (suc k) x = f (iter k x)
+
+  -- x, f x, f (f x) .., k of them
+  abbrev pub orbit : ℕ → ℕ → List ℕ
+  orbit zero x = []
+  orbit (suc k) x = x ∷ orbit k (f x)
+
+  -- y is met from x
+  abbrev pub Reach : ℕ → ℕ → Type 0
+  Reach x y = (k : ℕ) × (iter k x ≡ y)
+
+  -- f goes from the numbers below n to themselves, and to none twice
+  pub record Injects (n : ℕ) : Type 0 where
+    pub into : (x : ℕ) → x < n → f x < n
+    pub once : (x y : ℕ) → x < n → y < n → f x ≡ f y → x ≡ y
+
+-- ── sums in ℤ ──
+
+-- f x added up over the elements x of a list
+unfoldable pub sum : {A : Type 0} → List A → (A → ℤ) → ℤ
+sum [] f = pos 0
+sum (x ∷ xs) f = f x +ℤ sum xs f
+
+-- the numbers below n, falling
+unfoldable pub upto : ℕ → List ℕ
+upto zero = []
+upto (suc n) = n ∷ upto n
+
+-- 1 where a test holds, or 0
+abbrev pub ind : Bool → ℤ
+ind true = pos 1
+ind false = pos 0
