@@ -9,3 +9,5 @@ pub mod Gcd
 pub mod Lowest
 pub mod Sign
 pub mod Tests
+pub mod Cast
+pub mod Range

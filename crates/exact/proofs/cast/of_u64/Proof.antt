@@ -1,0 +1,15 @@
+-- `exact::cast::of_u64` meets its contract: an unsigned number below half the width's power is itself.
+-- Assumes nothing.
+use borrow.Author.Needs.{needs}
+use Rattle.exact.specs.Mach.{tr, trn, plain}
+use Rattle.exact.proofs.cast.of_u64.Statement.{statement}
+use Rattle.exact.proofs.cast.of_u64.Tie as tie
+
+cast-result : tie.Need-cast-result
+cast-result c = search needs
+
+returns : tie.Need-returns
+returns c = plain (search trn depth 20) tt
+
+pub of-u64-spec : {M : Type 1} → statement M
+of-u64-spec = tie.close (tie.spec cast-result returns)

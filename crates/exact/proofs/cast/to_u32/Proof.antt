@@ -1,0 +1,19 @@
+-- `exact::cast::to_u32` meets its contract: the number is not negative, and below 2^32.
+-- Assumes nothing.
+use borrow.Author.Needs.{needs}
+use Prim.Native.Nat.{_<_, _^_}
+use lib.IntN.{natAbs}
+use mir.Syntax.{w32, w64}
+use Rattle.exact.specs.Mach.{tr-atom<, cast-u}
+use Rattle.exact.specs.Cast.{unsigned-abs}
+use Rattle.exact.proofs.cast.to_u32.Statement.{statement}
+use Rattle.exact.proofs.cast.to_u32.Tie as tie
+
+cast-result : tie.Need-cast-result
+cast-result c = cast-u w64 w32 (c .args .x) (tr-atom< (unsigned-abs 32 (c .args .x) (c .pre))) tt (c .pre .low)
+
+returns : tie.Need-returns
+returns c = search needs
+
+pub to-u32-spec : {M : Type 1} → statement M
+to-u32-spec = tie.close (tie.spec cast-result returns)
