@@ -1,11 +1,11 @@
 -- What is answered and what the lent tables hold (01, "When a map is refused"): for files and the tables' lengths, everything that comes out.
 -- Assumes nothing.
-use Rattle.seq.specs.Seq.{List, [], _∷_, _++_, map, Option, none, some, Option·map, ℕ, zero, suc, _+_, _*_, _/_, min, ltb, length, getD, pos, table, padded}
-use Rattle.paper.specs.Limits.{overlayVertices, overlayEdges, overlayFaces}
+use Rattle.seq.specs.Seq.{Bool, cond, _&&_, List, [], _∷_, _++_, map, Option, none, some, Option·map, ℕ, zero, suc, _+_, _*_, _/_, _^_, min, leb, ltb, length, getD, pos, table, padded}
+use Rattle.paper.specs.Limits.{overlayVertices, overlayEdges, overlayFaces, maps}
 use Rattle.paper.specs.Refusal.{given, firstOf, ofMap, answer, unlessRefused, Refusal, Answer}
 use Rattle.paper.specs.Map.{mapOf, fault}
 use Rattle.paper.specs.Faces.{overlayOf}
-use Rattle.paper.specs.Tables.{vertexWidth, halfWidth, faceWidth, originOf, sourceCell, plusOne, countsOf, tablesOf, Counts, Tables}
+use Rattle.paper.specs.Tables.{vertexWidth, halfWidth, faceWidth, originOf, sourceCell, countsOf, tablesOf, Counts, Tables}
 
 -- the lengths of the four lent tables, in numbers
 pub record Lengths : Type 0 where
@@ -14,12 +14,24 @@ pub record Lengths : Type 0 where
   pub sources : ℕ
   pub faces : ℕ
 
+abbrev pub lengthsOf : Tables → Lengths
+lengthsOf t = record {
+  vertices = length (t .vertices);
+  halves = length (t .halves);
+  sources = length (t .sources);
+  faces = length (t .faces);
+}
+
+-- the edges for which the half-edge table and the source table of n maps have whole rows
+abbrev pub edgeRoom : ℕ → Lengths → ℕ
+edgeRoom n l = min (l .halves / halfWidth / 2) (l .sources / n)
+
 -- "Room is the smaller of the lent table and the number above; a half-edge table counts as room for half as many edges, rounded down, and where
 -- several lent tables hold one kind the least room counts": of n maps
 abbrev pub roomIn : ℕ → Lengths → Counts
 roomIn n l = record {
   vertices = min overlayVertices (l .vertices / vertexWidth);
-  edges = min overlayEdges (min (l .halves / halfWidth / 2) (l .sources / n));
+  edges = min overlayEdges (edgeRoom n l);
   faces = min overlayFaces (l .faces / faceWidth n);
 }
 
@@ -83,17 +95,20 @@ sourceBy zero (suc k) = some (second k)
 sourceBy (suc j) zero = some (first j)
 sourceBy (suc j) (suc k) = some (both j k)
 
--- the same as a view of a list of two sources
-abbrev pub sourceOf : List (Option ℕ) → Option Source
-sourceOf ss = sourceBy (plusOne (getD ss 0 none)) (plusOne (getD ss 1 none))
-
 pub record OverlayEdge : Type 0 where
   pub lower : ℕ
   pub upper : ℕ
   pub source : Source
 
+-- the tables have edge k: whole rows, with edge numbers of 16 bits
+abbrev pub hasEdge : Tables → ℕ → Bool
+hasEdge t k =
+    ltb k (edgeRoom maps (lengthsOf t)) && (leb (sourceCell maps t k 0) (256 ^ 2) && leb (sourceCell maps t k 1) (256 ^ 2))
+
 -- "it is handed out by edge number, and a number with no edge is answered as absent"
 abbrev pub edgeRecord : Tables → ℕ → Option OverlayEdge
 edgeRecord t k =
-    Option·map (λ s. record { lower = originOf t (2 * k); upper = originOf t (2 * k + 1); source = s })
-    (sourceBy (sourceCell 2 t k 0) (sourceCell 2 t k 1))
+    cond (hasEdge t k)
+    (Option·map (λ s. record { lower = originOf t (2 * k); upper = originOf t (2 * k + 1); source = s })
+    (sourceBy (sourceCell maps t k 0) (sourceCell maps t k 1)))
+    none

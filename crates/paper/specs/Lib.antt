@@ -5,6 +5,7 @@ pub mod Bytes
 pub mod Refusal
 pub mod Map
 pub mod Pieces
+pub mod Guards
 pub mod Faces
 pub mod Tables
 pub mod Lent

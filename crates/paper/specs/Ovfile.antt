@@ -6,7 +6,7 @@ use Rattle.paper.specs.Graph.{twin}
 use Rattle.paper.specs.Bytes.{ascii, le, leSigned, fitsSigned, fitsUnsigned}
 use Rattle.paper.specs.Refusal.{given, atLeast, firstOf, answer, unlessRefused, Refusal, Answer}
 use Rattle.paper.specs.Tables.{faceWidth, vertexCell, originOf, twinOf, followerOf, predecessorOf, faceOf, sourceCell, faceCell, leastHalf, Counts, Tables}
-use Rattle.paper.specs.Lent.{roomIn, Lengths}
+use Rattle.paper.specs.Lent.{roomIn, lengthsOf, Lengths}
 
 -- a version: how many bytes X and Y have each, and how many sources and labels are stored
 pub record Layout : Type 0 where
@@ -126,14 +126,6 @@ writeFault l n ls c t = firstOf (
 pub record Written : Type 0 where
   pub answer : Answer ℕ
   pub buffer : List ℕ
-
-abbrev pub lengthsOf : Tables → Lengths
-lengthsOf t = record {
-  vertices = length (t .vertices);
-  halves = length (t .halves);
-  sources = length (t .sources);
-  faces = length (t .faces);
-}
 
 -- the file's length and the buffer of n bytes: "then zeroes its buffer. Past the file's length the buffer is zero"
 abbrev pub writeBy : ℕ → Layout → ℕ → Counts → Tables → Written

@@ -8,6 +8,11 @@ use Rattle.paper.specs.Map.{empty, Map}
 abbrev pub layer : List Map → ℕ → Map
 layer ms i = getD ms i empty
 
+-- the elements of a list, each put into another list in its turn
+abbrev pub putIn : {A : Type 0} → (A → List A → List A) → List A → List A → List A
+putIn put [] l = l
+putIn put (x ∷ xs) l = putIn put xs (put x l)
+
 -- ── vertices ──
 
 -- where edge j of the one graph crosses edge k of the other
@@ -27,8 +32,7 @@ insert p [] = p ∷ []
 insert p (q ∷ qs) = let r = insert p qs in cond (before p q) (p ∷ q ∷ qs) (cond (before q p) (q ∷ r) (q ∷ qs))
 
 abbrev pub inOrder : List Pt → List Pt
-inOrder [] = []
-inOrder (p ∷ ps) = insert p (inOrder ps)
+inOrder ps = putIn insert ps []
 
 -- "Vertices stand in point order": the corners of all maps, and the crossings
 abbrev pub verticesOf : List Map → List Pt
@@ -67,8 +71,7 @@ insertPiece p (q ∷ qs) =
     cond (earlier p q) (p ∷ q ∷ qs) (cond (earlier q p) (q ∷ r) (joined p q ∷ qs))
 
 abbrev pub piecesInOrder : List Piece → List Piece
-piecesInOrder [] = []
-piecesInOrder (p ∷ ps) = insertPiece p (piecesInOrder ps)
+piecesInOrder ps = putIn insertPiece ps []
 
 -- between neighbours in a list of vertex numbers
 abbrev pub linksFrom : List (Option ℕ) → ℕ → List ℕ → List Piece
