@@ -1,0 +1,15 @@
+//! A second map overlay, written from document 01 alone and on purpose by other ways than the
+//! proved one: crossings from line equations, faces from areas and containment, labels by a
+//! ray to the north from the middle of a piece. See README.md.
+
+pub mod answer;
+pub mod check;
+pub mod graph;
+pub mod limits;
+pub mod locate;
+pub mod map;
+pub mod overlay;
+pub mod ovfile;
+pub mod point;
+pub mod segment;
+pub mod tables;

@@ -1,0 +1,118 @@
+//! The command line of the second program.
+
+use second::check::check;
+use second::overlay::{overlay_files, Room};
+use second::ovfile::{file_of, read};
+use std::process::ExitCode;
+
+const USAGE: &str = "\
+second list DIR                           list the overlay of DIR/zones.zmp and DIR/blocks.zmp
+second check FILE...                      check map files, a line for each
+second overlay ZONES BLOCKS OUT           write the overlay file
+second read FILE [ROOM]                   check and list an overlay file
+second rewrite FILE OUT                   read an overlay file and write it again
+second digest ZONES BLOCKS [ROOM]         counts and digest of the overlay's tables
+
+ROOM is `--room V E F` (vertices, edges, faces there is room for) or `--tables V H S F` (rows
+of the lent tables of vertices, half-edges, sources, faces).";
+
+/// What a command prints, or why it could not be done.
+type Outcome = Result<String, String>;
+
+fn main() -> ExitCode {
+    let args: Vec<String> = std::env::args().skip(1).collect();
+    let args: Vec<&str> = args.iter().map(String::as_str).collect();
+    match run(&args) {
+        Ok(text) => {
+            print!("{text}");
+            ExitCode::SUCCESS
+        }
+        Err(text) => {
+            eprintln!("{text}");
+            ExitCode::from(2)
+        }
+    }
+}
+
+fn run(args: &[&str]) -> Outcome {
+    match args {
+        ["list", dir] => Ok(list(&format!("{dir}/zones.zmp"), &format!("{dir}/blocks.zmp"))),
+        ["check", files @ ..] if !files.is_empty() => {
+            Ok(files.iter().map(|f| checked(f)).collect())
+        }
+        ["overlay", zones, blocks, out] => overlay(zones, blocks, out),
+        ["read", file, room @ ..] => read_file(file, &room_of(room)?),
+        ["rewrite", file, out] => rewrite(file, out),
+        ["digest", zones, blocks, room @ ..] => Ok(digest(zones, blocks, &room_of(room)?)),
+        _ => Err(USAGE.to_string()),
+    }
+}
+
+/// The bytes of a file; one that cannot be opened counts as a file of 0 bytes.
+fn bytes(path: &str) -> Vec<u8> {
+    std::fs::read(path).unwrap_or_default()
+}
+
+fn save(path: &str, bytes: &[u8]) -> Result<(), String> {
+    std::fs::write(path, bytes).map_err(|why| format!("{path}: {why}"))
+}
+
+fn number<T: std::str::FromStr>(word: &str) -> Result<T, String> {
+    word.parse().map_err(|_| format!("not a number in range: {word}"))
+}
+
+fn room_of(args: &[&str]) -> Result<Room, String> {
+    match args {
+        [] => Ok(Room::FULL),
+        ["--room", v, e, f] => {
+            let edges: usize = number(e)?;
+            Ok(Room::lent(number(v)?, edges.saturating_mul(2), edges, number(f)?))
+        }
+        ["--tables", v, h, s, f] => Ok(Room::lent(number(v)?, number(h)?, number(s)?, number(f)?)),
+        _ => Err(USAGE.to_string()),
+    }
+}
+
+fn list(zones: &str, blocks: &str) -> String {
+    match overlay_files(&bytes(zones), &bytes(blocks), &Room::FULL) {
+        Ok(overlay) => overlay.tables.listing(),
+        Err(refusal) => format!("{refusal}\n"),
+    }
+}
+
+fn checked(path: &str) -> String {
+    match check(&bytes(path)) {
+        Ok(map) => format!("ok {} {}\n", map.vertices.len(), map.edges.len()),
+        Err(refusal) => format!("{refusal}\n"),
+    }
+}
+
+fn overlay(zones: &str, blocks: &str, out: &str) -> Outcome {
+    let file = overlay_files(&bytes(zones), &bytes(blocks), &Room::FULL)
+        .and_then(|overlay| file_of(&overlay.tables));
+    match file {
+        Ok(file) => save(out, &file).map(|()| format!("{} bytes\n", file.len())),
+        Err(refusal) => Ok(format!("{refusal}\n")),
+    }
+}
+
+fn read_file(path: &str, room: &Room) -> Outcome {
+    Ok(match read(&bytes(path), room) {
+        Ok(tables) => tables.listing(),
+        Err(refusal) => format!("{refusal}\n"),
+    })
+}
+
+fn rewrite(path: &str, out: &str) -> Outcome {
+    match read(&bytes(path), &Room::FULL).and_then(|tables| file_of(&tables)) {
+        Ok(file) => save(out, &file).map(|()| format!("{} bytes\n", file.len())),
+        Err(refusal) => Ok(format!("{refusal}\n")),
+    }
+}
+
+fn digest(zones: &str, blocks: &str, room: &Room) -> String {
+    match overlay_files(&bytes(zones), &bytes(blocks), room) {
+        Ok(overlay) => format!("done {}\n", overlay.tables.digest()),
+        Err(refusal) => format!("{refusal}\n"),
+    }
+}

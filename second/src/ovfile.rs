@@ -1,0 +1,248 @@
+//! Overlay files: the writer and the reader with all their refusals.
+
+use crate::answer::Refusal;
+use crate::limits::*;
+use crate::map::numbers;
+use crate::overlay::Room;
+use crate::tables::{FaceRow, HalfEdgeRow, Sources, Tables, VertexRow};
+
+/// The counts that a file announces.
+#[derive(Clone, Copy, PartialEq, Eq, Debug)]
+pub struct Counts {
+    pub vertices: usize,
+    pub edges: usize,
+    pub faces: usize,
+}
+
+impl Counts {
+    /// The counts of whole tables.
+    pub fn of(tables: &Tables) -> Counts {
+        Counts { vertices: tables.vertices.len(), edges: tables.edges(), faces: tables.faces.len() }
+    }
+
+    /// Is a count over its number?
+    fn over(&self) -> bool {
+        self.vertices > VERTICES || self.edges > EDGES || self.faces > FACES
+    }
+
+    /// The length of the file.
+    pub fn length(&self) -> usize {
+        OVERLAY_HEAD
+            + OVERLAY_VERTEX * self.vertices
+            + OVERLAY_EDGE * self.edges
+            + OVERLAY_FACE * self.faces
+    }
+}
+
+/// An edge record of a file, its fields as they stand.
+#[derive(Clone, Copy, PartialEq, Eq, Debug)]
+struct Record {
+    ends: [u16; 2],
+    sources: [u16; 2],
+    followers: [u16; 2],
+    faces: [u16; 2],
+}
+
+/// Where half-edge h of the records starts.
+fn origin(records: &[Record], h: usize) -> u16 {
+    records[h / 2].ends[h % 2]
+}
+
+/// The least edge whose record is not sound.
+fn unsound(records: &[Record], counts: &Counts) -> Option<usize> {
+    let mut taken = vec![false; 2 * records.len()];
+    for (k, record) in records.iter().enumerate() {
+        let [lower, upper] = record.ends;
+        let mut sound = lower < upper
+            && (upper as usize) < counts.vertices
+            && record.sources != [0, 0]
+            && record.faces.iter().all(|&f| (f as usize) < counts.faces);
+        for (follower, end) in record.followers.into_iter().zip([upper, lower]) {
+            let known = (follower as usize) < taken.len();
+            sound &= known && origin(records, follower as usize) == end;
+            sound &= known && !std::mem::replace(&mut taken[follower as usize], true);
+        }
+        if !sound {
+            return Some(k);
+        }
+    }
+    None
+}
+
+/// The refusal of the writer, or the file. `length` is the length of the lent buffer.
+pub fn write(tables: &Tables, counts: Counts, length: usize) -> Result<Vec<u8>, Refusal> {
+    let rows_short = counts.vertices > tables.vertices.len()
+        || counts.edges > tables.half_edges.len() / 2
+        || counts.edges > tables.sources.len()
+        || counts.faces > tables.faces.len();
+    if counts.over() || rows_short {
+        return Err(Refusal::new(3, 0));
+    }
+    let half_edges = &tables.half_edges[..2 * counts.edges];
+    if let Some(v) =
+        (0..counts.vertices).find(|&v| !vertex_fits(&tables.vertices[v], v, half_edges))
+    {
+        return Err(Refusal::new(5, v));
+    }
+    let sources = &tables.sources[..counts.edges];
+    let records: Vec<Record> = half_edges.chunks(2).zip(sources).map(record).collect();
+    let linked = |k: &usize| rows_linked(half_edges, &sources[*k], *k);
+    let unlinked = (0..counts.edges).find(|k| !linked(k));
+    let faults = [unsound(&records, &counts), unlinked];
+    if let Some(&k) = faults.iter().flatten().min() {
+        return Err(Refusal::new(21, k));
+    }
+    if length < counts.length() {
+        return Err(Refusal::new(11, 4));
+    }
+    Ok(file_bytes(tables, &records, &counts))
+}
+
+/// Do X, Y and D fit their bytes, and is the outgoing entry the least half-edge there?
+fn vertex_fits(row: &VertexRow, v: usize, half_edges: &[HalfEdgeRow]) -> bool {
+    let wide = 1i64 << (8 * WIDE - 1);
+    let fits = |c: i64| -wide <= c && c < wide;
+    let least = half_edges.iter().position(|h| h.origin as usize == v);
+    fits(row.x)
+        && fits(row.y)
+        && u32::try_from(row.d).is_ok()
+        && row.out == least.map_or(NO_HALF_EDGE, |h| h as u16)
+}
+
+/// The record of an edge; a source with number 65,535 has none and is refused elsewhere.
+fn record((rows, sources): (&[HalfEdgeRow], &Sources)) -> Record {
+    let stored = |source: Option<u16>| source.map_or(0, |k| k.wrapping_add(1));
+    Record {
+        ends: [rows[0].origin, rows[1].origin],
+        sources: [stored(sources.0), stored(sources.1)],
+        followers: [rows[0].follower, rows[1].follower],
+        faces: [rows[0].face, rows[1].face],
+    }
+}
+
+/// What the writer asks of edge k besides soundness: sources, twins and predecessors.
+fn rows_linked(half_edges: &[HalfEdgeRow], sources: &Sources, k: usize) -> bool {
+    let linked = |h: usize| {
+        let row = half_edges[h];
+        let before = half_edges.get(row.predecessor as usize);
+        row.twin as usize == h ^ 1 && before.is_some_and(|b| b.follower as usize == h)
+    };
+    let last = Some(u16::MAX);
+    sources.0 != last && sources.1 != last && linked(2 * k) && linked(2 * k + 1)
+}
+
+/// The bytes of a file that is not refused.
+fn file_bytes(tables: &Tables, records: &[Record], counts: &Counts) -> Vec<u8> {
+    let mut out = Vec::with_capacity(counts.length());
+    out.extend_from_slice(OVERLAY_MARK);
+    for n in [OVERLAY_VERSION as usize, counts.vertices, counts.edges, counts.faces] {
+        out.extend_from_slice(&(n as u16).to_le_bytes());
+    }
+    for row in &tables.vertices[..counts.vertices] {
+        out.extend_from_slice(&row.x.to_le_bytes()[..WIDE]);
+        out.extend_from_slice(&row.y.to_le_bytes()[..WIDE]);
+        out.extend_from_slice(&(row.d as u32).to_le_bytes());
+    }
+    for r in records {
+        for field in [r.ends, r.sources, r.followers, r.faces].concat() {
+            out.extend_from_slice(&field.to_le_bytes());
+        }
+    }
+    for row in &tables.faces[..counts.faces] {
+        for field in [row.first, row.second, row.least, row.holes] {
+            out.extend_from_slice(&field.to_le_bytes());
+        }
+    }
+    out
+}
+
+/// The whole of the tables as a file.
+pub fn file_of(tables: &Tables) -> Result<Vec<u8>, Refusal> {
+    let counts = Counts::of(tables);
+    write(tables, counts, counts.length())
+}
+
+/// The refusal of the reader, or the tables.
+pub fn read(bytes: &[u8], room: &Room) -> Result<Tables, Refusal> {
+    if bytes.len() < OVERLAY_HEAD || !bytes.starts_with(OVERLAY_MARK) {
+        return Err(Refusal::new(1, 0));
+    }
+    let head = numbers(&bytes[OVERLAY_MARK.len()..OVERLAY_HEAD]);
+    let [vertices, edges, faces] = [1, 2, 3].map(|i| head[i] as usize);
+    let counts = Counts { vertices, edges, faces };
+    if head[0] != OVERLAY_VERSION {
+        return Err(Refusal::new(2, 0));
+    }
+    if counts.over() {
+        return Err(Refusal::new(3, 0));
+    }
+    if bytes.len() != counts.length() {
+        return Err(Refusal::new(4, 0));
+    }
+    let (vertices, rest) = bytes[OVERLAY_HEAD..].split_at(OVERLAY_VERTEX * counts.vertices);
+    let (edges, faces) = rest.split_at(OVERLAY_EDGE * counts.edges);
+    let records: Vec<Record> = numbers(edges).chunks(8).map(stored_record).collect();
+    if let Some(k) = unsound(&records, &counts) {
+        return Err(Refusal::new(21, k));
+    }
+    let needs = [counts.vertices, counts.edges, counts.faces];
+    let rooms = [room.vertices, room.edges, room.faces];
+    if let Some(kind) = (0..3).find(|&i| needs[i] > rooms[i]) {
+        return Err(Refusal::new(11, kind + 1));
+    }
+    let mut tables = Tables {
+        vertices: vertices.chunks(OVERLAY_VERTEX).map(stored_vertex).collect(),
+        half_edges: half_edges(&records),
+        sources: records.iter().map(stored_sources).collect(),
+        faces: numbers(faces).chunks(4).map(stored_face).collect(),
+    };
+    tables.set_least_outgoing();
+    Ok(tables)
+}
+
+fn stored_record(n: &[u16]) -> Record {
+    Record {
+        ends: [n[0], n[1]],
+        sources: [n[2], n[3]],
+        followers: [n[4], n[5]],
+        faces: [n[6], n[7]],
+    }
+}
+
+/// X and Y in two's complement, D without a sign.
+fn stored_vertex(bytes: &[u8]) -> VertexRow {
+    let wide = |b: &[u8]| {
+        let raw = b.iter().rev().fold(0i64, |n, &byte| n << 8 | byte as i64);
+        raw << (64 - 8 * WIDE) >> (64 - 8 * WIDE)
+    };
+    let d = bytes[2 * WIDE..].iter().rev().fold(0, |n, &byte| n << 8 | byte as i64);
+    VertexRow { x: wide(&bytes[..WIDE]), y: wide(&bytes[WIDE..2 * WIDE]), d, out: NO_HALF_EDGE }
+}
+
+fn stored_sources(record: &Record) -> Sources {
+    (record.sources[0].checked_sub(1), record.sources[1].checked_sub(1))
+}
+
+fn stored_face(n: &[u16]) -> FaceRow {
+    FaceRow { first: n[0], second: n[1], least: n[2], holes: n[3] }
+}
+
+/// The half-edge rows of sound records.
+fn half_edges(records: &[Record]) -> Vec<HalfEdgeRow> {
+    let row = |h: usize| {
+        let record = &records[h / 2];
+        HalfEdgeRow {
+            origin: record.ends[h % 2],
+            twin: (h ^ 1) as u16,
+            follower: record.followers[h % 2],
+            predecessor: 0,
+            face: record.faces[h % 2],
+        }
+    };
+    let mut rows: Vec<HalfEdgeRow> = (0..2 * records.len()).map(row).collect();
+    for h in 0..rows.len() {
+        let follower = rows[h].follower as usize;
+        rows[follower].predecessor = h as u16;
+    }
+    rows
+}

@@ -1,0 +1,133 @@
+//! The tables of an overlay, their listing and their digest.
+
+use crate::limits::NO_HALF_EDGE;
+use std::fmt::Write;
+
+/// A vertex row: the point (x / d, y / d) and the least half-edge out of it.
+#[derive(Clone, Copy, PartialEq, Eq, Debug)]
+pub struct VertexRow {
+    pub x: i64,
+    pub y: i64,
+    pub d: i64,
+    pub out: u16,
+}
+
+/// A half-edge row.
+#[derive(Clone, Copy, PartialEq, Eq, Debug)]
+pub struct HalfEdgeRow {
+    pub origin: u16,
+    pub twin: u16,
+    pub follower: u16,
+    pub predecessor: u16,
+    pub face: u16,
+}
+
+/// The edge number in the first and in the second map.
+pub type Sources = (Option<u16>, Option<u16>);
+
+/// A face row: the pair, the least outer half-edge and the number of hole walks.
+#[derive(Clone, Copy, PartialEq, Eq, Debug)]
+pub struct FaceRow {
+    pub first: u16,
+    pub second: u16,
+    pub least: u16,
+    pub holes: u16,
+}
+
+/// The tables; the counts are their lengths.
+#[derive(Clone, PartialEq, Eq, Debug, Default)]
+pub struct Tables {
+    pub vertices: Vec<VertexRow>,
+    pub half_edges: Vec<HalfEdgeRow>,
+    pub sources: Vec<Sources>,
+    pub faces: Vec<FaceRow>,
+}
+
+impl Tables {
+    pub fn edges(&self) -> usize {
+        self.sources.len()
+    }
+
+    /// The number of faces other than 0 whose first label is 0.
+    pub fn gaps(&self) -> usize {
+        self.faces.iter().skip(1).filter(|f| f.first == 0).count()
+    }
+
+    /// Works out each vertex's least outgoing half-edge from the origins.
+    pub fn set_least_outgoing(&mut self) {
+        for vertex in &mut self.vertices {
+            vertex.out = NO_HALF_EDGE;
+        }
+        for (h, row) in self.half_edges.iter().enumerate() {
+            let vertex = &mut self.vertices[row.origin as usize];
+            vertex.out = vertex.out.min(h as u16);
+        }
+    }
+
+    /// The listing: the counts, a line for each face, the number of gaps.
+    pub fn listing(&self) -> String {
+        let mut out = format!("{}\n", self.counts());
+        for (f, face) in self.faces.iter().enumerate() {
+            let least = match f {
+                0 => "-".to_string(),
+                _ => face.least.to_string(),
+            };
+            let line = format!("face {f} {} {} {least} {}", face.first, face.second, face.holes);
+            writeln!(out, "{line}").expect("a string takes all text");
+        }
+        out + &format!("gaps {}\n", self.gaps())
+    }
+
+    /// The first line of the listing.
+    fn counts(&self) -> String {
+        let (v, e, f) = (self.vertices.len(), self.edges(), self.faces.len());
+        format!("vertices {v} edges {e} faces {f}")
+    }
+
+    /// The counts and a digest of every row: `V E F HEX`.
+    pub fn digest(&self) -> String {
+        let (v, e, f) = (self.vertices.len(), self.edges(), self.faces.len());
+        let mut sum = Fnv::new();
+        for count in [v, e, f] {
+            sum.add(&(count as u16).to_le_bytes());
+        }
+        for row in &self.vertices {
+            for field in [row.x, row.y, row.d, row.out as i64] {
+                sum.add(&field.to_le_bytes());
+            }
+        }
+        for row in &self.half_edges {
+            for field in [row.origin, row.twin, row.follower, row.predecessor, row.face] {
+                sum.add(&field.to_le_bytes());
+            }
+        }
+        for sources in &self.sources {
+            for source in [sources.0, sources.1] {
+                sum.add(&source.map_or(0, |k| k as u32 + 1).to_le_bytes());
+            }
+        }
+        for row in &self.faces {
+            for field in [row.first, row.second, row.least, row.holes] {
+                sum.add(&field.to_le_bytes());
+            }
+        }
+        format!("{v} {e} {f} {:016x}", sum.value)
+    }
+}
+
+/// The FNV-1a sum of 64 bits.
+struct Fnv {
+    value: u64,
+}
+
+impl Fnv {
+    fn new() -> Fnv {
+        Fnv { value: 0xcbf2_9ce4_8422_2325 }
+    }
+
+    fn add(&mut self, bytes: &[u8]) {
+        for &byte in bytes {
+            self.value = (self.value ^ byte as u64).wrapping_mul(0x0000_0100_0000_01b3);
+        }
+    }
+}
