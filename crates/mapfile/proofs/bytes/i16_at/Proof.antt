@@ -1,0 +1,38 @@
+-- `mapfile::bytes::i16_at` meets its contract: the upper half of the 16-bit numbers stands for the negative ones. Assumes nothing.
+use mathlib.Core.Path.{sym, ap, _∙_}
+use native.Mathlib.Omega.{arith}
+use borrow.Author.Needs.{needs}
+use denote.Ref.{now}
+use Rattle.seq.specs.Seq.{ℕ, pos, _-ℤ_}
+use Rattle.exact.specs.Mach.{tr, trn, fits, plain}
+use Rattle.mapfile.proofs.BytesLaws.{signed-low, signed-high}
+use Rattle.mapfile.proofs.bytes.i16_at.Statement.{statement}
+use Rattle.mapfile.proofs.bytes.i16_at.Tie as tie
+
+u16-at-requires : tie.Need-u16-at-requires
+u16-at-requires c κs = search needs
+
+cast-result : tie.Need-cast-result
+cast-result c = search needs
+
+cast-result-2 : tie.Need-cast-result-2
+cast-result-2 c = search needs
+
+sub-result : tie.Need-sub-result
+sub-result c = fits (search trn depth 20) tt
+
+returns : tie.Need-returns
+returns c =
+    let a = c .before .before .before .args in
+    plain (search trn depth 20) tt ∙ ap pos (c .before .u16-at .ensures) ∙ sym (signed-low (now (a .file)) (a .at) (omega arith))
+
+returns-2 : tie.Need-returns-2
+returns-2 c =
+    let a = c .before .before .before .args in
+    plain (search trn depth 20) tt
+    ∙ ap (λ (n : ℕ). pos n -ℤ pos 65536) (c .before .u16-at .ensures)
+    ∙ sym (signed-high (now (a .file)) (a .at) (omega arith) (omega arith))
+
+pub i16-at-spec : {M : Type 1} → statement M
+i16-at-spec =
+    tie.close (tie.spec u16-at-requires cast-result cast-result-2 sub-result returns returns-2)

@@ -1,0 +1,52 @@
+-- `mapfile::bytes::u16_at` meets its contract: past the end both bytes are 0, and before it the next place can be counted. Assumes nothing.
+use mathlib.Core.Path.{sym}
+use native.Mathlib.Numerals.{add-one}
+use native.Mathlib.Omega.{arith}
+use borrow.Author.Needs.{needs}
+use denote.Ref.{now}
+use Rattle.mapfile.proofs.BytesLaws.{u16-past}
+use Rattle.mapfile.proofs.bytes.u16_at.Statement.{statement}
+use Rattle.mapfile.proofs.bytes.u16_at.Tie as tie
+
+returns : tie.Need-returns
+returns c = sym (u16-past (now (c .before .before .args .file)) (c .before .before .args .at) (c .if1 .taken))
+
+byte-at-requires : tie.Need-byte-at-requires
+byte-at-requires c κs = search needs
+
+cast-result : tie.Need-cast-result
+cast-result c = search needs
+
+add-byte-at : tie.Need-add-byte-at
+add-byte-at c = search needs
+
+byte-at-requires-2 : tie.Need-byte-at-requires-2
+byte-at-requires-2 c κs = search needs
+
+cast-result-2 : tie.Need-cast-result-2
+cast-result-2 c = search needs
+
+mul-result : tie.Need-mul-result
+mul-result c = search needs
+
+add-result : tie.Need-add-result
+add-result c = search needs
+
+returns-2 : tie.Need-returns-2
+returns-2 c =
+    let a = c .before .before .before .before .args in
+    rw (c .before .byte-at .ensures, c .byte-at2 .ensures, add-one (a .at)) (omega arith)
+
+pub u16-at-spec : {M : Type 1} → statement M
+u16-at-spec =
+    tie.close
+    (tie.spec
+    returns
+    byte-at-requires
+    cast-result
+    add-byte-at
+    byte-at-requires-2
+    cast-result-2
+    mul-result
+    add-result
+    returns-2)

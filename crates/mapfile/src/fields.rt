@@ -1,0 +1,58 @@
+// The parts of the map that a file's bytes hold. A vertex number and an edge number have 16 bits, since the counts have; a half-edge number
+// has one more.
+use crate::bytes::i16_at;
+use crate::bytes::u16_at;
+use crate::limits::MAP_HEAD;
+ghost use mathlib.Core.Path.{_≡_};
+ghost use Rattle.paper.specs.Plane.{Vec};
+ghost use Rattle.paper.specs.Map.{vertexCount, edgesIn, vertexPlace, cornerAt, halfPlace, originAt, labelAt};
+
+pub fn vertex_count(file: &[u8]) -> u16
+    ensures { λ r. ⌜ r ≡ vertexCount (now (file .entry)) ⌝ }
+{
+    u16_at(file, 5)
+}
+
+pub fn edge_count(file: &[u8]) -> u16
+    ensures { λ r. ⌜ r ≡ edgesIn (now (file .entry)) ⌝ }
+{
+    u16_at(file, 7)
+}
+
+// Where vertex v starts.
+pub fn vertex_place(v: u16) -> usize
+    ensures { λ r. ⌜ r ≡ vertexPlace v ⌝ }
+{
+    MAP_HEAD + 4 * v as usize
+}
+
+pub fn corner_x(file: &[u8], v: u16) -> i64
+    ensures { λ r. ⌜ r ≡ cornerAt (now (file .entry)) v .x ⌝ }
+{
+    i16_at(file, vertex_place(v))
+}
+
+pub fn corner_y(file: &[u8], v: u16) -> i64
+    ensures { λ r. ⌜ r ≡ cornerAt (now (file .entry)) v .y ⌝ }
+{
+    i16_at(file, vertex_place(v) + 2)
+}
+
+// Where half-edge h has its own two bytes.
+pub fn half_place(file: &[u8], h: u32) -> usize
+    ensures { λ r. ⌜ r ≡ halfPlace (now (file .entry)) h ⌝ }
+{
+    vertex_place(vertex_count(file)) + 8 * (h / 2) as usize + 2 * (h % 2) as usize
+}
+
+pub fn origin_at(file: &[u8], h: u32) -> u16
+    ensures { λ r. ⌜ r ≡ originAt (now (file .entry)) h ⌝ }
+{
+    u16_at(file, half_place(file, h))
+}
+
+pub fn label_at(file: &[u8], h: u32) -> u16
+    ensures { λ r. ⌜ r ≡ labelAt (now (file .entry)) h ⌝ }
+{
+    u16_at(file, half_place(file, h) + 4)
+}
