@@ -13,4 +13,5 @@ pub mod Ovfile
 pub mod Reader
 pub mod Listing
 pub mod Sample
+pub mod SampleFile
 pub mod Sheets

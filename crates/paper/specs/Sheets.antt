@@ -11,9 +11,10 @@ use Rattle.paper.specs.Map.{fault, check}
 use Rattle.paper.specs.Faces.{overlayOf}
 use Rattle.paper.specs.Tables.{vertexWidth, halfWidth, faceWidth, faceCell, tablesOf, Counts, Tables}
 use Rattle.paper.specs.Lent.{overlay, edgeRecord, Lengths, Outcome, Source, OverlayEdge, first, second, both}
-use Rattle.paper.specs.Ovfile.{overlayFile}
+use Rattle.paper.specs.Ovfile.{Written, overlayFile}
 use Rattle.paper.specs.Reader.{write}
 use Rattle.paper.specs.Listing.{listing}
+use Rattle.paper.specs.SampleFile.{s12File}
 use Rattle.paper.specs.Sample.{at, emptyFile, single, square, zone}
 
 -- tables with room for the largest overlay of n maps
@@ -41,10 +42,10 @@ faceNumbers o f = table (faceCell maps (o .tables) f) (faceWidth maps)
 abbrev piece : ℕ → ℕ → Source → Option OverlayEdge
 piece a b s = some (record { lower = a; upper = b; source = s })
 
--- what the writer answers for the tables of an outcome, with a buffer of n bytes
-abbrev pub writtenOf : ℕ → Tables → Answer Counts → Answer ℕ
-writtenOf n t (done c) = write n c t .answer
-writtenOf n t (refused r) = refused r
+-- what the writer answers and leaves for the tables of an outcome, with a buffer of n bytes
+abbrev pub writtenOf : ℕ → Tables → Answer Counts → Written
+writtenOf n t (done c) = write n c t
+writtenOf n t (refused r) = record { answer = refused r; buffer = [] }
 
 -- a question with its answer
 pub record Sheet : Type 1 where
@@ -101,9 +102,9 @@ sheets =
     -- S11: the counts, and of each face its labels, least half-edge and holes
     sheet {A = Answer Counts × List (List ℕ)} (s11 .answer, table (faceNumbers s11) 3)
     (counted 8 8 3, (0 ∷ 0 ∷ 65535 ∷ 1 ∷ []) ∷ (1 ∷ 0 ∷ 0 ∷ 1 ∷ []) ∷ (1 ∷ 7 ∷ 6 ∷ 0 ∷ []) ∷ []) ∷
-    -- S12: the listing, and the length of the overlay file
-    sheet {A = List ℕ × Answer ℕ} (listing maps s12, writtenOf 400 (s12 .tables) (s12 .answer))
-    (ascii "vertices 10 edges 12 faces 4\nface 0 0 0 - 1\nface 1 1 0 0 0\nface 2 1 7 6 0\nface 3 0 7 10 0\ngaps 1\n", done 375) ∷
+    -- S12: the listing, and the overlay file with its 375 bytes
+    sheet {A = List ℕ × Written} (listing maps s12, writtenOf 375 (s12 .tables) (s12 .answer))
+    (ascii "vertices 10 edges 12 faces 4\nface 0 0 0 - 1\nface 1 1 0 0 0\nface 2 1 7 6 0\nface 3 0 7 10 0\ngaps 1\n", record { answer = done 375; buffer = s12File }) ∷
     []
 
 -- every sheet of a list is answered as it should be
