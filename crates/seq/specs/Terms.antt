@@ -1,14 +1,15 @@
 -- The words in which the laws are stated. None of them is computed by an operation; in order:
---   Among, Every, Above, Rising      the members of a list, and lists in strict order
+--   Among, Every, Rising, Ordered    the members of a list, and lists in strict order
 --   Has, Strict, Order, Best         a candidate below a bound, what a comparison has to be, what is best
---   iter, orbit, Reach, Injects      a function step by step, and one that takes no value twice
+--   Ranked, previous                 groups of numbers in cyclic order
+--   iter, orbit, steps, Injects      a function step by step, and one that takes no value twice
 --   sum, upto, ind                   sums in ℤ
 -- A list rises if each element is before all that come after it, not before the next alone: so a law on lists needs no transitivity.
 -- Assumes nothing.
 use mathlib.Core.Path.{_≡_}
 use mathlib.Core.Logic.{_⊎_}
 use Prim.Native.Nat.{_<_}
-use Rattle.seq.specs.Seq.{Bool, true, false, List, [], _∷_, Option, none, some, ℕ, zero, suc, eqb, getD, ℤ, pos, _+ℤ_}
+use Rattle.seq.specs.Seq.{Bool, true, false, cond, not, _&&_, List, [], _∷_, Option, none, some, Option·getD, ℕ, zero, suc, eqb, length, getD, least, best, ℤ, pos, _+ℤ_}
 
 -- ── members ──
 
@@ -52,6 +53,21 @@ module _ {A : Type 0} (b : A → A → Bool) where
   abbrev pub Asymmetric : Type 0
   Asymmetric = (x y : A) → b x y ≡ true → b y x ≡ true → ⊥
 
+  -- p and what it is joined to stand where that stood
+  pub record Joins (join : A → A → A) (p : A) : Type 0 where
+    pub after : (x q : A) → b p q ≡ false → b q p ≡ false → b x q ≡ true → b x (join p q) ≡ true
+    pub ahead : (q x : A) → b p q ≡ false → b q p ≡ false → b q x ≡ true → b (join p q) x ≡ true
+
+  -- q stands in a list, and neither is before the other
+  pub record Like (p : A) (l : List A) (q : A) : Type 0 where
+    pub stands : Among q l
+    pub not-before : b p q ≡ false
+    pub not-after : b q p ≡ false
+
+  -- x is joined from p and one of a list
+  abbrev pub Joined : (A → A → A) → A → A → List A → Type 0
+  Joined join p x l = (q : A) × Like p l q × (x ≡ join p q)
+
 -- numbers in rising order
 abbrev pub Asc : List ℕ → Type 0
 Asc [] = Unit {0}
@@ -94,6 +110,32 @@ module _ (p : ℕ → Bool) where
     TopIs n none = (k : ℕ) → Has n k → ⊥
     TopIs n (some r) = Top n r
 
+-- ── cycles ──
+
+-- those with the mark first, and by s among those of one mark
+abbrev pub marked : Bool → Bool → Bool → Bool
+marked a b s = cond a (cond b s true) (cond b false s)
+
+-- the numbers below n fall into groups by o
+module _ (o : ℕ → ℕ) (less : ℕ → ℕ → Bool) (n : ℕ) where
+  -- less is a strict total order of each group
+  pub record Ranked : Type 0 where
+    pub irr : (x : ℕ) → x < n → less x x ≡ false
+    pub trans : (x y z : ℕ) → x < n → y < n → z < n → o x ≡ o y → o y ≡ o z → less x y ≡ true → less y z ≡ true → less x z ≡ true
+    pub total : (x y : ℕ) → x < n → y < n → o x ≡ o y → (x ≡ y → ⊥) → less x y ≡ false → less y x ≡ true
+
+  -- of t's group without t
+  abbrev pub others : ℕ → ℕ → Bool
+  others t h = eqb (o h) (o t) && not (eqb h t)
+
+  -- going down from t and on from the top, h comes before r
+  abbrev pub soonerBy : ℕ → ℕ → ℕ → Bool
+  soonerBy t h r = marked (less h t) (less r t) (less r h)
+
+  -- the one before t in its group's cycle; t where it is alone
+  abbrev pub previous : ℕ → ℕ
+  previous t = Option·getD (best (others t) (soonerBy t) n) t
+
 -- ── a function step by step ──
 
 module _ (f : ℕ → ℕ) where
@@ -106,6 +148,10 @@ module _ (f : ℕ → ℕ) where
   orbit zero x = []
   orbit (suc k) x = x ∷ orbit k (f x)
 
+  -- the steps after the first until h comes back, at most n
+  abbrev pub steps : ℕ → ℕ → ℕ
+  steps n h = least (λ k. eqb (f (iter k h)) h) n
+
   -- y is met from x
   abbrev pub Reach : ℕ → ℕ → Type 0
   Reach x y = (k : ℕ) × (iter k x ≡ y)
@@ -114,6 +160,13 @@ module _ (f : ℕ → ℕ) where
   pub record Injects (n : ℕ) : Type 0 where
     pub into : (x : ℕ) → x < n → f x < n
     pub once : (x y : ℕ) → x < n → y < n → f x ≡ f y → x ≡ y
+
+-- following in a list, and how many follow h on its walk
+abbrev pub step : List ℕ → ℕ → ℕ
+step nx x = getD nx x 0
+
+abbrev pub turns : List ℕ → ℕ → ℕ
+turns nx h = steps (step nx) (length nx) h
 
 -- ── sums in ℤ ──
 
