@@ -1,0 +1,4 @@
+pub mod Cone
+pub mod Points
+pub mod Ends
+pub mod Angles

@@ -1,0 +1,1 @@
+// The laws of the plane: everything is in specs/. No code.
