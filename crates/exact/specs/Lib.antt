@@ -11,3 +11,5 @@ pub mod Sign
 pub mod Tests
 pub mod Cast
 pub mod Range
+pub mod Compare
+pub mod Quotients

@@ -1,0 +1,64 @@
+-- `exact::compare::compare` meets its contract: the cross products fit where both fractions are narrow, and their order is that of the fractions.
+-- Assumes nothing.
+use borrow.Author.Needs.{needs}
+use mathlib.Core.Path.{_≡_, sym, ap, _∙_}
+use mathlib.Core.Bool.{Bool, true}
+use lib.IntN.{ℤ, pos, _-ℤ_, _*ℤ_}
+use lib.Signed.{_<ℤ_}
+use mir.Syntax.{w64}
+use mir.Val.{SFits, toZ, ofZ}
+use mir.ValLaws.{toZ-ofZ}
+use Rattle.exact.specs.Order.{sgn}
+use Rattle.exact.specs.Mach.{tr, fits, plain}
+use Rattle.exact.specs.Compare.{fractions, Narrow, narrowOf, narrow-is}
+use Rattle.exact.proofs.compare.compare.Statement.{statement}
+use Rattle.exact.proofs.compare.compare.Tie as tie
+
+narrow-requires : tie.Need-narrow-requires
+narrow-requires c κs = search needs
+
+narrow-requires-2 : tie.Need-narrow-requires-2
+narrow-requires-2 c κs = search needs
+
+-- both fractions are narrow
+shown : (x d : ℤ) {b : Bool} → SFits w64 x → SFits w64 d → pos 0 <ℤ d → b ≡ narrowOf (toZ w64 (ofZ w64 x)) (toZ w64 (ofZ w64 d)) → b ≡ true → Narrow x d
+shown x d f g h e t = narrow-is x d h ((λ i. narrowOf (sym (toZ-ofZ w64 x f) i) (sym (toZ-ofZ w64 d g) i)) ∙ sym e ∙ t)
+
+first : (c : tie.Then2) → let s = c .before .before .before .before in Narrow (s .args .x) (s .args .d)
+first c =
+    let s = c .before .before .before .before in
+    shown (s .args .x) (s .args .d) (s .fits .x) (s .fits .d) (s .pre .first) (c .before .before .before .narrow .ensures) (c .before .before .if1 .taken)
+
+second : (c : tie.Then2) → let s = c .before .before .before .before in Narrow (s .args .y) (s .args .e)
+second c =
+    let s = c .before .before .before .before in
+    shown (s .args .y) (s .args .e) (s .fits .y) (s .fits .e) (s .pre .second) (c .before .narrow2 .ensures) (c .if2 .taken)
+
+-- the cross product as the machine has it
+product : (x d y e : ℤ) → Narrow x d → Narrow y e → toZ w64 (ofZ w64 (toZ w64 (ofZ w64 x) *ℤ toZ w64 (ofZ w64 e))) ≡ x *ℤ e
+product x d y e p q = plain (search tr depth 20) tt
+
+mul-order : tie.Need-mul-order
+mul-order c = let p = first c in let q = second c in fits (search tr depth 20) tt
+
+mul-order-2 : tie.Need-mul-order-2
+mul-order-2 c = let p = first c in let q = second c in fits (search tr depth 20) tt
+
+order-requires : tie.Need-order-requires
+order-requires c κs = search needs
+
+returns : tie.Need-returns
+returns c =
+    let s = c .before .before .before .before .before .args in
+    c .order .ensures ∙ (λ i. sgn (product (s .x) (s .d) (s .y) (s .e) (first (c .before)) (second (c .before)) i -ℤ product (s .y) (s .e) (s .x) (s .d) (second (c .before)) (first (c .before)) i))
+
+wide-requires : tie.Need-wide-requires
+wide-requires c κs = search needs
+
+returns-2 : tie.Need-returns-2
+returns-2 c =
+    let s = c .before .before .before in
+    c .wide .ensures ∙ (λ i. fractions (toZ-ofZ w64 (s .args .x) (s .fits .x) i) (toZ-ofZ w64 (s .args .d) (s .fits .d) i) (toZ-ofZ w64 (s .args .y) (s .fits .y) i) (toZ-ofZ w64 (s .args .e) (s .fits .e) i))
+
+pub compare-spec : {M : Type 1} → statement M
+compare-spec = tie.close (tie.spec narrow-requires narrow-requires-2 mul-order mul-order-2 order-requires returns wide-requires returns-2)
