@@ -1,0 +1,1 @@
+// Laws of the graph: everything is in specs/. No code.
