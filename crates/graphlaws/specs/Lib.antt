@@ -1,2 +1,4 @@
 pub mod Halves
 pub mod Plane
+pub mod Downward
+pub mod Follow
