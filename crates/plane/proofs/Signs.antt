@@ -1,0 +1,44 @@
+-- The number of a sign. In order: of a difference, by the tests that the code makes; of a pair, as `lexS` picks; the tests on signs as tests on their numbers.
+-- Assumes nothing.
+use mathlib.Core.Path.{_≡_, refl, sym, _∙_}
+use mathlib.Core.Bool.{Bool, cond}
+use Prim.Native.Nat.{ℕ}
+use native.Mathlib.Omega.{arith}
+use lib.IntN.{ℤ, pos, negsuc, _-ℤ_}
+use lib.Signed.{ltZ}
+use Rattle.exact.specs.Mach.{eqZ}
+use Rattle.exact.specs.Sign.{Sign, neg, zer, plus, sgn, isNeg, isZer, isPlus, pick}
+use Rattle.exact.specs.Tests.{lt-sign, gt-sign}
+use Rattle.paper.specs.Plane.{signNumber}
+
+-- -1 where a is less than b, 1 where it is greater, 0 otherwise
+pub number-by : (a b : ℤ) {p q : Bool} → ltZ a b ≡ p → ltZ b a ≡ q → cond p (negsuc 0) (cond q (pos 1) (pos 0)) ≡ signNumber (sgn (a -ℤ b))
+number-by a b e f =
+    (λ i. cond ((sym e ∙ lt-sign a b) i) (negsuc 0) (cond ((sym f ∙ gt-sign a b) i) (pos 1) (pos 0))) ∙ go (sgn (a -ℤ b))
+  where
+    go : (s : Sign) → cond (isNeg s) (negsuc 0) (cond (isPlus s) (pos 1) (pos 0)) ≡ signNumber s
+    go neg = refl
+    go zer = refl
+    go plus = refl
+
+-- of a pair: the second number's, where the first is 0
+pub pick-zer : (s t : Sign) → signNumber s ≡ pos 0 → signNumber t ≡ signNumber (pick s t)
+pick-zer neg t e = let z : _≡_ {A = ℕ} 0 1 = cc in absurd (omega arith)
+pick-zer zer t e = refl
+pick-zer plus t e = let z : _≡_ {A = ℕ} 0 1 = cc in absurd (omega arith)
+
+pub pick-not : (s t : Sign) → (signNumber s ≡ pos 0 → ⊥) → signNumber s ≡ signNumber (pick s t)
+pick-not neg t f = refl
+pick-not zer t f = absurd (f refl)
+pick-not plus t f = refl
+
+-- ---- tests
+pub isNeg-number : (s : Sign) → ltZ (signNumber s) (pos 0) ≡ isNeg s
+isNeg-number neg = refl
+isNeg-number zer = refl
+isNeg-number plus = refl
+
+pub isZer-number : (s : Sign) → eqZ (signNumber s) (pos 0) ≡ isZer s
+isZer-number neg = refl
+isZer-number zer = refl
+isZer-number plus = refl

@@ -1,0 +1,22 @@
+-- The values of the code as the values of document 01's definitions: a Point is a point in fractions, a Vector a corner or a direction, a Seg an edge in whole
+-- numbers. Assumes nothing.
+use lib.IntN.{ℤ}
+use Rattle.exact.specs.Lowest.{pt}
+use Rattle.exact.specs.declared.lowest.Point.{Point}
+use Rattle.paper.specs.Plane.{Pt, Vec, vec}
+use Rattle.paper.specs.Plane as Plane
+use Rattle.plane.specs.declared.point.Vector.{Vector}
+use Rattle.plane.specs.declared.point.Seg.{Seg}
+
+-- the edge from the corner x, y along u, v
+abbrev pub seg : ℤ → ℤ → ℤ → ℤ → Plane.Seg
+seg x y u v = record { foot = vec x y; up = vec u v }
+
+abbrev pub ptOf : Point → Pt
+ptOf p = pt (p .x) (p .y) (p .d)
+
+abbrev pub vecOf : Vector → Vec
+vecOf u = vec (u .x) (u .y)
+
+abbrev pub segOf : Seg → Plane.Seg
+segOf s = seg (s .x) (s .y) (s .u) (s .v)

@@ -1,0 +1,36 @@
+// On which side of an edge's line a point lies.
+use super::order::compare;
+use super::point::Point;
+use super::point::Seg;
+ghost use mathlib.Core.Path.{_≡_};
+ghost use Prim.Native.Nat.{_≤_};
+ghost use lib.IntN.{natAbs};
+ghost use Rattle.exact.specs.Lowest.{pt};
+ghost use Rattle.paper.specs.Plane.{leftBy, side};
+ghost use Rattle.plane.specs.Values.{seg, ptOf, segOf};
+ghost use Rattle.plane.specs.Bounds.{Near, Edge, NearBy, EdgeBy, lefts};
+
+fn left(x: i64, y: i64, u: i64, v: i64, px: i64, py: i64, d: i64) -> i64
+    requires { ⌜ Edge x y u v × Near px py d ⌝ }
+    ensures is { λ r. ⌜ r ≡ leftBy (seg x y u v) (pt px py d) ⌝ }
+    ensures bound { λ r. ⌜ natAbs r ≤ lefts ⌝ }
+{
+    u * (py - y * d) - v * (px - x * d)
+}
+
+// How far p lies to the left of s.
+pub fn left_by(s: Seg, p: Point) -> i64
+    requires { ⌜ EdgeBy s × NearBy p ⌝ }
+    ensures is { λ r. ⌜ r ≡ leftBy (segOf s) (ptOf p) ⌝ }
+    ensures bound { λ r. ⌜ natAbs r ≤ lefts ⌝ }
+{
+    left(s.x, s.y, s.u, s.v, p.x, p.y, p.d)
+}
+
+// "+1 left, 0 on it, −1 right"
+pub fn side(s: Seg, p: Point) -> i64
+    requires { ⌜ EdgeBy s × NearBy p ⌝ }
+    ensures { λ r. ⌜ r ≡ side (segOf s) (ptOf p) ⌝ }
+{
+    compare(left_by(s, p), 0)
+}
