@@ -2,3 +2,4 @@ pub mod Halves
 pub mod Plane
 pub mod Downward
 pub mod Follow
+pub mod Walks
