@@ -3,3 +3,4 @@ pub mod Plane
 pub mod Downward
 pub mod Follow
 pub mod Walks
+pub mod Holes
