@@ -1,0 +1,12 @@
+pub mod Sum
+pub mod Cut
+pub mod Halves
+pub mod Tab
+pub mod Balance
+pub mod Signs
+pub mod Order
+pub mod Cuts
+pub mod Slide
+pub mod Clear
+pub mod Through
+pub mod Pot
