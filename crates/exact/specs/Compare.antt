@@ -14,7 +14,7 @@ use Rattle.exact.specs.Solve.{ring, reify}
 use Rattle.exact.specs.Order.{zomega, sq, <-to, <→≤, 0≤-*, 0<-*}
 use Rattle.exact.specs.Sign.{Sign, neg, zer, plus, sgn, sgn-neg, negS, sums, sgn-sums, sgn-negℤ, sg, sgn-is, sg-scale}
 use Rattle.exact.specs.Tests.{and-parts, lt-t}
-use Rattle.exact.specs.Mach.{abs-of}
+use Rattle.exact.specs.Abs.{abs-of, abs-is-self, abs-is-neg}
 use Rattle.exact.specs.declared.compare.Ordering.{Ordering}
 use Rattle.exact.specs.declared.compare.Ordering.the-variants.{Less, Equal, Greater}
 
@@ -71,16 +71,6 @@ fractions-sums x d y e z f p q r =
     sgn-sums f d e (x *ℤ e -ℤ y *ℤ d) (y *ℤ f -ℤ z *ℤ e) (x *ℤ f -ℤ z *ℤ d) r p q (ring (x ∷ d ∷ y ∷ e ∷ z ∷ f ∷ []) (search reify depth 20) tt)
 
 -- ---- by the signs of the numerators, and by magnitudes
-abs-is : (x : ℤ) → pos 0 ≤ℤ x → pos (natAbs x) ≡ x
-abs-is x h = pos-natAbs x (yes-nonNeg h)
-
-abs-of-neg : (x : ℤ) → x <ℤ pos 0 → pos (natAbs x) ≡ negℤ x
-abs-of-neg (pos n) h = absurd (no (<-to (pos n) (pos 0) h))
-  where
-    no : n + 0 < 0 + 0 → ⊥
-    no h = omega arith
-abs-of-neg (negsuc n) h = refl
-
 module _ (x d y e : ℤ) (hd : pos 0 <ℤ d) (he : pos 0 <ℤ e) where
   pub fractions-opposite : x <ℤ pos 0 → pos 0 ≤ℤ y → fractions x d y e ≡ neg
   fractions-opposite hx hy =
@@ -93,11 +83,11 @@ module _ (x d y e : ℤ) (hd : pos 0 <ℤ d) (he : pos 0 <ℤ e) where
       less x d y e = zomega (x ∷ d ∷ y ∷ e ∷ []) (search sq depth 20) (omega arith)
 
   pub fractions-magnitudes : pos 0 ≤ℤ x → pos 0 ≤ℤ y → fractions (pos (natAbs x)) (pos (natAbs d)) (pos (natAbs y)) (pos (natAbs e)) ≡ fractions x d y e
-  fractions-magnitudes hx hy = λ i. fractions (abs-is x hx i) (abs-is d (<→≤ hd) i) (abs-is y hy i) (abs-is e (<→≤ he) i)
+  fractions-magnitudes hx hy = λ i. fractions (abs-is-self x hx i) (abs-is-self d (<→≤ hd) i) (abs-is-self y hy i) (abs-is-self e (<→≤ he) i)
 
   pub fractions-negative : x <ℤ pos 0 → y <ℤ pos 0 → fractions (pos (natAbs y)) (pos (natAbs e)) (pos (natAbs x)) (pos (natAbs d)) ≡ fractions x d y e
   fractions-negative hx hy =
-      (λ i. fractions (abs-of-neg y hy i) (abs-is e (<→≤ he) i) (abs-of-neg x hx i) (abs-is d (<→≤ hd) i)) ∙ ap sgn (turned x d y e)
+      (λ i. fractions (abs-is-neg y hy i) (abs-is-self e (<→≤ he) i) (abs-is-neg x hx i) (abs-is-self d (<→≤ hd) i)) ∙ ap sgn (turned x d y e)
     where
       turned : (x d y e : ℤ) → negℤ y *ℤ d -ℤ negℤ x *ℤ e ≡ x *ℤ e -ℤ y *ℤ d
       turned x d y e = ring (x ∷ d ∷ y ∷ e ∷ []) (search reify depth 20) tt

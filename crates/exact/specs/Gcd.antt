@@ -8,7 +8,7 @@ use native.Mathlib.Omega.{arith}
 use lib.Arith.{digits-mod}
 use lib.IntN.{ℤ, pos, negsuc, negℤ, natAbs, _*ℤ_, *ℤ-comm}
 use Rattle.exact.specs.Mul.{*-cancel-≡}
-use Rattle.exact.specs.Mach.{abs-*, abs-neg}
+use Rattle.exact.specs.Abs.{abs-*, abs-neg}
 use Rattle.exact.specs.Ring.{neg-*ℤ}
 use Rattle.exact.specs.Solve.{ring, reify}
 use mathlib.Core.List.{[], _∷_}

@@ -16,7 +16,8 @@ use lib.Signed.{quotZ, _<ℤ_}
 use Rattle.exact.specs.Solve.{ring, reify}
 use Rattle.exact.specs.Order.{<-to, <-of, <→≢}
 use Rattle.exact.specs.Mul.{*-cancel-≡, ≡-by₂}
-use Rattle.exact.specs.Mach.{bd-quot}
+pub use Rattle.exact.specs.Abs.{abs-pos}
+use Rattle.exact.specs.Abs.{bd-quot}
 use Rattle.exact.specs.Gcd.{gcd3, gcdOf, gcd-step, gcd-zero, reduce-lowest, reduce-x, reduce-y, quot-exact, lowest-d}
 use Rattle.exact.specs.Gcd as Gcd
 
@@ -38,11 +39,6 @@ lowest X Y D =
 pub record Lowest (p : Pt) : Type 0 where
   pub positive : pos 0 <ℤ p .D
   pub coprime : gcd3 (natAbs (p .X)) (natAbs (p .Y)) (natAbs (p .D)) ≡ 1
-
--- ---- a number greater than 0
-pub abs-pos : (d : ℤ) → pos 0 <ℤ d → 0 < natAbs d
-abs-pos (pos n) h = omega (arith, <-to (pos 0) (pos n) h)
-abs-pos (negsuc n) h = absurd (h .lt)
 
 pos-lt : (n : ℕ) → 0 < n → pos 0 <ℤ pos n
 pos-lt n h = <-of (pos 0) (pos n) (omega arith)

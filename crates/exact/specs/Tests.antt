@@ -1,16 +1,15 @@
 -- The Boolean tests as facts and back, in three parts: Bools by themselves; the tests `ltZ`, `leZ`, `eqZ` of whole numbers; each of those as a test of the
 -- sign of a difference. Assumes nothing.
-use mathlib.Core.Path.{_≡_, refl, sym, subst}
-use mathlib.Core.Bool.{Bool, true, false, _&&_, _||_}
+use mathlib.Core.Path.{_≡_, refl, sym, ap, subst}
+use mathlib.Core.Bool.{Bool, true, false, not, _&&_, _||_}
 use mathlib.Core.List.{[], _∷_}
 use mathlib.Core.Logic.{_⊎_, inl, inr, ⊎-elim}
 use Prim.Native.Nat.{ℕ}
 use native.Mathlib.Omega.{arith}
-use lib.Dec.{T}
-use lib.IntN.{ℤ, pos, _-ℤ_}
+use lib.Dec.{T, eqb, eqb→eq, eqb-refl}
+use lib.IntN.{ℤ, pos, negsuc, _-ℤ_}
 use lib.Signed.{ltZ, leZ, _≤ℤ_, _<ℤ_}
 use Rattle.exact.specs.Order.{zomega, sq, ≤-or-<, ≤→≯, <→≤}
-use Rattle.exact.specs.Mach.{eqZ, eqZ→, →eqZ}
 use Rattle.exact.specs.Sign.{Sign, sgn, Sg, is-neg, is-zer, is-plus, sg, isNeg, isZer, isPlus}
 
 -- ---- Bool
@@ -38,6 +37,25 @@ T-true false t = absurd t
 
 pub true-T : {b : Bool} → b ≡ true → T b
 true-T e = subst T (sym e) tt
+
+pub holds : {b : Bool} → b ≡ true → T b
+holds e = true-T e
+
+pub fails : {b : Bool} → b ≡ false → T (not b)
+fails e = subst (λ (t : Bool). T (not t)) (sym e) tt
+
+pub true-of : {b : Bool} → T b → b ≡ true
+true-of {b} t = T-true b t
+
+pub false-of : {b : Bool} → T (not b) → b ≡ false
+false-of {b = true} t = absurd t
+false-of {b = false} t = refl
+
+pub bool-iff : (b c : Bool) → (T b → T c) → (T c → T b) → b ≡ c
+bool-iff true true f g = refl
+bool-iff true false f g = absurd (f tt)
+bool-iff false true f g = absurd (g tt)
+bool-iff false false f g = refl
 
 pub or-l : {a : Bool} (b : Bool) → a ≡ true → (a || b) ≡ true
 or-l b e = rw e
@@ -85,6 +103,29 @@ f-le {a} {b} h = not-true (leZ a b) (λ e. ≤→≯ (le-t e) h)
 
 pub le-f : (a b : ℤ) → leZ a b ≡ false → b <ℤ a
 le-f a b e = ⊎-elim (λ h. absurd (clash (t-le h) e)) (λ h. h) (≤-or-< a b)
+
+-- ---- the test of equality
+abbrev pub eqZ : ℤ → ℤ → Bool
+eqZ (pos a) (pos b) = eqb a b
+eqZ (pos a) (negsuc b) = false
+eqZ (negsuc a) (pos b) = false
+eqZ (negsuc a) (negsuc b) = eqb a b
+
+eqZ→′ : (a b : ℤ) → T (eqZ a b) → a ≡ b
+eqZ→′ (pos a) (pos b) t = ap pos (eqb→eq a b t)
+eqZ→′ (pos a) (negsuc b) t = absurd t
+eqZ→′ (negsuc a) (pos b) t = absurd t
+eqZ→′ (negsuc a) (negsuc b) t = ap negsuc (eqb→eq a b t)
+
+pub eqZ→ : {a b : ℤ} → T (eqZ a b) → a ≡ b
+eqZ→ {a} {b} t = eqZ→′ a b t
+
+eqZ-refl : (a : ℤ) → T (eqZ a a)
+eqZ-refl (pos a) = eqb-refl a
+eqZ-refl (negsuc a) = eqb-refl a
+
+pub →eqZ : {a b : ℤ} → a ≡ b → T (eqZ a b)
+→eqZ {a} {b} e = subst (λ (c : ℤ). T (eqZ a c)) e (eqZ-refl a)
 
 pub eq-t : (a b : ℤ) → eqZ a b ≡ true → a ≡ b
 eq-t a b e = eqZ→ (true-T e)
