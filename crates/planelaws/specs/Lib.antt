@@ -5,3 +5,5 @@ pub mod Angles
 pub mod Sides
 pub mod Edges
 pub mod Lines
+pub mod Crossing
+pub mod Bounds
