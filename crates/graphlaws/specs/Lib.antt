@@ -4,3 +4,4 @@ pub mod Downward
 pub mod Follow
 pub mod Walks
 pub mod Holes
+pub mod East

@@ -8,16 +8,15 @@ use native.Mathlib.Decide.{decLt}
 use native.Mathlib.Omega.{arith}
 use lib.Signed.{_<ℤ_}
 use lib.ListN.{List·getD-eq-default}
-use Rattle.seq.specs.Seq.{Bool, true, false, cond, not, [], _∷_, ℕ, _+_, _*_, _/_, length, ℤ, pos, negℤ, _-ℤ_, _*ℤ_}
+use Rattle.seq.specs.Seq.{Bool, true, false, cond, not, ℕ, _+_, _*_, _/_, length, pos, negℤ}
 use Rattle.seq.specs.Tests.{clash, not-true, not-false, way}
-use Rattle.exact.specs.Solve.{ring, reify}
-use Rattle.exact.specs.Mul.{≡-by₂}
-use Rattle.paper.specs.Plane.{Pt, Seg, whole, nowhere, dir, cross, opposite, rises, before, same, lower, upper, leftBy}
+use Rattle.paper.specs.Plane.{Pt, whole, nowhere, dir, cross, opposite, rises, before, same, lower, upper}
 use Rattle.paper.specs.Graph.{Graph, edgeCount, halfCount, point, edge, twin, origin, start, low, high, goesUp, upward, heading, leftOf}
 use Rattle.planelaws.specs.Cone.{NonZero, rises-up, up-nonzero, opposite-nonzero, rises-opposite}
 use Rattle.planelaws.specs.Points.{after, before-asym, neither}
 use Rattle.planelaws.specs.Ends.{0<1, lower-is, upper-is, lower-flip, upper-flip, lower-upper, lower-before}
 use Rattle.planelaws.specs.Angles.{cross-swap, cross-back, SameWay}
+use Rattle.planelaws.specs.Sides.{chord}
 use Rattle.graphlaws.specs.Halves.{twin-twin, twin-half, twin-below, half-below, half-first, half-second, first-below, second-below, twin-first, twin-second, Which, first, second, which}
 
 pub record Plane (g : Graph) : Type 0 where
@@ -51,14 +50,6 @@ module _ (g : Graph) where
   -- one that goes up starts at the lower end and ends at the upper
   pub up-ends : (h : ℕ) → goesUp g h ≡ true → (low g (h / 2) ≡ start g h) × (high g (h / 2) ≡ start g (twin h))
   up-ends h u = up-by h u (which h)
-
--- u1·v2 − u2·v1 of the line's direction and of the way from q to p
-line-by : (a b x y px py pd qx qy qd : ℤ) →
-    a *ℤ (py *ℤ qd -ℤ qy *ℤ pd) -ℤ b *ℤ (px *ℤ qd -ℤ qx *ℤ pd) ≡ qd *ℤ (a *ℤ (py -ℤ y *ℤ pd) -ℤ b *ℤ (px -ℤ x *ℤ pd)) -ℤ pd *ℤ (a *ℤ (qy -ℤ y *ℤ qd) -ℤ b *ℤ (qx -ℤ x *ℤ qd))
-line-by a b x y px py pd qx qy qd = ring (a ∷ b ∷ x ∷ y ∷ px ∷ py ∷ pd ∷ qx ∷ qy ∷ qd ∷ []) (search reify depth 20) tt
-
-pub line-dir : (s : Seg) (q p : Pt) → cross (s .up) (dir q p) ≡ q .D *ℤ leftBy s p -ℤ p .D *ℤ leftBy s q
-line-dir s q p = line-by (s .up .x) (s .up .y) (s .foot .x) (s .foot .y) (p .X) (p .Y) (p .D) (q .X) (q .Y) (q .D)
 
 module _ (g : Graph) (P : Plane g) where
   pub real-at : (v : ℕ) → pos 0 <ℤ point g v .D
@@ -142,21 +133,17 @@ module _ (g : Graph) (P : Plane g) where
         go false = rises-opposite (upward g (h / 2)) up-moves ∙ ap not (P .rising (h / 2) (half-below g h l))
 
     -- its edge's direction is parallel to the way from its start to its end
-    chord : cross (upward g (h / 2)) (dir (start g h) (start g (twin h))) ≡ pos 0
-    chord =
-        line-dir (edge g (h / 2) .carrier) (start g h) (start g (twin h))
-        ∙ zero (start g h .D) (start g (twin h) .D) (leftOf g (start g (twin h)) (h / 2)) (leftOf g (start g h) (h / 2))
-        (ap (leftOf g (start g (twin h))) (sym (twin-half h)) ∙ P .on-line (twin h) (twin-below g h l)) (P .on-line h l)
-      where
-        zero : (a b x y : ℤ) → x ≡ pos 0 → y ≡ pos 0 → a *ℤ x -ℤ b *ℤ y ≡ pos 0
-        zero a b x y e f = ≡-by₂ e a f (negℤ b) (ring (a ∷ b ∷ x ∷ y ∷ []) (search reify depth 20) tt)
+    along-chord : cross (upward g (h / 2)) (dir (start g h) (start g (twin h))) ≡ pos 0
+    along-chord =
+        chord (edge g (h / 2) .carrier) (start g h) (start g (twin h)) (P .on-line h l)
+        (ap (leftOf g (start g (twin h))) (sym (twin-half h)) ∙ P .on-line (twin h) (twin-below g h l))
 
     -- the heading is the direction from the start to the end
     pub heading-along : SameWay (heading g h) (dir (start g h) (start g (twin h)))
     heading-along = record { parallel = go (goesUp g h); half = heading-rises ∙ after (start g (twin h)) (start g h) }
       where
         go : (c : Bool) → cross (cond c (upward g (h / 2)) (opposite (upward g (h / 2)))) (dir (start g h) (start g (twin h))) ≡ pos 0
-        go true = chord
+        go true = along-chord
         go false =
             cross-swap (dir (start g h) (start g (twin h))) (opposite (upward g (h / 2)))
-            ∙ ap negℤ (cross-back (dir (start g h) (start g (twin h))) (upward g (h / 2)) ∙ ap negℤ (cross-swap (upward g (h / 2)) (dir (start g h) (start g (twin h))) ∙ ap negℤ chord))
+            ∙ ap negℤ (cross-back (dir (start g h) (start g (twin h))) (upward g (h / 2)) ∙ ap negℤ (cross-swap (upward g (h / 2)) (dir (start g h) (start g (twin h))) ∙ ap negℤ along-chord))
