@@ -5,3 +5,4 @@ pub mod Follow
 pub mod Walks
 pub mod Holes
 pub mod East
+pub mod West

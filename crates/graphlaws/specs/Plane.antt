@@ -81,6 +81,13 @@ module _ (g : Graph) (P : Plane g) where
 
   -- ── the two ends of edge k ──
 
+  pub ends-real : (k : ℕ) → (pos 0 <ℤ low g k .D) × (pos 0 <ℤ high g k .D)
+  ends-real k = go (before (start g (2 * k + 1)) (start g (2 * k)))
+    where
+      go : (c : Bool) → (pos 0 <ℤ cond c (start g (2 * k + 1)) (start g (2 * k)) .D) × (pos 0 <ℤ cond c (start g (2 * k)) (start g (2 * k + 1)) .D)
+      go true = (real-at (origin g (2 * k + 1)), real-at (origin g (2 * k)))
+      go false = (real-at (origin g (2 * k)), real-at (origin g (2 * k + 1)))
+
   module _ (k : ℕ) (l : k < edgeCount g) where
     pub low-high : before (low g k) (high g k) ≡ true
     low-high = lower-before (start g (2 * k)) (start g (2 * k + 1)) (⊎-elim (λ u. inl (up u)) (λ d. inr (down d)) (way (goesUp g (2 * k))))
