@@ -6,3 +6,4 @@ pub mod Walks
 pub mod Holes
 pub mod East
 pub mod West
+pub mod Seen
