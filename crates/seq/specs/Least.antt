@@ -14,7 +14,11 @@ use Rattle.seq.specs.Tests.{clash, not-true, not-false}
 module _ (p : ℕ → Bool) where
   -- ── what is found ──
 
-  le-step : (r n : ℕ) (b c : Bool) → ltb r n ≡ b → cond b r (cond c n (suc n)) ≤ suc n
+  -- the least of suc n numbers from the least r of n, by the two tests
+  abbrev next : ℕ → ℕ → Bool → Bool → ℕ
+  next r n b c = cond b r (cond c n (suc n))
+
+  le-step : (r n : ℕ) (b c : Bool) → ltb r n ≡ b → next r n b c ≤ suc n
   le-step r n true c e = omega (arith, ltb-true r n e)
   le-step r n false true e = omega arith
   le-step r n false false e = omega arith
@@ -23,7 +27,7 @@ module _ (p : ℕ → Bool) where
   least-le zero = le-refl 0
   least-le (suc n) = le-step (least p n) n (ltb (least p n) n) (p n) refl
 
-  holds-step : (r n : ℕ) (b c : Bool) → ltb r n ≡ b → p n ≡ c → (r < n → p r ≡ true) → cond b r (cond c n (suc n)) < suc n → p (cond b r (cond c n (suc n))) ≡ true
+  holds-step : (r n : ℕ) (b c : Bool) → ltb r n ≡ b → p n ≡ c → (r < n → p r ≡ true) → next r n b c < suc n → p (next r n b c) ≡ true
   holds-step r n true c e f ih h = ih (ltb-true r n e)
   holds-step r n false true e f ih h = f
   holds-step r n false false e f ih h = absurd (omega arith)
@@ -33,7 +37,7 @@ module _ (p : ℕ → Bool) where
   least-holds zero h = absurd (not-suc-le-zero h)
   least-holds (suc n) h = holds-step (least p n) n (ltb (least p n) n) (p n) refl refl (least-holds n) h
 
-  min-step : (r n : ℕ) (b c : Bool) → ltb r n ≡ b → p n ≡ c → ((k : ℕ) → k < r → p k ≡ false) → (k : ℕ) → k < cond b r (cond c n (suc n)) → p k ≡ false
+  min-step : (r n : ℕ) (b c : Bool) → ltb r n ≡ b → p n ≡ c → ((k : ℕ) → k < r → p k ≡ false) → (k : ℕ) → k < next r n b c → p k ≡ false
   min-step r n true c e f ih k h = ih k h
   min-step r n false true e f ih k h = ih k (omega (arith, ltb-false r n e))
   min-step r n false false e f ih k h =

@@ -1,4 +1,5 @@
 pub mod Seq
+pub mod Worked
 pub mod Terms
 pub mod Tests
 pub mod Members

@@ -6,9 +6,10 @@ use Prim.Native.Nat.{_≤_, _<_, _-_, _*_, zero-le}
 use native.Mathlib.Nat.{zero-sub, sub-zero, suc-sub-suc}
 use native.Mathlib.Numerals.{add-one}
 use native.Mathlib.Omega.{arith}
-use lib.ListN.{set, take-append-drop, length-drop, length-append, length-replicate, getD-replicate, replicate-append-replicate, List·getD-append, List·getD-eq-default}
+use lib.ListN.{set, length-set, take-append-drop, length-drop, length-append, length-replicate, getD-replicate, replicate-append-replicate, List·getD-append, List·getD-eq-default}
 use lib.Seq.{length-take-le, take-at, getD-append-add}
 use Rattle.seq.specs.Seq.{List, [], _∷_, _++_, ℕ, zero, suc, _+_, length, getD, replicate, take, drop, table, rows, over, filled, laid, padded, wiping, wiped}
+use Rattle.seq.specs.Terms.{Wiping}
 use Rattle.seq.specs.Table.{length-table}
 use Rattle.seq.specs.Rows.{length-rows}
 use Rattle.seq.specs.Over.{over-none, length-over, over-more, over-all}
@@ -69,6 +70,23 @@ module _ {A : Type 0} (z : A) where
   wiping-all n d h =
       over-all (take n d ++ replicate (length d - n) z) d (omega (arith, reached n (length d) d h (omega arith)))
       ∙ ap (λ (k : ℕ). take n d ++ replicate (length d - k) z) (sym (length-take-le n d h))
+
+  -- the loop starts, goes on, ends
+  pub wipe-starts : (n : ℕ) (d : List A) → n ≤ length d → Wiping z n d d n
+  wipe-starts n d h = record { past = omega arith; within = h; kept = refl; is = wiping-none n d h }
+
+  pub wipe-steps : {n : ℕ} {d t : List A} {i : ℕ} → Wiping z n d t i → i < length t → Wiping z n d (set t i z) (i + 1)
+  wipe-steps {n} {d} {t} {i} w h = record {
+    past = omega arith;
+    within = omega arith;
+    kept = length-set t i z ∙ w .kept;
+    is = rw (w .is) (wiping-more n i d (w .past) (omega arith));
+  }
+
+  pub wipe-ends : {n : ℕ} {d t : List A} {i : ℕ} → Wiping z n d t i → length t ≤ i → t ≡ wiped z n d
+  wipe-ends {n} {d} {t} {i} w h =
+      let e : i ≡ length d = omega arith in
+      w .is ∙ ap (λ (k : ℕ). wiping z n k d) e ∙ wiping-all n d (omega arith)
 
   -- ── wiped ──
 

@@ -1,0 +1,38 @@
+-- `wipe_from_u8` meets its contract: where the loop has reached cell i the cells from n to i are 0 and the others as they were. Assumes nothing.
+use Prim.Native.Nat.{_-_}
+use borrow.Author.Needs.{needs}
+use lib.ListN.{length}
+use Rattle.seq.specs.Terms.{Wiping}
+use Rattle.seq.specs.Wiped.{wipe-starts, wipe-steps, wipe-ends}
+use Rattle.seq.proofs.u8s.wipe_from_u8.Statement.{statement}
+use Rattle.seq.proofs.u8s.wipe_from_u8.Tie as tie
+
+abbrev Inv-loop : tie.InvT-loop
+Inv-loop t₀ n i₀ t i = Wiping 0 n t₀ t i
+
+abbrev μ-loop : tie.MeasureT-loop
+μ-loop t₀ n i₀ t i = length t₀ - i
+
+loop-holds : tie.Need-loop-holds Inv-loop μ-loop
+loop-holds c = wipe-starts 0 _ _ (search needs)
+
+slice-write-t : tie.Need-slice-write-t Inv-loop μ-loop
+slice-write-t c = search needs
+
+add-i : tie.Need-add-i Inv-loop μ-loop
+add-i c = search needs
+
+loop-less : tie.Need-loop-less Inv-loop μ-loop
+loop-less c = search needs
+
+loop-again : tie.Need-loop-again Inv-loop μ-loop
+loop-again c = wipe-steps 0 (c .before .loop .inv) (search needs)
+
+same-length : tie.Need-same-length Inv-loop μ-loop
+same-length c = search needs
+
+returns : tie.Need-returns Inv-loop μ-loop
+returns c = wipe-ends 0 (c .before .loop .inv) (search needs)
+
+pub wipe-from-u8-spec : {M : Type 1} → statement M
+wipe-from-u8-spec = tie.close (tie.spec Inv-loop μ-loop loop-holds slice-write-t add-i loop-less loop-again same-length returns)

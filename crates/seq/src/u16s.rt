@@ -1,0 +1,50 @@
+// Tables of u16: wiped from a cell on or whole, and rows stored in them. Row r of a table of rows of w cells is the cells from w * r on.
+ghost use mathlib.Core.Path.{_≡_};
+ghost use mathlib.Core.List.{[], _∷_};
+ghost use Prim.Native.Nat.{_+_, _*_, _≤_};
+ghost use lib.ListN.{length, replicate};
+ghost use Rattle.seq.specs.Seq.{rowStored, wiped};
+
+// Sets every cell from cell n on to 0.
+pub fn wipe_from_u16(t: &mut [u16], n: usize)
+    requires { ⌜ n ≤ length (now t) ⌝ }
+    ensures { λ _. ⌜ now (t .exit) ≡ wiped 0 n (now (t .entry)) ⌝ }
+{
+    let mut i = n;
+    while i < t.len() {
+        t[i] = 0;
+        i += 1;
+    }
+}
+
+// Sets every cell to 0.
+pub fn wipe_u16(t: &mut [u16])
+    ensures { λ _. ⌜ now (t .exit) ≡ replicate (length (now (t .entry))) 0 ⌝ }
+{
+    wipe_from_u16(t, 0);
+}
+
+// Stores a row of four.
+pub fn store4_u16(t: &mut [u16], r: usize, a: u16, b: u16, c: u16, d: u16)
+    requires { ⌜ 4 * r + 4 ≤ length (now t) ⌝ }
+    ensures { λ _. ⌜ now (t .exit) ≡ rowStored 4 (now (t .entry)) r (a ∷ b ∷ c ∷ d ∷ []) ⌝ }
+{
+    let at = 4 * r;
+    t[at] = a;
+    t[at + 1] = b;
+    t[at + 2] = c;
+    t[at + 3] = d;
+}
+
+// Stores a row of five.
+pub fn store5_u16(t: &mut [u16], r: usize, a: u16, b: u16, c: u16, d: u16, e: u16)
+    requires { ⌜ 5 * r + 5 ≤ length (now t) ⌝ }
+    ensures { λ _. ⌜ now (t .exit) ≡ rowStored 5 (now (t .entry)) r (a ∷ b ∷ c ∷ d ∷ e ∷ []) ⌝ }
+{
+    let at = 5 * r;
+    t[at] = a;
+    t[at + 1] = b;
+    t[at + 2] = c;
+    t[at + 3] = d;
+    t[at + 4] = e;
+}
