@@ -1,0 +1,1 @@
+// Followers, walks, looks and faces of a graph in flat tables.
