@@ -12,14 +12,14 @@ use Rattle.plane.specs.Bounds.{Near, Edge}
 abbrev pub back : ℤ → ℤ
 back z = toZ w64 (ofZ w64 z)
 
-pub pt-back : (x y d : ℤ) → Near x y d → pt (back x) (back y) (back d) ≡ pt x y d
+pub pt-back : (x y d : ℤ) → Near (pt x y d) → pt (back x) (back y) (back d) ≡ pt x y d
 pt-back x y d n =
     let ex : back x ≡ x = plain (search tr depth 20) tt in
     let ey : back y ≡ y = plain (search tr depth 20) tt in
     let ed : back d ≡ d = plain (search tr depth 20) tt in
     λ i. pt (ex i) (ey i) (ed i)
 
-pub seg-back : (x y u v : ℤ) → Edge x y u v → seg (back x) (back y) (back u) (back v) ≡ seg x y u v
+pub seg-back : (x y u v : ℤ) → Edge (seg x y u v) → seg (back x) (back y) (back u) (back v) ≡ seg x y u v
 seg-back x y u v e =
     let ex : back x ≡ x = plain (search tr depth 20) tt in
     let ey : back y ≡ y = plain (search tr depth 20) tt in

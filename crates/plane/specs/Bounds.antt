@@ -1,11 +1,9 @@
--- How large the numbers of points, corners, directions and edges are: document 01's limits, by their names. First the numbers, then a record for each kind of
--- value, over its numbers and over the value of the code. Assumes nothing.
+-- How large the numbers of corners, directions, points and edges are: document 01's limits, by their names. First the numbers, then a record for each kind of
+-- value. Assumes nothing.
 use Prim.Native.Nat.{ℕ, _*_, _≤_}
-use lib.IntN.{ℤ, natAbs, _+ℤ_}
-use Rattle.exact.specs.declared.lowest.Point.{Point}
+use lib.IntN.{natAbs}
 use Rattle.paper.specs.Limits.{reach, denominators}
-use Rattle.plane.specs.declared.point.Vector.{Vector}
-use Rattle.plane.specs.declared.point.Seg.{Seg}
+use Rattle.paper.specs.Plane.{Vec, Pt, Seg, head}
 
 -- "X and Y lie within 2,000·D either way"
 abbrev pub numerators : ℕ
@@ -20,38 +18,23 @@ abbrev pub lefts : ℕ
 lefts = 2 * (span * (2 * numerators))
 
 -- "coordinates from −2,000 to 2,000"
-pub record Corner (x y : ℤ) : Type 0 where
-  pub x-is : natAbs x ≤ reach
-  pub y-is : natAbs y ≤ reach
+pub record Corner (a : Vec) : Type 0 where
+  pub x-is : natAbs (a .x) ≤ reach
+  pub y-is : natAbs (a .y) ≤ reach
 
 -- the direction from one corner to another
-pub record Direction (x y : ℤ) : Type 0 where
-  pub x-is : natAbs x ≤ span
-  pub y-is : natAbs y ≤ span
+pub record Direction (u : Vec) : Type 0 where
+  pub x-is : natAbs (u .x) ≤ span
+  pub y-is : natAbs (u .y) ≤ span
 
 -- a point of an edge between corners
-pub record Near (x y d : ℤ) : Type 0 where
-  pub x-is : natAbs x ≤ numerators
-  pub y-is : natAbs y ≤ numerators
-  pub d-is : natAbs d ≤ denominators
+pub record Near (p : Pt) : Type 0 where
+  pub X-is : natAbs (p .X) ≤ numerators
+  pub Y-is : natAbs (p .Y) ≤ numerators
+  pub D-is : natAbs (p .D) ≤ denominators
 
 -- an edge between corners
-pub record Edge (x y u v : ℤ) : Type 0 where
-  pub foot-x : natAbs x ≤ reach
-  pub foot-y : natAbs y ≤ reach
-  pub up-x : natAbs u ≤ span
-  pub up-y : natAbs v ≤ span
-  pub head-x : natAbs (x +ℤ u) ≤ reach
-  pub head-y : natAbs (y +ℤ v) ≤ reach
-
-abbrev pub CornerBy : Vector → Type 0
-CornerBy a = Corner (a .x) (a .y)
-
-abbrev pub DirectionBy : Vector → Type 0
-DirectionBy u = Direction (u .x) (u .y)
-
-abbrev pub NearBy : Point → Type 0
-NearBy p = Near (p .x) (p .y) (p .d)
-
-abbrev pub EdgeBy : Seg → Type 0
-EdgeBy s = Edge (s .x) (s .y) (s .u) (s .v)
+pub record Edge (s : Seg) : Type 0 where
+  pub foot-is : Corner (s .foot)
+  pub head-is : Corner (head s)
+  pub up-is : Direction (s .up)

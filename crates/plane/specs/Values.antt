@@ -3,7 +3,7 @@
 use lib.IntN.{ℤ}
 use Rattle.exact.specs.Lowest.{pt}
 use Rattle.exact.specs.declared.lowest.Point.{Point}
-use Rattle.paper.specs.Plane.{Pt, Vec, vec}
+use Rattle.paper.specs.Plane.{Pt, Vec, vec, minusV}
 use Rattle.paper.specs.Plane as Plane
 use Rattle.plane.specs.declared.point.Vector.{Vector}
 use Rattle.plane.specs.declared.point.Seg.{Seg}
@@ -11,6 +11,10 @@ use Rattle.plane.specs.declared.point.Seg.{Seg}
 -- the edge from the corner x, y along u, v
 abbrev pub seg : ℤ → ℤ → ℤ → ℤ → Plane.Seg
 seg x y u v = record { foot = vec x y; up = vec u v }
+
+-- the edge from a to b
+abbrev pub fromTo : Vec → Vec → Plane.Seg
+fromTo a b = record { foot = a; up = minusV b a }
 
 abbrev pub ptOf : Point → Pt
 ptOf p = pt (p .x) (p .y) (p .d)

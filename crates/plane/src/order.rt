@@ -5,7 +5,7 @@ ghost use lib.IntN.{_-ℤ_};
 ghost use Rattle.exact.specs.Lowest.{pt};
 ghost use Rattle.paper.specs.Plane.{order, before, same, below, signNumber, sgn};
 ghost use Rattle.plane.specs.Values.{ptOf};
-ghost use Rattle.plane.specs.Bounds.{Near, NearBy};
+ghost use Rattle.plane.specs.Bounds.{Near};
 
 // -1, 0 or 1, as a is less than b, equal or greater.
 pub fn compare(a: i64, b: i64) -> i64
@@ -21,7 +21,7 @@ pub fn compare(a: i64, b: i64) -> i64
 }
 
 fn order_of(px: i64, py: i64, pd: i64, qx: i64, qy: i64, qd: i64) -> i64
-    requires { ⌜ Near px py pd × Near qx qy qd ⌝ }
+    requires { ⌜ Near (pt px py pd) × Near (pt qx qy qd) ⌝ }
     ensures { λ r. ⌜ r ≡ signNumber (order (pt px py pd) (pt qx qy qd)) ⌝ }
 {
     let by_y = compare(py * qd, qy * pd);
@@ -34,7 +34,7 @@ fn order_of(px: i64, py: i64, pd: i64, qx: i64, qy: i64, qd: i64) -> i64
 
 // -1 where p comes first, 0 where they are one point, 1 where q comes first.
 pub fn order(p: Point, q: Point) -> i64
-    requires { ⌜ NearBy p × NearBy q ⌝ }
+    requires { ⌜ Near (ptOf p) × Near (ptOf q) ⌝ }
     ensures { λ r. ⌜ r ≡ signNumber (order (ptOf p) (ptOf q)) ⌝ }
 {
     order_of(p.x, p.y, p.d, q.x, q.y, q.d)
@@ -42,7 +42,7 @@ pub fn order(p: Point, q: Point) -> i64
 
 // Whether p comes first.
 pub fn before(p: Point, q: Point) -> bool
-    requires { ⌜ NearBy p × NearBy q ⌝ }
+    requires { ⌜ Near (ptOf p) × Near (ptOf q) ⌝ }
     ensures { λ r. ⌜ r ≡ before (ptOf p) (ptOf q) ⌝ }
 {
     order(p, q) < 0
@@ -50,14 +50,14 @@ pub fn before(p: Point, q: Point) -> bool
 
 // Whether p and q are one point.
 pub fn same(p: Point, q: Point) -> bool
-    requires { ⌜ NearBy p × NearBy q ⌝ }
+    requires { ⌜ Near (ptOf p) × Near (ptOf q) ⌝ }
     ensures { λ r. ⌜ r ≡ same (ptOf p) (ptOf q) ⌝ }
 {
     order(p, q) == 0
 }
 
 fn below_of(px: i64, py: i64, pd: i64, qx: i64, qy: i64, qd: i64) -> bool
-    requires { ⌜ Near px py pd × Near qx qy qd ⌝ }
+    requires { ⌜ Near (pt px py pd) × Near (pt qx qy qd) ⌝ }
     ensures { λ r. ⌜ r ≡ below (pt px py pd) (pt qx qy qd) ⌝ }
 {
     py * qd < qy * pd
@@ -65,7 +65,7 @@ fn below_of(px: i64, py: i64, pd: i64, qx: i64, qy: i64, qd: i64) -> bool
 
 // Whether p has the smaller y.
 pub fn below(p: Point, q: Point) -> bool
-    requires { ⌜ NearBy p × NearBy q ⌝ }
+    requires { ⌜ Near (ptOf p) × Near (ptOf q) ⌝ }
     ensures { λ r. ⌜ r ≡ below (ptOf p) (ptOf q) ⌝ }
 {
     below_of(p.x, p.y, p.d, q.x, q.y, q.d)

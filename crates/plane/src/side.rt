@@ -8,10 +8,10 @@ ghost use lib.IntN.{natAbs};
 ghost use Rattle.exact.specs.Lowest.{pt};
 ghost use Rattle.paper.specs.Plane.{leftBy, side};
 ghost use Rattle.plane.specs.Values.{seg, ptOf, segOf};
-ghost use Rattle.plane.specs.Bounds.{Near, Edge, NearBy, EdgeBy, lefts};
+ghost use Rattle.plane.specs.Bounds.{Near, Edge, lefts};
 
 fn left(x: i64, y: i64, u: i64, v: i64, px: i64, py: i64, d: i64) -> i64
-    requires { ⌜ Edge x y u v × Near px py d ⌝ }
+    requires { ⌜ Edge (seg x y u v) × Near (pt px py d) ⌝ }
     ensures is { λ r. ⌜ r ≡ leftBy (seg x y u v) (pt px py d) ⌝ }
     ensures bound { λ r. ⌜ natAbs r ≤ lefts ⌝ }
 {
@@ -20,7 +20,7 @@ fn left(x: i64, y: i64, u: i64, v: i64, px: i64, py: i64, d: i64) -> i64
 
 // How far p lies to the left of s.
 pub fn left_by(s: Seg, p: Point) -> i64
-    requires { ⌜ EdgeBy s × NearBy p ⌝ }
+    requires { ⌜ Edge (segOf s) × Near (ptOf p) ⌝ }
     ensures is { λ r. ⌜ r ≡ leftBy (segOf s) (ptOf p) ⌝ }
     ensures bound { λ r. ⌜ natAbs r ≤ lefts ⌝ }
 {
@@ -29,7 +29,7 @@ pub fn left_by(s: Seg, p: Point) -> i64
 
 // "+1 left, 0 on it, −1 right"
 pub fn side(s: Seg, p: Point) -> i64
-    requires { ⌜ EdgeBy s × NearBy p ⌝ }
+    requires { ⌜ Edge (segOf s) × Near (ptOf p) ⌝ }
     ensures { λ r. ⌜ r ≡ side (segOf s) (ptOf p) ⌝ }
 {
     compare(left_by(s, p), 0)

@@ -1,11 +1,11 @@
--- `plane::point::head` meets its contract. Assumes nothing.
+-- `plane::edge::head` meets its contract. Assumes nothing.
 use mathlib.Core.Path.{_≡_}
 use lib.IntN.{pos, _+ℤ_}
 use Rattle.exact.specs.Lowest.{pt}
 use Rattle.exact.specs.Mach.{tr, tru, fits, plain, atmost}
 use Rattle.plane.proofs.Machine.{back}
-use Rattle.plane.proofs.point.head.Statement.{statement}
-use Rattle.plane.proofs.point.head.Tie as tie
+use Rattle.plane.proofs.edge.head.Statement.{statement}
+use Rattle.plane.proofs.edge.head.Tie as tie
 
 add-t2 : tie.Need-add-t2
 add-t2 c = fits (search tr depth 20) tt
@@ -18,7 +18,7 @@ returns c =
     let s = c .before .before .before .before .args .s in
     let x : back (back (s .x) +ℤ back (s .u)) ≡ s .x +ℤ s .u = plain (search tr depth 20) tt in
     let y : back (back (s .y) +ℤ back (s .v)) ≡ s .y +ℤ s .v = plain (search tr depth 20) tt in
-    (λ i. pt (x i) (y i) (pos 1), record { x-is = atmost (search tru depth 20) tt; y-is = atmost (search tru depth 20) tt; d-is = atmost (search tru depth 20) tt })
+    (λ i. pt (x i) (y i) (pos 1), record { X-is = atmost (search tru depth 20) tt; Y-is = atmost (search tru depth 20) tt; D-is = atmost (search tru depth 20) tt })
 
 pub head-spec : {M : Type 1} → statement M
 head-spec = tie.close (tie.spec add-t2 add-t3 returns)
