@@ -5,12 +5,19 @@ use mir.Syntax.{w64}
 use mir.Val.{toZ, ofZ}
 use Rattle.exact.specs.Lowest.{pt}
 use Rattle.exact.specs.Mach.{tr, plain}
+use Rattle.paper.specs.Plane.{vec}
 use Rattle.plane.specs.Values.{seg}
-use Rattle.plane.specs.Bounds.{Near, Edge}
+use Rattle.plane.specs.Bounds.{Direction, Near, Edge}
 
 -- what is read back from the bits of z
 abbrev pub back : ℤ → ℤ
 back z = toZ w64 (ofZ w64 z)
+
+pub vec-back : (x y : ℤ) → Direction (vec x y) → vec (back x) (back y) ≡ vec x y
+vec-back x y h =
+    let ex : back x ≡ x = plain (search tr depth 20) tt in
+    let ey : back y ≡ y = plain (search tr depth 20) tt in
+    λ i. vec (ex i) (ey i)
 
 pub pt-back : (x y d : ℤ) → Near (pt x y d) → pt (back x) (back y) (back d) ≡ pt x y d
 pt-back x y d n =

@@ -2,13 +2,13 @@
 -- Assumes nothing.
 use mathlib.Core.Path.{_≡_, refl, sym, _∙_}
 use mathlib.Core.Bool.{Bool, cond}
-use Prim.Native.Nat.{ℕ}
+use Prim.Native.Nat.{ℕ, zero, suc}
 use native.Mathlib.Omega.{arith}
-use lib.IntN.{ℤ, pos, negsuc, _-ℤ_}
+use lib.IntN.{ℤ, pos, negsuc, _-ℤ_, +ℤ-idr}
 use lib.Signed.{ltZ}
 use Rattle.exact.specs.Mach.{eqZ}
-use Rattle.exact.specs.Sign.{Sign, neg, zer, plus, sgn, isNeg, isZer, isPlus, pick}
-use Rattle.exact.specs.Tests.{lt-sign, gt-sign}
+use Rattle.exact.specs.Sign.{Sign, neg, zer, plus, sgn, isNeg, isZer, isPlus, pick, lexS}
+use Rattle.exact.specs.Tests.{lt-sign, gt-sign, eq-sign}
 use Rattle.paper.specs.Plane.{signNumber}
 
 -- -1 where a is less than b, 1 where it is greater, 0 otherwise
@@ -33,6 +33,21 @@ pick-not zer t f = absurd (f refl)
 pick-not plus t f = refl
 
 -- ---- tests
+pub plus-test : (z : ℤ) → ltZ (pos 0) z ≡ isPlus (sgn z)
+plus-test z = gt-sign z (pos 0) ∙ (λ i. isPlus (sgn (+ℤ-idr z i)))
+
+pub zer-test : (z : ℤ) → eqZ z (pos 0) ≡ isZer (sgn z)
+zer-test z = eq-sign z (pos 0) ∙ (λ i. isZer (sgn (+ℤ-idr z i)))
+
+-- of a pair
+pub plus-level : (y x : ℤ) → y ≡ pos 0 → isPlus (sgn x) ≡ isPlus (lexS y x)
+plus-level y x e = λ i. isPlus (pick (sgn (sym e i)) (sgn x))
+
+pub plus-not : (y x : ℤ) → (y ≡ pos 0 → ⊥) → isPlus (sgn y) ≡ isPlus (lexS y x)
+plus-not (pos zero) x f = absurd (f refl)
+plus-not (pos (suc n)) x f = refl
+plus-not (negsuc n) x f = refl
+
 pub isNeg-number : (s : Sign) → ltZ (signNumber s) (pos 0) ≡ isNeg s
 isNeg-number neg = refl
 isNeg-number zer = refl

@@ -4,3 +4,4 @@ pub mod point; // point.rt: points, directions and edges by value
 pub mod order; // order.rt: which of two points comes first
 pub mod edge; // edge.rt: an edge's ends, and the edge between two corners
 pub mod side; // side.rt: on which side of an edge a point lies
+pub mod angle; // angle.rt: the order of directions
