@@ -7,3 +7,5 @@ pub mod Holes
 pub mod East
 pub mod West
 pub mod Seen
+pub mod Rank
+pub mod Faces

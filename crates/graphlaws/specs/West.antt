@@ -5,6 +5,7 @@ use mathlib.Core.Path.{_≡_, refl, sym, ap}
 use mathlib.Core.Logic.{_⊎_, inl, inr, ⊎-elim}
 use Prim.Native.Nat.{_<_}
 use native.Mathlib.Omega.{arith}
+use borrow.Author.Tests as Author
 use lib.Signed.{_<ℤ_}
 use Rattle.seq.specs.Seq.{Bool, true, false, not, _&&_, [], _∷_, Option, none, some, Option·map, ℕ, ℤ, pos, negℤ, _+ℤ_, _-ℤ_, _*ℤ_, best}
 use Rattle.seq.specs.Terms.{Has, Strict, Top, TopIs}
@@ -32,10 +33,6 @@ Sees g p d (some h) = (k : ℕ) × Top (candidate g p d) (nearer g p) (edgeCount
 
 -- ── the tests ──
 
-opp : (b : Bool) → not b ≡ true → b ≡ false
-opp true e = sym e
-opp false e = refl
-
 pos-neg : (z : ℤ) → pos 0 <ℤ negℤ z → z <ℤ pos 0
 pos-neg z = zomega (z ∷ []) (search sq depth 20) (omega arith)
 
@@ -50,7 +47,7 @@ no-zero e h = <→≢ h (sym e)
 
 module _ (g : Graph) (p : Pt) (k : ℕ) where
   pub height-is : atHeight g p k ≡ true → (below p (low g k) ≡ false) × (below p (high g k) ≡ true)
-  height-is e = let r = and-parts (not (below p (low g k))) (below p (high g k)) e in (opp (below p (low g k)) (r .0), r .1)
+  height-is e = let r = and-parts (not (below p (low g k))) (below p (high g k)) e in (Author.not-true (below p (low g k)) (r .0), r .1)
 
   -- p is right of the edge, or on it and the edge's angle is greater than that of d
   pub westward-is : (d : Vec) → westward g p d k ≡ true → (leftOf g p k <ℤ pos 0) ⊎ ((leftOf g p k ≡ pos 0) × (pos 0 <ℤ cross d (upward g k)))
