@@ -7,6 +7,7 @@ use Prim.Native.Nat.{_<_}
 use native.Mathlib.Decide.{ℕ-discrete}
 use native.Mathlib.Omega.{arith}
 use borrow.Author.Tests.{eqb-true, eqb-false, eq-eqb, ne-eqb}
+use borrow.Author.Tests as Not
 use Rattle.seq.specs.Seq.{Bool, true, false, not, Option, none, some, Option·getD, ℕ, eqb, best}
 use Rattle.seq.specs.Terms.{Has, Order, Best, BestIs, marked, Ranked, others, soonerBy, previous}
 use Rattle.seq.specs.Tests.{clash, never, way, not-true, and-both, and-parts}
@@ -18,15 +19,11 @@ module _ (o : ℕ → ℕ) (less : ℕ → ℕ → Bool) (n : ℕ) where
     asym x y hx hy e p q = clash (R .trans x y x hx hy hx e (sym e) p q) (R .irr x hx)
 
     module _ (t : ℕ) where
-      opp : (b : Bool) → not b ≡ true → b ≡ false
-      opp true e = sym e
-      opp false e = refl
-
       group : {k : ℕ} → Has (others o less n t) n k → o k ≡ o t
       group {k} h = eqb-true (o k) (o t) (and-parts (eqb (o k) (o t)) (not (eqb k t)) (h .has) .0)
 
       differs : {k : ℕ} → Has (others o less n t) n k → k ≡ t → ⊥
-      differs {k} h = eqb-false k t (opp (eqb k t) (and-parts (eqb (o k) (o t)) (not (eqb k t)) (h .has) .1))
+      differs {k} h = eqb-false k t (Not.not-true (eqb k t) (and-parts (eqb (o k) (o t)) (not (eqb k t)) (h .has) .1))
 
       has-other : {k : ℕ} → k < n → o k ≡ o t → (k ≡ t → ⊥) → Has (others o less n t) n k
       has-other {k} l e d = record { below = l; has = and-both (eq-eqb (o k) (o t) e) (ap not (ne-eqb k t d)) }

@@ -1,15 +1,16 @@
 -- Searches below a bound: `least`, `someBelow`, `allBelow`. First what a theorem asks of the least number found (it is below, it has the property,
 -- no smaller one has it), then what a loop asks (nothing so far, one more, found, what was found is it), then the witnesses of `someBelow` and
 -- `allBelow`. A lemma goes by the tests that the definition makes, each as a Bool with the equation that says where it comes from. Assumes nothing.
-use mathlib.Core.Path.{_≡_, refl, sym, _∙_, ap}
+use mathlib.Core.Path.{_≡_, refl, _∙_, ap}
 use Prim.Native.Nat.{_≤_, _<_}
 use native.Mathlib.Nat.{not-suc-le-zero, le-refl}
 use native.Mathlib.Decide.{decLt}
 use native.Mathlib.Omega.{arith}
 use native.Mathlib.Numerals.{add-one}
 use borrow.Author.Tests.{ltb-true, ltb-false, lt-ltb, le-ltb}
+use borrow.Author.Tests as Not
 use Rattle.seq.specs.Seq.{Bool, true, false, cond, not, ℕ, zero, suc, _+_, ltb, least, someBelow, allBelow}
-use Rattle.seq.specs.Tests.{clash, not-true, not-false}
+use Rattle.seq.specs.Tests.{clash}
 
 module _ (p : ℕ → Bool) where
   -- ── what is found ──
@@ -124,16 +125,8 @@ module _ (p q : ℕ → Bool) where
 -- ── allBelow ──
 
 module _ (p : ℕ → Bool) where
-  opp : (b : Bool) → not b ≡ false → b ≡ true
-  opp true e = refl
-  opp false e = sym e
-
   pub all-is : (n : ℕ) → allBelow p n ≡ true → (k : ℕ) → k < n → p k ≡ true
-  all-is n e k h = opp (p k) (no-some-is (λ j. not (p j)) n (flip (someBelow (λ j. not (p j)) n) e) k h)
-    where
-      flip : (b : Bool) → not b ≡ true → b ≡ false
-      flip true f = sym f
-      flip false f = refl
+  all-is n e k h = Not.not-false (p k) (no-some-is (λ j. not (p j)) n (Not.not-true (someBelow (λ j. not (p j)) n) e) k h)
 
   pub all-has : (n : ℕ) → ((k : ℕ) → k < n → p k ≡ true) → allBelow p n ≡ true
   all-has n h = ap not (no-some (λ j. not (p j)) n (λ k l. ap not (h k l)))
