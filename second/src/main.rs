@@ -1,6 +1,7 @@
 //! The command line of the second program.
 
 use second::check::check;
+use second::make;
 use second::overlay::{overlay_files, Room};
 use second::ovfile::{file_of, read};
 use std::process::ExitCode;
@@ -12,6 +13,9 @@ second overlay ZONES BLOCKS OUT           write the overlay file
 second read FILE [ROOM]                   check and list an overlay file
 second rewrite FILE OUT                   read an overlay file and write it again
 second digest ZONES BLOCKS [ROOM]         counts and digest of the overlay's tables
+second kinds                              the kinds of maps and pairs
+second make KIND SEED OUT.zmp             make a map file
+second pair KIND SEED DIR                 make DIR/zones.zmp and DIR/blocks.zmp
 
 ROOM is `--room V E F` (vertices, edges, faces there is room for) or `--tables V H S F` (rows
 of the lent tables of vertices, half-edges, sources, faces).";
@@ -44,6 +48,12 @@ fn run(args: &[&str]) -> Outcome {
         ["read", file, room @ ..] => read_file(file, &room_of(room)?),
         ["rewrite", file, out] => rewrite(file, out),
         ["digest", zones, blocks, room @ ..] => Ok(digest(zones, blocks, &room_of(room)?)),
+        ["kinds"] => Ok(kinds()),
+        ["make", kind, seed, out] => {
+            let file = make::map_file(kind, number(seed)?).ok_or("no such kind of map")?;
+            save(out, &file).map(|()| String::new())
+        }
+        ["pair", kind, seed, dir] => pair(kind, number(seed)?, dir),
         _ => Err(USAGE.to_string()),
     }
 }
@@ -115,4 +125,28 @@ fn digest(zones: &str, blocks: &str, room: &Room) -> String {
         Ok(overlay) => format!("done {}\n", overlay.tables.digest()),
         Err(refusal) => format!("{refusal}\n"),
     }
+}
+
+fn kinds() -> String {
+    let mut out = String::from("maps:\n");
+    let mut line = |name: &str, about: &str| out += &format!("  {name:14} {about}\n");
+    make::kinds().for_each(|k| line(k.name, k.about));
+    line("any", "any of these, or damaged");
+    out += "damaged maps:\n";
+    for k in make::damage::KINDS {
+        let rule = if k.rule == 0 { "any".to_string() } else { k.rule.to_string() };
+        out += &format!("  {:14} {} (rule {rule})\n", k.name, k.about);
+    }
+    out += "pairs:\n";
+    for k in make::pairs::KINDS {
+        out += &format!("  {:14} {}\n", k.name, k.about);
+    }
+    out + "  any            any of these\n"
+}
+
+fn pair(kind: &str, seed: u64, dir: &str) -> Outcome {
+    let [zones, blocks] = make::pairs::pair_files(kind, seed).ok_or("no such kind of pair")?;
+    std::fs::create_dir_all(dir).map_err(|why| format!("{dir}: {why}"))?;
+    save(&format!("{dir}/zones.zmp"), &zones)?;
+    save(&format!("{dir}/blocks.zmp"), &blocks).map(|()| String::new())
 }

@@ -1,0 +1,51 @@
+//! Seeded inputs: drawings of many kinds, pairs that go together, damaged files.
+
+pub mod damage;
+pub mod drawing;
+pub mod pairs;
+pub mod plain;
+pub mod sizes;
+pub mod wild;
+
+use crate::map::Map;
+use crate::random::Random;
+
+/// A kind of valid map: its name, what it is, how it is made.
+pub struct Kind {
+    pub name: &'static str,
+    pub about: &'static str,
+    pub make: fn(&mut Random) -> Map,
+}
+
+impl Kind {
+    const fn new(name: &'static str, about: &'static str, make: fn(&mut Random) -> Map) -> Kind {
+        Kind { name, about, make }
+    }
+}
+
+/// All kinds of valid maps.
+pub fn kinds() -> impl Iterator<Item = &'static Kind> {
+    plain::KINDS.iter().chain(wild::KINDS).chain(sizes::KINDS)
+}
+
+/// The bytes of a map file of this kind, valid or damaged; `any` takes one of all kinds.
+pub fn map_file(kind: &str, seed: u64) -> Option<Vec<u8>> {
+    let mut random = Random::new(seed, kind);
+    if kind == "any" {
+        let names: Vec<&str> =
+            kinds().map(|k| k.name).chain(damage::KINDS.iter().map(|k| k.name)).collect();
+        let name = random.pick(&names);
+        return map_file(name, random.bits());
+    }
+    if let Some(kind) = kinds().find(|k| k.name == kind) {
+        return Some((kind.make)(&mut random).bytes());
+    }
+    let damage = damage::KINDS.iter().find(|k| k.name == kind)?;
+    Some(damage::damaged(damage, &mut random))
+}
+
+/// A valid map of any kind that is not of full size.
+pub fn valid_map(random: &mut Random) -> Map {
+    let kinds: Vec<&Kind> = plain::KINDS.iter().chain(wild::KINDS).collect();
+    (kinds[random.below(kinds.len())].make)(random)
+}
