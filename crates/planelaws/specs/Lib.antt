@@ -7,3 +7,4 @@ pub mod Edges
 pub mod Lines
 pub mod Crossing
 pub mod Bounds
+pub mod Meeting
