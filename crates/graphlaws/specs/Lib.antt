@@ -6,6 +6,7 @@ pub mod Walks
 pub mod Holes
 pub mod East
 pub mod West
+pub mod Nearest
 pub mod Across
 pub mod Seen
 pub mod Rank
