@@ -8,3 +8,5 @@ pub mod Lines
 pub mod Crossing
 pub mod Bounds
 pub mod Meeting
+pub mod Clash
+pub mod NoClash
