@@ -6,7 +6,7 @@ use native.Mathlib.Nat.{le-trans, le-of-eq, mul-le-mul, div-le-self, mod-le}
 use native.Mathlib.Omega.{arith}
 use lib.IntN.{ℤ, pos, negsuc, negℤ, natAbs, _+ℤ_, _-ℤ_, _*ℤ_, +ℤ-idl}
 use lib.Signed.{quotZ, remZ, _≤ℤ_, _<ℤ_, pos-natAbs, yes-nonNeg}
-use Rattle.exact.specs.Parts.{pp, np, is-+, is-neg, ≤-to, ≤-of, <-to}
+use Rattle.exact.specs.Parts.{pp, np, is-+, is-neg, ≤-to, ≤-of, <-to, pos≮0}
 
 -- ---- of a negation, a sum, a product
 abs-is : (z : ℤ) → natAbs z ≡ pp z + np z
@@ -40,10 +40,7 @@ pub abs-is-self : (x : ℤ) → pos 0 ≤ℤ x → pos (natAbs x) ≡ x
 abs-is-self x h = pos-natAbs x (yes-nonNeg h)
 
 pub abs-is-neg : (x : ℤ) → x <ℤ pos 0 → pos (natAbs x) ≡ negℤ x
-abs-is-neg (pos n) h = absurd (no (<-to (pos n) (pos 0) h))
-  where
-    no : n + 0 < 0 + 0 → ⊥
-    no h = omega arith
+abs-is-neg (pos n) h = absurd (pos≮0 n h)
 abs-is-neg (negsuc n) h = refl
 
 pub abs-pos : (d : ℤ) → pos 0 <ℤ d → 0 < natAbs d

@@ -1,9 +1,9 @@
 -- Casts, and the bits of signed numbers. In order: an unsigned number as a signed one, the set `trn`; the bits of a term, `TrN`, and tests of bits,
--- the set `trbits`; a signed number as an unsigned one, `TrU`, the set `tru`, and bounds for what a callee requires; bits from half the width's power on.
+-- the set `trbits`; a divisor; a signed number as an unsigned one, `TrU`, the set `tru`, and bounds for what a callee requires; the upper half of the bits.
 -- What for: see Mach. Assumes nothing.
 use mathlib.Core.Path.{_≡_, refl, sym, _∙_, ap, subst}
 use mathlib.Core.Bool.{Bool, true, false}
-use Prim.Native.Nat.{ℕ, suc, _-_, _^_, _≤_, _<_}
+use Prim.Native.Nat.{ℕ, zero, suc, _-_, _^_, _≤_, _<_}
 use native.Mathlib.Nat.{le-trans, lt-of-le-of-lt, lt-of-lt-of-le, le-of-lt}
 use native.Mathlib.Omega.{arith}
 use lib.Dec.{T, ltb, leb, eqb, eqb→eq, eqb-refl, ltb→lt, leb→le}
@@ -11,7 +11,7 @@ use lib.IntN.{ℤ, pos, negsuc, negℤ, natAbs, _-ℤ_}
 use lib.Signed.{nonNeg, yes-nonNeg, _≤ℤ_}
 use mir.Syntax.{Width, w16, w32, w64}
 use mir.Val.{Fits, SFits, toZ, ofZ, sel, bits, hbits}
-use mir.ValLaws.{toZ-ofZ, ofZ-toZ, toZ-fits, toZ-pos}
+use mir.ValLaws.{toZ-ofZ, ofZ-toZ, toZ-fits, toZ-pos, pow-bits}
 use Rattle.exact.specs.Parts.{is-+, is-neg, ≡-of}
 use Rattle.exact.specs.Tests.{eqZ, eqZ→, →eqZ, bool-iff}
 use Rattle.exact.specs.Terms.{Tr, _&_, &-l, &-r, sfits-abs, tr}
@@ -27,6 +27,7 @@ tr-nat w {n} {B} h = record { z = pos n; B = B; ok = leb B (2 ^ hbits w); is = n
 
 pub ruleset trn = (tr-nat, tr)
 
+-- ---- the bits n are those of a plain integer z
 pub record TrN (w : Width) (n : ℕ) : Type 0 where
   pub z : ℤ
   pub ok : Bool
@@ -72,9 +73,25 @@ tr-eqb w a b = record { p = eqZ (a .z) (b .z); ok = a .ok & b .ok; is = eqb-is w
 abbrev pub tr-eqb64 : {n m : ℕ} → TrN w64 n → TrN w64 m → TrB (eqb n m)
 tr-eqb64 a b = tr-eqb w64 a b
 
-pub ruleset trbits = (tr-eqb64, trn-of, trn-sfits, trn-lit, tt, tr)
+abbrev pub tr-eqb32 : {n m : ℕ} → TrN w32 n → TrN w32 m → TrB (eqb n m)
+tr-eqb32 a b = tr-eqb w32 a b
 
--- a signed number to an unsigned type: it is not negative, and fits; and what the result is
+abbrev pub tr-eqb16 : {n m : ℕ} → TrN w16 n → TrN w16 m → TrB (eqb n m)
+tr-eqb16 a b = tr-eqb w16 a b
+
+pub ruleset trbits = (tr-eqb64, tr-eqb32, tr-eqb16, trn-of, trn-sfits, trn-lit, tt, tr)
+
+-- ---- a divisor that is not 0 has bits that are not 0, as `/` and `%` ask beside the quotient's range
+some-bits : (w : Width) (z : ℤ) → SFits w z → (z ≡ pos 0 → ⊥) → 0 < ofZ w z
+some-bits w (pos zero) f h = absurd (h refl)
+some-bits w (pos (suc n)) f h = omega arith
+some-bits w (negsuc n) f h = omega (arith, pow-bits w, f .sfits)
+
+pub divisor : (w : Width) (y : ℤ) (b : Tr y) → T (b .ok & ltb (b .B) (2 ^ hbits w)) → (b .z ≡ pos 0 → ⊥) → 0 < ofZ w y
+divisor w y b t h =
+    subst (λ (z : ℤ). 0 < ofZ w z) (sym (b .is (&-l (b .ok) _ t))) (some-bits w (b .z) (sfits-abs (b .B) (b .bd) (&-r (b .ok) _ t)) h)
+
+-- ---- a signed number to an unsigned type: it is not negative, and fits; and what the result is
 pub record TrU (n : ℕ) : Type 0 where
   pub m : ℕ
   pub B : ℕ
@@ -104,7 +121,7 @@ atmost {n} {K} u t = subst (λ (k : ℕ). k ≤ K) (sym (u .is (&-l (u .ok) _ t)
 pub cast-is : {n : ℕ} (u : TrU n) → T (u .ok) → n ≡ u .m
 cast-is u t = u .is t
 
--- the upper half of the bits, as a difference
+-- ---- the upper half of the bits, as a difference
 pub toZ-high : (w : Width) (n : ℕ) → 2 ^ hbits w ≤ n → n < 2 ^ bits w → toZ w n ≡ pos n -ℤ pos (2 ^ bits w)
 toZ-high w n h l = sel-no (ltb n (2 ^ hbits w)) _ _ (λ t. no (2 ^ hbits w) h (ltb→lt n (2 ^ hbits w) t)) ∙ high (2 ^ bits w) n l
   where

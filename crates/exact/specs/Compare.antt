@@ -2,16 +2,16 @@
 -- orders of neighbours allow (`fractions-sums`), which is every transitivity. And what the contracts of compare.rt cite besides: the sign that an answer
 -- stands for, what the denominators must be, and the test for the short way.
 -- Assumes nothing.
-use mathlib.Core.Path.{_≡_, refl, sym, _∙_, ap}
+use mathlib.Core.Path.{_≡_, _∙_, ap}
 use mathlib.Core.Bool.{Bool, true, _&&_}
 use mathlib.Core.List.{[], _∷_}
 use lib.Dec.{T}
 use native.Mathlib.Omega.{arith}
-use Prim.Native.Nat.{ℕ, _+_, _^_, _<_, _≤_}
-use lib.IntN.{ℤ, pos, negsuc, negℤ, natAbs, _-ℤ_, _*ℤ_}
-use lib.Signed.{ltZ, _≤ℤ_, _<ℤ_, pos-natAbs, yes-nonNeg}
+use Prim.Native.Nat.{ℕ, _^_, _≤_}
+use lib.IntN.{ℤ, pos, negℤ, natAbs, _-ℤ_, _*ℤ_}
+use lib.Signed.{ltZ, _≤ℤ_, _<ℤ_}
 use Rattle.exact.specs.Solve.{ring, reify}
-use Rattle.exact.specs.Order.{zomega, sq, <-to, <→≤, 0≤-*, 0<-*}
+use Rattle.exact.specs.Order.{zomega, sq, <→≤, 0≤-*, 0<-*}
 use Rattle.exact.specs.Sign.{Sign, neg, zer, plus, sgn, sgn-neg, negS, sums, sgn-sums, sgn-negℤ, sg, sgn-is, sg-scale}
 use Rattle.exact.specs.Tests.{and-parts, lt-t}
 use Rattle.exact.specs.Abs.{abs-of, abs-is-self, abs-is-neg}

@@ -1,9 +1,10 @@
--- The greatest common divisor of two naturals, by Euclid's remainders, and its laws: it divides both, every common divisor divides it, a common factor comes out. Then the lowest terms of a triple (X, Y, D) of two fractions X/D and Y/D with one denominator: dividing by the gcd gives them, and they are unique.
--- Assumes nothing.
-use mathlib.Core.Path.{_≡_, refl, sym, _∙_, ap, subst, subst₂}
-use mathlib.Core.Logic.{⊎-elim}
-use Prim.Native.Nat.{ℕ, zero, suc, _+_, _*_, _-_, _/_, _%_, _≤_, _<_, zero-le, _∣_}
-use native.Mathlib.Nat.{add-zero, mul-zero, mul-one, one-mul, mul-comm, mul-assoc, add-mul, le-trans, mod-lt, mod-le, mod-zero, zero-lt-suc, div-add-mod', mul-lt-mul-of-pos-right, eq-zero-or-pos, dvd-refl, dvd-zero, dvd-trans, dvd-mul-left, dvd-mul-right, dvd-mod-iff, dvd-antisymm, pos-of-dvd-of-pos, eq-of-mul-eq-mul-right, div-mul-cancel, mul-div-cancel}
+-- The greatest common divisor of two natural numbers (01: "Euclid's recursion on remainders, the second number falling"), and its laws: Euclid's two
+-- equations, it divides both, every common divisor divides it, a common factor comes out. Then of three numbers, `gcd3`, and what it is to divide the
+-- three by it: the divisor is then 1, and two triples with the divisor 1 and the same fractions are equal. Here a denominator is a natural number; Lowest
+-- has the same for a point whose three numbers are whole. Assumes nothing.
+use mathlib.Core.Path.{_≡_, refl, sym, _∙_, ap, subst}
+use Prim.Native.Nat.{ℕ, zero, suc, _+_, _*_, _/_, _%_, _≤_, _<_, _∣_}
+use native.Mathlib.Nat.{not-suc-le-zero, one-mul, mul-assoc, add-mul, mod-lt, zero-lt-suc, div-add-mod', mul-lt-mul-of-pos-right, dvd-refl, dvd-zero, dvd-trans, dvd-mul-left, dvd-mul-right, dvd-mod-iff, dvd-antisymm, pos-of-dvd-of-pos, eq-of-mul-eq-mul-right, div-mul-cancel}
 use native.Mathlib.Omega.{arith}
 use lib.Arith.{digits-mod}
 use lib.IntN.{ℤ, pos, negsuc, negℤ, natAbs, _*ℤ_, *ℤ-comm}
@@ -34,15 +35,9 @@ fuel : (f g a b : ℕ) → b ≤ f → b ≤ g → gcdF f a b ≡ gcdF g a b
 unfolding gcdF
 fuel zero zero a b h l = refl
 fuel zero (suc g) a zero h l = refl
-fuel zero (suc g) a (suc b) h l = absurd (no b h)
-  where
-    no : (b : ℕ) → suc b ≤ 0 → ⊥
-    no b h = omega arith
+fuel zero (suc g) a (suc b) h l = absurd (not-suc-le-zero h)
 fuel (suc f) zero a zero h l = refl
-fuel (suc f) zero a (suc b) h l = absurd (no b l)
-  where
-    no : (b : ℕ) → suc b ≤ 0 → ⊥
-    no b h = omega arith
+fuel (suc f) zero a (suc b) h l = absurd (not-suc-le-zero l)
 fuel (suc f) (suc g) a zero h l = refl
 fuel (suc f) (suc g) a (suc b) h l = fuel f g (suc b) (a % suc b) (omega (arith, mod-lt a (zero-lt-suc b))) (omega (arith, mod-lt a (zero-lt-suc b)))
 
@@ -53,10 +48,7 @@ gcd-zero a = refl
 
 pub gcd-step : (a b : ℕ) → 0 < b → gcdOf a b ≡ gcdOf b (a % b)
 unfolding gcdOf gcdF
-gcd-step a zero h = absurd (no h)
-  where
-    no : 0 < 0 → ⊥
-    no h = omega arith
+gcd-step a zero h = absurd (not-suc-le-zero h)
 gcd-step a (suc b) h = fuel b (a % suc b) (suc b) (a % suc b) (omega (arith, mod-lt a (zero-lt-suc b))) (omega arith)
 
 -- what holds of (a, 0), and of (a, b) where it holds of (b, a % b), holds of every pair
@@ -65,10 +57,7 @@ gcd-ind P z s a b = go b a b (omega arith)
   where
     go : (f a b : ℕ) → b ≤ f → P a b
     go zero a zero h = z a
-    go zero a (suc b) h = absurd (no b h)
-      where
-        no : (b : ℕ) → suc b ≤ 0 → ⊥
-        no b h = omega arith
+    go zero a (suc b) h = absurd (not-suc-le-zero h)
     go (suc f) a zero h = z a
     go (suc f) a (suc b) h = s a (suc b) (zero-lt-suc b) (go f (suc b) (a % suc b) (omega (arith, mod-lt a (zero-lt-suc b))))
 
@@ -156,10 +145,7 @@ cross-abs : (X X′ : ℤ) (D D′ : ℕ) → X *ℤ pos D′ ≡ X′ *ℤ pos 
 cross-abs X X′ D D′ e = sym (abs-* X (pos D′)) ∙ ap natAbs e ∙ abs-* X′ (pos D)
 
 pos-ne : (D : ℕ) → 0 < D → pos D ≡ pos 0 → ⊥
-pos-ne D h e = no D h (ap natAbs e)
-  where
-    no : (D : ℕ) → 0 < D → D ≡ 0 → ⊥
-    no D h e = omega arith
+pos-ne D h e = omega (arith, ap natAbs e)
 
 -- two of them with the same values are the same
 pub lowest-unique : (X Y : ℤ) (D : ℕ) (X′ Y′ : ℤ) (D′ : ℕ) → Lowest X Y D → Lowest X′ Y′ D′ → X *ℤ pos D′ ≡ X′ *ℤ pos D → Y *ℤ pos D′ ≡ Y′ *ℤ pos D → (X ≡ X′) × (Y ≡ Y′) × (D ≡ D′)

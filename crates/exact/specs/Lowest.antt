@@ -6,19 +6,19 @@
 --     lowest-unique                           two triples in lowest terms that are the same point are equal
 --     lowest-same                             so `lowest` gives one triple for one point
 -- Assumes nothing.
-use mathlib.Core.Path.{_≡_, refl, sym, _∙_, ap, subst}
+use mathlib.Core.Path.{_≡_, sym, _∙_, ap}
 use mathlib.Core.List.{[], _∷_}
 use Prim.Native.Nat.{ℕ, _≤_, _<_}
-use native.Mathlib.Nat.{dvd-refl, le-refl, mod-one, one-dvd}
+use native.Mathlib.Nat.{le-refl, mod-one, one-dvd}
 use native.Mathlib.Omega.{arith}
 use lib.IntN.{ℤ, pos, negsuc, negℤ, natAbs, _*ℤ_, *ℤ-one, one}
 use lib.Signed.{quotZ, _<ℤ_}
 use Rattle.exact.specs.Solve.{ring, reify}
-use Rattle.exact.specs.Order.{<-to, <-of, <→≢}
+use Rattle.exact.specs.Order.{<-of, <→≢}
 use Rattle.exact.specs.Mul.{*-cancel-≡, ≡-by₂}
 pub use Rattle.exact.specs.Abs.{abs-pos}
 use Rattle.exact.specs.Abs.{bd-quot}
-use Rattle.exact.specs.Gcd.{gcd3, gcdOf, gcd-step, gcd-zero, reduce-lowest, reduce-x, reduce-y, quot-exact, lowest-d}
+use Rattle.exact.specs.Gcd.{gcd3, gcdOf, gcd-step, gcd-zero, reduce-lowest, reduce-x, reduce-y, quot-exact}
 use Rattle.exact.specs.Gcd as Gcd
 
 -- "(X, Y, D) with D > 0, meaning the point X/D, Y/D"

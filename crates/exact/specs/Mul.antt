@@ -1,15 +1,16 @@
--- Products and the order of ℤ: monotone, and a positive factor cancels in ≤, < and ≡. And how an equation or an inequality is proved from others and a polynomial identity, a certificate:
+-- Products and the order of ℤ: monotone, and a positive factor cancels in ≤, < and ≡. And how an equation or an inequality is proved from others and a
+-- polynomial identity, a certificate:
 --     ≡-by₁ e c (ring ..)       x ≡ y from e : p ≡ q, where x - y = c·(p - q)
 --     0≤-by / 0<-by             0 ≤ z from z = s and 0 ≤ s
 -- Assumes nothing.
-use mathlib.Core.Path.{_≡_, refl, sym, _∙_, ap, subst}
-use mathlib.Core.List.{List, [], _∷_}
+use mathlib.Core.Path.{_≡_, sym, _∙_, ap, subst}
+use mathlib.Core.List.{[], _∷_}
 use mathlib.Core.Logic.{⊎-elim}
 use native.Mathlib.Omega.{arith}
-use lib.IntN.{ℤ, pos, negsuc, negℤ, _+ℤ_, _-ℤ_, _*ℤ_, +ℤ-invr, *ℤ-zero}
+use lib.IntN.{ℤ, pos, negℤ, _+ℤ_, _-ℤ_, _*ℤ_, +ℤ-invr, *ℤ-zero}
 use lib.Signed.{_≤ℤ_, _<ℤ_}
 use Rattle.exact.specs.Solve.{ring, reify, sub-zero→}
-use Rattle.exact.specs.Order.{zomega, sq, Tri, lt, eq, gt, tri, <→≤, <→≢, ≤→≯, ≤→0≤, <→0<, 0≤-*, 0<-*, *-zero}
+use Rattle.exact.specs.Order.{zomega, sq, Tri, lt, eq, gt, tri, <→≤, <→≢, ≤→0≤, <→0<, 0≤-*, 0<-*, *-zero}
 
 -- ---- certificates
 pub ≡-by₁ : {p q : ℤ} (e : p ≡ q) (c : ℤ) {x y : ℤ} → x -ℤ y ≡ c *ℤ (p -ℤ q) → x ≡ y

@@ -10,7 +10,7 @@ use native.Mathlib.Omega.{arith}
 use lib.IntN.{ℤ, pos, negsuc, negℤ, natAbs, _+ℤ_, _-ℤ_, _*ℤ_}
 use lib.Signed.{_≤ℤ_, _<ℤ_}
 use Rattle.exact.specs.Abs.{abs-*}
-pub use Rattle.exact.specs.Parts.{pp, np, ≤-to, ≤-of, <-to, <-of, ≡-to, ≡-of, Is, is-+, is-neg, is-*}
+pub use Rattle.exact.specs.Parts.{pp, np, ≤-to, ≤-of, <-to, <-of, ≡-to, ≡-of, pos≮0, Is, is-+, is-neg, is-*}
 pub use Rattle.exact.specs.Linear.{is-sum, pC, nC, pM, nM, pT, nT, P, N, Sq, ≤to, ≤of, <to, <of, ≡to, ≡of, sq≤, sq<, sq≡, sq→, sq×, sq⊥, sq, zomega}
 
 -- ---- by `zomega`
@@ -103,10 +103,7 @@ sgn-plus {z = pos (suc n)} h = refl
 sgn-plus {z = negsuc n} h = absurd (h .lt)
 
 pub sgn-neg : {z : ℤ} → z <ℤ pos 0 → sgn z ≡ neg
-sgn-neg {z = pos n} h = absurd (no n (<-to (pos n) (pos 0) h))
-  where
-    no : (n : ℕ) → n + 0 < 0 + 0 → ⊥
-    no n h = omega arith
+sgn-neg {z = pos n} h = absurd (pos≮0 n h)
 sgn-neg {z = negsuc n} h = refl
 
 -- ---- products

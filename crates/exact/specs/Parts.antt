@@ -61,6 +61,10 @@ pub <-to : (a b : ℤ) → a <ℤ b → pp a + np b < pp b + np a
 pub <-of : (a b : ℤ) → pp a + np b < pp b + np a → a <ℤ b
 <-of a b h = record { lt = <-of′ a b h }
 
+-- what is not negative is not below 0
+pub pos≮0 : (n : ℕ) → pos n <ℤ pos 0 → ⊥
+pos≮0 n h = omega (arith, <-to (pos n) (pos 0) h)
+
 pub ≡-to : (a b : ℤ) → a ≡ b → pp a + np b ≡ pp b + np a
 ≡-to a b e = subst (λ (x : ℤ). pp a + np x ≡ pp x + np a) e refl
 

@@ -8,8 +8,8 @@ use mathlib.Core.Bool.{Bool, true, false}
 use mathlib.Core.List.{List, [], _∷_}
 use Prim.Native.Nat.{ℕ, zero, suc, compare, Ordering, Ordering·lt, Ordering·eq, Ordering·gt}
 use lib.Dec.{T, isEq, eqb→eq}
-use lib.IntN.{ℤ, pos, negsuc, negℤ, _+ℤ_, _-ℤ_, _*ℤ_, one, +ℤ-assoc, +ℤ-comm, +ℤ-idl, +ℤ-idr, +ℤ-invl, +ℤ-invr, zero-*ℤ, *ℤ-zero, *ℤ-comm, *ℤ-one, negℤ-+ℤ, negℤ-negℤ}
-use Rattle.exact.specs.Ring.{+ℤ-swapr, +ℤ-swap4, *ℤ-distr, *ℤ-distl, neg-*ℤ, *ℤ-neg, *ℤ-assoc, *ℤ-swapl, neg-unique}
+use lib.IntN.{ℤ, pos, negsuc, negℤ, _+ℤ_, _-ℤ_, _*ℤ_, one, +ℤ-assoc, +ℤ-comm, +ℤ-idl, +ℤ-idr, zero-*ℤ, *ℤ-zero, *ℤ-one, negℤ-+ℤ, negℤ-negℤ}
+use Rattle.exact.specs.Ring.{+ℤ-swap4, *ℤ-distr, *ℤ-distl, *ℤ-neg, *ℤ-assoc, *ℤ-swapl, neg-unique}
 
 -- ---- expressions
 infixl 6 _⊞_ _⊟_

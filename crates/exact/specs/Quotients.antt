@@ -1,15 +1,15 @@
 -- The order of two fractions a/d and b/e of natural numbers, by whole parts and remainders: that of the whole parts where they differ; else that of r/d and
 -- s/e with the remainders r and s, which is that of e/s and d/r. No product is formed, and both denominators fall. Assumes nothing.
-use mathlib.Core.Path.{_≡_, sym, _∙_, ap, subst}
+use mathlib.Core.Path.{_≡_, sym, _∙_, ap}
 use mathlib.Core.List.{[], _∷_}
-use Prim.Native.Nat.{ℕ, zero, suc, _+_, _*_, _/_, _%_, _<_, _≤_}
+use Prim.Native.Nat.{ℕ, _*_, _/_, _%_, _<_, _≤_}
 use native.Mathlib.Nat.{div-add-mod', mod-lt}
 use native.Mathlib.Omega.{arith}
-use lib.IntN.{ℤ, pos, negsuc, negℤ, _+ℤ_, _-ℤ_, _*ℤ_}
+use lib.IntN.{ℤ, pos, _+ℤ_, _-ℤ_, _*ℤ_}
 use lib.Signed.{_≤ℤ_, _<ℤ_}
 use Rattle.exact.specs.Solve.{ring, reify}
 use Rattle.exact.specs.Order.{zomega, sq, ≤-of, <-of, 0≤-*, 0<-*}
-use Rattle.exact.specs.Sign.{Sign, neg, zer, plus, sgn, sgn-neg, sgn-plus, negS}
+use Rattle.exact.specs.Sign.{neg, zer, plus, sgn, sgn-neg, negS}
 use Rattle.exact.specs.Compare.{fractions, fractions-swap}
 
 -- ---- natural numbers as whole numbers

@@ -1,8 +1,8 @@
 -- Signed machine numbers of which only the range of their type is known, so that no bound of Mach applies: a number that is not negative as an unsigned
 -- one, and a quotient by a positive number. Assumes nothing.
-use mathlib.Core.Path.{_≡_, refl, sym, subst}
-use Prim.Native.Nat.{ℕ, zero, suc, _/_, _^_, _≤_, _<_, zero-le}
-use native.Mathlib.Nat.{le-refl, le-trans, lt-of-lt-of-le, lt-of-le-of-lt, div-le-self}
+use mathlib.Core.Path.{sym, subst}
+use Prim.Native.Nat.{ℕ, zero, suc, _/_, _^_, _≤_, zero-le}
+use native.Mathlib.Nat.{lt-of-lt-of-le, div-le-self}
 use native.Mathlib.Omega.{arith}
 use lib.Dec.{T, leb, leb→le}
 use lib.IntN.{ℤ, pos, negsuc, negℤ, natAbs}

@@ -1,4 +1,4 @@
--- Signs of whole numbers. In order: a number's sign as evidence (`Sg`) and what keeps or turns it; the tests on signs; which sign a sum can have (`sums`);
+-- Signs of whole numbers. In order: the tests on signs; a number's sign as evidence (`Sg`), and what keeps or turns it; which sign a sum can have (`sums`);
 -- two numbers not of opposite signs. Then the sign of a pair (y, x) in point order, `lexS`: that of y, or of x where y is 0. It is the sign of N·y + x for
 -- every N greater than |x| (`mix`), and so the laws of signs hold for it:
 --     lex-scalars   a·x + b·y = c·z for pairs x, y, z and positive numbers a, b, c

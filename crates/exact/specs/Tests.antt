@@ -9,7 +9,7 @@ use native.Mathlib.Omega.{arith}
 use lib.Dec.{T, eqb, eqb→eq, eqb-refl}
 use lib.IntN.{ℤ, pos, negsuc, _-ℤ_}
 use lib.Signed.{ltZ, leZ, _≤ℤ_, _<ℤ_}
-use Rattle.exact.specs.Order.{zomega, sq, ≤-or-<, ≤→≯, <→≤}
+use Rattle.exact.specs.Order.{zomega, sq, ≤-or-<, ≤→≯}
 use Rattle.exact.specs.Sign.{Sign, sgn, Sg, is-neg, is-zer, is-plus, sg, isNeg, isZer, isPlus}
 
 -- ---- Bool

@@ -1,12 +1,19 @@
--- Worked examples of the kit: identities by `ring`, linear arithmetic by `zomega`, and an order of fractions by cross-multiplication.
+-- Worked examples of the kit, to start from: identities by `ring`, equations by certificate, linear arithmetic by `zomega`, products as premises, the order
+-- of fractions by cross-multiplication; then machine terms, a line a need. Nothing here is used elsewhere. Assumes nothing.
 use mathlib.Core.Path.{_≡_}
+use mathlib.Core.Bool.{true}
 use mathlib.Core.List.{[], _∷_}
+use Prim.Native.Nat.{ℕ, _≤_, _<_}
+use lib.Dec.{T}
+use mir.Syntax.{w16, w64}
+use mir.Val.{Fits, SFits, toZ, ofZ}
 use native.Mathlib.Omega.{arith}
-use lib.IntN.{ℤ, pos, negsuc, negℤ, _+ℤ_, _-ℤ_, _*ℤ_}
-use lib.Signed.{_≤ℤ_, _<ℤ_}
+use lib.IntN.{ℤ, pos, negsuc, negℤ, natAbs, _+ℤ_, _-ℤ_, _*ℤ_}
+use lib.Signed.{_≤ℤ_, _<ℤ_, ltZ, ltZ-yes, nonNeg, quotZ, remZ}
 use Rattle.exact.specs.Solve.{ring, reify, solve, v, k, _⊞_, _⊠_}
 use Rattle.exact.specs.Order.{zomega, sq, <→0<, 0<→<, 0<-*, 0≤-*, ≤→0≤}
-use Rattle.exact.specs.Mul.{0<-cancel, ≡-by₂, *-cancel-≡}
+use Rattle.exact.specs.Mach.{tr, trs, trn, tru, trb, fits, plain, atmost, taken, divisor, cast-u}
+use Rattle.exact.specs.Mul.{0<-cancel, ≡-by₂}
 
 -- ---- identities
 square : (a b : ℤ) → (a +ℤ b) *ℤ (a +ℤ b) ≡ a *ℤ a +ℤ pos 2 *ℤ (a *ℤ b) +ℤ b *ℤ b
@@ -59,3 +66,41 @@ frac-sum x1 d1 x2 d2 x3 d3 = zomega (x1 ∷ d1 ∷ x2 ∷ d2 ∷ x3 ∷ d3 ∷ [
 frac-trans : (x1 d1 x2 d2 x3 d3 : ℤ) → pos 0 <ℤ d1 → pos 0 <ℤ d2 → pos 0 <ℤ d3 → (x1 *ℤ d2) <ℤ (x2 *ℤ d1) → (x2 *ℤ d3) <ℤ (x3 *ℤ d2) → (x1 *ℤ d3) <ℤ (x3 *ℤ d1)
 frac-trans x1 d1 x2 d2 x3 d3 p1 p2 p3 h l =
     0<→< (x1 *ℤ d3) (x3 *ℤ d1) (0<-cancel d2 (x3 *ℤ d1 -ℤ x1 *ℤ d3) p2 (frac-sum x1 d1 x2 d2 x3 d3 (0<-* (<→0< h) p3) (0<-* (<→0< l) p1)))
+
+-- ---- machine terms. `r x` is what the machine reads back of x
+abbrev r : ℤ → ℤ
+r x = toZ w64 (ofZ w64 x)
+
+module _ (a b : ℤ) (h : natAbs a ≤ 4000) (l : natAbs b ≤ 4000) where
+  -- a sum of products fits, and is what it says
+  sum-fits : SFits w64 (r (r a *ℤ r a) +ℤ r (r b *ℤ r b))
+  sum-fits = fits (search tr depth 20) tt
+
+  sum-is : r (r (r a *ℤ r a) +ℤ r (r b *ℤ r b)) ≡ a *ℤ a +ℤ b *ℤ b
+  sum-is = plain (search tr depth 20) tt
+
+  -- a bound for a callee
+  sum-small : natAbs (r (r a +ℤ r b)) ≤ 8000
+  sum-small = atmost (search tru depth 20) tt
+
+  -- a test that was taken
+  taken-is : ltZ (r a) (r (r b +ℤ pos 1)) ≡ true → a <ℤ (b +ℤ pos 1)
+  taken-is e = ltZ-yes (taken e (search trb depth 20) tt)
+
+  -- what a / b and a % b ask, and what they are
+  quotient : (b ≡ pos 0 → ⊥) → (0 < ofZ w64 b) × SFits w64 (quotZ (r a) (r b))
+  quotient n = (divisor w64 b (search tr depth 20) tt n, fits (search tr depth 20) tt)
+
+  remainder-is : r (remZ (r a) (r b)) ≡ remZ a b
+  remainder-is = plain (search tr depth 20) tt
+
+  -- a as u16
+  as-u16 : pos 0 ≤ℤ a → T (nonNeg (r a)) × Fits w16 (natAbs (r a))
+  as-u16 p = cast-u w64 w16 a (search tr depth 20) tt p
+
+-- an i16 and a u16 as i64, of which no more than the range is known
+wide-sum : (x : ℤ) → SFits w16 x → r (r (toZ w16 (ofZ w16 x)) +ℤ pos 1) ≡ x +ℤ pos 1
+wide-sum x f = plain (search trs depth 20) tt
+
+wide-difference : (n : ℕ) → n < 65536 → r (toZ w64 n -ℤ pos 1) ≡ pos n -ℤ pos 1
+wide-difference n h = plain (search trn depth 20) tt

@@ -7,7 +7,7 @@ use native.Mathlib.Omega.{arith}
 use lib.IntN.{pos}
 use lib.Signed.{_≤ℤ_, _<ℤ_, ltZ-yes, ltZ-no}
 use Rattle.exact.specs.Order.{<-to, ≤-to}
-use Rattle.exact.specs.Mach.{tr, trb, trn, fits, plain, taken, left}
+use Rattle.exact.specs.Mach.{trb, trn, fits, plain, taken, left}
 use Rattle.exact.specs.Cast.{word, signed16-low, signed16-high}
 use Rattle.exact.proofs.cast.le_i16.Statement.{statement}
 use Rattle.exact.proofs.cast.le_i16.Tie as tie

@@ -2,7 +2,7 @@
 -- Assumes nothing.
 use borrow.Author.Needs.{needs}
 use mathlib.Core.Path.{_≡_, sym, ap, _∙_, subst}
-use Prim.Native.Nat.{_+_, _≤_, _<_, _^_}
+use Prim.Native.Nat.{_+_, _<_}
 use native.Mathlib.Omega.{arith}
 use lib.IntN.{ℤ, pos, negsuc, negℤ, natAbs, _-ℤ_}
 use lib.Dec.{T}
@@ -10,24 +10,18 @@ use lib.Signed.{mag, nonNeg, _<ℤ_, ltZ-yes, ltZ-no}
 use mir.Syntax.{w64}
 use mir.Val.{Fits, SFits, toZ, ofZ}
 use mir.ValLaws.{toZ-ofZ}
-use Rattle.exact.specs.Order.{≡-of, is-+, <-to}
-use Rattle.exact.specs.Mach.{trs, trbs, taken, left}
+use Rattle.exact.specs.Order.{≡-of, is-+, pos≮0}
+use Rattle.exact.specs.Mach.{trbs, taken, left}
 use Rattle.exact.specs.Range.{cast-range}
 use Rattle.exact.proofs.cast.magnitude.Statement.{statement}
 use Rattle.exact.proofs.cast.magnitude.Tie as tie
 
 minus : (x : ℤ) → x <ℤ pos 0 → negsuc 0 -ℤ x ≡ pos (mag x)
-minus (pos n) h = absurd (no (<-to (pos n) (pos 0) h))
-  where
-    no : n + 0 < 0 + 0 → ⊥
-    no h = omega arith
+minus (pos n) h = absurd (pos≮0 n h)
 minus (negsuc n) h = ≡-of (negsuc 0 -ℤ negsuc n) (pos n) (omega (arith, is-+ (negsuc 0) (negℤ (negsuc n))))
 
 one-more : (x : ℤ) → x <ℤ pos 0 → mag x + 1 ≡ natAbs x
-one-more (pos n) h = absurd (no (<-to (pos n) (pos 0) h))
-  where
-    no : n + 0 < 0 + 0 → ⊥
-    no h = omega arith
+one-more (pos n) h = absurd (pos≮0 n h)
 one-more (negsuc n) h = omega arith
 
 -- what the machine holds of -1 - x

@@ -1,6 +1,6 @@
 -- `exact::cast::of_i16` meets its contract: a number of 16 bits is one of 64.
 -- Assumes nothing.
-use Rattle.exact.specs.Mach.{tr, trs, fits, plain}
+use Rattle.exact.specs.Mach.{trs, fits, plain}
 use Rattle.exact.proofs.cast.of_i16.Statement.{statement}
 use Rattle.exact.proofs.cast.of_i16.Tie as tie
 

@@ -1,7 +1,7 @@
 -- `exact::cast::of_u32` meets its contract: an unsigned number below half the width's power is itself.
 -- Assumes nothing.
 use borrow.Author.Needs.{needs}
-use Rattle.exact.specs.Mach.{tr, trn, plain}
+use Rattle.exact.specs.Mach.{trn, plain}
 use Rattle.exact.proofs.cast.of_u32.Statement.{statement}
 use Rattle.exact.proofs.cast.of_u32.Tie as tie
 

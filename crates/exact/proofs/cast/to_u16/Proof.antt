@@ -1,8 +1,6 @@
 -- `exact::cast::to_u16` meets its contract: the number is not negative, and below 2^16.
 -- Assumes nothing.
 use borrow.Author.Needs.{needs}
-use Prim.Native.Nat.{_<_, _^_}
-use lib.IntN.{natAbs}
 use mir.Syntax.{w16, w64}
 use Rattle.exact.specs.Mach.{tr-atom<, cast-u}
 use Rattle.exact.specs.Cast.{unsigned-abs}

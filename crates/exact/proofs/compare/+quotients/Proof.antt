@@ -1,11 +1,10 @@
 -- `exact::compare::quotients` meets its contract, by the laws of Quotients. The measure is the sum of the two denominators.
 -- Assumes nothing.
-use mathlib.Core.Path.{_≡_, sym, ap, _∙_}
-use Prim.Native.Nat.{ℕ, _+_, _/_, _%_, _<_, _≤_}
+use mathlib.Core.Path.{_≡_, sym, _∙_}
+use Prim.Native.Nat.{ℕ, _+_, _%_, _<_}
 use native.Mathlib.Nat.{pos-of-ne-zero, mod-lt, le-antisymm}
 use native.Mathlib.Omega.{arith}
 use lib.IntN.{pos}
-use Rattle.exact.specs.Order.{Sign}
 use Rattle.exact.specs.Compare.{fractions}
 use Rattle.exact.specs.Quotients.{whole-less, whole-more, whole-same, none, first-left, second-left}
 use borrow.Fn.Kinds.{In}

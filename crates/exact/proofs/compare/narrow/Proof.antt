@@ -7,7 +7,7 @@ use mathlib.Core.Logic.{⊎-elim}
 use lib.IntN.{pos, negℤ}
 use lib.Signed.{ltZ}
 use Rattle.exact.specs.Compare.{numerators, denominators}
-use Rattle.exact.specs.Mach.{trs, trbs, test}
+use Rattle.exact.specs.Mach.{trbs, test}
 use Rattle.exact.proofs.compare.narrow.Statement.{statement}
 use Rattle.exact.proofs.compare.narrow.Tie as tie
 

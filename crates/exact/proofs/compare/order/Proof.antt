@@ -5,8 +5,8 @@ use mathlib.Core.List.{[], _∷_}
 use native.Mathlib.Omega.{arith}
 use lib.IntN.{ℤ, pos, _-ℤ_}
 use lib.Signed.{_≤ℤ_, _<ℤ_, ltZ-yes, ltZ-no}
-use Rattle.exact.specs.Order.{zomega, sq, zer, plus, neg, sgn, sgn-neg, sgn-plus}
-use Rattle.exact.specs.Mach.{trs, trbs, taken, left}
+use Rattle.exact.specs.Order.{zomega, sq, sgn, sgn-neg, sgn-plus}
+use Rattle.exact.specs.Mach.{trbs, taken, left}
 use Rattle.exact.proofs.compare.order.Statement.{statement}
 use Rattle.exact.proofs.compare.order.Tie as tie
 

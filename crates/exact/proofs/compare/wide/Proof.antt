@@ -3,14 +3,13 @@
 use borrow.Author.Needs.{needs}
 use mathlib.Core.Path.{_≡_, sym, ap, _∙_, subst}
 use Prim.Native.Nat.{ℕ, _<_}
-use lib.IntN.{ℤ, pos, natAbs}
+use lib.IntN.{pos, natAbs}
 use lib.Signed.{ltZ-yes, ltZ-no}
 use mir.Syntax.{w64}
 use mir.ValLaws.{toZ-ofZ}
-use Rattle.exact.specs.Order.{plus}
 use Rattle.exact.specs.Sign.{negS}
 use Rattle.exact.specs.Lowest.{abs-pos}
-use Rattle.exact.specs.Mach.{trs, trbs, taken, left}
+use Rattle.exact.specs.Mach.{trbs, taken, left}
 use Rattle.exact.specs.Compare.{fractions, fractions-swap, fractions-opposite, fractions-magnitudes, fractions-negative}
 use Rattle.exact.proofs.compare.wide.Statement.{statement}
 use Rattle.exact.proofs.compare.wide.Tie as tie

@@ -6,7 +6,7 @@ use Prim.Native.Nat.{ℕ, _<_, _≤_, _^_}
 use native.Mathlib.Nat.{le-of-dvd}
 use native.Mathlib.Omega.{arith}
 use lib.IntN.{ℤ, pos, negsuc, natAbs}
-use lib.Signed.{quotZ, mag, _<ℤ_}
+use lib.Signed.{quotZ, _<ℤ_}
 use mir.Syntax.{w64}
 use mir.Val.{SFits, toZ, ofZ}
 use mir.ValLaws.{toZ-ofZ}
