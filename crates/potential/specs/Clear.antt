@@ -2,8 +2,8 @@
 -- parallel to f, no point in common with f strictly inside, is apart from it. An edge that covers the segment needs no clause.
 -- If the signs were otherwise, e and f would meet inside, at the point  lo e + (m/k)·e.up,  k = σ·K, m = -σ·(lo e against f), K = cross f e, σ = ±1.
 -- Assumes nothing.
-use mathlib.Core.Path.{_≡_, refl, sym, _∙_, ap, subst}
-use mathlib.Core.Bool.{true}
+use mathlib.Core.Path.{_≡_, refl, sym, _∙_, ap}
+use mathlib.Core.Bool.{true, false}
 use mathlib.Core.List.{List, [], _∷_}
 use native.Mathlib.Omega.{arith}
 use lib.Dec.{T}
@@ -12,37 +12,36 @@ use lib.Signed.{_<ℤ_}
 use Rattle.exact.specs.Solve.{ring, reify}
 use Rattle.exact.specs.Order.{zomega, sq, <→≢}
 use Rattle.exact.specs.Mul.{≡-by₁}
-use Rattle.exact.specs.Sign.{Sign, neg, zer, plus, sgn, sgn-plus, sgn-neg, isNeg, isPlus, sums, lexS, lex-scale, plus→, NotOpposite, NotSame}
-use Rattle.exact.specs.Tests.{T-true}
-use Rattle.paper.specs.Plane.{Pt, Seg, cross, order, leftBy}
-use Rattle.potential.specs.Signs.{isLe, isGe, neg-is, plus-is, neg→}
-use Rattle.potential.specs.Order.{Real, Rises, lo, hi, one-real, plus→neg, neg→plus, order-self, order-ends, left-lo, left-hi, cross-swap, hi-less-lo, <-<→<, ≤-<→<, <-≤→<}
-use Rattle.potential.specs.Slide.{Segment, low, mid, high, At, at-low, at-mid, at-high, Apart, sums-lo, sums-hi, sums-both}
-
--- a point on an edge
-pub record On (e : Seg) (q : Pt) : Type 0 where
-  pub line : leftBy e q ≡ pos 0
-  pub from-lo : isLe (order (lo e) q) ≡ true
-  pub to-hi : isGe (order (hi e) q) ≡ true
+use Rattle.exact.specs.Sign.{Sign, neg, zer, plus, sgn, sgn-plus, sgn-neg, Sg, is-neg, is-zer, is-plus, sg, isNeg, isPlus, sums, plus→, NotOpposite, NotSame}
+use Rattle.exact.specs.Tests.{never, T-true}
+use Rattle.paper.specs.Plane.{Pt, Seg, dir, cross, before, leftBy}
+use Rattle.planelaws.specs.Cone.{UpV, up-by, up-*}
+use Rattle.planelaws.specs.Points.{up-before, before-asym, before-irr, before-trans, le-before, before-le}
+use Rattle.planelaws.specs.Ends.{0<1}
+use Rattle.planelaws.specs.Angles.{cross-swap}
+use Rattle.planelaws.specs.Sides.{left-foot, left-head, left-ends}
+use Rattle.planelaws.specs.Edges.{On, seg-up}
+use Rattle.potential.specs.Cuts.{lo, hi}
+use Rattle.potential.specs.Slide.{Segment, low, mid, high, At, Apart, sums-lo, sums-hi, sums-both}
 
 -- p and r stand on f between its ends
 pub record Within (f : Seg) (p r : Pt) : Type 0 where
   pub segment : Segment f p r
-  pub bottom : isLe (order (lo f) p) ≡ true
-  pub top : isGe (order (hi f) r) ≡ true
+  pub bottom : before p (lo f) ≡ false
+  pub top : before (hi f) r ≡ false
 
 -- e does not meet the inside of the segment, or lies along f with no end inside
 pub record Clear (f : Seg) (p r : Pt) (e : Seg) : Type 0 where
-  pub lo-off : order p (lo e) ≡ neg → order (lo e) r ≡ neg → leftBy f (lo e) ≡ pos 0 → ⊥
-  pub hi-off : order p (hi e) ≡ neg → order (hi e) r ≡ neg → leftBy f (hi e) ≡ pos 0 → ⊥
-  pub no-meet : (cross (f .up) (e .up) ≡ pos 0 → ⊥) → (q : Pt) → Real q → On e q → On f q → order p q ≡ neg → order q r ≡ neg → ⊥
+  pub lo-off : before p (lo e) ≡ true → before (lo e) r ≡ true → leftBy f (lo e) ≡ pos 0 → ⊥
+  pub hi-off : before p (hi e) ≡ true → before (hi e) r ≡ true → leftBy f (hi e) ≡ pos 0 → ⊥
+  pub no-meet : (cross (f .up) (e .up) ≡ pos 0 → ⊥) → (q : Pt) → pos 0 <ℤ q .D → On e q → On f q → before p q ≡ true → before q r ≡ true → ⊥
 
 -- an edge is a segment of itself
-pub whole-edge : (e : Seg) → Rises (e .up) → Within e (lo e) (hi e)
+pub whole-edge : (e : Seg) → UpV (e .up) → Within e (lo e) (hi e)
 whole-edge e u = record {
-  segment = record { p-real = one-real; r-real = one-real; rises = u; p-on = left-lo e; r-on = left-hi e; goes-up = order-ends e u };
-  bottom = ap isLe (order-self (lo e));
-  top = ap isGe (order-self (hi e));
+  segment = record { p-real = 0<1; r-real = 0<1; rises = u; p-on = left-foot e; r-on = left-head e; climbs = seg-up e u };
+  bottom = before-irr (lo e);
+  top = before-irr (hi e);
 }
 
 -- ── the meeting point ──
@@ -97,54 +96,51 @@ module _ (σ : ℤ) (f e : Seg) where
 
 -- ── it lies inside in none of the four cases ──
 
-module _ (f : Seg) (p r : Pt) (e : Seg) (w : Within f p r) (ue : Rises (e .up)) (c : Clear f p r e) (σ : ℤ) (k : pos 0 <ℤ (σ *ℤ cross (f .up) (e .up))) where
+module _ (f : Seg) (p r : Pt) (e : Seg) (w : Within f p r) (ue : UpV (e .up)) (c : Clear f p r e) (σ : ℤ) (k : pos 0 <ℤ (σ *ℤ cross (f .up) (e .up))) where
   abbrev q : Pt
   q = meet σ f e
 
-  abbrev p-real : Real p
-  p-real = w .segment .p-real
+  abbrev hp : pos 0 <ℤ p .D
+  hp = w .segment .p-real
 
-  abbrev r-real : Real r
-  r-real = w .segment .r-real
+  abbrev hr : pos 0 <ℤ r .D
+  hr = w .segment .r-real
 
-  p-q : pos 0 <ℤ (σ *ℤ leftBy e p) → order p q ≡ neg
-  p-q h = plus→neg p q ((λ i. lexS (after-y σ f e p (w .segment .p-on) i) (after-x σ f e p (w .segment .p-on) i)) ∙ lex-scale (σ *ℤ leftBy e p) (f .up .y) (f .up .x) h ∙ w .segment .rises)
+  p-q : pos 0 <ℤ (σ *ℤ leftBy e p) → before p q ≡ true
+  p-q h = up-before p q (up-by (sym (after-x σ f e p (w .segment .p-on))) (sym (after-y σ f e p (w .segment .p-on))) (up-* h (w .segment .rises)))
 
-  q-r : pos 0 <ℤ (σ *ℤ negℤ (leftBy e r)) → order q r ≡ neg
-  q-r h = plus→neg q r ((λ i. lexS (before-y σ f e r (w .segment .r-on) i) (before-x σ f e r (w .segment .r-on) i)) ∙ lex-scale (σ *ℤ negℤ (leftBy e r)) (f .up .y) (f .up .x) h ∙ w .segment .rises)
+  q-r : pos 0 <ℤ (σ *ℤ negℤ (leftBy e r)) → before q r ≡ true
+  q-r h = up-before q r (up-by (sym (before-x σ f e r (w .segment .r-on))) (sym (before-y σ f e r (w .segment .r-on))) (up-* h (w .segment .rises)))
 
-  q-hi : pos 0 <ℤ (σ *ℤ leftBy f (hi e)) → order q (hi e) ≡ neg
-  q-hi h = plus→neg q (hi e) ((λ i. lexS (to-hi-y σ f e i) (to-hi-x σ f e i)) ∙ lex-scale (σ *ℤ leftBy f (hi e)) (e .up .y) (e .up .x) h ∙ ue)
+  q-hi : pos 0 <ℤ (σ *ℤ leftBy f (hi e)) → before q (hi e) ≡ true
+  q-hi h = up-before q (hi e) (up-by (sym (to-hi-x σ f e)) (sym (to-hi-y σ f e)) (up-* h ue))
 
-  lo-q : pos 0 <ℤ (σ *ℤ negℤ (leftBy f (lo e))) → order (lo e) q ≡ neg
-  lo-q h = plus→neg (lo e) q ((λ i. lexS (from-lo-y σ f e i) (from-lo-x σ f e i)) ∙ lex-scale (σ *ℤ negℤ (leftBy f (lo e))) (e .up .y) (e .up .x) h ∙ ue)
+  lo-q : pos 0 <ℤ (σ *ℤ negℤ (leftBy f (lo e))) → before (lo e) q ≡ true
+  lo-q h = up-before (lo e) q (up-by (sym (from-lo-x σ f e)) (sym (from-lo-y σ f e)) (up-* h ue))
 
-  excluded : order (lo e) q ≡ neg → order q (hi e) ≡ neg → order p q ≡ neg → order q r ≡ neg → ⊥
+  excluded : before (lo e) q ≡ true → before q (hi e) ≡ true → before p q ≡ true → before q r ≡ true → ⊥
   excluded a b pq qr =
       c .no-meet (λ z. <→≢ k (sym (ap (λ (t : ℤ). σ *ℤ t) z ∙ *ℤ-zero σ))) q k
-      record { line = meet-on-e σ f e; from-lo = ap isLe a; to-hi = ap isGe (neg→plus (hi e) q b) }
+      record { line = meet-on-e σ f e; low = before-asym (lo e) q a; high = before-asym q (hi e) b }
       record {
         line = meet-on-f σ f e;
-        from-lo = ap isLe (≤-<→< (lo f) p q one-real p-real k (w .bottom) pq);
-        to-hi = ap isGe (neg→plus (hi f) q (<-≤→< q r (hi f) k r-real one-real qr (w .top)));
+        low = before-asym (lo f) q (le-before (lo f) p q 0<1 hp k (w .bottom) pq);
+        high = before-asym q (hi f) (before-le q r (hi f) k hr 0<1 qr (w .top));
       }
       pq qr
 
   no-spans : At p r (lo e) low → At p r (hi e) high → pos 0 <ℤ (σ *ℤ leftBy e p) → pos 0 <ℤ (σ *ℤ negℤ (leftBy e r)) → ⊥
-  no-spans (at-low a a′) (at-high b b′) h l =
-      excluded (≤-<→< (lo e) p q one-real p-real k a (p-q h)) (<-≤→< q r (hi e) k r-real one-real (q-r l) b′) (p-q h) (q-r l)
+  no-spans a b h l = excluded (le-before (lo e) p q 0<1 hp k (a .from-p) (p-q h)) (before-le q r (hi e) k hr 0<1 (q-r l) (b .to-r)) (p-q h) (q-r l)
 
   no-ends : At p r (lo e) low → At p r (hi e) mid → pos 0 <ℤ (σ *ℤ leftBy e p) → pos 0 <ℤ (σ *ℤ leftBy f (hi e)) → ⊥
-  no-ends (at-low a a′) (at-mid b b′) h l =
-      excluded (≤-<→< (lo e) p q one-real p-real k a (p-q h)) (q-hi l) (p-q h) (<-<→< q (hi e) r k one-real r-real (q-hi l) b′)
+  no-ends a b h l = excluded (le-before (lo e) p q 0<1 hp k (a .from-p) (p-q h)) (q-hi l) (p-q h) (before-trans q (hi e) r k 0<1 hr (q-hi l) (b .to-r))
 
   no-starts : At p r (lo e) mid → At p r (hi e) high → pos 0 <ℤ (σ *ℤ negℤ (leftBy e r)) → pos 0 <ℤ (σ *ℤ negℤ (leftBy f (lo e))) → ⊥
-  no-starts (at-mid a a′) (at-high b b′) h l =
-      excluded (lo-q l) (<-≤→< q r (hi e) k r-real one-real (q-r h) b′) (<-<→< p (lo e) q p-real one-real k (plus→neg p (lo e) a) (lo-q l)) (q-r h)
+  no-starts a b h l = excluded (lo-q l) (before-le q r (hi e) k hr 0<1 (q-r h) (b .to-r)) (before-trans p (lo e) q hp 0<1 k (a .from-p) (lo-q l)) (q-r h)
 
   no-inside : At p r (lo e) mid → At p r (hi e) mid → pos 0 <ℤ (σ *ℤ negℤ (leftBy f (lo e))) → pos 0 <ℤ (σ *ℤ leftBy f (hi e)) → ⊥
-  no-inside (at-mid a a′) (at-mid b b′) h l =
-      excluded (lo-q h) (q-hi l) (<-<→< p (lo e) q p-real one-real k (plus→neg p (lo e) a) (lo-q h)) (<-<→< q (hi e) r k one-real r-real (q-hi l) b′)
+  no-inside a b h l =
+      excluded (lo-q h) (q-hi l) (before-trans p (lo e) q hp 0<1 k (a .from-p) (lo-q h)) (before-trans q (hi e) r k 0<1 hr (q-hi l) (b .to-r))
 
 -- ── turned by 1 and by -1 ──
 
@@ -162,10 +158,22 @@ neg² x = zomega (x ∷ []) (search sq depth 20) (omega arith)
 
 -- x + y = z: the sign of the third, where two are known
 plus-of : (s : Sign) → T (isPlus s) → s ≡ plus
-plus-of s t = plus-is s (T-true (isPlus s) t)
+plus-of neg t = absurd t
+plus-of zer t = absurd t
+plus-of plus t = refl
 
 neg-of : (s : Sign) → T (isNeg s) → s ≡ neg
-neg-of s t = neg-is s (T-true (isNeg s) t)
+neg-of neg t = refl
+neg-of zer t = absurd t
+neg-of plus t = absurd t
+
+neg→ : {z : ℤ} → sgn z ≡ neg → z <ℤ pos 0
+neg→ {z} e = go (sg z) e
+  where
+    go : {s : Sign} → Sg z s → s ≡ neg → z <ℤ pos 0
+    go (is-neg h) e = h
+    go (is-zer h) e = never (ap isNeg e)
+    go (is-plus h) e = never (ap isNeg e)
 
 up-to-plus : (s : Sign) → T (sums neg s plus) → s ≡ plus
 up-to-plus neg t = absurd t
@@ -190,7 +198,7 @@ module _ (x y z : ℤ) (t : T (sums (sgn x) (sgn y) (sgn z))) where
   rest-neg : pos 0 <ℤ x → z <ℤ pos 0 → y <ℤ pos 0
   rest-neg p q = neg→ (down-to-neg (sgn y) (rw (sgn-plus p, sgn-neg q) at t))
 
-module _ (f : Seg) (p r : Pt) (e : Seg) (w : Within f p r) (ue : Rises (e .up)) (c : Clear f p r e) where
+module _ (f : Seg) (p r : Pt) (e : Seg) (w : Within f p r) (ue : UpV (e .up)) (c : Clear f p r e) where
   abbrev K : ℤ
   K = cross (f .up) (e .up)
 
@@ -217,25 +225,25 @@ module _ (f : Seg) (p r : Pt) (e : Seg) (w : Within f p r) (ue : Rises (e .up)) 
       t = sums-both f p r e (w .segment) ue
 
   ends-is : At p r (lo e) low → At p r (hi e) mid → NotSame sp sb
-  ends-is a (at-mid b b′) = record {
-    nn = λ h l. no-ends f p r e w ue c (negsuc 0) (neg¹ K (two-neg sp sb K t h l)) a (at-mid b b′) (neg¹ sp h) (neg¹ sb l);
-    pp = λ h l. no-ends f p r e w ue c (pos 1) (plus¹ K (two-plus sp sb K t h l)) a (at-mid b b′) (plus¹ sp h) (plus¹ sb l);
+  ends-is a b = record {
+    nn = λ h l. no-ends f p r e w ue c (negsuc 0) (neg¹ K (two-neg sp sb K t h l)) a b (neg¹ sp h) (neg¹ sb l);
+    pp = λ h l. no-ends f p r e w ue c (pos 1) (plus¹ K (two-plus sp sb K t h l)) a b (plus¹ sp h) (plus¹ sb l);
   }
     where
       t : T (sums (sgn sp) (sgn sb) (sgn K))
-      t = sums-hi f p r e (w .segment) ue b
+      t = sums-hi f p r e (w .segment) ue (b .from-p)
 
   starts-is : At p r (lo e) mid → At p r (hi e) high → NotSame sr sa
-  starts-is (at-mid a a′) b = record {
-    nn = λ h l. no-starts f p r e w ue c (pos 1) (plus¹ K (up (cross (e .up) (f .up)) K swap (two-neg sr sa (cross (e .up) (f .up)) t h l))) (at-mid a a′) b (neg² sr h) (neg² sa l);
-    pp = λ h l. no-starts f p r e w ue c (negsuc 0) (neg¹ K (down (cross (e .up) (f .up)) K swap (two-plus sr sa (cross (e .up) (f .up)) t h l))) (at-mid a a′) b (plus² sr h) (plus² sa l);
+  starts-is a b = record {
+    nn = λ h l. no-starts f p r e w ue c (pos 1) (plus¹ K (up (cross (e .up) (f .up)) K swap (two-neg sr sa (cross (e .up) (f .up)) t h l))) a b (neg² sr h) (neg² sa l);
+    pp = λ h l. no-starts f p r e w ue c (negsuc 0) (neg¹ K (down (cross (e .up) (f .up)) K swap (two-plus sr sa (cross (e .up) (f .up)) t h l))) a b (plus² sr h) (plus² sa l);
   }
     where
       swap : cross (e .up) (f .up) ≡ negℤ K
       swap = cross-swap (f .up) (e .up)
 
       t : T (sums (sgn sr) (sgn sa) (sgn (cross (e .up) (f .up))))
-      t = sums-lo f p r e (w .segment) ue a′
+      t = sums-lo f p r e (w .segment) ue (a .to-r)
 
       up : (x k : ℤ) → x ≡ negℤ k → x <ℤ pos 0 → pos 0 <ℤ k
       up x k = zomega (x ∷ k ∷ []) (search sq depth 20) (omega arith)
@@ -245,8 +253,8 @@ module _ (f : Seg) (p r : Pt) (e : Seg) (w : Within f p r) (ue : Rises (e .up)) 
 
   inside-is : At p r (lo e) mid → At p r (hi e) mid → NotOpposite sa sb
   inside-is a b = record {
-    np = λ h l. no-inside f p r e w ue c (pos 1) (plus¹ K (up sa sb K (hi-less-lo f e) h l)) a b (neg² sa h) (plus¹ sb l);
-    pn = λ h l. no-inside f p r e w ue c (negsuc 0) (neg¹ K (down sa sb K (hi-less-lo f e) h l)) a b (plus² sa h) (neg¹ sb l);
+    np = λ h l. no-inside f p r e w ue c (pos 1) (plus¹ K (up sa sb K (left-ends f e) h l)) a b (neg² sa h) (plus¹ sb l);
+    pn = λ h l. no-inside f p r e w ue c (negsuc 0) (neg¹ K (down sa sb K (left-ends f e) h l)) a b (plus² sa h) (neg¹ sb l);
   }
     where
       up : (x y k : ℤ) → y -ℤ x ≡ k → x <ℤ pos 0 → pos 0 <ℤ y → pos 0 <ℤ k
@@ -257,10 +265,11 @@ module _ (f : Seg) (p r : Pt) (e : Seg) (w : Within f p r) (ue : Rises (e .up)) 
 
   -- an edge that stays clear of the segment is apart from it
   pub apart : Apart f p r e
-  apart = record { lo-off = off-lo; hi-off = off-hi; spans = spans-is; ends = ends-is; starts = starts-is; inside = inside-is }
-    where
-      off-lo : At p r (lo e) mid → leftBy f (lo e) ≡ pos 0 → ⊥
-      off-lo (at-mid a a′) = c .lo-off (plus→neg p (lo e) a) a′
-
-      off-hi : At p r (hi e) mid → leftBy f (hi e) ≡ pos 0 → ⊥
-      off-hi (at-mid b b′) = c .hi-off (plus→neg p (hi e) b) b′
+  apart = record {
+    lo-off = λ a. c .lo-off (a .from-p) (a .to-r);
+    hi-off = λ b. c .hi-off (b .from-p) (b .to-r);
+    spans = spans-is;
+    ends = ends-is;
+    starts = starts-is;
+    inside = inside-is;
+  }

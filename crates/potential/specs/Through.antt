@@ -1,56 +1,73 @@
 -- Past a point v: from what lies west of v or arrives at it to what lies west of v or leaves it. The test on points is "is v"; nothing is assumed of the edge.
 -- What lies strictly west is one cut, just above v and just under it: no move is needed. Assumes nothing.
 use mathlib.Core.Path.{_≡_, refl, sym, _∙_, ap, subst}
-use mathlib.Core.Bool.{Bool, true, false, _&&_}
+use mathlib.Core.Bool.{Bool, true, false, not, _&&_}
 use lib.Dec.{T}
 use lib.IntN.{pos, _-ℤ_, +ℤ-invr}
+use lib.Signed.{_<ℤ_}
 use Rattle.exact.specs.Sign.{Sign, neg, zer, plus, sgn, isNeg, isZer, isPlus, sums}
-use Rattle.paper.specs.Plane.{Pt, Seg, nowhere, order, leftBy}
-use Rattle.potential.specs.Sum.{ind}
-use Rattle.potential.specs.Signs.{isLe, isGe}
-use Rattle.potential.specs.Order.{Real, Rises, lo, hi, one-real, order-trans, order-ends, lo-at, hi-at}
-use Rattle.potential.specs.Cuts.{above, under, above-through, above-strict, under-through, under-strict}
+use Rattle.exact.specs.Tests.{never}
+use Rattle.seq.specs.Terms.{ind}
+use Rattle.paper.specs.Plane.{Pt, Seg, nowhere, order, before, same, leftBy}
+use Rattle.planelaws.specs.Cone.{UpV}
+use Rattle.planelaws.specs.Points.{after, order-trans, same-sym}
+use Rattle.planelaws.specs.Ends.{0<1}
+use Rattle.planelaws.specs.Sides.{left-foot, left-head, left-same-sign}
+use Rattle.planelaws.specs.Edges.{seg-up}
+use Rattle.potential.specs.Cuts.{lo, hi, reachAbove, above, under, above-through, above-strict, under-through, under-strict}
 
-unfoldable pub isAt : Pt → Pt → Bool
-isAt v z = isZer (order z v)
-
--- a and b are the signs of the lower and the upper end against v, s that of v against the edge: a < b, and where an end is v, v is on the edge
-through-signs : (a b s : Sign) → T (sums neg b a) → (a ≡ zer → s ≡ zer) → (b ≡ zer → s ≡ zer) →
-    ind ((isLe a && isPlus b) && isLe s) -ℤ ind ((isNeg a && isGe b) && isLe s) ≡ ind (isZer a) -ℤ ind (isZer b)
+-- a and b are the signs of v against the lower and the upper end, s that of v against the edge: lower < upper, and where v is an end, it is on the edge
+through-signs : (a b s : Sign) → T (sums a neg b) → (a ≡ zer → s ≡ zer) → (b ≡ zer → s ≡ zer) →
+    ind ((not (isNeg a) && isNeg b) && not (isPlus s)) -ℤ ind ((isPlus a && not (isPlus b)) && not (isPlus s)) ≡ ind (isZer a) -ℤ ind (isZer b)
 through-signs neg neg s t f g = refl
-through-signs zer neg s t f g = absurd t
-through-signs plus neg s t f g = absurd t
-through-signs neg zer s t f g = ap (λ (s : Sign). pos 0 -ℤ ind (isLe s)) (g refl)
+through-signs neg zer s t f g = absurd t
+through-signs neg plus s t f g = absurd t
+through-signs zer neg s t f g = ap (λ (s : Sign). ind (not (isPlus s)) -ℤ pos 0) (f refl)
 through-signs zer zer s t f g = absurd t
-through-signs plus zer s t f g = absurd t
-through-signs neg plus s t f g = +ℤ-invr (ind (isLe s))
-through-signs zer plus s t f g = ap (λ (s : Sign). ind (isLe s) -ℤ pos 0) (f refl)
+through-signs zer plus s t f g = absurd t
+through-signs plus neg s t f g = +ℤ-invr (ind (not (isPlus s)))
+through-signs plus zer s t f g = ap (λ (s : Sign). pos 0 -ℤ ind (not (isPlus s))) (g refl)
 through-signs plus plus s t f g = refl
 
-strict-signs : (a b s : Sign) → T (sums neg b a) → (a ≡ zer → s ≡ zer) → (b ≡ zer → s ≡ zer) → ((isLe a && isPlus b) && isNeg s) ≡ ((isNeg a && isGe b) && isNeg s)
+strict-signs : (a b s : Sign) → T (sums a neg b) → (a ≡ zer → s ≡ zer) → (b ≡ zer → s ≡ zer) → ((not (isNeg a) && isNeg b) && isNeg s) ≡ ((isPlus a && not (isPlus b)) && isNeg s)
 strict-signs neg neg s t f g = refl
-strict-signs zer neg s t f g = absurd t
-strict-signs plus neg s t f g = absurd t
-strict-signs neg zer s t f g = sym (ap isNeg (g refl))
+strict-signs neg zer s t f g = absurd t
+strict-signs neg plus s t f g = absurd t
+strict-signs zer neg s t f g = ap isNeg (f refl)
 strict-signs zer zer s t f g = absurd t
-strict-signs plus zer s t f g = absurd t
-strict-signs neg plus s t f g = refl
-strict-signs zer plus s t f g = ap isNeg (f refl)
+strict-signs zer plus s t f g = absurd t
+strict-signs plus neg s t f g = refl
+strict-signs plus zer s t f g = sym (ap isNeg (g refl))
 strict-signs plus plus s t f g = refl
 
-module _ (v : Pt) (d : Real v) (e : Seg) (u : Rises (e .up)) where
-  -- a < b: where b is not above v, a is below it
-  ends : T (sums neg (order (hi e) v) (order (lo e) v))
-  ends = subst (λ (k : Sign). T (sums k (order (hi e) v) (order (lo e) v))) (order-ends e u) (order-trans (lo e) (hi e) v one-real one-real d)
+module _ (v : Pt) (d : pos 0 <ℤ v .D) (e : Seg) (u : UpV (e .up)) where
+  -- v against the two ends
+  ends : T (sums (order v (lo e)) neg (order v (hi e)))
+  ends = subst (λ (s : Sign). T (sums (order v (lo e)) s (order v (hi e)))) (is-neg (order (lo e) (hi e)) (seg-up e u)) (order-trans v (lo e) (hi e) d 0<1 0<1)
+    where
+      is-neg : (s : Sign) → isNeg s ≡ true → s ≡ neg
+      is-neg neg e = refl
+      is-neg zer e = never e
+      is-neg plus e = never e
 
-  pub through : ind (above true v nowhere e) -ℤ ind (under true v nowhere e) ≡ ind (isAt v (lo e)) -ℤ ind (isAt v (hi e))
-  unfolding isAt
+  -- an end is on the edge
+  lo-at : order v (lo e) ≡ zer → sgn (leftBy e v) ≡ zer
+  lo-at h = left-same-sign e v (lo e) d 0<1 (ap isZer h) ∙ ap sgn (left-foot e)
+
+  hi-at : order v (hi e) ≡ zer → sgn (leftBy e v) ≡ zer
+  hi-at h = left-same-sign e v (hi e) d 0<1 (ap isZer h) ∙ ap sgn (left-head e)
+
+  pub through : ind (above true v nowhere e) -ℤ ind (under true v nowhere e) ≡ ind (same v (lo e)) -ℤ ind (same v (hi e))
   through =
+      let s = sgn (leftBy e v) in
       (λ i. ind (above-through v e i) -ℤ ind (under-through v e i))
-      ∙ through-signs (order (lo e) v) (order (hi e) v) (sgn (leftBy e v)) ends (λ h. ap sgn (lo-at v e h)) (λ h. ap sgn (hi-at v e h))
+      ∙ (λ i. ind (reachAbove v e && not (isPlus s)) -ℤ ind ((after v (lo e) i && not (after v (hi e) i)) && not (isPlus s)))
+      ∙ through-signs (order v (lo e)) (order v (hi e)) s ends lo-at hi-at
 
   pub strict-both : above false v nowhere e ≡ under false v nowhere e
   strict-both =
+      let s = sgn (leftBy e v) in
       above-strict v e
-      ∙ strict-signs (order (lo e) v) (order (hi e) v) (sgn (leftBy e v)) ends (λ h. ap sgn (lo-at v e h)) (λ h. ap sgn (hi-at v e h))
+      ∙ strict-signs (order v (lo e)) (order v (hi e)) s ends lo-at hi-at
+      ∙ (λ i. (sym (after v (lo e)) i && not (sym (after v (hi e)) i)) && isNeg s)
       ∙ sym (under-strict v e)
