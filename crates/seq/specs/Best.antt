@@ -2,14 +2,11 @@
 -- there is none (`best-has`, `none-has`). Where it is a strict order no candidate is better (`best-top`). Where any two candidates differ the best
 -- beats every other, and is the only one that does (`best-is`, `best-some`, `best-unique`). Then the same of `bestOf`. Assumes nothing.
 use mathlib.Core.Path.{_≡_, refl, sym, _∙_, ap, subst}
-use mathlib.Core.Logic.{inl, inr}
-use Prim.Native.Nat.{_<_, _≤_}
 use native.Mathlib.Nat.{not-suc-le-zero}
 use native.Mathlib.Decide.{ℕ-discrete}
 use native.Mathlib.Omega.{arith}
-use borrow.Author.Tests.{ltb-true, ltb-false}
-use Rattle.seq.specs.Seq.{Bool, true, false, cond, List, [], _∷_, Option, none, some, ℕ, zero, suc, ltb, best, improve, bestOf}
-use Rattle.seq.specs.Terms.{Among, Has, Strict, Order, Best, BestIs, Top, TopIs}
+use Rattle.seq.specs.Seq.{Bool, true, false, cond, Option, none, some, ℕ, zero, suc, best, improve}
+use Rattle.seq.specs.Terms.{Has, Strict, Order, Best, BestIs, Top, TopIs}
 use Rattle.seq.specs.Tests.{clash, not-true}
 
 module _ (p : ℕ → Bool) where

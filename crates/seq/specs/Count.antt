@@ -1,12 +1,13 @@
 -- Counts below a bound. First what a loop asks, then what a theorem asks: the count grows with the bound, each number that is counted has a rank of its
--- own, and each rank below the count is some number's. Assumes nothing.
+-- own, each rank below the count is some number's, and a property that implies another is had by no more numbers. Assumes nothing.
 use mathlib.Core.Path.{_≡_, refl, sym, _∙_, ap}
 use Prim.Native.Nat.{_≤_, _<_}
-use native.Mathlib.Nat.{not-suc-le-zero, le-refl, zero-add, add-suc, add-zero}
+use native.Mathlib.Nat.{not-suc-le-zero, le-refl, add-suc, add-zero}
 use native.Mathlib.Numerals.{add-one}
 use native.Mathlib.Decide.{decLt}
 use native.Mathlib.Omega.{arith}
 use Rattle.seq.specs.Seq.{Bool, true, false, cond, ℕ, zero, suc, _+_, count}
+use Rattle.seq.specs.Tests.{clash}
 
 module _ (p : ℕ → Bool) where
   -- ── what a loop asks ──
@@ -88,3 +89,31 @@ module _ (p : ℕ → Bool) where
 pub count-ext : (p q : ℕ → Bool) (n : ℕ) → ((k : ℕ) → k < n → p k ≡ q k) → count p n ≡ count q n
 count-ext p q zero h = refl
 count-ext p q (suc n) h = rw (count-ext p q n (λ k l. h k (omega arith)), h n (omega arith))
+
+-- ── a property that implies another ──
+
+module _ (p q : ℕ → Bool) where
+  sub-step : (r s : ℕ) (c d : Bool) → (c ≡ true → d ≡ true) → r ≤ s → cond c (suc r) r ≤ cond d (suc s) s
+  sub-step r s true true h l = omega arith
+  sub-step r s true false h l = absurd (clash (h refl) refl)
+  sub-step r s false true h l = omega arith
+  sub-step r s false false h l = l
+
+  pub count-sub : (n : ℕ) → ((k : ℕ) → k < n → p k ≡ true → q k ≡ true) → count p n ≤ count q n
+  count-sub zero h = le-refl 0
+  count-sub (suc n) h = sub-step (count p n) (count q n) (p n) (q n) (h n (omega arith)) (count-sub n (λ k l. h k (omega arith)))
+
+  fewer-step : (r s : ℕ) (c d : Bool) → (c ≡ true → d ≡ true) → r < s → cond c (suc r) r < cond d (suc s) s
+  fewer-step r s true true h l = omega arith
+  fewer-step r s true false h l = absurd (clash (h refl) refl)
+  fewer-step r s false true h l = omega arith
+  fewer-step r s false false h l = l
+
+  -- and fewer have it where one that has the other has it not
+  pub count-fewer : (n k : ℕ) → ((k : ℕ) → k < n → p k ≡ true → q k ≡ true) → k < n → p k ≡ false → q k ≡ true → count p n < count q n
+  count-fewer zero k h l e g = absurd (not-suc-le-zero l)
+  count-fewer (suc n) k h l e g =
+      elim (decLt k n) [
+        | yes s ↦ fewer-step (count p n) (count q n) (p n) (q n) (h n (omega arith)) (count-fewer n k (λ j m. h j (omega arith)) s e g)
+        | no s ↦ let t : k ≡ n = omega arith in rw (ap p (sym t) ∙ e, ap q (sym t) ∙ g) (omega (arith, count-sub n (λ j m. h j (omega arith))))
+      ]

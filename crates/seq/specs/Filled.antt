@@ -1,8 +1,7 @@
 -- Loops that fill a table: `filled n f d` after n turns of `t[i] = f(i)`, and `over (select p n) d` after n turns of `if p(i) { t[c] = i; c += 1 }`.
 -- Assumes nothing.
-use mathlib.Core.Path.{_≡_, refl, sym, _∙_, ap}
+use mathlib.Core.Path.{_≡_, sym, _∙_, ap}
 use Prim.Native.Nat.{_≤_, _<_}
-use native.Mathlib.Omega.{arith}
 use lib.ListN.{set}
 use Rattle.seq.specs.Seq.{Bool, true, false, List, [], _∷_, _++_, ℕ, _+_, length, getD, table, count, select, over, filled}
 use Rattle.seq.specs.Table.{length-table, table-more, table-at, table-ext}

@@ -1,10 +1,9 @@
 -- Loops that fill a table of rows of w cells: `laid n f d` after n turns of a store of the row f i at row i. `each` is the rows' width. Assumes nothing.
-use mathlib.Core.Path.{_≡_, refl, sym, _∙_, ap}
+use mathlib.Core.Path.{_≡_, sym, _∙_, ap}
 use Prim.Native.Nat.{_≤_, _<_, _*_}
 use native.Mathlib.Nat.{mul-suc, mul-le-mul-left}
-use native.Mathlib.Numerals.{add-one}
 use native.Mathlib.Omega.{arith}
-use Rattle.seq.specs.Seq.{List, [], _∷_, _++_, ℕ, suc, _+_, length, getD, rows, cell, sets, over, laid, rowStored}
+use Rattle.seq.specs.Seq.{List, ℕ, _+_, length, getD, rows, cell, sets, over, laid, rowStored}
 use Rattle.seq.specs.Rows.{length-rows, rows-more, cell-rows, rows-ext}
 use Rattle.seq.specs.Over.{over-none, length-over, over-row, over-all, over-at, over-past}
 

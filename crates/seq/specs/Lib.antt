@@ -21,4 +21,7 @@ pub mod Sorted
 pub mod Inserted
 pub mod Cyclic
 pub mod Sum
+pub mod Firsts
+pub mod Collected
+pub mod Ranked
 pub mod Unique

@@ -7,7 +7,7 @@ use native.Mathlib.Numerals.{add-one}
 use native.Mathlib.Omega.{arith}
 use lib.ListN.{set, length-append, length-drop, drop-of-length-le, List·getD-append}
 use lib.Seq.{drop-cons, set-at, sets, sets-eq, take-at, drop-at, drop-drop, getD-append-add, getD-drop}
-use Rattle.seq.specs.Seq.{List, [], _∷_, _++_, ℕ, suc, _+_, length, getD, take, drop, over}
+use Rattle.seq.specs.Seq.{List, [], _∷_, _++_, ℕ, suc, _+_, length, getD, drop, over}
 
 module _ {A : Type 0} where
   -- with nothing laid over it, it is d

@@ -2,12 +2,12 @@
 -- injection into fewer numbers; steps and orbits; then the return, and that every number is taken. Assumes nothing.
 use mathlib.Core.Path.{_≡_, refl, sym, _∙_, ap, subst}
 use mathlib.Core.Logic.{inl, inr}
-use Prim.Native.Nat.{_≤_, _<_, suc-le-suc}
+use Prim.Native.Nat.{_<_, suc-le-suc}
 use native.Mathlib.Nat.{not-suc-le-zero, le-of-suc-le-suc, zero-add, suc-add}
 use native.Mathlib.Decide.{decLt}
 use native.Mathlib.Omega.{arith}
 use borrow.Author.Tests.{eqb-true, eqb-false, eq-eqb}
-use Rattle.seq.specs.Seq.{Bool, true, false, cond, List, [], _∷_, ℕ, zero, suc, _+_, _-_, eqb, least}
+use Rattle.seq.specs.Seq.{Bool, true, false, cond, ℕ, zero, suc, _+_, _-_, eqb}
 use Rattle.seq.specs.Terms.{Among, iter, orbit, steps, Reach, Injects}
 use Rattle.seq.specs.Tests.{clash}
 use Rattle.seq.specs.Least.{least-min, least-holds}

@@ -1,16 +1,15 @@
 -- Where a number first stands in a list, and whether it stands there: `position` is the search over the list's cells, and `elem` is membership.
 -- Assumes nothing.
-use mathlib.Core.Path.{_≡_, refl, sym, _∙_, ap}
+use mathlib.Core.Path.{_≡_, refl, sym, _∙_}
 use mathlib.Core.Logic.{inl, inr}
 use Prim.Native.Nat.{_<_, _≤_, suc-le-suc, zero-le}
 use native.Mathlib.Nat.{not-suc-le-zero, le-of-suc-le-suc}
-use native.Mathlib.Omega.{arith}
-use borrow.Author.Tests.{ltb-true, ltb-false, lt-ltb, le-ltb, eqb-true, eqb-false, eq-eqb, ne-eqb}
-use Rattle.seq.specs.Seq.{Bool, true, false, cond, List, [], _∷_, Option, none, some, ℕ, zero, suc, ltb, eqb, length, getD, position, elem, among, least}
+use borrow.Author.Tests.{ltb-true, lt-ltb, eqb-true, eqb-false, eq-eqb, ne-eqb}
+use Rattle.seq.specs.Seq.{Bool, true, false, cond, List, [], _∷_, Option, none, some, ℕ, zero, suc, eqb, length, getD, position, elem, among, least}
 use Rattle.seq.specs.Terms.{Among, standsAt}
 use Rattle.seq.specs.Tests.{clash}
-use Rattle.seq.specs.Members.{at-among, among-at}
-use Rattle.seq.specs.Least.{least-by, least-holds, least-min, least-le, least-below, least-is}
+use Rattle.seq.specs.Members.{at-among}
+use Rattle.seq.specs.Least.{least-by, least-is}
 
 -- ── a search over the cells ──
 

@@ -3,7 +3,7 @@
 use mathlib.Core.Path.{_≡_, refl, sym, _∙_, ap}
 use mathlib.Core.Logic.{inl, inr, ⊎-elim}
 use mathlib.Core.List.{append-assoc, append-nil}
-use Prim.Native.Nat.{_≤_, _<_, _*_}
+use Prim.Native.Nat.{_<_, _*_}
 use native.Mathlib.Nat.{add-suc, add-zero, mul-zero, mul-suc, not-suc-le-zero, mul-le-mul-left}
 use native.Mathlib.Numerals.{add-one}
 use native.Mathlib.Decide.{decLt}

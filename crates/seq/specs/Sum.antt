@@ -1,4 +1,5 @@
--- Sums of integers over a list: congruence, linearity, the exchange of two sums, and a sum in which one index counts. By induction on the list.
+-- Sums of integers over a list: congruence, linearity, the exchange of two sums, a sum in which one index counts, a count as a sum, and a sum over the
+-- numbers below n in another order. By induction on the list.
 -- Assumes nothing.
 use mathlib.Core.Path.{_≡_, refl, sym, _∙_, ap}
 use mathlib.Core.Logic.{inl, inr}
@@ -6,12 +7,15 @@ use Prim.Native.Nat.{_≤_, _<_}
 use native.Mathlib.Nat.{not-suc-le-zero}
 use native.Mathlib.Decide.{decLt}
 use native.Mathlib.Omega.{arith}
-use borrow.Author.Tests.{eqb-true, eqb-false, ne-eqb}
-use lib.IntN.{+ℤ-idl, +ℤ-idr, *ℤ-zero, zero-*ℤ}
+use borrow.Author.Tests.{eqb-true, eqb-false, eq-eqb, ne-eqb}
+use native.Mathlib.Numerals.{one-add}
+use lib.IntN.{+ℤ-idl, +ℤ-idr, +ℤ-assoc, pos-+ℤ-pos, *ℤ-zero, zero-*ℤ}
 use Rattle.exact.specs.Ring.{+ℤ-swap4, *ℤ-distl, one-*ℤ}
 use Rattle.exact.specs.Solve.{ring, reify}
-use Rattle.seq.specs.Seq.{Bool, true, false, List, [], _∷_, ℕ, zero, suc, eqb, ℤ, pos, _+ℤ_, _-ℤ_, _*ℤ_}
-use Rattle.seq.specs.Terms.{Among, sum, upto, ind}
+use Rattle.seq.specs.Seq.{Bool, true, false, cond, List, [], _∷_, _++_, ℕ, zero, suc, eqb, count, ℤ, pos, _+ℤ_, _-ℤ_, _*ℤ_}
+use Rattle.seq.specs.Terms.{Among, Injects, sum, upto, ind}
+use Rattle.seq.specs.Tests.{bool-ext}
+use Rattle.seq.specs.Perm.{onto}
 
 pub upto-< : {i : ℕ} (n : ℕ) → Among i (upto n) → i < n
 unfolding upto
@@ -53,6 +57,11 @@ module _ {A : Type 0} where
       step : (a b c d : ℤ) → (a -ℤ b) +ℤ (c -ℤ d) ≡ (a +ℤ c) -ℤ (b +ℤ d)
       step a b c d = ring (a ∷ b ∷ c ∷ d ∷ []) (search reify depth 20) tt
 
+  pub sum-++ : (xs ys : List A) (f : A → ℤ) → sum (xs ++ ys) f ≡ sum xs f +ℤ sum ys f
+  unfolding sum
+  sum-++ [] ys f = sym (+ℤ-idl (sum ys f))
+  sum-++ (x ∷ xs) ys f = ap (λ (t : ℤ). f x +ℤ t) (sum-++ xs ys f) ∙ sym (+ℤ-assoc (f x) (sum xs f) (sum ys f))
+
 -- the exchange of two sums
 pub exchange : {A B : Type 0} (xs : List A) (ys : List B) (f : A → B → ℤ) → sum xs (λ x. sum ys (λ y. f x y)) ≡ sum ys (λ y. sum xs (λ x. f x y))
 unfolding sum
@@ -76,3 +85,35 @@ unfolding sum upto
 delta zero k g h = absurd (not-suc-le-zero h)
 delta (suc n) k g h =
     delta-step n k g (sum (upto n) (λ i. ind (eqb i k) *ℤ g i)) (eqb n k) refl (λ q. delta-none n k g (omega arith)) (λ q. delta n k g (omega arith))
+
+-- ── a count, and a sum in another order ──
+
+count-step : (r : ℕ) (c : Bool) → ind c +ℤ pos r ≡ pos (cond c (suc r) r)
+count-step r true = pos-+ℤ-pos 1 r ∙ ap pos (one-add r)
+count-step r false = +ℤ-idl (pos r)
+
+-- a count is the sum of its tests
+pub sum-count : (p : ℕ → Bool) (n : ℕ) → sum (upto n) (λ i. ind (p i)) ≡ pos (count p n)
+unfolding sum upto
+sum-count p zero = refl
+sum-count p (suc n) = ap (λ (t : ℤ). ind (p n) +ℤ t) (sum-count p n) ∙ count-step (count p n) (p n)
+
+module _ (f : ℕ → ℕ) (n : ℕ) (I : Injects f n) (g : ℕ → ℤ) where
+  -- f takes j at k alone
+  taken : (j k : ℕ) → k < n → f k ≡ j → (i : ℕ) → i < n → eqb j (f i) ≡ eqb i k
+  taken j k h e i l =
+      bool-ext (eqb j (f i)) (eqb i k) (λ q. eq-eqb i k (I .once i k l h (sym (eqb-true j (f i) q) ∙ sym e)))
+      (λ q. eq-eqb j (f i) (sym e ∙ ap f (sym (eqb-true i k q))))
+
+  one-of : (j : ℕ) → j < n → sum (upto n) (λ i. ind (eqb j (f i)) *ℤ g j) ≡ g j
+  one-of j l =
+      let r = onto f n I j l in
+      sum-ext (upto n) {f = λ i. ind (eqb j (f i)) *ℤ g j} {g = λ i. ind (eqb i (r .0)) *ℤ g j} (λ i m. ap (λ (c : Bool). ind c *ℤ g j) (taken j (r .0) (r .1) (r .2) i (upto-< n m)))
+      ∙ delta n (r .0) (λ i. g j) (r .1)
+
+  -- a sum over the numbers below n does not change where they are permuted
+  pub sum-perm : sum (upto n) (λ i. g (f i)) ≡ sum (upto n) g
+  sum-perm =
+      sum-ext (upto n) {f = λ i. g (f i)} {g = λ i. sum (upto n) (λ j. ind (eqb j (f i)) *ℤ g j)} (λ i m. sym (delta n (f i) g (I .into i (upto-< n m))))
+      ∙ exchange (upto n) (upto n) (λ i j. ind (eqb j (f i)) *ℤ g j)
+      ∙ sum-ext (upto n) {f = λ j. sum (upto n) (λ i. ind (eqb j (f i)) *ℤ g j)} {g = g} (λ j m. one-of j (upto-< n m))

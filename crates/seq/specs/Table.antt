@@ -6,7 +6,7 @@ use Prim.Native.Nat.{_<_}
 use native.Mathlib.Nat.{add-suc, add-zero, eq-or-lt-of-le, le-of-suc-le-suc}
 use native.Mathlib.Numerals.{add-one}
 use native.Mathlib.Omega.{arith}
-use lib.ListN.{length-append, length-replicate, replicate-append-replicate, List·getD-append}
+use lib.ListN.{length-append, replicate-append-replicate, List·getD-append}
 use lib.Seq.{getD-at, ext-getD}
 use Rattle.seq.specs.Seq.{List, [], _∷_, _++_, map, ℕ, zero, suc, _+_, length, getD, replicate, table}
 use Rattle.seq.specs.Terms.{Among}

@@ -46,6 +46,11 @@ module _ {A : Type 0} (b : A → A → Bool) where
   Ordered [] = Unit {0}
   Ordered (x ∷ xs) = Ahead x xs × Ordered xs
 
+  -- no element is, by b, like one that stands before it
+  abbrev pub Distinct : List A → Type 0
+  Distinct [] = Unit {0}
+  Distinct (x ∷ xs) = ((z : A) → Among z xs → b z x ≡ false) × Distinct xs
+
   -- b is transitive on what has P
   abbrev pub Transitive : (A → Type 0) → Type 0
   Transitive P = (x y z : A) → P x → P y → P z → b x y ≡ true → b y z ≡ true → b x z ≡ true
@@ -68,6 +73,12 @@ module _ {A : Type 0} (b : A → A → Bool) where
   -- x is joined from p and one of a list
   abbrev pub Joined : (A → A → A) → A → A → List A → Type 0
   Joined join p x l = (q : A) × Like p l q × (x ≡ join p q)
+
+-- b is a strict order of a list's cells in which any two differ
+pub record Sortable {A : Type 0} (b : A → A → Bool) (d : A) (l : List A) : Type 0 where
+  pub irr : (i : ℕ) → i < length l → b (getD l i d) (getD l i d) ≡ false
+  pub trans : (i j k : ℕ) → i < length l → j < length l → k < length l → b (getD l i d) (getD l j d) ≡ true → b (getD l j d) (getD l k d) ≡ true → b (getD l i d) (getD l k d) ≡ true
+  pub total : (i j : ℕ) → i < length l → j < length l → (i ≡ j → ⊥) → b (getD l i d) (getD l j d) ≡ false → b (getD l j d) (getD l i d) ≡ true
 
 -- numbers in rising order
 abbrev pub Asc : List ℕ → Type 0

@@ -6,7 +6,7 @@ use Prim.Native.Nat.{_≤_, _<_, suc-le-suc}
 use native.Mathlib.Nat.{not-suc-le-zero, le-antisymm, le-of-suc-le-suc}
 use native.Mathlib.Omega.{arith}
 use borrow.Author.Tests.{eq-eqb, ne-eqb}
-use Rattle.seq.specs.Seq.{Bool, List, [], _∷_, ℕ, zero, suc, _+_, ltb, eqb, length, getD, bestOf, walkFrom, walk, leader, predecessor}
+use Rattle.seq.specs.Seq.{List, _∷_, ℕ, zero, suc, eqb, length, getD, walkFrom, walk, leader, predecessor}
 use Rattle.seq.specs.Terms.{Among, iter, orbit, Reach, Injects, step, turns}
 use Rattle.seq.specs.Least.{least-is}
 use Rattle.seq.specs.BestOf.{least-of-in, least-of-le}

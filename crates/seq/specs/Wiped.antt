@@ -2,17 +2,16 @@
 -- from n on is `padded`: "places past the counts are zero". Assumes nothing.
 use mathlib.Core.Path.{_≡_, refl, sym, _∙_, ap}
 use mathlib.Core.List.{append-assoc, append-nil}
-use Prim.Native.Nat.{_≤_, _<_, _-_, _*_, zero-le}
+use Prim.Native.Nat.{_≤_, _<_, _-_, _*_}
 use native.Mathlib.Nat.{zero-sub, sub-zero, suc-sub-suc}
-use native.Mathlib.Numerals.{add-one}
 use native.Mathlib.Omega.{arith}
-use lib.ListN.{set, length-set, take-append-drop, length-drop, length-append, length-replicate, getD-replicate, replicate-append-replicate, List·getD-append, List·getD-eq-default}
+use lib.ListN.{set, length-set, take-append-drop, length-drop, length-append, length-replicate, getD-replicate, replicate-append-replicate, List·getD-append}
 use lib.Seq.{length-take-le, take-at, getD-append-add}
 use Rattle.seq.specs.Seq.{List, [], _∷_, _++_, ℕ, zero, suc, _+_, length, getD, replicate, take, drop, table, rows, over, filled, laid, padded, wiping, wiped}
 use Rattle.seq.specs.Terms.{Wiping}
 use Rattle.seq.specs.Table.{length-table}
 use Rattle.seq.specs.Rows.{length-rows}
-use Rattle.seq.specs.Over.{over-none, length-over, over-more, over-all}
+use Rattle.seq.specs.Over.{length-over, over-more, over-all}
 
 module _ {A : Type 0} (z : A) where
   -- ── padded ──

@@ -1,6 +1,6 @@
 -- The definitions at work, each on a small case that is computed. Assumes nothing.
 use mathlib.Core.Path.{_≡_, refl}
-use Rattle.seq.specs.Seq.{Bool, true, false, List, [], _∷_, Option, none, some, ℕ, _*_, _%_, ltb, eqb, least, someBelow, allBelow, count, select, table, rows, best, bestOf, position, elem, gather, inOrderBy, walk, leader, predecessor, cell, padded, filled, rowStored, wiped, over}
+use Rattle.seq.specs.Seq.{true, false, [], _∷_, none, some, ℕ, _*_, _%_, ltb, eqb, least, someBelow, allBelow, count, select, table, rows, best, bestOf, position, elem, gather, inOrderBy, walk, leader, predecessor, cell, padded, filled, rowStored, wiped, over}
 
 -- ── searches ──
 
