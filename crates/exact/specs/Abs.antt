@@ -6,7 +6,7 @@ use native.Mathlib.Nat.{le-trans, le-of-eq, mul-le-mul, div-le-self, mod-le}
 use native.Mathlib.Omega.{arith}
 use lib.IntN.{ℤ, pos, negsuc, negℤ, natAbs, _+ℤ_, _-ℤ_, _*ℤ_, +ℤ-idl}
 use lib.Signed.{quotZ, remZ, _≤ℤ_, _<ℤ_, pos-natAbs, yes-nonNeg}
-use Rattle.exact.specs.Parts.{pp, np, is-+, is-neg, ≤-to, ≤-of, <-to, pos≮0}
+use Rattle.exact.specs.Parts.{pp, np, is-+, is-neg, ≤-to, ≤-of, <-pos, pos≮0}
 
 -- ---- of a negation, a sum, a product
 abs-is : (z : ℤ) → natAbs z ≡ pp z + np z
@@ -44,7 +44,7 @@ abs-is-neg (pos n) h = absurd (pos≮0 n h)
 abs-is-neg (negsuc n) h = refl
 
 pub abs-pos : (d : ℤ) → pos 0 <ℤ d → 0 < natAbs d
-abs-pos (pos n) h = omega (arith, <-to (pos 0) (pos n) h)
+abs-pos (pos n) h = <-pos 0 n h
 abs-pos (negsuc n) h = absurd (h .lt)
 
 -- ---- |z| ≤ B is -B ≤ z ≤ B

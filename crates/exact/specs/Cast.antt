@@ -11,7 +11,7 @@ use lib.Signed.{_≤ℤ_, _<ℤ_}
 use mir.Syntax.{w16}
 use mir.Val.{toZ}
 use mir.ValLaws.{toZ-pos}
-use Rattle.exact.specs.Order.{<-to}
+use Rattle.exact.specs.Order.{<-pos}
 use Rattle.exact.specs.Tests.{T-true, true-T, not-true, fails, way}
 use Rattle.exact.specs.Bits.{toZ-high}
 
@@ -30,7 +30,7 @@ signed16 n = cond (ltb n (2 ^ 15)) (pos n) (pos n -ℤ pos (2 ^ 16))
 
 -- ---- the range as a bound on the magnitude
 pub unsigned-abs : (b : ℕ) (x : ℤ) → Unsigned b x → natAbs x < 2 ^ b
-unsigned-abs b (pos n) u = omega (arith, <-to (pos n) (pos (2 ^ b)) (u .high))
+unsigned-abs b (pos n) u = <-pos n (2 ^ b) (u .high)
 unsigned-abs b (negsuc n) u = absurd (u .low .le)
 
 -- ---- the two halves

@@ -8,13 +8,13 @@
 -- Assumes nothing.
 use mathlib.Core.Path.{_≡_, sym, _∙_, ap}
 use mathlib.Core.List.{[], _∷_}
-use Prim.Native.Nat.{ℕ, _≤_, _<_}
+use Prim.Native.Nat.{ℕ, _≤_}
 use native.Mathlib.Nat.{le-refl, mod-one, one-dvd}
 use native.Mathlib.Omega.{arith}
 use lib.IntN.{ℤ, pos, negsuc, negℤ, natAbs, _*ℤ_, *ℤ-one, one}
 use lib.Signed.{quotZ, _<ℤ_}
 use Rattle.exact.specs.Solve.{ring, reify}
-use Rattle.exact.specs.Order.{<-of, <→≢}
+use Rattle.exact.specs.Order.{pos-<, <→≢}
 use Rattle.exact.specs.Mul.{*-cancel-≡, ≡-by₂}
 pub use Rattle.exact.specs.Abs.{abs-pos}
 use Rattle.exact.specs.Abs.{bd-quot}
@@ -40,13 +40,10 @@ pub record Lowest (p : Pt) : Type 0 where
   pub positive : pos 0 <ℤ p .D
   pub coprime : gcd3 (natAbs (p .X)) (natAbs (p .Y)) (natAbs (p .D)) ≡ 1
 
-pos-lt : (n : ℕ) → 0 < n → pos 0 <ℤ pos n
-pos-lt n h = <-of (pos 0) (pos n) (omega arith)
-
 -- ---- dividing gives lowest terms of the same point
 module _ (X Y : ℤ) where
   pub lowest-is : (D : ℤ) → pos 0 <ℤ D → Lowest (lowest X Y D)
-  lowest-is (pos d) h = let l = reduce-lowest X Y d (abs-pos (pos d) h) in record { positive = pos-lt _ (l .positive); coprime = l .coprime }
+  lowest-is (pos d) h = let l = reduce-lowest X Y d (abs-pos (pos d) h) in record { positive = pos-< 0 _ (l .positive); coprime = l .coprime }
   lowest-is (negsuc d) h = absurd (h .lt)
 
   pub lowest-x : (D : ℤ) → pos 0 <ℤ D → lowest X Y D .X *ℤ D ≡ X *ℤ lowest X Y D .D

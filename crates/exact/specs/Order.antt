@@ -10,7 +10,7 @@ use native.Mathlib.Omega.{arith}
 use lib.IntN.{ℤ, pos, negsuc, negℤ, natAbs, _+ℤ_, _-ℤ_, _*ℤ_}
 use lib.Signed.{_≤ℤ_, _<ℤ_}
 use Rattle.exact.specs.Abs.{abs-*}
-pub use Rattle.exact.specs.Parts.{pp, np, ≤-to, ≤-of, <-to, <-of, ≡-to, ≡-of, pos≮0, Is, is-+, is-neg, is-*}
+pub use Rattle.exact.specs.Parts.{pp, np, ≤-to, ≤-of, <-to, <-of, ≡-to, ≡-of, pos-≤, ≤-pos, pos-<, <-pos, 0≤pos, pos≮0, Is, is-+, is-neg, is-*}
 pub use Rattle.exact.specs.Linear.{is-sum, pC, nC, pM, nM, pT, nT, P, N, Sq, ≤to, ≤of, <to, <of, ≡to, ≡of, sq≤, sq<, sq≡, sq→, sq×, sq⊥, sq, zomega}
 
 -- ---- by `zomega`
@@ -108,15 +108,12 @@ sgn-neg {z = negsuc n} h = refl
 
 -- ---- products
 pub 0≤-* : {a b : ℤ} → pos 0 ≤ℤ a → pos 0 ≤ℤ b → pos 0 ≤ℤ (a *ℤ b)
-0≤-* {a = pos a} {b = pos b} h l = ≤-of (pos 0) (pos (a * b)) (omega arith)
+0≤-* {a = pos a} {b = pos b} h l = 0≤pos (a * b)
 0≤-* {a = pos a} {b = negsuc b} h l = absurd (l .le)
 0≤-* {a = negsuc a} {b} h l = absurd (h .le)
 
 pub 0<-* : {a b : ℤ} → pos 0 <ℤ a → pos 0 <ℤ b → pos 0 <ℤ (a *ℤ b)
-0<-* {a = pos a} {b = pos b} h l = <-of (pos 0) (pos (a * b)) (omega (arith, mul-pos (go a h) (go b l)))
-  where
-    go : (n : ℕ) → pos 0 <ℤ pos n → 0 < n
-    go n h = omega (arith, <-to (pos 0) (pos n) h)
+0<-* {a = pos a} {b = pos b} h l = pos-< 0 (a * b) (mul-pos (<-pos 0 a h) (<-pos 0 b l))
 0<-* {a = pos a} {b = negsuc b} h l = absurd (l .lt)
 0<-* {a = negsuc a} {b} h l = absurd (h .lt)
 

@@ -61,6 +61,22 @@ pub <-to : (a b : ℤ) → a <ℤ b → pp a + np b < pp b + np a
 pub <-of : (a b : ℤ) → pp a + np b < pp b + np a → a <ℤ b
 <-of a b h = record { lt = <-of′ a b h }
 
+-- of natural numbers
+pub pos-≤ : (m n : ℕ) → m ≤ n → pos m ≤ℤ pos n
+pos-≤ m n h = ≤-of (pos m) (pos n) (omega arith)
+
+pub ≤-pos : (m n : ℕ) → pos m ≤ℤ pos n → m ≤ n
+≤-pos m n h = omega (arith, ≤-to (pos m) (pos n) h)
+
+pub pos-< : (m n : ℕ) → m < n → pos m <ℤ pos n
+pos-< m n h = <-of (pos m) (pos n) (omega arith)
+
+pub <-pos : (m n : ℕ) → pos m <ℤ pos n → m < n
+<-pos m n h = omega (arith, <-to (pos m) (pos n) h)
+
+pub 0≤pos : (n : ℕ) → pos 0 ≤ℤ pos n
+0≤pos n = ≤-of (pos 0) (pos n) (omega arith)
+
 -- what is not negative is not below 0
 pub pos≮0 : (n : ℕ) → pos n <ℤ pos 0 → ⊥
 pos≮0 n h = omega (arith, <-to (pos n) (pos 0) h)

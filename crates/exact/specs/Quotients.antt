@@ -2,25 +2,15 @@
 -- s/e with the remainders r and s, which is that of e/s and d/r. No product is formed, and both denominators fall. Assumes nothing.
 use mathlib.Core.Path.{_≡_, sym, _∙_, ap}
 use mathlib.Core.List.{[], _∷_}
-use Prim.Native.Nat.{ℕ, _*_, _/_, _%_, _<_, _≤_}
+use Prim.Native.Nat.{ℕ, _*_, _/_, _%_, _<_}
 use native.Mathlib.Nat.{div-add-mod', mod-lt}
 use native.Mathlib.Omega.{arith}
 use lib.IntN.{ℤ, pos, _+ℤ_, _-ℤ_, _*ℤ_}
 use lib.Signed.{_≤ℤ_, _<ℤ_}
 use Rattle.exact.specs.Solve.{ring, reify}
-use Rattle.exact.specs.Order.{zomega, sq, ≤-of, <-of, 0≤-*, 0<-*}
+use Rattle.exact.specs.Order.{zomega, sq, pos-<, 0≤pos, 0≤-*, 0<-*}
 use Rattle.exact.specs.Sign.{neg, zer, plus, sgn, sgn-neg, negS}
 use Rattle.exact.specs.Compare.{fractions, fractions-swap}
-
--- ---- natural numbers as whole numbers
-0≤ : (n : ℕ) → pos 0 ≤ℤ pos n
-0≤ n = ≤-of (pos 0) (pos n) (omega arith)
-
-lt : (m n : ℕ) → m < n → pos m <ℤ pos n
-lt m n h = <-of (pos m) (pos n) (omega arith)
-
-le : (m n : ℕ) → m ≤ n → pos m ≤ℤ pos n
-le m n h = ≤-of (pos m) (pos n) (omega arith)
 
 -- a number by whole part and remainder
 parts : (a d : ℕ) → pos a ≡ pos (a / d) *ℤ pos d +ℤ pos (a % d)
@@ -42,9 +32,9 @@ module _ (a d b e : ℕ) (hd : 0 < d) (he : 0 < e) where
       let q = pos (a / d) in let r = pos (a % d) in let p = pos (b / e) in let s = pos (b % e) in
       (λ i. fractions (parts a d i) (pos d) (parts b e i) (pos e))
       ∙ sgn-neg (less-by q r (pos d) p s (pos e)
-      (0≤-* {a = p -ℤ q -ℤ pos 1} {b = pos d *ℤ pos e} (gap q p (lt (a / d) (b / e) h)) (0≤ (d * e)))
-      (0≤ (b % e * d))
-      (0<-* {a = pos d -ℤ r} {b = pos e} (below r (pos d) (lt (a % d) d (mod-lt a hd))) (lt 0 e he)))
+      (0≤-* {a = p -ℤ q -ℤ pos 1} {b = pos d *ℤ pos e} (gap q p (pos-< (a / d) (b / e) h)) (0≤pos (d * e)))
+      (0≤pos (b % e * d))
+      (0<-* {a = pos d -ℤ r} {b = pos e} (below r (pos d) (pos-< (a % d) d (mod-lt a hd))) (pos-< 0 e he)))
 
   -- ---- whole parts that agree
   pub whole-same : a / d ≡ b / e → fractions (pos a) (pos d) (pos b) (pos e) ≡ fractions (pos e) (pos (b % e)) (pos d) (pos (a % d))
@@ -67,7 +57,7 @@ pub none : (e d : ℕ) → fractions (pos e) (pos 0) (pos d) (pos 0) ≡ zer
 none e d = ap sgn (none-left (pos e) (pos d))
 
 pub second-left : (e d s : ℕ) → 0 < d → 0 < s → fractions (pos e) (pos s) (pos d) (pos 0) ≡ neg
-second-left e d s hd hs = sgn-neg (go (pos e) (pos d) (pos s) (0<-* {a = pos d} {b = pos s} (lt 0 d hd) (lt 0 s hs)))
+second-left e d s hd hs = sgn-neg (go (pos e) (pos d) (pos s) (0<-* {a = pos d} {b = pos s} (pos-< 0 d hd) (pos-< 0 s hs)))
   where
     go : (e d s : ℤ) → pos 0 <ℤ (d *ℤ s) → (e *ℤ pos 0 -ℤ d *ℤ s) <ℤ pos 0
     go e d s = zomega (e ∷ d ∷ s ∷ []) (search sq depth 20) (omega arith)

@@ -8,12 +8,13 @@ use mathlib.Core.Path.{_≡_, refl, sym, _∙_, ap, subst}
 use mathlib.Core.Bool.{Bool, true, false}
 use mathlib.Core.List.{[], _∷_}
 use Prim.Native.Nat.{zero, suc}
+use native.Mathlib.Nat.{zero-lt-suc}
 use native.Mathlib.Omega.{arith}
 use lib.Dec.{T}
 use lib.IntN.{ℤ, pos, negsuc, negℤ, natAbs, _+ℤ_, _-ℤ_, _*ℤ_, *ℤ-zero}
 use lib.Signed.{_≤ℤ_, _<ℤ_}
 use Rattle.exact.specs.Solve.{ring, reify}
-use Rattle.exact.specs.Order.{zomega, sq, ≤-of, <-of, 0≤-*, 0<-*}
+use Rattle.exact.specs.Order.{zomega, sq, ≤-of, pos-<, 0≤pos, 0≤-*, 0<-*}
 use Rattle.exact.specs.Mul.{≡-by₁, ≡-by₂}
 pub use Rattle.exact.specs.Order.{Sign, neg, zer, plus, sgn, sgn-plus, sgn-neg}
 
@@ -51,7 +52,7 @@ pub data Sg (z : ℤ) : Sign → Type 0 where
 
 pub sg : (z : ℤ) → Sg z (sgn z)
 sg (pos zero) = is-zer refl
-sg (pos (suc n)) = is-plus (<-of (pos 0) (pos (suc n)) (omega arith))
+sg (pos (suc n)) = is-plus (pos-< 0 (suc n) (zero-lt-suc n))
 sg (negsuc n) = is-neg (record { lt = tt })
 
 pub sgn-is : (z : ℤ) {s : Sign} → Sg z s → sgn z ≡ s
@@ -161,7 +162,7 @@ record Bound (x N : ℤ) : Type 0 where
 
 abs-0 : (x : ℤ) → pos 0 ≤ℤ abs x
 unfolding abs
-abs-0 x = ≤-of (pos 0) (pos (natAbs x)) (omega arith)
+abs-0 x = 0≤pos (natAbs x)
 
 abs-≤ : (x : ℤ) → x ≤ℤ abs x
 unfolding abs

@@ -2,21 +2,12 @@
 -- the two answers. Assumes nothing.
 use borrow.Author.Needs.{needs}
 use mathlib.Core.Path.{sym, _∙_}
-use Prim.Native.Nat.{ℕ, _≤_, _<_}
-use native.Mathlib.Omega.{arith}
-use lib.IntN.{pos}
-use lib.Signed.{_≤ℤ_, _<ℤ_, ltZ-yes, ltZ-no}
-use Rattle.exact.specs.Order.{<-to, ≤-to}
+use lib.Signed.{ltZ-yes, ltZ-no}
+use Rattle.exact.specs.Order.{<-pos, ≤-pos}
 use Rattle.exact.specs.Mach.{trb, trn, fits, plain, taken, left}
 use Rattle.exact.specs.Cast.{word, signed16-low, signed16-high}
 use Rattle.exact.proofs.cast.le_i16.Statement.{statement}
 use Rattle.exact.proofs.cast.le_i16.Tie as tie
-
-below : (n m : ℕ) → pos n <ℤ pos m → n < m
-below n m h = omega (arith, <-to (pos n) (pos m) h)
-
-from : (n m : ℕ) → pos m ≤ℤ pos n → m ≤ n
-from n m h = omega (arith, ≤-to (pos m) (pos n) h)
 
 cast-n : tie.Need-cast-n
 cast-n c = search needs
@@ -36,12 +27,12 @@ sub-result c = fits (search trn depth 20) tt
 returns : tie.Need-returns
 returns c =
     let n = word (c .before .args .lo) (c .before .args .hi) in
-    plain (search trn depth 20) tt ∙ sym (signed16-low n (below n 32768 (ltZ-yes (taken (c .if1 .taken) (search (trb, trn) depth 20) tt))))
+    plain (search trn depth 20) tt ∙ sym (signed16-low n (<-pos n 32768 (ltZ-yes (taken (c .if1 .taken) (search (trb, trn) depth 20) tt))))
 
 returns-2 : tie.Need-returns-2
 returns-2 c =
     let n = word (c .before .args .lo) (c .before .args .hi) in
-    plain (search trn depth 20) tt ∙ sym (signed16-high n (from n 32768 (ltZ-no (left (c .if1 .left) (search (trb, trn) depth 20) tt))))
+    plain (search trn depth 20) tt ∙ sym (signed16-high n (≤-pos 32768 n (ltZ-no (left (c .if1 .left) (search (trb, trn) depth 20) tt))))
 
 pub le-i16-spec : {M : Type 1} → statement M
 le-i16-spec = tie.close (tie.spec cast-n mul-n cast-n-2 add-n sub-result returns returns-2)
