@@ -6,7 +6,7 @@ use Prim.Native.Nat.{_≤_}
 use native.Mathlib.Decide.{ℕ-discrete}
 use native.Mathlib.Omega.{arith}
 use borrow.Author.Tests.{ltb-true, ltb-false, lt-ltb, le-ltb}
-use Rattle.seq.specs.Seq.{Bool, true, false, cond, List, [], _∷_, ℕ, ltb, bestOf}
+use Rattle.seq.specs.Seq.{Bool, true, false, cond, List, [], _∷_, _++_, ℕ, ltb, bestOf}
 use Rattle.seq.specs.Terms.{Among, Every, Transitive}
 use Rattle.seq.specs.Tests.{clash, not-true}
 use Rattle.seq.specs.Members.{in-every}
@@ -16,6 +16,11 @@ module _ (b : ℕ → ℕ → Bool) where
   in-step x y ys true i = inr i
   in-step x y ys false (inl e) = inl e
   in-step x y ys false (inr i) = inr (inr i)
+
+  -- one list after the other
+  pub bestOf-++ : (x : ℕ) (l k : List ℕ) → bestOf b x (l ++ k) ≡ bestOf b (bestOf b x l) k
+  bestOf-++ x [] k = refl
+  bestOf-++ x (y ∷ ys) k = bestOf-++ (cond (b y x) y x) ys k
 
   -- it is one of them
   pub bestOf-in : (x : ℕ) (l : List ℕ) → Among (bestOf b x l) (x ∷ l)

@@ -112,6 +112,10 @@ module _ (p : ℕ → Bool) where
   pub no-some-is : (n : ℕ) → someBelow p n ≡ false → (k : ℕ) → k < n → p k ≡ false
   no-some-is n e k h = least-min n k (omega (arith, ltb-false (least p n) n e))
 
+  -- a search that found nothing
+  pub some-none : (n : ℕ) → least p n ≡ n → someBelow p n ≡ false
+  some-none n e = le-ltb (least p n) n (omega arith)
+
 -- ── tests that agree below the bound ──
 
 module _ (p q : ℕ → Bool) where
@@ -130,3 +134,10 @@ module _ (p : ℕ → Bool) where
 
   pub all-has : (n : ℕ) → ((k : ℕ) → k < n → p k ≡ true) → allBelow p n ≡ true
   all-has n h = ap not (no-some (λ j. not (p j)) n (λ k l. ap not (h k l)))
+
+  -- one more, and one that has it not
+  pub all-more : (n : ℕ) → allBelow p n ≡ true → p n ≡ true → allBelow p (n + 1) ≡ true
+  all-more n e f = all-has (n + 1) (λ k l. elim (decLt k n) [ yes s ↦ all-is n e k s | no s ↦ let q : k ≡ n = omega arith in ap p q ∙ f ])
+
+  pub all-fails : (n k : ℕ) → k < n → p k ≡ false → allBelow p n ≡ false
+  all-fails n k l e = ap not (some-has (λ j. not (p j)) n k l (ap not e))

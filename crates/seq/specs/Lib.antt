@@ -9,6 +9,7 @@ pub mod Select
 pub mod Table
 pub mod Rows
 pub mod Best
+pub mod BestLoop
 pub mod BestOf
 pub mod Position
 pub mod Over

@@ -7,7 +7,7 @@ use native.Mathlib.Nat.{not-suc-le-zero, le-of-suc-le-suc, zero-add, suc-add}
 use native.Mathlib.Decide.{decLt}
 use native.Mathlib.Omega.{arith}
 use borrow.Author.Tests.{eqb-true, eqb-false, eq-eqb}
-use Rattle.seq.specs.Seq.{Bool, true, false, cond, ℕ, zero, suc, _+_, _-_, eqb}
+use Rattle.seq.specs.Seq.{Bool, true, false, cond, List, [], _∷_, _++_, ℕ, zero, suc, _+_, _-_, eqb, length}
 use Rattle.seq.specs.Terms.{Among, iter, orbit, steps, Reach, Injects}
 use Rattle.seq.specs.Tests.{clash}
 use Rattle.seq.specs.Least.{least-min, least-holds}
@@ -58,6 +58,15 @@ module _ (f : ℕ → ℕ) where
   orbit-from zero x y i = absurd i
   orbit-from (suc k) x y (inl e) = (0, omega arith, sym e)
   orbit-from (suc k) x y (inr i) = let r = orbit-from k (f x) y i in (suc (r .0), suc-le-suc (r .1), sym (iter-in (r .0) x) ∙ r .2)
+
+  -- one step more at the end
+  pub orbit-more : (k x : ℕ) → orbit f (suc k) x ≡ orbit f k x ++ (iter f k x ∷ [])
+  orbit-more zero x = refl
+  orbit-more (suc k) x = ap (λ (l : List ℕ). x ∷ l) (orbit-more k (f x) ∙ ap (λ (y : ℕ). orbit f k (f x) ++ (y ∷ [])) (iter-in k x))
+
+  pub length-orbit : (k x : ℕ) → length (orbit f k x) ≡ k
+  length-orbit zero x = refl
+  length-orbit (suc k) x = ap suc (length-orbit k (f x))
 
   pub reach-trans : {x y z : ℕ} → Reach f x y → Reach f y z → Reach f x z
   reach-trans {x} {y} {z} (j, e) (k, g) = (k + j, iter-+ k j x ∙ ap (iter f k) e ∙ g)

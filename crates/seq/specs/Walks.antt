@@ -6,7 +6,7 @@ use Prim.Native.Nat.{_≤_, _<_, suc-le-suc}
 use native.Mathlib.Nat.{not-suc-le-zero, le-antisymm, le-of-suc-le-suc}
 use native.Mathlib.Omega.{arith}
 use borrow.Author.Tests.{eq-eqb, ne-eqb}
-use Rattle.seq.specs.Seq.{List, _∷_, ℕ, zero, suc, eqb, length, getD, walkFrom, walk, leader, predecessor}
+use Rattle.seq.specs.Seq.{List, [], _∷_, ℕ, zero, suc, eqb, length, getD, walkFrom, walk, leader, predecessor}
 use Rattle.seq.specs.Terms.{Among, iter, orbit, Reach, Injects, step, turns}
 use Rattle.seq.specs.Least.{least-is}
 use Rattle.seq.specs.BestOf.{least-of-in, least-of-le}
@@ -19,6 +19,14 @@ module _ (nx : List ℕ) where
   walk-orbit h (suc n) (suc k) x l e w =
       rw (ne-eqb x h (w 0 (omega arith)))
       (ap (λ (r : List ℕ). x ∷ r) (walk-orbit h n k (step nx x) (le-of-suc-le-suc l) (iter-in (step nx) k x ∙ e) (λ j m q. w (suc j) (suc-le-suc m) (sym (iter-in (step nx) j x) ∙ q))))
+
+  -- a step of a loop along the walk: back at h, and not yet
+  pub walk-done : (h n x : ℕ) → x ≡ h → walkFrom nx h n x ≡ []
+  walk-done h zero x e = refl
+  walk-done h (suc n) x e = rw (eq-eqb x h e)
+
+  pub walk-next : (h n x : ℕ) → (x ≡ h → ⊥) → walkFrom nx h (suc n) x ≡ x ∷ walkFrom nx h n (step nx x)
+  walk-next h n x e = rw (ne-eqb x h e)
 
   module _ (I : Injects (step nx) (length nx)) where
     module _ (h : ℕ) (l : h < length nx) where
