@@ -1,15 +1,15 @@
 -- The number of a sign. In order: of a difference, by the tests that the code makes; of a pair, as `lexS` picks; the tests on signs as tests on their numbers.
 -- Assumes nothing.
 use mathlib.Core.Path.{_≡_, refl, sym, _∙_}
-use mathlib.Core.Bool.{Bool, cond}
-use Prim.Native.Nat.{ℕ, zero, suc}
+use mathlib.Core.Bool.{Bool, true, false, cond}
+use Prim.Native.Nat.{ℕ, zero, suc, _≤_}
 use native.Mathlib.Omega.{arith}
-use lib.IntN.{ℤ, pos, negsuc, _-ℤ_, +ℤ-idr}
+use lib.IntN.{ℤ, pos, negsuc, natAbs, _-ℤ_, _*ℤ_, +ℤ-idr}
 use lib.Signed.{ltZ}
 use Rattle.exact.specs.Mach.{eqZ}
 use Rattle.exact.specs.Sign.{Sign, neg, zer, plus, sgn, isNeg, isZer, isPlus, pick, lexS}
-use Rattle.exact.specs.Tests.{lt-sign, gt-sign, eq-sign}
-use Rattle.paper.specs.Plane.{signNumber}
+use Rattle.exact.specs.Tests.{lt-sign, gt-sign}
+use Rattle.paper.specs.Plane.{signNumber, opposed}
 
 -- -1 where a is less than b, 1 where it is greater, 0 otherwise
 pub number-by : (a b : ℤ) {p q : Bool} → ltZ a b ≡ p → ltZ b a ≡ q → cond p (negsuc 0) (cond q (pos 1) (pos 0)) ≡ signNumber (sgn (a -ℤ b))
@@ -36,8 +36,13 @@ pick-not plus t f = refl
 pub plus-test : (z : ℤ) → ltZ (pos 0) z ≡ isPlus (sgn z)
 plus-test z = gt-sign z (pos 0) ∙ (λ i. isPlus (sgn (+ℤ-idr z i)))
 
-pub zer-test : (z : ℤ) → eqZ z (pos 0) ≡ isZer (sgn z)
-zer-test z = eq-sign z (pos 0) ∙ (λ i. isZer (sgn (+ℤ-idr z i)))
+pub zer-yes : (z : ℤ) → z ≡ pos 0 → isZer (sgn z) ≡ true
+zer-yes z e = λ i. isZer (sgn (e i))
+
+pub zer-no : (z : ℤ) → (z ≡ pos 0 → ⊥) → isZer (sgn z) ≡ false
+zer-no (pos zero) f = absurd (f refl)
+zer-no (pos (suc n)) f = refl
+zer-no (negsuc n) f = refl
 
 -- of a pair
 pub plus-level : (y x : ℤ) → y ≡ pos 0 → isPlus (sgn x) ≡ isPlus (lexS y x)
@@ -57,3 +62,20 @@ pub isZer-number : (s : Sign) → eqZ (signNumber s) (pos 0) ≡ isZer s
 isZer-number neg = refl
 isZer-number zer = refl
 isZer-number plus = refl
+
+-- opposite signs, by the product of their numbers
+pub opposed-number : (s t : Sign) → ltZ (signNumber s *ℤ signNumber t) (pos 0) ≡ opposed s t
+opposed-number neg neg = refl
+opposed-number neg zer = refl
+opposed-number neg plus = refl
+opposed-number zer neg = refl
+opposed-number zer zer = refl
+opposed-number zer plus = refl
+opposed-number plus neg = refl
+opposed-number plus zer = refl
+opposed-number plus plus = refl
+
+pub number-bound : (s : Sign) → natAbs (signNumber s) ≤ 1
+number-bound neg = omega arith
+number-bound zer = omega arith
+number-bound plus = omega arith

@@ -1,0 +1,27 @@
+-- `plane::clash::across` meets its contract. Assumes nothing.
+use mathlib.Core.Path.{sym, _∙_}
+use mathlib.Core.Bool.{_&&_}
+use borrow.Author.Needs.{needs}
+use Rattle.paper.specs.Plane.{apart}
+use Rattle.plane.specs.Values.{segOf}
+use Rattle.plane.proofs.clash.across.Statement.{statement}
+use Rattle.plane.proofs.clash.across.Tie as tie
+
+apart-requires : tie.Need-apart-requires
+apart-requires c κs = search needs
+
+apart-requires-2 : tie.Need-apart-requires-2
+apart-requires-2 c κs = search needs
+
+returns : tie.Need-returns
+returns c =
+    let a = c .before .before .before .args in
+    c .apart2 .ensures ∙ (λ i. (sym (c .before .if1 .taken) ∙ c .before .before .apart .ensures) i && apart (segOf (a .t)) (segOf (a .s)))
+
+returns-2 : tie.Need-returns-2
+returns-2 c =
+    let a = c .before .before .args in
+    λ i. (sym (c .if1 .left) ∙ c .before .apart .ensures) i && apart (segOf (a .t)) (segOf (a .s))
+
+pub across-spec : {M : Type 1} → statement M
+across-spec = tie.close (tie.spec apart-requires apart-requires-2 returns returns-2)
