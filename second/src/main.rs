@@ -2,8 +2,11 @@
 
 use second::check::check;
 use second::make;
+use second::map::decode;
 use second::overlay::{overlay_files, Room};
 use second::ovfile::{file_of, read};
+use second::random::Random;
+use second::text;
 use std::process::ExitCode;
 
 const USAGE: &str = "\
@@ -16,6 +19,11 @@ second digest ZONES BLOCKS [ROOM]         counts and digest of the overlay's tab
 second kinds                              the kinds of maps and pairs
 second make KIND SEED OUT.zmp             make a map file
 second pair KIND SEED DIR                 make DIR/zones.zmp and DIR/blocks.zmp
+second damage-overlay SEED FILE OUT       damage an overlay file
+second text FILE.txt OUT.zmp              make a map file from text, and check it
+second untext FILE.zmp                    the text of a map file
+second trial SEED N                       N rounds of small inputs with their answers
+second selftest N SEED                    check the program itself on N pairs and N maps
 
 ROOM is `--room V E F` (vertices, edges, faces there is room for) or `--tables V H S F` (rows
 of the lent tables of vertices, half-edges, sources, faces).";
@@ -53,6 +61,11 @@ fn run(args: &[&str]) -> Outcome {
             let file = make::map_file(kind, number(seed)?).ok_or("no such kind of map")?;
             save(out, &file).map(|()| String::new())
         }
+        ["damage-overlay", seed, file, out] => damage_overlay(number(seed)?, file, out),
+        ["text", file, out] => from_text(file, out),
+        ["untext", file] => to_text(file),
+        ["trial", seed, n] => Ok(second::trial::run(number(seed)?, number(n)?)),
+        ["selftest", n, seed] => second::selftest::run(number(n)?, number(seed)?),
         ["pair", kind, seed, dir] => pair(kind, number(seed)?, dir),
         _ => Err(USAGE.to_string()),
     }
@@ -149,4 +162,21 @@ fn pair(kind: &str, seed: u64, dir: &str) -> Outcome {
     std::fs::create_dir_all(dir).map_err(|why| format!("{dir}: {why}"))?;
     save(&format!("{dir}/zones.zmp"), &zones)?;
     save(&format!("{dir}/blocks.zmp"), &blocks).map(|()| String::new())
+}
+
+fn damage_overlay(seed: u64, file: &str, out: &str) -> Outcome {
+    let mut random = Random::new(seed, "damage-overlay");
+    let damaged = make::overlay_damage::damaged(&mut random, &bytes(file));
+    save(out, &damaged).map(|()| String::new())
+}
+
+fn from_text(file: &str, out: &str) -> Outcome {
+    let text = std::fs::read_to_string(file).map_err(|why| format!("{file}: {why}"))?;
+    let map = text::parse(&text).map_err(|why| format!("{file}: {why}"))?;
+    save(out, &map.bytes()).map(|()| checked(out))
+}
+
+fn to_text(file: &str) -> Outcome {
+    let map = decode(&bytes(file)).map_err(|refusal| format!("{file}: {refusal}"))?;
+    Ok(text::print(&map))
 }

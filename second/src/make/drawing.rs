@@ -9,9 +9,10 @@ use crate::segment::{clash, Segment};
 
 pub type Place = (i64, i64);
 
-/// Edges that do not clash.
-#[derive(Clone, Default)]
+/// Edges that do not clash, and the most there may be.
+#[derive(Clone)]
 pub struct Drawing {
+    most: usize,
     places: Vec<Place>,
     edges: Vec<(usize, usize)>,
     segments: Vec<Segment>,
@@ -50,9 +51,20 @@ impl Palette {
     }
 }
 
+impl Default for Drawing {
+    fn default() -> Drawing {
+        Drawing::of_most(MAP_EDGES)
+    }
+}
+
 impl Drawing {
     pub fn new() -> Drawing {
         Drawing::default()
+    }
+
+    /// A drawing that takes at most so many edges.
+    pub fn of_most(most: usize) -> Drawing {
+        Drawing { most, places: Vec::new(), edges: Vec::new(), segments: Vec::new() }
     }
 
     pub fn edges(&self) -> usize {
@@ -87,7 +99,7 @@ impl Drawing {
     pub fn join(&mut self, a: Place, b: Place) -> bool {
         let within = |p: Place| p.0.abs() <= REACH && p.1.abs() <= REACH;
         let new = [a, b].iter().filter(|&&p| self.find(p).is_none()).count();
-        let fits = self.edges.len() < MAP_EDGES && self.places.len() + new <= MAP_VERTICES;
+        let fits = self.edges.len() < self.most && self.places.len() + new <= MAP_VERTICES;
         let segment = Segment::new(a, b);
         if a == b || !within(a) || !within(b) || !fits {
             return false;

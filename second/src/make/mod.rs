@@ -2,6 +2,8 @@
 
 pub mod damage;
 pub mod drawing;
+pub mod few;
+pub mod overlay_damage;
 pub mod pairs;
 pub mod plain;
 pub mod sizes;
@@ -25,7 +27,7 @@ impl Kind {
 
 /// All kinds of valid maps.
 pub fn kinds() -> impl Iterator<Item = &'static Kind> {
-    plain::KINDS.iter().chain(wild::KINDS).chain(sizes::KINDS)
+    plain::KINDS.iter().chain(few::KINDS).chain(wild::KINDS).chain(sizes::KINDS)
 }
 
 /// The bytes of a map file of this kind, valid or damaged; `any` takes one of all kinds.
@@ -46,6 +48,6 @@ pub fn map_file(kind: &str, seed: u64) -> Option<Vec<u8>> {
 
 /// A valid map of any kind that is not of full size.
 pub fn valid_map(random: &mut Random) -> Map {
-    let kinds: Vec<&Kind> = plain::KINDS.iter().chain(wild::KINDS).collect();
+    let kinds: Vec<&Kind> = plain::KINDS.iter().chain(few::KINDS).chain(wild::KINDS).collect();
     (kinds[random.below(kinds.len())].make)(random)
 }

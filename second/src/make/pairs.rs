@@ -3,9 +3,10 @@
 
 use super::damage;
 use super::drawing::{Drawing, Place};
+use super::few::two_few;
 use super::plain::{cells, place};
 use super::sizes::{comb, filler, thick};
-use super::wild::{few, places, scribble};
+use super::wild::{places, scribble};
 use super::{kinds, map_file, valid_map};
 use crate::limits::{EDGES, MAP_EDGES, VERTICES};
 use crate::map::{Edge, Map};
@@ -29,7 +30,7 @@ const fn kind(
 
 pub const KINDS: &[PairKind] = &[
     kind("mixed", "two valid maps of any kinds", mixed),
-    kind("few", "two maps of two to twelve edges", two_few),
+    kind("few", "two maps of two to twelve edges", some_few),
     kind("tiny", "two maps on the same few places", tiny),
     kind("same", "one map twice, numbered and labelled anew", same),
     kind("shift", "a map over itself, moved a little", shift),
@@ -83,8 +84,9 @@ fn mixed(random: &mut Random) -> [Vec<u8>; 2] {
     files(valid_map(random), valid_map(random))
 }
 
-fn two_few(random: &mut Random) -> [Vec<u8>; 2] {
-    files(few(random), few(random))
+fn some_few(random: &mut Random) -> [Vec<u8>; 2] {
+    let [first, second] = two_few(random);
+    files(first, second)
 }
 
 fn tiny(random: &mut Random) -> [Vec<u8>; 2] {

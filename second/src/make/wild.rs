@@ -9,7 +9,6 @@ use crate::random::Random;
 pub const KINDS: &[Kind] = &[
     Kind::new("edges", "edges that mostly stand alone", edges),
     Kind::new("tree", "edges that close no ring, in one piece", tree),
-    Kind::new("few", "two to twelve edges", few),
     Kind::new("tiny", "many edges on very few places", tiny),
     Kind::new("planar", "edges at random between random vertices", planar),
     Kind::new("wide", "the same over the whole range", wide),
@@ -70,19 +69,6 @@ pub fn scribble(
 /// Some different places.
 pub fn places(random: &mut Random, n: usize, reach: i64) -> Vec<Place> {
     (0..n).map(|_| place(random, reach)).collect()
-}
-
-pub fn few(random: &mut Random) -> Map {
-    let mut drawing = Drawing::new();
-    let reach = random.pick(&[1, 2, 3, 3, 7, 40, 2_000]);
-    let some = random.range(3, 8) as usize;
-    let places = places(random, some, reach);
-    let most = random.range(2, 12) as usize;
-    scribble(&mut drawing, random, &places, most, 60);
-    while drawing.edges() < 2 {
-        drawing.join(place(random, reach), place(random, reach));
-    }
-    drawing.any_map(random)
 }
 
 fn tiny(random: &mut Random) -> Map {

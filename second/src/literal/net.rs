@@ -1,0 +1,151 @@
+//! Followers, walks, hole walks and looking west, as document 01 says them.
+
+use crate::graph::by_angle;
+use crate::map::Map;
+use crate::point::Point;
+use std::cmp::Ordering;
+
+/// Vertices, and edges on the whole lines that carry them. Half-edge 2k runs from the first
+/// end of edge k to its second, in the direction `ways[k]`; `bases[k]` is a place on its line.
+pub struct Net {
+    pub points: Vec<Point>,
+    pub ends: Vec<(usize, usize)>,
+    pub bases: Vec<(i64, i64)>,
+    pub ways: Vec<(i64, i64)>,
+}
+
+impl Net {
+    /// A map as it stands.
+    pub fn of(map: &Map) -> Net {
+        let whole = |&(x, y): &(i16, i16)| Point::whole(x as i64, y as i64);
+        Net {
+            points: map.vertices.iter().map(whole).collect(),
+            ends: map.edges.iter().map(|e| (e.from as usize, e.to as usize)).collect(),
+            bases: map.edges.iter().map(|e| map.place(e.from)).collect(),
+            ways: map.segments().iter().map(|s| s.way()).collect(),
+        }
+    }
+
+    pub fn half_edges(&self) -> usize {
+        2 * self.ends.len()
+    }
+
+    pub fn origin(&self, h: usize) -> usize {
+        [self.ends[h / 2].0, self.ends[h / 2].1][h % 2]
+    }
+
+    fn way(&self, h: usize) -> (i64, i64) {
+        let (x, y) = self.ways[h / 2];
+        [(x, y), (-x, -y)][h % 2]
+    }
+
+    /// The half-edges out of each vertex, by number.
+    pub fn outgoing(&self) -> Vec<Vec<usize>> {
+        let mut outgoing = vec![Vec::new(); self.points.len()];
+        (0..self.half_edges()).for_each(|h| outgoing[self.origin(h)].push(h));
+        outgoing
+    }
+
+    /// "The follower of a half-edge arriving at p is the first outgoing half-edge clockwise from
+    /// its twin; with one edge at p it is the twin." Clockwise first is counter-clockwise last;
+    /// the angle is taken in a frame in which the twin points east.
+    pub fn follower(&self, outgoing: &[Vec<usize>], h: usize) -> usize {
+        let (ex, ey) = self.way(h ^ 1);
+        let turned = |g: usize| {
+            let (x, y) = self.way(g);
+            (ex * x + ey * y, ex * y - ey * x)
+        };
+        let at = &outgoing[self.origin(h ^ 1)];
+        let last = at.iter().copied().max_by(|&f, &g| by_angle(turned(f), turned(g)));
+        last.expect("the twin is there")
+    }
+
+    /// "A walk is what following gives": the half-edges from h on.
+    pub fn walk(&self, followers: &[usize], h: usize) -> Vec<usize> {
+        let mut walk = vec![h];
+        while followers[walk[walk.len() - 1]] != h {
+            walk.push(followers[walk[walk.len() - 1]]);
+        }
+        walk
+    }
+
+    /// The smallest vertex of a walk.
+    pub fn smallest(&self, walk: &[usize]) -> usize {
+        let smallest = walk.iter().map(|&h| self.origin(h)).min_by_key(|&v| self.points[v]);
+        smallest.expect("a walk has a vertex")
+    }
+
+    /// The half-edge of greatest angle out of a vertex.
+    pub fn greatest(&self, outgoing: &[Vec<usize>], v: usize) -> usize {
+        let all = outgoing[v].iter().copied();
+        all.max_by(|&f, &g| by_angle(self.way(f), self.way(g))).expect("a vertex has an edge")
+    }
+
+    /// "It is a hole walk exactly if it holds the half-edge of greatest angle out of its own
+    /// smallest vertex": that half-edge.
+    pub fn hole_mark(&self, outgoing: &[Vec<usize>], walk: &[usize]) -> Option<usize> {
+        let greatest = self.greatest(outgoing, self.smallest(walk));
+        walk.contains(&greatest).then_some(greatest)
+    }
+
+    /// The lower and the upper end of edge k.
+    fn lower_upper(&self, k: usize) -> (&Point, &Point) {
+        let (a, b) = (&self.points[self.ends[k].0], &self.points[self.ends[k].1]);
+        (a.min(b), a.max(b))
+    }
+
+    /// The direction of edge k from its lower end to its upper end.
+    fn upward(&self, k: usize) -> (i64, i64) {
+        let (x, y) = self.ways[k];
+        if (y, x) > (0, 0) {
+            (x, y)
+        } else {
+            (-x, -y)
+        }
+    }
+
+    /// Where edge k lies at the height of p, as a fraction; the edge is not level.
+    fn at_height(&self, k: usize, p: &Point) -> (i128, i128) {
+        let ((dx, dy), (bx, by)) = (self.upward(k), self.bases[k]);
+        let [dx, dy, bx, by] = [dx, dy, bx, by].map(|n| n as i128);
+        let [y, d] = [p.y, p.d].map(|n| n as i128);
+        (bx * dy * d + (y - by * d) * dx, dy * d)
+    }
+
+    /// Looking west from p: "candidates are edges with lower y <= y of p < upper y that at the
+    /// height of p lie west of p, or go through or start at p with an upward direction of greater
+    /// angle than e's. The nearest has the greatest x at that height; among equals, the smallest
+    /// upward angle. What is seen is the half-edge on its east side." With no e only edges
+    /// strictly west count.
+    pub fn seen(&self, p: &Point, along: Option<(i64, i64)>) -> Option<usize> {
+        let mut seen: Option<usize> = None;
+        for k in 0..self.ends.len() {
+            let (lower, upper) = self.lower_upper(k);
+            let height = |q: &Point| (q.y as i128 * p.d as i128).cmp(&(p.y as i128 * q.d as i128));
+            if height(lower) == Ordering::Greater || height(upper) != Ordering::Greater {
+                continue;
+            }
+            let x = self.at_height(k, p);
+            let counts = match compare(x, (p.x as i128, p.d as i128)) {
+                Ordering::Less => true,
+                Ordering::Equal => {
+                    along.is_some_and(|e| by_angle(self.upward(k), e) == Ordering::Greater)
+                }
+                Ordering::Greater => false,
+            };
+            let nearer = seen.is_none_or(|best| {
+                let order = compare(x, self.at_height(best, p));
+                order.then(by_angle(self.upward(best), self.upward(k))) == Ordering::Greater
+            });
+            if counts && nearer {
+                seen = Some(k);
+            }
+        }
+        seen.map(|k| 2 * k + (self.upward(k) == self.ways[k]) as usize)
+    }
+}
+
+/// Compares two fractions with bottoms above 0.
+fn compare(a: (i128, i128), b: (i128, i128)) -> Ordering {
+    (a.0 * b.1).cmp(&(b.0 * a.1))
+}

@@ -1,0 +1,188 @@
+//! The overlay as document 01 says it.
+
+use super::net::Net;
+use crate::limits::NO_HALF_EDGE;
+use crate::map::Map;
+use crate::point::{side, Point};
+use crate::segment::Segment;
+use crate::tables::{FaceRow, HalfEdgeRow, Sources, Tables, VertexRow};
+
+/// The crossing of two edges that are not parallel: "exactly when both parameters lie from 0
+/// to 1, ends included".
+fn crossing(s: &Segment, t: &Segment) -> Option<Point> {
+    let ((u1, u2), (v1, v2)) = (s.way(), t.way());
+    let (w1, w2) = (t.ax - s.ax, t.ay - s.ay);
+    let bottom = u1 * v2 - u2 * v1;
+    if bottom == 0 {
+        return None;
+    }
+    let (first, second) = (w1 * v2 - w2 * v1, w1 * u2 - w2 * u1);
+    let from_0_to_1 = |top: i64| {
+        let (top, bottom) = (top * bottom.signum(), bottom.abs());
+        0 <= top && top <= bottom
+    };
+    let met = from_0_to_1(first) && from_0_to_1(second);
+    let point = || Point::lowest(s.ax * bottom + u1 * first, s.ay * bottom + u2 * first, bottom);
+    met.then(point)
+}
+
+/// The overlay vertices: all input vertices and crossings, in point order, each once.
+fn vertices(maps: [&Map; 2]) -> Vec<Point> {
+    let whole = |&(x, y): &(i16, i16)| Point::whole(x as i64, y as i64);
+    let mut points: Vec<Point> = maps.iter().flat_map(|m| m.vertices.iter().map(whole)).collect();
+    for s in maps[0].segments() {
+        points.extend(maps[1].segments().iter().filter_map(|t| crossing(&s, t)));
+    }
+    points.sort();
+    points.dedup();
+    points
+}
+
+/// "Edges are the pieces of input edges between neighbouring overlay vertices on them; a piece
+/// that comes from both maps stands once. They are sorted by lower, then upper vertex number."
+fn pieces(maps: [&Map; 2], points: &[Point]) -> Vec<((usize, usize), Sources)> {
+    let mut pieces: Vec<((usize, usize), Sources)> = Vec::new();
+    for (m, map) in maps.iter().enumerate() {
+        for (k, s) in map.segments().iter().enumerate() {
+            let [a, b] = s.ends();
+            let on = |v: &usize| {
+                let p = &points[*v];
+                a.min(b) <= *p && *p <= a.max(b) && side(&a, &b, p) == 0
+            };
+            let on: Vec<usize> = (0..points.len()).filter(on).collect();
+            for pair in on.windows(2) {
+                let source = Some(k as u16);
+                match pieces.iter_mut().find(|(ends, _)| *ends == (pair[0], pair[1])) {
+                    Some((_, sources)) => sources.1 = source,
+                    None => {
+                        let sources = if m == 0 { (source, None) } else { (None, source) };
+                        pieces.push(((pair[0], pair[1]), sources));
+                    }
+                }
+            }
+        }
+    }
+    pieces.sort_by_key(|&(ends, _)| ends);
+    pieces
+}
+
+/// The vertices and edges of the overlay; an edge's line is that of its first source.
+fn net(maps: [&Map; 2], points: Vec<Point>, pieces: &[((usize, usize), Sources)]) -> Net {
+    let carrier = |sources: &Sources| match *sources {
+        (Some(k), _) => maps[0].segment(k as usize),
+        (None, Some(k)) => maps[1].segment(k as usize),
+        (None, None) => unreachable!("a piece comes from a map"),
+    };
+    let upward = |s: Segment| {
+        let (x, y) = s.way();
+        if (y, x) > (0, 0) {
+            (x, y)
+        } else {
+            (-x, -y)
+        }
+    };
+    let carriers: Vec<Segment> = pieces.iter().map(|(_, sources)| carrier(sources)).collect();
+    Net {
+        points,
+        ends: pieces.iter().map(|(ends, _)| *ends).collect(),
+        bases: carriers.iter().map(|s| (s.ax, s.ay)).collect(),
+        ways: carriers.into_iter().map(upward).collect(),
+    }
+}
+
+/// "The label of a half-edge in a map: if it lies along an edge of that map, the label of that
+/// edge on that side; otherwise the label of what is seen looking west in that map from its
+/// lower end along it."
+fn label(map: &Map, of_map: &Net, net: &Net, source: Option<u16>, h: usize) -> u16 {
+    match source {
+        Some(k) => {
+            let [from, to] = map.segment(k as usize).ends();
+            let upward = h & 1 == 0;
+            let with_it = (from < to) == upward;
+            map.label(2 * k as usize + !with_it as usize)
+        }
+        None => {
+            let lower = &net.points[net.ends[h / 2].0];
+            of_map.seen(lower, Some(net.ways[h / 2])).map_or(0, |g| map.label(g))
+        }
+    }
+}
+
+/// The face of each half-edge, the outer walks and the hole counts.
+struct Sorted {
+    face_of: Vec<usize>,
+    least: Vec<usize>,
+    holes: Vec<usize>,
+}
+
+/// "Each outer walk makes one face, numbered from 1 by the walk's least half-edge number. [...]
+/// The hole belongs to the face of the half-edge seen, or to face 0."
+fn sort_walks(net: &Net, followers: &[usize]) -> Sorted {
+    let outgoing = net.outgoing();
+    let mut walk_of = vec![usize::MAX; followers.len()];
+    let mut walks = Vec::new();
+    for h in 0..followers.len() {
+        if walk_of[h] == usize::MAX {
+            let walk = net.walk(followers, h);
+            walk.iter().for_each(|&g| walk_of[g] = walks.len());
+            walks.push(walk);
+        }
+    }
+    let hole: Vec<bool> = walks.iter().map(|w| net.hole_mark(&outgoing, w).is_some()).collect();
+    let least: Vec<usize> = (0..walks.len()).filter(|&w| !hole[w]).map(|w| walks[w][0]).collect();
+    let west = |w: usize| net.seen(&net.points[net.smallest(&walks[w])], None);
+    let face = |mut w: usize| {
+        while hole[w] {
+            match west(w) {
+                Some(h) => w = walk_of[h],
+                None => return 0,
+            }
+        }
+        1 + least.iter().position(|&h| walk_of[h] == w).expect("an outer walk has a face")
+    };
+    let faces: Vec<usize> = (0..walks.len()).map(face).collect();
+    let mut holes = vec![0; least.len() + 1];
+    (0..walks.len()).filter(|&w| hole[w]).for_each(|w| holes[faces[w]] += 1);
+    Sorted { face_of: walk_of.iter().map(|&w| faces[w]).collect(), least, holes }
+}
+
+/// The tables of the overlay and the pair of each half-edge, with no regard to the room.
+pub fn overlay(first: &Map, second: &Map) -> (Tables, Vec<(u16, u16)>) {
+    let maps = [first, second];
+    let points = vertices(maps);
+    let pieces = pieces(maps, &points);
+    let net = net(maps, points, &pieces);
+    let of_maps = maps.map(Net::of);
+    let outgoing = net.outgoing();
+    let followers: Vec<usize> = (0..net.half_edges()).map(|h| net.follower(&outgoing, h)).collect();
+    let pair = |h: usize| {
+        let (a, b) = pieces[h / 2].1;
+        (label(first, &of_maps[0], &net, a, h), label(second, &of_maps[1], &net, b, h))
+    };
+    let pairs: Vec<(u16, u16)> = (0..net.half_edges()).map(pair).collect();
+    let sorted = sort_walks(&net, &followers);
+    let half_edge = |h: usize| HalfEdgeRow {
+        origin: net.origin(h) as u16,
+        twin: (h ^ 1) as u16,
+        follower: followers[h] as u16,
+        predecessor: followers.iter().position(|&f| f == h).expect("following is onto") as u16,
+        face: sorted.face_of[h] as u16,
+    };
+    let vertex = |v: usize| {
+        let Point { x, y, d } = net.points[v];
+        VertexRow { x, y, d, out: outgoing[v][0] as u16 }
+    };
+    let outside =
+        FaceRow { first: 0, second: 0, least: NO_HALF_EDGE, holes: sorted.holes[0] as u16 };
+    let inner = sorted.least.iter().zip(&sorted.holes[1..]).map(|(&h, &holes)| {
+        let (first, second) = pairs[h];
+        FaceRow { first, second, least: h as u16, holes: holes as u16 }
+    });
+    let tables = Tables {
+        vertices: (0..net.points.len()).map(vertex).collect(),
+        half_edges: (0..net.half_edges()).map(half_edge).collect(),
+        sources: pieces.iter().map(|(_, sources)| *sources).collect(),
+        faces: std::iter::once(outside).chain(inner).collect(),
+    };
+    (tables, pairs)
+}

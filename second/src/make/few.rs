@@ -1,0 +1,117 @@
+//! Maps of two to twelve edges, in many forms, alone and in pairs.
+
+use super::drawing::{Drawing, Place};
+use super::plain::place;
+use super::wild::{places, scribble};
+use super::Kind;
+use crate::map::Map;
+use crate::random::Random;
+
+pub const KINDS: &[Kind] = &[Kind::new("few", "two to twelve edges", few)];
+
+/// Least and most edges.
+const LEAST: usize = 2;
+const MOST: usize = 12;
+
+/// A form: draws into a drawing with the help of some places, all within a reach.
+type Form = fn(&mut Drawing, &mut Random, &[Place], i64);
+
+const FORMS: &[Form] = &[any_edges, triangles, petals, box_and_more, rays, long_edges];
+
+fn any_edges(drawing: &mut Drawing, random: &mut Random, places: &[Place], _: i64) {
+    scribble(drawing, random, places, MOST, 40);
+}
+
+/// Triangles apart, within one another, or with a vertex or an edge in common.
+fn triangles(drawing: &mut Drawing, random: &mut Random, places: &[Place], _: i64) {
+    for _ in 0..random.range(1, 5) {
+        let corners = [random.pick(places), random.pick(places), random.pick(places)];
+        drawing.ring(&corners);
+    }
+}
+
+/// Triangles and edges that rise from one vertex.
+fn petals(drawing: &mut Drawing, random: &mut Random, places: &[Place], _: i64) {
+    let foot = places.iter().copied().min_by_key(|p| (p.1, p.0)).unwrap_or((0, 0));
+    for _ in 0..random.range(2, 4) {
+        drawing.ring(&[foot, random.pick(places), random.pick(places)]);
+    }
+}
+
+/// A rectangle with edges, a triangle or another rectangle in it or across it.
+fn box_and_more(drawing: &mut Drawing, random: &mut Random, places: &[Place], reach: i64) {
+    drawing.rectangle((-reach, -reach), (reach, reach));
+    match random.below(3) {
+        0 => scribble(drawing, random, places, MOST, 20),
+        1 => triangles(drawing, random, places, reach),
+        _ => {
+            let (a, b) = (random.pick(places), random.pick(places));
+            drawing.rectangle((a.0.min(b.0), a.1.min(b.1)), (a.0.max(b.0), a.1.max(b.1)));
+        }
+    }
+}
+
+/// Edges from one vertex to others, some of those joined.
+fn rays(drawing: &mut Drawing, random: &mut Random, places: &[Place], _: i64) {
+    let from = random.pick(places);
+    places.iter().for_each(|&to| {
+        drawing.join(from, to);
+    });
+    scribble(drawing, random, places, MOST, 6);
+}
+
+/// Edges right across the reach.
+fn long_edges(drawing: &mut Drawing, random: &mut Random, _: &[Place], reach: i64) {
+    for _ in 0..random.range(2, 5) {
+        let (a, b) = (random.range(-reach, reach), random.range(-reach, reach));
+        match random.below(3) {
+            0 => drawing.join((a, -reach), (b, reach)),
+            1 => drawing.join((-reach, a), (reach, b)),
+            _ => drawing.join((-reach, -reach + a.abs() / 9), (reach - b.abs() / 9, reach)),
+        };
+    }
+    let ends = drawing.places().to_vec();
+    if !ends.is_empty() {
+        scribble(drawing, random, &ends, MOST, 8);
+    }
+}
+
+/// One drawing in some form.
+fn draw(random: &mut Random, places: &[Place], reach: i64) -> Drawing {
+    let most = random.range(LEAST as i64, MOST as i64) as usize;
+    let mut drawing = Drawing::of_most(most);
+    random.pick(FORMS)(&mut drawing, random, places, reach);
+    while drawing.edges() < LEAST {
+        drawing.join(place(random, reach), place(random, reach));
+    }
+    drawing
+}
+
+/// Small and large reaches, small ones more often.
+fn some_reach(random: &mut Random) -> i64 {
+    random.pick(&[1, 2, 2, 3, 3, 4, 7, 40, 500, 2_000])
+}
+
+pub fn few(random: &mut Random) -> Map {
+    let reach = some_reach(random);
+    let some = random.range(3, 9) as usize;
+    let places = places(random, some, reach);
+    draw(random, &places, reach).any_map(random)
+}
+
+/// Two maps that mostly have places in common; now and then one is empty.
+pub fn two_few(random: &mut Random) -> [Map; 2] {
+    let reach = some_reach(random);
+    let some = random.range(3, 9) as usize;
+    let mut common = places(random, some, reach);
+    [0, 1].map(|_| {
+        if random.once_in(40) {
+            return Map::default();
+        }
+        let map = draw(random, &common, reach).any_map(random);
+        if random.once_in(3) {
+            common = places(random, some, reach);
+        }
+        map
+    })
+}

@@ -1,0 +1,43 @@
+//! Laws of overlay files: reading returns what was written, writing what was read; the reader's
+//! refusals.
+
+use super::{holds, Found};
+use crate::literal;
+use crate::make::overlay_damage::damaged;
+use crate::overlay::{Overlay, Room};
+use crate::ovfile::{file_of, read};
+use crate::random::Random;
+
+/// Damaged files for each overlay.
+const TRIES: u64 = 8;
+
+pub fn all(done: &Overlay) -> Found {
+    let file = file_of(&done.tables).map_err(|refusal| format!("the writer: {refusal}"))?;
+    let again = read(&file, &Room::FULL).map_err(|refusal| format!("the reader: {refusal}"))?;
+    holds(again == done.tables, || "reading does not return what was written".into())?;
+    let tries = if file.len() < 20_000 { TRIES } else { 1 };
+    for seed in 0..tries {
+        let mut random = Random::new(seed + file.len() as u64, "files");
+        reader(&damaged(&mut random, &file), &mut random)?;
+    }
+    reader(&file, &mut Random::new(0, "files"))
+}
+
+/// The reader refuses as 01's words say, and what it takes is written as the same bytes.
+fn reader(file: &[u8], random: &mut Random) -> Found {
+    let room = match random.below(3) {
+        0 => Room { vertices: random.below(20), edges: random.below(20), faces: random.below(9) },
+        _ => Room::FULL,
+    };
+    let found = read(file, &room);
+    let literal = literal::reader::fault(file, [room.vertices, room.edges, room.faces]);
+    let refusal = found.as_ref().err().copied();
+    holds(refusal == literal, || format!("reader: {refusal:?}, by 01's words {literal:?}"))?;
+    match found {
+        Ok(tables) => {
+            let twice = file_of(&tables).map_err(|refusal| format!("the writer: {refusal}"))?;
+            holds(twice == file, || "writing what was read gives other bytes".into())
+        }
+        Err(_) => Ok(()),
+    }
+}

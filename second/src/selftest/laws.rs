@@ -1,0 +1,117 @@
+//! Laws of one overlay: Euler's formula, one pair in each face, areas, vertices in order.
+
+use super::{holds, Found};
+use crate::check::graph_of;
+use crate::graph::Graph;
+use crate::limits::{DENOMINATOR, REACH};
+use crate::map::Map;
+use crate::overlay::Overlay;
+use crate::point::{common, Point};
+use std::collections::{BTreeMap, HashSet};
+
+pub fn all(maps: [&Map; 2], done: &Overlay) -> Found {
+    vertices(done)?;
+    euler(done)?;
+    one_pair(done)?;
+    room_for_faces(done)?;
+    areas(maps, done)
+}
+
+/// Vertices are in lowest terms, within their numbers and in strict point order.
+fn vertices(done: &Overlay) -> Found {
+    for v in &done.tables.vertices {
+        let reach = REACH * v.d;
+        let lowest = v.d > 0 && common(common(v.x, v.y), v.d) == 1;
+        let within = v.d <= DENOMINATOR && v.x.abs() <= reach && v.y.abs() <= reach;
+        holds(lowest && within, || format!("vertex {v:?} is out of form"))?;
+    }
+    let point = |i: usize| {
+        let v = &done.tables.vertices[i];
+        Point { x: v.x, y: v.y, d: v.d }
+    };
+    let ordered = (1..done.tables.vertices.len()).all(|i| point(i - 1) < point(i));
+    holds(ordered, || "vertices are out of order".into())
+}
+
+/// Vertices - edges + faces = 1 + pieces, pieces counted by flooding.
+fn euler(done: &Overlay) -> Found {
+    let t = &done.tables;
+    let mut known = vec![false; t.vertices.len()];
+    let mut pieces = 0;
+    let mut next: Vec<Vec<usize>> = vec![Vec::new(); known.len()];
+    for row in t.half_edges.chunks(2) {
+        next[row[0].origin as usize].push(row[1].origin as usize);
+        next[row[1].origin as usize].push(row[0].origin as usize);
+    }
+    for start in 0..known.len() {
+        pieces += !known[start] as usize;
+        let mut open = vec![start];
+        while let Some(v) = open.pop() {
+            if !std::mem::replace(&mut known[v], true) {
+                open.extend(&next[v]);
+            }
+        }
+    }
+    let (v, e, f) = (t.vertices.len(), t.edges(), t.faces.len());
+    holds(v + f == e + 1 + pieces, || format!("{v} - {e} + {f} for {pieces} pieces"))
+}
+
+/// All half-edges of a face have the face's pair.
+fn one_pair(done: &Overlay) -> Found {
+    for (h, row) in done.tables.half_edges.iter().enumerate() {
+        let face = &done.tables.faces[row.face as usize];
+        let same = done.pairs[h] == (face.first, face.second);
+        holds(same, || format!("half-edge {h} has not the pair of face {}", row.face))?;
+    }
+    Ok(())
+}
+
+/// Three half-edges or more round each face: 3 (F - 1) <= 2 E.
+fn room_for_faces(done: &Overlay) -> Found {
+    let (faces, edges) = (done.tables.faces.len(), done.tables.edges());
+    holds(3 * (faces - 1) <= 2 * edges, || format!("{faces} faces for {edges} edges"))
+}
+
+/// The faces with a label have together the area that the label has in its map, and every
+/// face has an area above 0.
+fn areas(maps: [&Map; 2], done: &Overlay) -> Found {
+    let t = &done.tables;
+    let point = |v: &crate::tables::VertexRow| Point { x: v.x, y: v.y, d: v.d };
+    let graph = Graph {
+        points: t.vertices.iter().map(point).collect(),
+        ends: t.half_edges.chunks(2).map(|r| (r[0].origin.into(), r[1].origin.into())).collect(),
+        ways: Vec::new(),
+    };
+    let mut of_face = vec![0i128; t.faces.len()];
+    for (h, row) in t.half_edges.iter().enumerate() {
+        let sum = &mut of_face[row.face as usize];
+        *sum = sum.wrapping_add(graph.area(&[h]));
+    }
+    holds(of_face[1..].iter().all(|&area| area > SLACK), || "a face without an area".into())?;
+    let mut whole = 0i128;
+    of_face[1..].iter().for_each(|area| whole += area);
+    holds((whole + of_face[0]).abs() < SLACK, || "inside and outside differ in area".into())?;
+    for (m, map) in maps.into_iter().enumerate() {
+        let mut by_label: BTreeMap<u16, i128> = BTreeMap::new();
+        for (face, &area) in t.faces.iter().zip(&of_face) {
+            let sum = by_label.entry([face.first, face.second][m]).or_default();
+            *sum = sum.wrapping_add(area);
+        }
+        let graph = graph_of(map);
+        for h in 0..graph.half_edges() {
+            let sum = by_label.entry(map.label(h)).or_default();
+            *sum = sum.wrapping_sub(graph.area(&[h]));
+        }
+        let even = by_label.values().all(|rest| rest.abs() < SLACK);
+        holds(even, || format!("areas by label differ in map {}", m + 1))?;
+    }
+    holds(distinct(done), || "an edge stands twice".into())
+}
+
+/// Areas may be wrong by this much, far below the least area of a face.
+const SLACK: i128 = 1 << 20;
+
+fn distinct(done: &Overlay) -> bool {
+    let mut known = HashSet::new();
+    done.tables.half_edges.chunks(2).all(|r| known.insert((r[0].origin, r[1].origin)))
+}

@@ -1,0 +1,81 @@
+//! The self-check: laws that every overlay obeys, and document 01 by its own ways.
+
+mod files;
+mod laws;
+mod turned;
+
+use crate::check::{check, fault};
+use crate::literal;
+use crate::make::{map_file, pairs::pair_files};
+use crate::map::{decode, Map};
+use crate::overlay::{overlay, Overlay, Room};
+use crate::random::Random;
+
+/// What a check found wrong.
+pub type Found = Result<(), String>;
+
+/// An error with this text unless it holds.
+fn holds(it: bool, what: impl Fn() -> String) -> Found {
+    if it {
+        Ok(())
+    } else {
+        Err(what())
+    }
+}
+
+/// Runs n pairs and n single maps of any kinds; says how many of each answer there were, or
+/// what is wrong with which input.
+pub fn run(n: u64, seed: u64) -> Result<String, String> {
+    let (mut done, mut refused, mut valid) = (0, 0, 0);
+    for i in 0..n {
+        let seed = Random::new(seed.wrapping_add(i), "selftest").bits();
+        let file = map_file("any", seed).expect("any is a kind");
+        let one = single(&file).map_err(|what| format!("make any {seed}: {what}"))?;
+        valid += one as u64;
+        let files = pair_files("any", seed).expect("any is a kind");
+        match pair(&files).map_err(|what| format!("pair any {seed}: {what}"))? {
+            true => done += 1,
+            false => refused += 1,
+        }
+    }
+    let maps = format!("{valid} maps valid, {} refused", n - valid);
+    Ok(format!("{maps}; {done} overlays done, {refused} refused; no fault found\n"))
+}
+
+/// Checks of one file; says whether it is valid.
+fn single(file: &[u8]) -> Result<bool, String> {
+    let Ok(map) = decode(file) else { return Ok(false) };
+    holds(map.bytes() == file, || "the bytes of the map differ from the file".into())?;
+    let (found, literal) = (fault(&map), literal::check::fault(&map));
+    holds(found == literal, || format!("check: {found:?}, by 01's words {literal:?}"))?;
+    turned::checks(&map, found)?;
+    Ok(found.is_none())
+}
+
+/// Checks of a pair; says whether there is an overlay.
+fn pair(files: &[Vec<u8>; 2]) -> Result<bool, String> {
+    for file in files {
+        single(file)?;
+    }
+    let maps: Vec<Map> = files.iter().filter_map(|file| check(file).ok()).collect();
+    let [first, second] = &maps[..] else { return Ok(false) };
+    let done = match overlay(first, second, &Room::FULL) {
+        Ok(done) => done,
+        Err(_) => return Ok(false),
+    };
+    by_01(first, second, &done)?;
+    laws::all([first, second], &done)?;
+    files::all(&done)?;
+    turned::overlays(first, second, &done)?;
+    Ok(true)
+}
+
+/// The tables and pairs are those of document 01's own ways.
+fn by_01(first: &Map, second: &Map, done: &Overlay) -> Found {
+    let (tables, pairs) = literal::overlay::overlay(first, second);
+    holds(tables.vertices == done.tables.vertices, || "vertices differ from 01's".into())?;
+    holds(tables.sources == done.tables.sources, || "sources differ from 01's".into())?;
+    holds(tables.half_edges == done.tables.half_edges, || "half-edges differ from 01's".into())?;
+    holds(tables.faces == done.tables.faces, || "faces differ from 01's".into())?;
+    holds(pairs == done.pairs, || "pairs differ from 01's".into())
+}

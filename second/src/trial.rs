@@ -1,0 +1,155 @@
+//! Small random inputs with the expected answers, a line each, for a script that holds the
+//! definitions against them. README.md has the form of the lines.
+
+use crate::check::check;
+use crate::make::damage::{damage_map, KINDS};
+use crate::make::few::{few, two_few};
+use crate::make::overlay_damage;
+use crate::overlay::{overlay_files, Overlay, Room};
+use crate::ovfile::{file_of, read};
+use crate::random::Random;
+use std::fmt::Write;
+
+/// Map lines for each pair line.
+const MAPS: usize = 5;
+/// One map in so many is valid.
+const VALID: usize = 4;
+/// No file of a map line is longer.
+const LONGEST: usize = 260;
+
+/// The lines of n rounds: a pair, five maps, a room, a read file.
+pub fn run(seed: u64, n: usize) -> String {
+    let mut out = String::new();
+    for round in 0..n {
+        let mut random = Random::new(seed.wrapping_add(round as u64), "trial");
+        let files = pair(&mut random);
+        let mut line = |text: String| writeln!(out, "{text}").expect("a string takes all text");
+        let done = overlay_files(&files[0], &files[1], &Room::FULL);
+        line(pair_line(&files, done));
+        for i in 0..MAPS {
+            let file = map(&mut random, round * MAPS + i);
+            line(map_line(&file));
+        }
+        line(room_line(&mut random));
+        line(read_line(&mut random));
+    }
+    out
+}
+
+/// The bytes as hexadecimal digits, `-` for none.
+fn hex(bytes: &[u8]) -> String {
+    match bytes {
+        [] => "-".to_string(),
+        _ => bytes.iter().map(|byte| format!("{byte:02x}")).collect(),
+    }
+}
+
+/// A pair; one in eight has a damaged file.
+fn pair(random: &mut Random) -> [Vec<u8>; 2] {
+    let [first, second] = two_few(random);
+    let mut files = [first.bytes(), second.bytes()];
+    if random.once_in(8) {
+        let kind = random.below(KINDS.len());
+        files[random.below(2)] = damaged(random, kind);
+    }
+    files
+}
+
+/// The file of map line i: every fourth is valid, the others go through all kinds of damage.
+fn map(random: &mut Random, i: usize) -> Vec<u8> {
+    if i.is_multiple_of(VALID) {
+        few(random).bytes()
+    } else {
+        damaged(random, (i - i / VALID - 1) % KINDS.len())
+    }
+}
+
+/// A small map that is refused by the rule for which this kind of damage is meant.
+fn damaged(random: &mut Random, kind: usize) -> Vec<u8> {
+    let kind = &KINDS[kind];
+    loop {
+        let map = few(random);
+        let file = damage_map(kind, random, map);
+        let meant = |number: u16| kind.rule == 0 || kind.rule == number;
+        let refused = check(&file).is_err_and(|refusal| meant(refusal.number));
+        if refused && file.len() <= LONGEST {
+            return file;
+        }
+    }
+}
+
+fn pair_line(files: &[Vec<u8>; 2], done: Result<Overlay, crate::answer::Refusal>) -> String {
+    let answer = match done.and_then(|o| file_of(&o.tables).map(|file| (o, file))) {
+        Ok((overlay, file)) => format!("done {} {}", overlay.tables.digest(), hex(&file)),
+        Err(refusal) => refusal.to_string(),
+    };
+    format!("pair {} {} {answer}", hex(&files[0]), hex(&files[1]))
+}
+
+fn map_line(file: &[u8]) -> String {
+    let answer = match check(file) {
+        Ok(map) => format!("ok {} {}", map.vertices.len(), map.edges.len()),
+        Err(refusal) => refusal.to_string(),
+    };
+    format!("map {} {answer}", hex(file))
+}
+
+/// Rows of lent tables (vertices, half-edges, sources, faces) about as many as are needed.
+fn rows(random: &mut Random, needs: [usize; 4]) -> [usize; 4] {
+    if random.once_in(6) {
+        return needs;
+    }
+    needs.map(|n| match random.below(8) {
+        0 => n.saturating_sub(1),
+        1 => n.saturating_sub(2),
+        2 => random.below(n + 1),
+        3 => n,
+        _ => n + random.below(4),
+    })
+}
+
+/// The rows that an overlay needs.
+fn needs(files: &[Vec<u8>; 2]) -> [usize; 4] {
+    match overlay_files(&files[0], &files[1], &Room::FULL) {
+        Ok(Overlay { tables: t, .. }) => {
+            [t.vertices.len(), t.half_edges.len(), t.edges(), t.faces.len()]
+        }
+        Err(_) => [5, 10, 5, 2],
+    }
+}
+
+fn words(rows: [usize; 4]) -> String {
+    rows.map(|n| n.to_string()).join(" ")
+}
+
+fn room_line(random: &mut Random) -> String {
+    let files = pair(random);
+    let rows = rows(random, needs(&files));
+    let room = Room::lent(rows[0], rows[1], rows[2], rows[3]);
+    let answer = match overlay_files(&files[0], &files[1], &room) {
+        Ok(overlay) => format!("done {}", overlay.tables.digest()),
+        Err(refusal) => refusal.to_string(),
+    };
+    format!("room {} {} {} {answer}", hex(&files[0]), hex(&files[1]), words(rows))
+}
+
+fn read_line(random: &mut Random) -> String {
+    let (tables, mut file) = loop {
+        let [first, second] = two_few(random).map(|map| map.bytes());
+        let done = overlay_files(&first, &second, &Room::FULL).map(|o| o.tables);
+        if let Ok((tables, file)) = done.and_then(|t| file_of(&t).map(|file| (t, file))) {
+            break (tables, file);
+        }
+    };
+    if !random.once_in(5) {
+        file = overlay_damage::damaged(random, &file);
+    }
+    let full = [tables.vertices.len(), tables.half_edges.len(), tables.edges(), tables.faces.len()];
+    let rows = if random.once_in(4) { rows(random, full) } else { full.map(|n| n + 1) };
+    let room = Room::lent(rows[0], rows[1], rows[2], rows[3]);
+    let answer = match read(&file, &room) {
+        Ok(tables) => format!("done {}", tables.digest()),
+        Err(refusal) => refusal.to_string(),
+    };
+    format!("read {} {} {answer}", hex(&file), words(rows))
+}
