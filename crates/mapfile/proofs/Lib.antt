@@ -1,2 +1,4 @@
 -- Laws that the proofs of the functions cite.
 pub mod BytesLaws
+pub mod VerdictLaws
+pub mod FormLaws

@@ -1,0 +1,65 @@
+// Rules 1 to 4: the form of a map file.
+use crate::bytes::byte_at;
+use crate::bytes::u16_at;
+use crate::fields::edge_count;
+use crate::fields::half_place;
+use crate::fields::vertex_count;
+use crate::limits::MAP_EDGES;
+use crate::limits::MAP_HEAD;
+use crate::limits::MAP_VERTICES;
+use crate::refusal::Check;
+use crate::refusal::first;
+use crate::refusal::given;
+ghost use mathlib.Core.Path.{_≡_};
+ghost use mathlib.Core.Bool.{not, _||_};
+ghost use lib.Dec.{ltb, eqb};
+ghost use lib.ListN.{length};
+ghost use Rattle.paper.specs.Limits.{mapHead, mapVertices, mapEdges};
+ghost use Rattle.paper.specs.Bytes.{ascii, marked, u16};
+ghost use Rattle.paper.specs.Refusal.{firstOf};
+ghost use Rattle.paper.specs.Map.{vertexCount, edgesIn, mapLength, formFaults};
+ghost use Rattle.mapfile.specs.Verdict.{verdict};
+
+// 1 "under 9 bytes, or mark wrong"
+pub fn bad_mark(file: &[u8]) -> bool
+    ensures { λ r. ⌜ r ≡ (ltb (length (now (file .entry))) mapHead || not (marked (ascii "ZMP") (now (file .entry)) 0)) ⌝ }
+{
+    if file.len() < MAP_HEAD {
+        return true;
+    }
+    if byte_at(file, 0) != b'Z' {
+        return true;
+    }
+    if byte_at(file, 1) != b'M' {
+        return true;
+    }
+    byte_at(file, 2) != b'P'
+}
+
+// 3 "V > 200 or E > 300"
+pub fn over_limits(file: &[u8]) -> bool
+    ensures { λ r. ⌜ r ≡ (ltb mapVertices (vertexCount (now (file .entry))) || ltb mapEdges (edgesIn (now (file .entry)))) ⌝ }
+{
+    if MAP_VERTICES < vertex_count(file) {
+        return true;
+    }
+    MAP_EDGES < edge_count(file)
+}
+
+// "Length is 9 + 4V + 8E"
+pub fn map_length(file: &[u8]) -> usize
+    ensures { λ r. ⌜ r ≡ mapLength (now (file .entry)) ⌝ }
+{
+    half_place(file, 2 * edge_count(file) as u32)
+}
+
+// The first of rules 1 to 4 that the file breaks.
+pub fn form(file: &[u8]) -> Check
+    ensures { λ r. ⌜ verdict r ≡ firstOf (formFaults (now (file .entry))) ⌝ }
+{
+    let mark = given(1, 0, bad_mark(file));
+    let version = given(2, 0, u16_at(file, 3) != 1);
+    let limits = given(3, 0, over_limits(file));
+    let length = given(4, 0, file.len() != map_length(file));
+    first(mark, first(version, first(limits, length)))
+}
