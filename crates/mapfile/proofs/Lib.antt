@@ -2,3 +2,5 @@
 pub mod BytesLaws
 pub mod VerdictLaws
 pub mod FormLaws
+pub mod MapLaws
+pub mod PartsLaws

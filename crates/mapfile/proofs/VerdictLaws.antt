@@ -1,8 +1,8 @@
 -- Chains of checks: the first of a list of refusals, one check at a time. Assumes nothing.
 use mathlib.Core.Path.{_≡_, refl, sym, _∙_}
 use native.Mathlib.Omega.{arith}
-use Rattle.seq.specs.Seq.{ℕ, List, [], _∷_, _++_, Option, none, some}
-use Rattle.paper.specs.Refusal.{firstOf, Refusal}
+use Rattle.seq.specs.Seq.{Bool, ℕ, ltb, least, List, [], _∷_, _++_, Option, none, some}
+use Rattle.paper.specs.Refusal.{given, atLeast, firstOf, Refusal}
 
 pub first-one : (x : Option Refusal) → firstOf (x ∷ []) ≡ x
 first-one none = refl
@@ -22,6 +22,10 @@ last {f = f} e = record { is = e ∙ sym (first-one f) }
 
 pub before : {r x y f : Option Refusal} {fs : List (Option Refusal)} → r ≡ firstOf (x ∷ y ∷ []) → x ≡ f → Chain y fs → Chain r (f ∷ fs)
 before {f = f} {fs = fs} e p q = record { is = e ∙ (λ i. firstOf (p i ∷ q .is i ∷ [])) ∙ first-cons f fs }
+
+-- the least place of a rule, and its bound, as the code found them
+pub at-least : (number : ℕ) (p : ℕ → Bool) (n : ℕ) (r : Option Refusal) (k m : ℕ) → r ≡ given number k (ltb k m) → k ≡ least p n → m ≡ n → r ≡ atLeast number p n
+at-least number p n r k m e f g = e ∙ (λ i. given number (f i) (ltb (f i) (g i)))
 
 -- a chain that gives nothing leaves it to the next, and one that gives a refusal is the end
 pub first-none : (xs ys : List (Option Refusal)) → firstOf xs ≡ none → firstOf (xs ++ ys) ≡ firstOf ys

@@ -7,4 +7,4 @@ pub const MAP_VERTICES: u16 = 200;
 
 pub const MAP_EDGES: u16 = 300;
 
-pub const REACH: i64 = 2000;
+pub const REACH: u64 = 2000;

@@ -1,0 +1,36 @@
+-- `mapfile::form_and_parts` meets its contract: rules 5 to 7 follow where rules 1 to 4 give nothing. Assumes nothing.
+use mathlib.Core.Path.{sym, ap, _∙_}
+use borrow.Author.Needs.{needs}
+use denote.Ref.{now}
+use Rattle.paper.specs.Map.{mapOf, formFaults, partFaults}
+use Rattle.mapfile.specs.Verdict.{verdict}
+use Rattle.mapfile.proofs.VerdictLaws.{first-none, first-some}
+use Rattle.mapfile.proofs.form_and_parts.Statement.{statement}
+use Rattle.mapfile.proofs.form_and_parts.Tie as tie
+
+form-requires : tie.Need-form-requires
+form-requires c κs = search needs
+
+enum-told : tie.Need-enum-told
+enum-told c = search needs
+
+enum-told-2 : tie.Need-enum-told-2
+enum-told-2 c = search needs
+
+parts-requires : tie.Need-parts-requires
+parts-requires c κs = search needs
+
+returns : tie.Need-returns
+returns c =
+    let s = now (c .before .before .before .before .args .file) in
+    let told = ap verdict (c .enum-told .given .1) in
+    told ∙ sym (first-some (formFaults s) (partFaults (mapOf s .graph)) (sym (c .before .before .form .ensures) ∙ told))
+
+returns-2 : tie.Need-returns-2
+returns-2 c =
+    let s = now (c .before .before .before .before .before .args .file) in
+    c .parts .ensures ∙ sym (first-none (formFaults s) (partFaults (mapOf s .graph)) (sym (c .before .before .before .form .ensures) ∙ ap verdict (c .before .enum-told2 .given .1)))
+
+pub form-and-parts-spec : {M : Type 1} → statement M
+form-and-parts-spec =
+    tie.close (tie.spec form-requires enum-told enum-told-2 parts-requires returns returns-2)

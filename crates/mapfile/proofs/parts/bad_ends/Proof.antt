@@ -1,0 +1,62 @@
+-- `mapfile::parts::bad_ends` meets its contract. Assumes nothing.
+use mathlib.Core.Path.{_∙_}
+use native.Mathlib.Omega.{arith}
+use borrow.Author.Needs.{needs}
+use denote.Ref.{now}
+use Rattle.seq.specs.Seq.{_+_, _*_, eqb}
+use Rattle.paper.specs.Map.{vertexCount, originAt}
+use Rattle.mapfile.proofs.PartsLaws.{no-from, no-to, by-ends}
+use Rattle.mapfile.proofs.parts.bad_ends.Statement.{statement}
+use Rattle.mapfile.proofs.parts.bad_ends.Tie as tie
+
+vertex-count-requires : tie.Need-vertex-count-requires
+vertex-count-requires c κs = search needs
+
+mul-origin-at : tie.Need-mul-origin-at
+mul-origin-at c = search needs
+
+origin-at-requires : tie.Need-origin-at-requires
+origin-at-requires c κs = search needs
+
+mul-origin-at-2 : tie.Need-mul-origin-at-2
+mul-origin-at-2 c = search needs
+
+add-origin-at : tie.Need-add-origin-at
+add-origin-at c = search needs
+
+origin-at-requires-2 : tie.Need-origin-at-requires-2
+origin-at-requires-2 c κs = search needs
+
+returns : tie.Need-returns
+returns c =
+    let a = c .before .before .before .before .before .args in
+    let s = now (a .file) in
+    no-from (vertexCount s) (originAt s (2 * a .k)) (originAt s (2 * a .k + 1)) (omega arith)
+
+returns-2 : tie.Need-returns-2
+returns-2 c =
+    let a = c .before .before .before .before .before .before .args in
+    let s = now (a .file) in
+    no-to (vertexCount s) (originAt s (2 * a .k)) (originAt s (2 * a .k + 1)) (omega arith) (omega arith)
+
+returns-3 : tie.Need-returns-3
+returns-3 c =
+    let o = c .before .before in
+    let a = o .before .before .before .before .args in
+    let s = now (a .file) in
+    (λ i. eqb (o .before .origin-at .ensures i) (o .origin-at2 .ensures i))
+    ∙ by-ends (vertexCount s) (originAt s (2 * a .k)) (originAt s (2 * a .k + 1)) (omega arith) (omega arith)
+
+pub bad-ends-spec : {M : Type 1} → statement M
+bad-ends-spec =
+    tie.close
+    (tie.spec
+    vertex-count-requires
+    mul-origin-at
+    origin-at-requires
+    mul-origin-at-2
+    add-origin-at
+    origin-at-requires-2
+    returns
+    returns-2
+    returns-3)

@@ -1,0 +1,67 @@
+-- `mapfile::parts::first_bad_ends` meets its contract: nothing below the counter has been found. Assumes nothing.
+use mathlib.Core.Path.{_≡_, refl, sym, ap, _∙_}
+use Prim.Native.Nat.{_≤_}
+use native.Mathlib.Omega.{arith}
+use borrow.Author.Needs.{needs}
+use denote.Ref.{now}
+use Rattle.seq.specs.Seq.{_-_, least}
+use Rattle.seq.specs.Least.{least-found, least-more}
+use Rattle.paper.specs.Map.{edgesIn}
+use Rattle.mapfile.specs.Parts.{badEndsAt}
+use Rattle.mapfile.proofs.PartsLaws.{least-ends}
+use Rattle.mapfile.proofs.parts.first_bad_ends.Statement.{statement}
+use Rattle.mapfile.proofs.parts.first_bad_ends.Tie as tie
+
+abbrev Inv-loop : tie.InvT-loop
+Inv-loop file n k₀ k = (k ≤ n) × (least (badEndsAt file) k ≡ k)
+
+abbrev μ-loop : tie.MeasureT-loop
+μ-loop file n k₀ k = n - k
+
+edge-count-requires : tie.Need-edge-count-requires Inv-loop μ-loop
+edge-count-requires c κs = search needs
+
+loop-holds : tie.Need-loop-holds Inv-loop μ-loop
+loop-holds c = (search needs, refl)
+
+bad-ends-requires : tie.Need-bad-ends-requires Inv-loop μ-loop
+bad-ends-requires c κs = search needs
+
+returns : tie.Need-returns Inv-loop μ-loop
+returns c =
+    let at = c .before .before .before in
+    let s = now (at .before .before .before .args .file) in
+    sym (least-ends s ∙ least-found (badEndsAt s) (edgesIn s) (at .loop .k) (omega arith) (at .loop .inv .1) (sym (c .before .bad-ends .ensures) ∙ c .if1 .taken))
+
+add-k : tie.Need-add-k Inv-loop μ-loop
+add-k c = search needs
+
+loop-less : tie.Need-loop-less Inv-loop μ-loop
+loop-less c = search needs
+
+loop-again : tie.Need-loop-again Inv-loop μ-loop
+loop-again c =
+    let at = c .before .before .before in
+    (omega arith, least-more (badEndsAt (now (at .before .before .before .args .file))) (at .loop .k) (at .loop .inv .1) (sym (c .before .bad-ends .ensures) ∙ c .if1 .left))
+
+returns-2 : tie.Need-returns-2 Inv-loop μ-loop
+returns-2 c =
+    let at = c .before in
+    let s = now (at .before .before .before .args .file) in
+    let e : at .loop .k ≡ edgesIn s = omega arith in
+    at .before .edge-count .ensures ∙ sym (least-ends s ∙ ap (least (badEndsAt s)) (sym e) ∙ at .loop .inv .1 ∙ e)
+
+pub first-bad-ends-spec : {M : Type 1} → statement M
+first-bad-ends-spec =
+    tie.close
+    (tie.spec
+    Inv-loop
+    μ-loop
+    edge-count-requires
+    loop-holds
+    bad-ends-requires
+    returns
+    add-k
+    loop-less
+    loop-again
+    returns-2)

@@ -1,0 +1,51 @@
+-- `mapfile::parts::too_far` meets its contract. Assumes nothing.
+use mathlib.Core.Path.{ap, _∙_}
+use borrow.Author.Needs.{needs}
+use mir.Syntax.{w64}
+use mir.ValLaws.{toZ-ofZ}
+use denote.Ref.{now}
+use Rattle.seq.specs.Seq.{ltb, natAbs}
+use Rattle.paper.specs.Limits.{reach}
+use Rattle.paper.specs.Map.{cornerAt}
+use Rattle.mapfile.proofs.PartsLaws.{far-x, far-y}
+use Rattle.mapfile.proofs.parts.too_far.Statement.{statement}
+use Rattle.mapfile.proofs.parts.too_far.Tie as tie
+
+corner-x-requires : tie.Need-corner-x-requires
+corner-x-requires c κs = search needs
+
+magnitude-requires : tie.Need-magnitude-requires
+magnitude-requires c κs = search needs
+
+returns : tie.Need-returns
+returns c =
+    let a = c .before .before .before .before .args in
+    let x = c .before .magnitude .ensures ∙ ap natAbs (toZ-ofZ w64 _ (record { sfits = c .before .before .corner-x .ok }) ∙ c .before .before .corner-x .ensures) in
+    let s = now (a .file) in
+    far-x (natAbs (cornerAt s (a .v) .x)) (natAbs (cornerAt s (a .v) .y)) (rw x at (c .if1 .taken))
+
+corner-y-requires : tie.Need-corner-y-requires
+corner-y-requires c κs = search needs
+
+magnitude-requires-2 : tie.Need-magnitude-requires-2
+magnitude-requires-2 c κs = search needs
+
+returns-2 : tie.Need-returns-2
+returns-2 c =
+    let d = c .before .before .before in
+    let a = d .before .before .before .args in
+    let x = d .magnitude .ensures ∙ ap natAbs (toZ-ofZ w64 _ (record { sfits = d .before .corner-x .ok }) ∙ d .before .corner-x .ensures) in
+    let y = c .magnitude2 .ensures ∙ ap natAbs (toZ-ofZ w64 _ (record { sfits = c .before .corner-y .ok }) ∙ c .before .corner-y .ensures) in
+    let s = now (a .file) in
+    ap (ltb reach) y ∙ far-y (natAbs (cornerAt s (a .v) .x)) (natAbs (cornerAt s (a .v) .y)) (rw x at (c .before .before .if1 .left))
+
+pub too-far-spec : {M : Type 1} → statement M
+too-far-spec =
+    tie.close
+    (tie.spec
+    corner-x-requires
+    magnitude-requires
+    returns
+    corner-y-requires
+    magnitude-requires-2
+    returns-2)
