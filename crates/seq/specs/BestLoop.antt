@@ -1,6 +1,6 @@
 -- What a loop asks of `best`, turn by turn: a number that is no candidate, the first candidate, a better one, one that is not. And candidates and
 -- comparisons that agree below the bound have the same best. Assumes nothing.
-use mathlib.Core.Path.{_≡_, refl, sym, _∙_, ap}
+use mathlib.Core.Path.{_≡_, refl, _∙_, ap}
 use Prim.Native.Nat.{_<_}
 use native.Mathlib.Numerals.{add-one}
 use native.Mathlib.Omega.{arith}
