@@ -2,7 +2,7 @@
 -- orders of neighbours allow (`fractions-sums`), which is every transitivity. And what the contracts of compare.rt cite besides: the sign that an answer
 -- stands for, what the denominators must be, and the test for the short way.
 -- Assumes nothing.
-use mathlib.Core.Path.{_≡_, _∙_, ap}
+use mathlib.Core.Path.{_≡_, refl, _∙_, ap}
 use mathlib.Core.Bool.{Bool, true, _&&_}
 use mathlib.Core.List.{[], _∷_}
 use lib.Dec.{T}
@@ -23,6 +23,20 @@ abbrev pub signOf : Ordering → Sign
 signOf Less = neg
 signOf Equal = zer
 signOf Greater = plus
+
+-- and the one answer that stands for a sign: so a promise of the sign determines the answer
+abbrev pub answer : Sign → Ordering
+answer neg = Less
+answer zer = Equal
+answer plus = Greater
+
+pub answer-is : (r : Ordering) {s : Sign} → signOf r ≡ s → r ≡ answer s
+answer-is r e = back r ∙ ap answer e
+  where
+    back : (r : Ordering) → r ≡ answer (signOf r)
+    back Less = refl
+    back Equal = refl
+    back Greater = refl
 
 -- the order of x/d and y/e
 abbrev pub fractions : ℤ → ℤ → ℤ → ℤ → Sign
