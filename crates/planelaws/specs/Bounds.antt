@@ -3,6 +3,7 @@
 use mathlib.Core.Path.{_≡_, sym, subst}
 use mathlib.Core.Bool.{_&&_}
 use mathlib.Core.List.{[], _∷_}
+use mathlib.Core.Logic.{_⊎_, inl, inr}
 use mathlib.Core.Option.{some}
 use Prim.Native.Nat.{ℕ, zero, suc, _+_, _*_, _≤_}
 use native.Mathlib.Nat.{le-trans}
@@ -15,9 +16,10 @@ use Rattle.exact.specs.Mul.{≡-by₁, 0≤-cancel, 0≤-by, 0≤-+}
 use Rattle.exact.specs.Mach.{abs-neg, abs-hi, abs-lo, abs-of, bd-+, bd-*}
 use Rattle.exact.specs.Lowest.{Pt, lowest, lowest-d-le}
 use Rattle.paper.specs.Limits.{reach, denominators}
-use Rattle.paper.specs.Plane.{Seg, cross, head, minusV, within, crossAt, crossBy, crossing}
+use Rattle.paper.specs.Plane.{Vec, Seg, cross, head, between, whole, lower, upper, minusV, within, crossAt, crossBy, crossing}
 use Rattle.planelaws.specs.Cone.{UpV}
-use Rattle.planelaws.specs.Edges.{On}
+use Rattle.planelaws.specs.Ends.{0<1, lower-upper}
+use Rattle.planelaws.specs.Edges.{On, between-foot, between-head}
 use Rattle.planelaws.specs.Lines.{numer, denom, denom-pos, line-part, on-part}
 use Rattle.planelaws.specs.Crossing.{cond-some, crossing-touch}
 
@@ -27,6 +29,27 @@ pub record Reaches (R : ℕ) (s : Seg) : Type 0 where
   pub foot-y : natAbs (s .foot .y) ≤ R
   pub head-x : natAbs (head s .x) ≤ R
   pub head-y : natAbs (head s .y) ≤ R
+
+abbrev Near : ℕ → Pt → Type 0
+Near R p = (natAbs (p .X) ≤ R) × (natAbs (p .Y) ≤ R)
+
+-- the edge between two corners
+pub between-reaches : (R : ℕ) (a b : Vec) → natAbs (a .x) ≤ R → natAbs (a .y) ≤ R → natAbs (b .x) ≤ R → natAbs (b .y) ≤ R → Reaches R (between a b)
+between-reaches R a b ax ay bx by =
+    let (l, u) = go (lower-upper p q) in
+    let f = subst (Near R) (sym (between-foot a b)) l in
+    let h = subst (Near R) (sym (between-head a b)) u in
+    record { foot-x = f .0; foot-y = f .1; head-x = h .0; head-y = h .1 }
+  where
+    p : Pt
+    p = whole a
+
+    q : Pt
+    q = whole b
+
+    go : ((lower p q ≡ p) × (upper p q ≡ q)) ⊎ ((lower p q ≡ q) × (upper p q ≡ p)) → Near R (lower p q) × Near R (upper p q)
+    go (inl e) = (subst (Near R) (sym (e .0)) (ax, ay), subst (Near R) (sym (e .1)) (bx, by))
+    go (inr e) = (subst (Near R) (sym (e .0)) (bx, by), subst (Near R) (sym (e .1)) (ax, ay))
 
 -- ── a point on an edge ──
 
@@ -131,3 +154,6 @@ crossing-bounded s t p us ut hs ht e =
       x-le = on-x-le reach s us hs p (h .lowest-p .positive) (h .first);
       y-le = on-y-le reach s us hs p (h .lowest-p .positive) (h .first);
     }
+
+pub corner-bounded : (a : Vec) → natAbs (a .x) ≤ reach → natAbs (a .y) ≤ reach → Bounded (whole a)
+corner-bounded a hx hy = record { positive = 0<1; d-le = omega arith; x-le = omega arith; y-le = omega arith }

@@ -173,9 +173,6 @@ module _ (u : Vec) where
   rises-opposite n = go (which (u .x) (u .y))
     where
       go : {s : Sign} → Way (u .x) (u .y) s → rises (opposite u) ≡ not (isPlus s)
-      go (up h) = no-rises′ h
-        where
-          no-rises′ : UpV u → rises (opposite u) ≡ false
-          no-rises′ h = not-true (rises (opposite u)) (λ e. up-not-down h (lex-up (negℤ (u .x)) (negℤ (u .y)) e))
+      go (up h) = not-true (rises (opposite u)) (λ e. up-not-down h (lex-up (negℤ (u .x)) (negℤ (u .y)) e))
       go (nil p q) = absurd (n p q)
       go (down h) = ap isPlus (lex-is (negℤ (u .x)) (negℤ (u .y)) (up h))
