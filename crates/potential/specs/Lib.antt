@@ -10,3 +10,10 @@ pub mod Edges
 pub mod Moves
 pub mod Sector
 pub mod Star
+pub mod Along
+pub mod Look
+pub mod Seen
+pub mod Looks
+pub mod Descent
+pub mod Turns
+pub mod Labels

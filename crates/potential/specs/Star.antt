@@ -97,7 +97,7 @@ module _ (m : Map) (K : Keeps m) where
         go true false x y u n = absurd (no-through m K z k lz l (record { line = on-line false o; low = u; high = x }))
         go false false x y u n = neither (hi (seg m k)) v y x
 
-    side-origin : (b : Bool) → Leaves v b (seg m k) → origin g (side b k) ≡ z
+    pub side-origin : (b : Bool) → Leaves v b (seg m k) → origin g (side b k) ≡ z
     side-origin true o = K .plane .distinct (lowEnd m k) z (K .plane .starts (westSide g k) (west-below m K k l)) lz (ap (λ (p : Pt). same p v) (at-low m K k l) ∙ at-lo o)
     side-origin false o = K .plane .distinct (highEnd m k) z (K .plane .starts (eastSide g k) (east-below g k l)) lz (ap (λ (p : Pt). same p v) (at-high m K k l) ∙ at-hi o)
 

@@ -1,0 +1,155 @@
+-- What a look west from any point p sees, along any direction that does not fall: where it sees the edge W, the potential of what it counts is that of the right side of
+-- W at its LOWER end; where it sees nothing, it is 0. In order: `look-across`, one edge at a time: what is counted lies west of the right of W, above the
+-- point q of W at p's height; the counted edges are 01's candidates (`candidate-is`), and none is nearer than W; then along the right of W from q to its
+-- lower end (`seen`). Assumes nothing.
+use mathlib.Core.Path.{_≡_, refl, sym, _∙_, ap, subst}
+use mathlib.Core.Bool.{Bool, true, false, not, _&&_}
+use mathlib.Core.List.{[], _∷_}
+use Prim.Native.Nat.{ℕ, _<_}
+use native.Mathlib.Omega.{arith}
+use lib.Dec.{T}
+use lib.IntN.{ℤ, pos, negℤ, _+ℤ_, _-ℤ_, _*ℤ_}
+use lib.Signed.{_≤ℤ_, _<ℤ_}
+use Rattle.exact.specs.Solve.{ring, reify}
+use Rattle.exact.specs.Order.{zomega, sq, 0<-*, Tri, lt, eq, gt, tri, <→≢, ≤→≯}
+use Rattle.exact.specs.Mul.{≡-by₁, 0<-cancel}
+use Rattle.exact.specs.Sign.{Sign, neg, zer, plus, sgn, isNeg, isPlus, negS, sums, sgn-sums, sgn-negℤ, pick, lexS, plus→}
+use Rattle.exact.specs.Tests.{never, clash, not-true, and-parts, and-both}
+use Rattle.seq.specs.Tests.{bool-ext}
+use Rattle.seq.specs.Terms.{Has, Top}
+use Rattle.paper.specs.Plane.{Pt, Vec, Seg, head, dir, cross, before, below, leftBy}
+use Rattle.paper.specs.Graph.{Graph, low, high, upward, atHeight, leftOf, westward, nearer}
+use Rattle.paper.specs.Map.{Map}
+use Rattle.planelaws.specs.Cone.{Up, above as rising, level, UpV}
+use Rattle.planelaws.specs.Points.{before-up}
+use Rattle.planelaws.specs.Ends.{0<1, lt-below, below-before}
+use Rattle.planelaws.specs.Angles.{cross-swap, turn-trans}
+use Rattle.planelaws.specs.Sides.{chord, left-foot}
+use Rattle.graphlaws.specs.West.{candidate}
+use Rattle.maplaws.specs.Keeps.{seg, edges, Keeps}
+use Rattle.potential.specs.Near.{near}
+use Rattle.potential.specs.Cuts.{lo, hi, above}
+use Rattle.potential.specs.Pot.{pot}
+use Rattle.potential.specs.Edges.{seg-rises}
+use Rattle.potential.specs.Moves.{pot-ext}
+use Rattle.potential.specs.Along.{at-point}
+use Rattle.potential.specs.Look.{atHeightOf, above-height, right-height, across, across-on, across-left, across-below, height-steep}
+
+-- ── one edge ──
+
+-- w, kw: of W at p and against d; s, k′: of e at p and against d; t: of e at q; k: of e against W
+seen-signs : (w kw s t k k′ : Sign) → near false w kw ≡ true → T (sums s (negS w) t) → (kw ≡ plus → T (sums kw k k′)) → near true t k ≡ true → near false s k′ ≡ true
+seen-signs plus kw s t k k′ h a b n = never h
+seen-signs neg kw neg t k k′ h a b n = refl
+seen-signs neg kw zer neg k k′ h a b n = absurd a
+seen-signs neg kw zer zer k k′ h a b n = absurd a
+seen-signs neg kw zer plus k k′ h a b n = never n
+seen-signs neg kw plus neg k k′ h a b n = absurd a
+seen-signs neg kw plus zer k k′ h a b n = absurd a
+seen-signs neg kw plus plus k k′ h a b n = never n
+seen-signs zer neg s t k k′ h a b n = never h
+seen-signs zer zer s t k k′ h a b n = never h
+seen-signs zer plus neg t k k′ h a b n = refl
+seen-signs zer plus zer neg k k′ h a b n = absurd a
+seen-signs zer plus zer plus k k′ h a b n = absurd a
+seen-signs zer plus zer zer neg k′ h a b n = never n
+seen-signs zer plus zer zer zer k′ h a b n = turned k′ (b refl)
+  where
+    turned : (k′ : Sign) → T (isPlus k′) → near false zer k′ ≡ true
+    turned neg t = absurd t
+    turned zer t = absurd t
+    turned plus t = refl
+seen-signs zer plus zer zer plus k′ h a b n = turned k′ (b refl)
+  where
+    turned : (k′ : Sign) → T (isPlus k′) → near false zer k′ ≡ true
+    turned neg t = absurd t
+    turned zer t = absurd t
+    turned plus t = refl
+seen-signs zer plus plus neg k k′ h a b n = absurd a
+seen-signs zer plus plus zer k k′ h a b n = absurd a
+seen-signs zer plus plus plus k k′ h a b n = never n
+
+-- a direction that does not fall, and has one that climbs on its left, rises
+left-rises : (d u : Vec) → pos 0 ≤ℤ d .y → pos 0 <ℤ u .y → pos 0 <ℤ cross d u → UpV d
+left-rises d u h uy c = go (tri (pos 0) (d .y))
+  where
+    flat : d .y ≡ pos 0 → cross d u ≡ u .y *ℤ d .x
+    flat z = ≡-by₁ z (negℤ (u .x)) (ring (d .x ∷ d .y ∷ u .x ∷ u .y ∷ []) (search reify depth 20) tt)
+
+    go : Tri (pos 0) (d .y) → UpV d
+    go (lt l) = rising l
+    go (eq z) = level (sym z) (0<-cancel (u .y) (d .x) uy (subst (λ (t : ℤ). pos 0 <ℤ t) (flat (sym z)) c))
+    go (gt l) = absurd (≤→≯ h l)
+
+module _ (p : Pt) (hp : pos 0 <ℤ p .D) (d : Vec) (hd : pos 0 ≤ℤ d .y) (W : Seg) (uW : UpV (W .up)) (counts : above false p d W ≡ true) where
+  counted : (atHeightOf p W ≡ true) × (near false (sgn (leftBy W p)) (sgn (cross d (W .up))) ≡ true)
+  counted = and-parts (atHeightOf p W) (near false (sgn (leftBy W p)) (sgn (cross d (W .up)))) (sym (above-height p d W uW hd) ∙ counts)
+
+  pub steep : pos 0 <ℤ W .up .y
+  steep = height-steep p W hp (counted .0)
+
+  abbrev q : Pt
+  q = across W p
+
+  pub across-real : pos 0 <ℤ q .D
+  across-real = 0<-* hp steep
+
+  module _ (e : Seg) (ue : UpV (e .up)) where
+    sides : pos 0 <ℤ e .up .y → T (sums (sgn (leftBy e p)) (negS (sgn (leftBy W p))) (sgn (leftBy e q)))
+    sides h =
+        subst (λ (s : Sign). T (sums (sgn (leftBy e p)) s (sgn (leftBy e q)))) (sgn-negℤ (leftBy W p))
+        (sgn-sums (W .up .y) (e .up .y) (pos 1) (leftBy e p) (negℤ (leftBy W p)) (leftBy e q) steep h 0<1
+        (law (W .up .y) (e .up .y) (leftBy e p) (leftBy W p) (leftBy e q) (across-left W p e)))
+      where
+        law : (a b x y z : ℤ) → z ≡ x *ℤ a -ℤ y *ℤ b → a *ℤ x +ℤ b *ℤ negℤ y ≡ pos 1 *ℤ z
+        law a b x y z h = ≡-by₁ h (negℤ (pos 1)) (ring (a ∷ b ∷ x ∷ y ∷ z ∷ []) (search reify depth 20) tt)
+
+    same-height : atHeightOf p e ≡ atHeightOf q e
+    same-height i = not (sym (across-below W p (e .foot) steep) i) && sym (across-below W p (head e) steep) i
+
+    abbrev here : Bool
+    here = near false (sgn (leftBy e p)) (sgn (cross d (e .up)))
+
+    abbrev there : Bool
+    there = near true (sgn (leftBy e q)) (sgn (cross (W .up) (e .up)))
+
+    pub look-across : (above false p d e ≡ true → there ≡ true) → above false p d e ≡ above true q (W .up) e
+    look-across nearest =
+        above-height p d e ue hd ∙ go (atHeightOf p e) refl ∙ ap (λ (b : Bool). b && there) same-height ∙ sym (right-height q (W .up) e ue steep)
+      where
+        back : atHeightOf p e ≡ true → there ≡ true → here ≡ true
+        back h n = seen-signs (sgn (leftBy W p)) (sgn (cross d (W .up))) (sgn (leftBy e p)) (sgn (leftBy e q)) (sgn (cross (W .up) (e .up))) (sgn (cross d (e .up))) (counted .1)
+            (sides (height-steep p e hp h)) (λ k. turn-trans d (W .up) (e .up) (left-rises d (W .up) hd steep (plus→ k)) uW ue) n
+
+        go : (b : Bool) → atHeightOf p e ≡ b → (b && here) ≡ (b && there)
+        go false h = refl
+        go true h = bool-ext here there (λ t. nearest (above-height p d e ue hd ∙ and-both h t)) (back h)
+
+  -- ── q on W ──
+
+  -- along a line that climbs, what comes before is below
+  lower-below : (x z : Pt) → leftBy W x ≡ pos 0 → leftBy W z ≡ pos 0 → before x z ≡ true → below x z ≡ true
+  lower-below x z a b e = lt-below x z (less (x .Y *ℤ z .D) (z .Y *ℤ x .D) (go (before-up x z e)))
+    where
+      less : (a b : ℤ) → pos 0 <ℤ (b -ℤ a) → a <ℤ b
+      less a b = zomega (a ∷ b ∷ []) (search sq depth 20) (omega arith)
+
+      flat : (ux uy x y : ℤ) → y ≡ pos 0 → ux *ℤ y -ℤ uy *ℤ x ≡ pos 0 → pos 0 ≡ uy *ℤ x
+      flat ux uy x y z c = zomega (ux ∷ uy ∷ x ∷ y ∷ []) {A = ux *ℤ y ≡ pos 0 → ux *ℤ y -ℤ uy *ℤ x ≡ pos 0 → pos 0 ≡ uy *ℤ x} (search sq depth 20) (omega arith) (≡-by₁ z ux (ring (ux ∷ y ∷ []) (search reify depth 20) tt)) c
+
+      go : UpV (dir x z) → pos 0 <ℤ dir x z .y
+      go (rising h) = h
+      go (level y h) = absurd (<→≢ (0<-* steep h) (flat (W .up .x) (W .up .y) (dir x z .x) (dir x z .y) y (chord W x z a b)))
+
+  pub across-low : before q (lo W) ≡ false
+  across-low = not-true (before q (lo W)) (λ e. clash (sym (across-below W p (W .foot) steep) ∙ lower-below q (lo W) (across-on W p) (left-foot W) e) low)
+    where
+      opp : (b : Bool) → not b ≡ true → b ≡ false
+      opp true e = never e
+      opp false e = refl
+
+      low : below p (lo W) ≡ false
+      low = opp (below p (lo W)) (and-parts (not (below p (lo W))) (below p (hi W)) (counted .0) .0)
+
+  pub across-high : before q (hi W) ≡ true
+  across-high = below-before q (hi W) (across-below W p (head W) steep ∙ and-parts (not (below p (lo W))) (below p (hi W)) (counted .0) .1)
