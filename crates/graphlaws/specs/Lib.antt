@@ -11,3 +11,4 @@ pub mod Across
 pub mod Seen
 pub mod Rank
 pub mod Faces
+pub mod Corners

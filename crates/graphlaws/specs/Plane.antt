@@ -1,6 +1,6 @@
 -- What the laws of a graph ask of it (`Plane`), and what follows for one edge: one of its half-edges goes up, the other down; where they start and
--- end; and that a half-edge's heading is the direction from its start to its end. A map that passes rules 5 to 8 is such a graph, and so is an
--- overlay. Assumes nothing.
+-- end; and that a half-edge's heading is the direction from its start to its end. A map in which rules 6 to 8 find nothing is such a graph: Corners
+-- and Rules. Assumes nothing.
 use mathlib.Core.Path.{_≡_, refl, sym, _∙_, ap, subst}
 use mathlib.Core.Logic.{_⊎_, inl, inr, ⊎-elim}
 use Prim.Native.Nat.{_<_}
