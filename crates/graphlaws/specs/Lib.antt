@@ -12,3 +12,4 @@ pub mod Seen
 pub mod Rank
 pub mod Faces
 pub mod Corners
+pub mod Rules
