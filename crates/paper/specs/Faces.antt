@@ -1,6 +1,6 @@
 -- The overlay of a list of maps: walks, faces and labels (01, "Overlay tables"). Assumes nothing.
-use Rattle.seq.specs.Seq.{Bool, false, cond, not, _&&_, List, [], Option, none, some, ℕ, zero, suc, _/_, ltb, eqb, length, getD, count, select, table, bestOf, orZero}
-use Rattle.paper.specs.Graph.{halfCount, upward, even, twin, low, followers, walk, holeWalk, eastSide, west, holeLook, Graph}
+use Rattle.seq.specs.Seq.{Bool, false, cond, not, _&&_, List, [], Option, none, some, ℕ, zero, suc, _/_, ltb, eqb, length, getD, count, select, table, leader, orZero}
+use Rattle.paper.specs.Graph.{halfCount, upward, even, twin, low, followers, holeWalk, eastSide, west, holeLook, Graph}
 use Rattle.paper.specs.Map.{label, Map}
 use Rattle.paper.specs.Pieces.{layer, verticesOf, edgesOf, graphOf, Piece}
 
@@ -15,7 +15,7 @@ pub record Walks : Type 0 where
 
 abbrev pub walksOf : Graph → Walks
 walksOf g = let nx = followers g in let n = halfCount g in
-    record { graph = g; next = nx; lead = table (λ h. bestOf ltb h (walk nx h)) n; hole = table (holeWalk g nx) n }
+    record { graph = g; next = nx; lead = table (λ h. leader nx h) n; hole = table (holeWalk g nx) n }
 
 abbrev pub leadAt : Walks → ℕ → ℕ
 leadAt w h = getD (w .lead) h 0

@@ -1,5 +1,6 @@
 -- A plane graph as half-edges see it, one for the maps and for the overlay: points, and edges that join two of them. Half-edge 2k goes along
 -- edge k `from` its one point, 2k + 1 back. Followers, walks, hole walks (01, "Points, sides, followers") and looking west. Assumes nothing.
+pub use Rattle.seq.specs.Seq.{walk}
 use Rattle.seq.specs.Seq.{Bool, true, false, cond, not, _&&_, List, [], _∷_, Option, Option·getD, Option·map, ℕ, zero, suc, _+_, _*_, _-_, _/_, _%_, eqb, length, getD, ℤ, negℤ, _-ℤ_, _*ℤ_, table, best, bestOf, among}
 use Rattle.paper.specs.Plane.{Pt, Vec, Seg, vec, whole, opposite, nowhere, cross, rises, before, below, lower, upper, lessAngle, leftBy}
 
@@ -85,16 +86,7 @@ follower g h = let t = twin h in let v = origin g t in
 abbrev pub followers : Graph → List ℕ
 followers g = table (follower g) (halfCount g)
 
--- ── walks, over the list of followers ──
-
--- from x on until h, in at most n steps
-abbrev pub walkFrom : List ℕ → ℕ → ℕ → ℕ → List ℕ
-walkFrom nx h zero x = []
-walkFrom nx h (suc n) x = let r = walkFrom nx h n (getD nx x 0) in cond (eqb x h) [] (x ∷ r)
-
--- "A walk is what following gives"
-abbrev pub walk : List ℕ → ℕ → List ℕ
-walk nx h = h ∷ walkFrom nx h (length nx) (getD nx h 0)
+-- ── walks, over the list of followers: "A walk is what following gives" (`walk` of seq) ──
 
 -- the smallest vertex of the walk through h
 abbrev pub smallest : Graph → List ℕ → ℕ → ℕ

@@ -1,5 +1,5 @@
 -- The overlay's graph (01, "Overlay tables"): its vertices, and the pieces of input edges with their sources, over a list of maps. Assumes nothing.
-use Rattle.seq.specs.Seq.{Bool, cond, not, _&&_, _||_, List, [], _∷_, _++_, map, Option, none, some, ℕ, _+_, _*_, ltb, eqb, length, getD, select, rows, table, optional}
+use Rattle.seq.specs.Seq.{Bool, cond, not, _&&_, _||_, List, [], _∷_, _++_, map, Option, none, some, ℕ, _+_, _*_, ltb, eqb, length, getD, select, rows, table, optional, inOrderBy}
 use Rattle.paper.specs.Plane.{Pt, Seg, before, crossing, onSeg}
 use Rattle.paper.specs.Graph.{edgeCount, pointIn, noEdge, edge, Edge, Graph}
 use Rattle.paper.specs.Map.{empty, Map}
@@ -7,11 +7,6 @@ use Rattle.paper.specs.Map.{empty, Map}
 -- map i of the list
 abbrev pub layer : List Map → ℕ → Map
 layer ms i = getD ms i empty
-
--- the elements of a list, each put into another list in its turn
-abbrev pub putIn : {A : Type 0} → (A → List A → List A) → List A → List A → List A
-putIn put [] l = l
-putIn put (x ∷ xs) l = putIn put xs (put x l)
 
 -- ── vertices ──
 
@@ -26,13 +21,9 @@ meetings a b = rows (λ j. rows (meeting a b j) (edgeCount b)) (edgeCount a)
 abbrev pub crossings : List Map → List Pt
 crossings ms = rows (λ j. rows (λ i. meetings (layer ms i .graph) (layer ms j .graph)) j) (length ms)
 
--- p into a list of points in order: at its place, and nowhere if it is there already
-abbrev pub insert : Pt → List Pt → List Pt
-insert p [] = p ∷ []
-insert p (q ∷ qs) = let r = insert p qs in cond (before p q) (p ∷ q ∷ qs) (cond (before q p) (q ∷ r) (q ∷ qs))
-
+-- points in order, each at its place, and nowhere if it is there already
 abbrev pub inOrder : List Pt → List Pt
-inOrder ps = putIn insert ps []
+inOrder ps = inOrderBy before (λ p q. q) ps
 
 -- "Vertices stand in point order": the corners of all maps, and the crossings
 abbrev pub verticesOf : List Map → List Pt
@@ -63,15 +54,9 @@ joined a b = record { lo = a .lo; hi = a .hi; sources = merged (a .sources) (b .
 abbrev pub earlier : Piece → Piece → Bool
 earlier a b = ltb (a .lo) (b .lo) || (eqb (a .lo) (b .lo) && ltb (a .hi) (b .hi))
 
--- a piece into a list in order: "a piece that comes from both maps stands once"
-abbrev pub insertPiece : Piece → List Piece → List Piece
-insertPiece p [] = p ∷ []
-insertPiece p (q ∷ qs) =
-    let r = insertPiece p qs in
-    cond (earlier p q) (p ∷ q ∷ qs) (cond (earlier q p) (q ∷ r) (joined p q ∷ qs))
-
+-- pieces in order: "a piece that comes from both maps stands once"
 abbrev pub piecesInOrder : List Piece → List Piece
-piecesInOrder ps = putIn insertPiece ps []
+piecesInOrder ps = inOrderBy earlier joined ps
 
 -- between neighbours in a list of vertex numbers
 abbrev pub linksFrom : List (Option ℕ) → ℕ → List ℕ → List Piece
