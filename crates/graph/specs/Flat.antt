@@ -42,11 +42,11 @@ flatGraph ps os cs n e = record { points = table (pointAt ps) n; edges = table (
 
 -- row v of the points is a point of an edge between corners
 abbrev pub NearAt : List ℤ → ℕ → Type 0
-NearAt ps v = Bounds.Near (numberAt ps v 0) (numberAt ps v 1) (numberAt ps v 2)
+NearAt ps v = Bounds.Near (pointAt ps v)
 
 -- row k of the carriers is an edge between corners
 abbrev pub EdgeAt : List ℤ → ℕ → Type 0
-EdgeAt cs k = Bounds.Edge (numberAt cs k 0) (numberAt cs k 1) (numberAt cs k 2) (numberAt cs k 3)
+EdgeAt cs k = Bounds.Edge (carrierAt cs k)
 
 -- n points, each with D > 0
 pub record Points (ps : List ℤ) (n : ℕ) : Type 0 where
