@@ -1,7 +1,8 @@
 -- How large the numbers of corners, directions, points and edges are: document 01's limits, by their names. First the numbers, then a record for each kind of
 -- value. Assumes nothing.
 use Prim.Native.Nat.{ℕ, _*_, _≤_}
-use lib.IntN.{natAbs}
+use lib.IntN.{pos, natAbs}
+use lib.Signed.{_<ℤ_}
 use Rattle.paper.specs.Limits.{reach, denominators}
 use Rattle.paper.specs.Plane.{Vec, Pt, Seg, head}
 
@@ -27,8 +28,9 @@ pub record Direction (u : Vec) : Type 0 where
   pub x-is : natAbs (u .x) ≤ span
   pub y-is : natAbs (u .y) ≤ span
 
--- a point of an edge between corners
+-- a point of an edge between corners: "(X, Y, D) with D > 0"
 pub record Near (p : Pt) : Type 0 where
+  pub positive : pos 0 <ℤ p .D
   pub X-is : natAbs (p .X) ≤ numerators
   pub Y-is : natAbs (p .Y) ≤ numerators
   pub D-is : natAbs (p .D) ≤ denominators

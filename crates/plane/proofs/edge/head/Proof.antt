@@ -18,7 +18,7 @@ returns c =
     let s = c .before .before .before .before .args .s in
     let x : back (back (s .x) +ℤ back (s .u)) ≡ s .x +ℤ s .u = plain (search tr depth 20) tt in
     let y : back (back (s .y) +ℤ back (s .v)) ≡ s .y +ℤ s .v = plain (search tr depth 20) tt in
-    (λ i. pt (x i) (y i) (pos 1), record { X-is = atmost (search tru depth 20) tt; Y-is = atmost (search tru depth 20) tt; D-is = atmost (search tru depth 20) tt })
+    (λ i. pt (x i) (y i) (pos 1), record { positive = record { lt = tt }; X-is = atmost (search tru depth 20) tt; Y-is = atmost (search tru depth 20) tt; D-is = atmost (search tru depth 20) tt })
 
 pub head-spec : {M : Type 1} → statement M
 head-spec = tie.close (tie.spec add-t2 add-t3 returns)

@@ -1,9 +1,7 @@
 -- `plane::order::order` meets its contract. Assumes nothing.
 use mathlib.Core.Path.{_∙_}
-use mir.Syntax.{w64}
-use mir.ValLaws.{toZ-ofZ}
 use borrow.Author.Needs.{needs}
-use Rattle.paper.specs.Plane.{order, signNumber}
+use Rattle.paper.specs.Plane.{order}
 use Rattle.plane.proofs.Machine.{pt-back}
 use Rattle.plane.proofs.order.order.Statement.{statement}
 use Rattle.plane.proofs.order.order.Tie as tie
@@ -16,7 +14,7 @@ returns c =
     let st = c .before .before .before .before .before .before .before in
     let p = st .args .p in
     let q = st .args .q in
-    toZ-ofZ w64 (c .order-of .result) (search needs) ∙ c .order-of .ensures ∙ (λ i. signNumber (order (pt-back (p .x) (p .y) (p .d) (st .pre .0) i) (pt-back (q .x) (q .y) (q .d) (st .pre .1) i)))
+    c .order-of .ensures ∙ (λ i. order (pt-back (p .x) (p .y) (p .d) (st .pre .0) i) (pt-back (q .x) (q .y) (q .d) (st .pre .1) i))
 
 pub order-spec : {M : Type 1} → statement M
 order-spec = tie.close (tie.spec order-of-requires returns)

@@ -1,21 +1,31 @@
--- `plane::order::same` meets its contract. Assumes nothing.
-use mathlib.Core.Path.{_∙_}
-use lib.IntN.{pos}
+-- `plane::order::same` meets its contract, whatever the answer of `order`. Assumes nothing.
+use mathlib.Core.Path.{sym, _∙_, ap}
 use borrow.Author.Needs.{needs}
-use Rattle.exact.specs.Mach.{trbits, test, eqZ}
-use Rattle.paper.specs.Plane.{order}
-use Rattle.plane.specs.Values.{ptOf}
-use Rattle.plane.proofs.Signs.{isZer-number}
+use Rattle.exact.specs.Compare.{signOf}
+use Rattle.exact.specs.Sign.{isZer}
 use Rattle.plane.proofs.order.same.Statement.{statement}
 use Rattle.plane.proofs.order.same.Tie as tie
 
 order-requires : tie.Need-order-requires
 order-requires c κs = search needs
 
+enum-told : tie.Need-enum-told
+enum-told c = search needs
+
+enum-told-2 : tie.Need-enum-told-2
+enum-told-2 c = search needs
+
+enum-told-3 : tie.Need-enum-told-3
+enum-told-3 c = search needs
+
 returns : tie.Need-returns
-returns c =
-    let a = c .before .args in
-    test (search trbits depth 20) tt ∙ (λ i. eqZ (c .order .ensures i) (pos 0)) ∙ isZer-number (order (ptOf (a .p)) (ptOf (a .q)))
+returns c = ap isZer (sym (ap signOf (c .enum-told .given .1)) ∙ c .before .before .order .ensures)
+
+returns-2 : tie.Need-returns-2
+returns-2 c = ap isZer (sym (ap signOf (c .enum-told2 .given .1)) ∙ c .before .before .order .ensures)
+
+returns-3 : tie.Need-returns-3
+returns-3 c = ap isZer (sym (ap signOf (c .enum-told3 .given .1)) ∙ c .before .before .order .ensures)
 
 pub same-spec : {M : Type 1} → statement M
-same-spec = tie.close (tie.spec order-requires returns)
+same-spec = tie.close (tie.spec order-requires enum-told enum-told-2 enum-told-3 returns returns-2 returns-3)

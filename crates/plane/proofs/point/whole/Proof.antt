@@ -12,7 +12,7 @@ returns c =
     let a = c .before .args .a in
     let x : back (a .x) ≡ a .x = plain (search tr depth 20) tt in
     let y : back (a .y) ≡ a .y = plain (search tr depth 20) tt in
-    (λ i. pt (x i) (y i) (pos 1), record { X-is = atmost (search tru depth 20) tt; Y-is = atmost (search tru depth 20) tt; D-is = atmost (search tru depth 20) tt })
+    (λ i. pt (x i) (y i) (pos 1), record { positive = record { lt = tt }; X-is = atmost (search tru depth 20) tt; Y-is = atmost (search tru depth 20) tt; D-is = atmost (search tru depth 20) tt })
 
 pub whole-spec : {M : Type 1} → statement M
 whole-spec = tie.close (tie.spec returns)
