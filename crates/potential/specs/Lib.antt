@@ -17,3 +17,5 @@ pub mod Looks
 pub mod Descent
 pub mod Turns
 pub mod Labels
+pub mod Files
+pub mod Example

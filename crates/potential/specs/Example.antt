@@ -1,0 +1,33 @@
+-- The theorems at one file, so that no premise of them is empty: a square of side 4 with label 7 within. What is seen looking west along east from (1, 1) has label
+-- 7, and from (9, 1), beyond the square, 0; so these are the potentials there, by the theorem, and the sum itself says so too. Assumes nothing.
+use mathlib.Core.Path.{_≡_, refl}
+use Rattle.seq.specs.Seq.{List, false, none, ℕ, ℤ, pos}
+use Rattle.seq.specs.Terms.{sum, upto}
+use Rattle.paper.specs.Plane.{Vec, vec, whole}
+use Rattle.paper.specs.Map.{fault, mapOf}
+use Rattle.paper.specs.Sample.{at, zone}
+use Rattle.planelaws.specs.Ends.{0<1}
+use Rattle.potential.specs.Cut.{Φ}
+use Rattle.potential.specs.Cuts.{above}
+use Rattle.potential.specs.Pot.{pot}
+use Rattle.potential.specs.Files.{file-seen}
+
+abbrev file : List ℕ
+file = zone 0 0 4 7
+
+passes : fault file ≡ none
+unfolding fault
+passes = refl
+
+abbrev east : Vec
+east = vec (pos 1) (pos 0)
+
+pub within : pos 7 ≡ pot (mapOf file) (above false (whole (at 1 1)) east)
+within = file-seen file passes (whole (at 1 1)) 0<1 east refl
+
+pub beyond : pos 0 ≡ pot (mapOf file) (above false (whole (at 9 1)) east)
+beyond = file-seen file passes (whole (at 9 1)) 0<1 east refl
+
+pub computed : (pot (mapOf file) (above false (whole (at 1 1)) east) ≡ pos 7) × (pot (mapOf file) (above false (whole (at 9 1)) east) ≡ pos 0)
+unfolding pot Φ sum upto above
+computed = (refl, refl)
