@@ -54,10 +54,14 @@ pub record Points (ps : List ℤ) (n : ℕ) : Type 0 where
   pub near : (v : ℕ) → v < n → NearAt ps v
   pub positive : (v : ℕ) → v < n → pos 0 <ℤ numberAt ps v 2
 
--- the origins of h half-edges among n points
-pub record Origins (os : List ℕ) (h n : ℕ) : Type 0 where
-  pub long : h ≤ length os
-  pub named : (i : ℕ) → i < h → originAt os i < n
+-- m numbers, each below n
+pub record Numbers (xs : List ℕ) (m n : ℕ) : Type 0 where
+  pub long : m ≤ length xs
+  pub named : (i : ℕ) → i < m → getD xs i 0 < n
+
+-- the origins of m half-edges among n points
+abbrev pub Origins : List ℕ → ℕ → ℕ → Type 0
+Origins os m n = Numbers os m n
 
 -- e carriers
 pub record Carriers (cs : List ℤ) (e : ℕ) : Type 0 where

@@ -1,1 +1,2 @@
 // Followers, walks, looks and faces of a graph in flat tables.
+pub mod places; // the first place of each number in a table

@@ -1,0 +1,71 @@
+-- `graph::places::first_places` meets its contract. Assumes nothing.
+use mathlib.Core.Path.{_≡_, refl, _∙_, ap, subst}
+use Prim.Native.Nat.{_-_, _<_}
+use native.Mathlib.Omega.{arith}
+use borrow.Author.Needs.{needs}
+use Rattle.seq.specs.Seq.{List, ℕ, getD, length}
+use Rattle.seq.specs.Filled.{length-filled}
+use Rattle.graph.specs.Places.{Placing, places-start, places-turn, places-end}
+use Rattle.graph.proofs.places.first_places.Statement.{statement}
+use Rattle.graph.proofs.places.first_places.Tie as tie
+
+abbrev Inv-loop : tie.InvT-loop
+Inv-loop xs m none out₀ n i₀ out i = Placing (λ k. getD xs k 0) m out₀ out i
+
+abbrev μ-loop : tie.MeasureT-loop
+μ-loop xs m none out₀ n i₀ out i = i
+
+fill-requires : tie.Need-fill-requires Inv-loop μ-loop
+fill-requires c κs = search needs
+
+loop-holds : tie.Need-loop-holds Inv-loop μ-loop
+loop-holds c = places-start _ _ _
+
+-- the number at the place that the loop is at
+below : (c : tie.After-shared-slice-known2 Inv-loop μ-loop) → getD (c .before .before .before .before .before .before .before .before .before .args .xs .now) (c .before .before .loop .i - 1) 0 < c .before .before .before .before .before .before .before .before .before .args .n
+below c = c .before .before .before .before .before .before .before .before .before .pre .0 .named (c .before .before .loop .i - 1) (omega arith)
+
+kept : (c : tie.After-shared-slice-known2 Inv-loop μ-loop) → length (c .before .before .before .before .before .fill .last .0) ≡ length (c .before .before .before .before .before .before .before .before .before .args .out .now)
+kept c = ap length (c .before .before .before .before .before .fill .ensures) ∙ length-filled _ _ _ (c .before .before .before .before .before .before .before .before .before .pre .1 .1)
+
+sub-i : tie.Need-sub-i Inv-loop μ-loop
+sub-i c = search needs
+
+mul-x : tie.Need-mul-x Inv-loop μ-loop
+mul-x c = search needs
+
+shared-slice-read-x : tie.Need-shared-slice-read-x Inv-loop μ-loop
+shared-slice-read-x c = search needs
+
+cast-x : tie.Need-cast-x Inv-loop μ-loop
+cast-x c = omega (arith, below c)
+
+cast-out : tie.Need-cast-out Inv-loop μ-loop
+cast-out c = search needs
+
+mul-out : tie.Need-mul-out Inv-loop μ-loop
+mul-out c = omega (arith, below c)
+
+slice-write-out : tie.Need-slice-write-out Inv-loop μ-loop
+slice-write-out c = omega (arith, below c, kept c)
+
+loop-less : tie.Need-loop-less Inv-loop μ-loop
+loop-less c = search needs
+
+loop-again : tie.Need-loop-again Inv-loop μ-loop
+loop-again c = places-turn _ (c .before .before .loop .inv) _ (omega arith) refl (omega (arith, below c, kept c))
+
+same-length : tie.Need-same-length Inv-loop μ-loop
+same-length c = search needs
+
+returns : tie.Need-returns Inv-loop μ-loop
+returns c =
+    let s = c .before .before .before .before .before .before .before .before in
+    let i = c .before .loop .inv in
+    places-end (s .args .xs .now) (s .args .m) (s .args .none) (s .args .n) (s .args .out .now) (s .pre .0) (s .pre .1 .1)
+    (subst (λ (d : List ℕ). Placing (λ k. getD (s .args .xs .now) k 0) (s .args .m) d (c .before .loop .out) (c .before .loop .i)) (c .before .before .before .before .fill .ensures) i) (omega arith)
+
+pub first-places-spec : {M : Type 1} → statement M
+first-places-spec =
+    tie.close
+    (tie.spec Inv-loop μ-loop fill-requires loop-holds sub-i mul-x shared-slice-read-x cast-x cast-out mul-out slice-write-out loop-less loop-again same-length returns)
