@@ -18,11 +18,12 @@ use Rattle.planelaws.specs.Angles.{cross-self, SameWay}
 use Rattle.planelaws.specs.Edges.{On, Inside, IsEnd, on-foot, on-head, inside-on, end-not-inside}
 use Rattle.graphlaws.specs.Halves.{twin-half, twin-once, twin-below, half-below}
 use Rattle.graphlaws.specs.Plane.{real-at, goesUp-twin, up-ends, down-ends}
-use Rattle.graphlaws.specs.East.{east-half, east-once, east-below, east-down, east-start, east-end}
+use Rattle.graphlaws.specs.East.{east-once, east-start, east-end}
 use Rattle.maplaws.specs.Keeps.{seg, edges, halves, vertices, Keeps}
 use Rattle.potential.specs.Cuts.{lo, hi}
 use Rattle.potential.specs.Clear.{Clear}
-use Rattle.potential.specs.Pot.{westSide, lowEnd, highEnd}
+use Rattle.potential.specs.Sides.{westSide, west-below, west-heading}
+use Rattle.potential.specs.Pot.{lowEnd, highEnd}
 
 -- the end of e at which a half-edge along it starts, going up or down
 abbrev pub endOf : Bool → Seg → Pt
@@ -52,18 +53,6 @@ module _ (m : Map) (K : Keeps m) where
 
     pub at-high : point g (highEnd m k) ≡ hi (seg m k)
     at-high = east-start g (K .plane) k l ∙ sym (K .head-is k l)
-
-    pub west-below : westSide g k < halves m
-    west-below = twin-below g (eastSide g k) (east-below g k l)
-
-    pub west-half : westSide g k / 2 ≡ k
-    west-half = twin-half (eastSide g k) ∙ east-half g k
-
-    pub west-up : goesUp g (westSide g k) ≡ true
-    west-up = goesUp-twin g (K .plane) (eastSide g k) (east-below g k l) ∙ ap not (east-down g (K .plane) k l)
-
-    pub west-heading : heading g (westSide g k) ≡ seg m k .up
-    west-heading = λ i. cond (west-up i) (upward g (west-half i)) (opposite (upward g (west-half i)))
 
   -- ── no edge meets the inside of another ──
 
@@ -120,10 +109,10 @@ module _ (m : Map) (K : Keeps m) where
   pub one-start : (i j : ℕ) → i < edges m → j < edges m → same (lo (seg m i)) (lo (seg m j)) ≡ true → cross (seg m i .up) (seg m j .up) ≡ pos 0 → i ≡ j
   one-start i j li lj s z =
       east-once g i j (twin-once (eastSide g i) (eastSide g j)
-      (K .plane .apart (westSide g i) (westSide g j) (west-below i li) (west-below j lj) origins record { parallel = (λ t. cross (west-heading i li t) (west-heading j lj t)) ∙ z; half = halves-same }))
+      (K .plane .apart (westSide g i) (westSide g j) (west-below g i li) (west-below g j lj) origins record { parallel = (λ t. cross (west-heading g (K .plane) i li t) (west-heading g (K .plane) j lj t)) ∙ z; half = halves-same }))
     where
       origins : lowEnd m i ≡ lowEnd m j
-      origins = K .plane .distinct (lowEnd m i) (lowEnd m j) (K .plane .starts (westSide g i) (west-below i li)) (K .plane .starts (westSide g j) (west-below j lj)) ((λ t. same (at-low i li t) (at-low j lj t)) ∙ s)
+      origins = K .plane .distinct (lowEnd m i) (lowEnd m j) (K .plane .starts (westSide g i) (west-below g i li)) (K .plane .starts (westSide g j) (west-below g j lj)) ((λ t. same (at-low i li t) (at-low j lj t)) ∙ s)
 
       halves-same : rises (heading g (westSide g i)) ≡ rises (heading g (westSide g j))
-      halves-same = ap rises (west-heading i li) ∙ K .plane .rising i li ∙ sym (ap rises (west-heading j lj) ∙ K .plane .rising j lj)
+      halves-same = ap rises (west-heading g (K .plane) i li) ∙ K .plane .rising i li ∙ sym (ap rises (west-heading g (K .plane) j lj) ∙ K .plane .rising j lj)

@@ -5,43 +5,45 @@
 -- Label less potential is the same at the follower (rule 10, and the moves) and at the twin (the two sides of an edge differ by its jump). So it is 0 for all, by
 -- descent: at a half-edge of greatest angle that goes down, its twin starts lower; at one that goes up, its walk comes lower, or it makes its walk
 -- a hole walk, and then its label is what is seen strictly west (rule 10's second half), along an edge that starts lower. Assumes nothing.
-use mathlib.Core.Path.{_≡_, refl, sym, _∙_, ap, subst}
-use mathlib.Core.Bool.{Bool, true, false, cond, not, _&&_}
-use mathlib.Core.List.{List, [], _∷_}
+use mathlib.Core.Path.{_≡_, refl, sym, _∙_, ap}
+use mathlib.Core.Bool.{Bool, true, false, not}
+use mathlib.Core.List.{[], _∷_}
 use mathlib.Core.Option.{Option, none, some}
 use Prim.Native.Nat.{ℕ, _/_, _<_}
 use native.Mathlib.Decide.{ℕ-discrete}
-use lib.IntN.{ℤ, pos, negsuc, _-ℤ_, +ℤ-invr}
-use lib.Signed.{_≤ℤ_, _<ℤ_, ≤ℤ-refl}
 use borrow.Author.Tests.{eqb-true, eq-eqb}
+use lib.Dec.{eqb}
+use lib.IntN.{ℤ, pos, _-ℤ_, +ℤ-invr}
+use lib.Signed.{_≤ℤ_, _<ℤ_, ≤ℤ-refl}
 use Rattle.exact.specs.Solve.{ring, reify, sub-zero→}
-use Rattle.exact.specs.Mul.{≡-by₁, ≡-by₂}
-use Rattle.exact.specs.Sign.{sgn, isNeg, isZer}
-use Rattle.exact.specs.Tests.{clash, not-false, and-parts}
+use Rattle.exact.specs.Mul.{≡-by₁}
+use Rattle.exact.specs.Tests.{and-parts}
 use Rattle.seq.specs.Seq.{orZero}
-use Rattle.seq.specs.Terms.{BestIs}
-use Rattle.paper.specs.Plane.{Pt, Vec, nowhere, opposite, before, same, lessAngle, leftBy}
-use Rattle.paper.specs.Graph.{Graph, point, twin, origin, start, goesUp, upward, heading, follower, followers, smallest, leaves, greatestOut, makesHole, eastSide, holeLook}
+use Rattle.seq.specs.Terms.{Has, BestIs}
+use Rattle.paper.specs.Plane.{Pt, Vec, nowhere, before}
+use Rattle.paper.specs.Graph.{Graph, point, twin, origin, start, goesUp, upward, follower, followers, smallest, leaves, greatestOut, atHeight, westward, eastSide}
 use Rattle.paper.specs.Graph as Gr
 use Rattle.paper.specs.Map.{Map, label}
-use Rattle.planelaws.specs.Points.{neither, same-sym}
-use Rattle.planelaws.specs.Ends.{0<1}
-use Rattle.planelaws.specs.Sides.{left-foot, left-same-sign}
-use Rattle.graphlaws.specs.Halves.{twin-twin, twin-half, twin-below, half-below}
+use Rattle.planelaws.specs.Points.{neither}
+use Rattle.graphlaws.specs.Halves.{twin-twin, twin-below, half-below}
 use Rattle.graphlaws.specs.Plane.{real-at, goesUp-twin}
-use Rattle.graphlaws.specs.Follow.{lesser, follower-below, greatest-is}
-use Rattle.graphlaws.specs.Walks.{Along, along-below, along-same}
+use Rattle.graphlaws.specs.Follow.{lesser, greatest-is}
+use Rattle.graphlaws.specs.Walks.{along-below, along-same}
 use Rattle.graphlaws.specs.Holes.{smallest-start, smallest-first, smallest-below, greatest-makes}
 use Rattle.graphlaws.specs.East.{east-half, east-down, east-below, east-is}
+use Rattle.graphlaws.specs.West.{candidate, Sees, west-sees, nowhere-westward}
+use Rattle.graphlaws.specs.Seen.{west-low}
 use Rattle.graphlaws.specs.Rank.{rank, rank-less}
-use Rattle.maplaws.specs.Keeps.{seg, edges, halves, vertices, Keeps}
-use Rattle.potential.specs.Cuts.{lo, hi, reachAbove, above, above-strict, atLeft, Leaves}
-use Rattle.potential.specs.Pot.{westSide, lab, west, east, jump, pot, lowEnd, balanced}
-use Rattle.potential.specs.Edges.{seg-rises, start-is, at-low, at-high, west-below, west-half, west-up, west-heading}
+use Rattle.maplaws.specs.Keeps.{seg, edges, halves, Keeps}
+use Rattle.potential.specs.Cuts.{lo, above, atLeft}
+use Rattle.potential.specs.Sides.{westSide, west-below, west-half, west-up, west-start}
+use Rattle.potential.specs.Pot.{lab, west, east, pot}
+use Rattle.potential.specs.Edges.{at-low, at-high}
 use Rattle.potential.specs.Moves.{pot-slide, pot-sides}
-use Rattle.potential.specs.Sector.{last-up}
-use Rattle.potential.specs.Star.{leftPot, followed, side-origin}
-use Rattle.potential.specs.Looks.{looked}
+use Rattle.potential.specs.Covers.{self-covers}
+use Rattle.potential.specs.Star.{leftIn, followed}
+use Rattle.potential.specs.Looks.{seenIn, looked}
+use Rattle.potential.specs.Holes.{strict-left}
 use Rattle.potential.specs.Descent.{descent}
 use Rattle.potential.specs.Turns.{greaterCount, none-greater, next-turn}
 
@@ -51,25 +53,25 @@ module _ (m : Map) (K : Keeps m) where
 
   -- label less potential
   abbrev off : ℕ → ℤ
-  off h = lab m h -ℤ leftPot m h
+  off h = lab m h -ℤ leftIn m g h
 
   -- ── it is the same at the follower, and at the twin ──
 
   along : (h : ℕ) → h < halves m → off (follower g h) ≡ off h
-  along h l = λ i. pos (K .one-label h l i) -ℤ followed m K h l i
+  along h l = λ i. pos (K .one-label h l i) -ℤ followed g m K (self-covers m K) h l i
 
   module _ (k : ℕ) (l : k < edges m) where
-    pub west-pot : leftPot m (westSide g k) ≡ pot m (above false (lo (seg m k)) (seg m k .up))
-    west-pot i = pot m (atLeft (at-low m K k l i) (west-up m K k l i) (upward g (west-half m K k l i)))
+    pub west-pot : leftIn m g (westSide g k) ≡ pot m (above false (lo (seg m k)) (seg m k .up))
+    west-pot i = pot m (atLeft (at-low m K k l i) (west-up g (K .plane) k l i) (upward g (west-half g k i)))
 
-    pub east-pot : leftPot m (eastSide g k) ≡ pot m (above true (lo (seg m k)) (seg m k .up))
+    pub east-pot : leftIn m g (eastSide g k) ≡ pot m (above true (lo (seg m k)) (seg m k .up))
     east-pot = (λ i. pot m (atLeft (at-high m K k l i) (east-down g (K .plane) k l i) (upward g (east-half g k i)))) ∙ pot-slide m K true k l
 
-    sides : leftPot m (eastSide g k) -ℤ leftPot m (westSide g k) ≡ east m k -ℤ west m k
+    sides : leftIn m g (eastSide g k) -ℤ leftIn m g (westSide g k) ≡ east m k -ℤ west m k
     sides = (λ i. east-pot i -ℤ west-pot i) ∙ pot-sides m K k l
 
     across-edge : off (westSide g k) ≡ off (eastSide g k)
-    across-edge = law (leftPot m (eastSide g k)) (leftPot m (westSide g k)) (east m k) (west m k) sides
+    across-edge = law (leftIn m g (eastSide g k)) (leftIn m g (westSide g k)) (east m k) (west m k) sides
       where
         law : (a b e w : ℤ) → a -ℤ b ≡ e -ℤ w → w -ℤ b ≡ e -ℤ a
         law a b e w h = ≡-by₁ h (pos 1) (ring (a ∷ b ∷ e ∷ w ∷ []) (search reify depth 20) tt)
@@ -102,61 +104,47 @@ module _ (m : Map) (K : Keeps m) where
       ∙ ih (twin h) (twin-below g h l) (lower h (twin h) l (twin-below g h l)
       (ap (λ (x : ℕ). before (start g (twin h)) (start g x)) (sym (twin-twin h)) ∙ goesUp-twin g (K .plane) h l ∙ ap not d))
 
-  -- an edge strictly west of where h starts starts lower: its labels are right
-  west-right : (h : ℕ) → h < halves m → Below h → (W : ℕ) → W < edges m → above false (start g h) nowhere (seg m W) ≡ true → east m W ≡ pot m (above true (lo (seg m W)) (seg m W .up))
-  west-right h l ih W j c =
-      law (leftPot m (eastSide g W)) (leftPot m (westSide g W)) (east m W) (west m W) (sides W j) (ih (westSide g W) (west-below m K W j) (lower h (westSide g W) l (west-below m K W j) starts)) ∙ east-pot W j
-    where
-      v : Pt
-      v = start g h
+  -- the label of what is seen is right where the half-edges that can be seen are
+  seen-right : (p : Pt) → pos 0 <ℤ p .D → (d : Vec) → pos 0 ≤ℤ d .y → (o : Option ℕ) → Sees g p d o →
+      ((W : ℕ) → Has (candidate g p d) (edges m) W → off (eastSide g W) ≡ pos 0) → pos (orZero (label m) o) ≡ seenIn m g o
+  seen-right p hp d hd none n r = refl
+  seen-right p hp d hd (some x) (W, t, e) r = ap (lab m) (sym e) ∙ sub-zero→ (lab m (eastSide g W)) (leftIn m g (eastSide g W)) (r W (t .is)) ∙ ap (leftIn m g) e
 
-      r : (reachAbove v (seg m W) ≡ true) × (isNeg (sgn (leftBy (seg m W) v)) ≡ true)
-      r = and-parts (reachAbove v (seg m W)) (isNeg (sgn (leftBy (seg m W) v))) (sym (above-strict v (seg m W)) ∙ c)
+  seen-label : (p : Pt) → pos 0 <ℤ p .D → (d : Vec) → pos 0 ≤ℤ d .y → ((W : ℕ) → Has (candidate g p d) (edges m) W → off (eastSide g W) ≡ pos 0) →
+      pos (orZero (label m) (Gr.west g p d)) ≡ pot m (above false p d)
+  seen-label p hp d hd r = seen-right p hp d hd (Gr.west g p d) (west-sees g (K .plane) p hp d) r ∙ sym (looked g m K (self-covers m K) p hp d hd)
 
-      not-true-is : (b : Bool) → not b ≡ true → b ≡ false
-      not-true-is true e = absurd (clash e refl)
-      not-true-is false e = refl
-
-      after-lo : before v (lo (seg m W)) ≡ false
-      after-lo = not-true-is (before v (lo (seg m W))) (and-parts (not (before v (lo (seg m W)))) (before v (hi (seg m W))) (r .0) .0)
-
-      -- the lower end is not v, for v is not on the edge
-      lo-first : before (lo (seg m W)) v ≡ true
-      lo-first = not-false (before (lo (seg m W)) v) (λ e. clash (r .1) (ap isNeg
-          (sym (left-same-sign (seg m W) (lo (seg m W)) v 0<1 (real-at g (K .plane) (origin g h)) (neither (lo (seg m W)) v e after-lo)) ∙ ap sgn (left-foot (seg m W)))))
-
-      starts : before (start g (westSide g W)) v ≡ true
-      starts = ap (λ (p : Pt). before p v) (at-low m K W j) ∙ lo-first
-
-      law : (a b e w : ℤ) → a -ℤ b ≡ e -ℤ w → w -ℤ b ≡ pos 0 → e ≡ a
-      law a b e w h l = ≡-by₂ h (negsuc 0) l (pos 1) (ring (a ∷ b ∷ e ∷ w ∷ []) (search reify depth 20) tt)
+  -- an edge strictly west of where h starts starts lower
+  west-right : (h : ℕ) → h < halves m → Below h → (W : ℕ) → Has (candidate g (start g h) nowhere) (edges m) W → off (eastSide g W) ≡ pos 0
+  west-right h l ih W c =
+      let v = start g h in
+      let r = and-parts (atHeight g v W) (westward g v nowhere W) (c .has) in
+      let starts : before (start g (westSide g W)) v ≡ true = ap (λ (p : Pt). before p v) (west-start g (K .plane) W (c .below))
+      ∙ west-low g (K .plane) v (real-at g (K .plane) (origin g h)) W (c .below) (r .0) (nowhere-westward g v W (r .1)) in
+      sym (across-edge W (c .below)) ∙ ih (westSide g W) (west-below g W (c .below)) (lower h (westSide g W) l (west-below g W (c .below)) starts)
 
   module _ (h : ℕ) (l : h < halves m) (u : goesUp g h ≡ true) (z : greaterCount g h ≡ 0) where
-    -- at its left is what lies strictly west
-    left-strict : leftPot m h ≡ pot m (above false (start g h) nowhere)
-    left-strict =
-        ap (λ (b : Bool). pot m (atLeft (start g h) b (upward g (h / 2)))) u
-        ∙ last-up m K (start g h) (real-at g (K .plane) (origin g h)) (upward g (h / 2)) (seg-rises m K (h / 2) (half-below g h l))
-        (λ k j o e. none-greater g (K .plane) h z (westSide g k) (west-below m K k j) (side-origin m K (origin g h) k (K .plane .starts h l) j true o)
-        ((λ i. lessAngle (cond (u i) (upward g (h / 2)) (opposite (upward g (h / 2)))) (west-heading m K k j i)) ∙ e))
-
     module _ (s : smallest g (followers g) h ≡ origin g h) where
       greatest : greatestOut g (smallest g (followers g) h) ≡ some h
-      greatest = ap (greatestOut g) s ∙ go (greatestOut g (origin g h)) refl (greatest-is g (K .plane) (origin g h))
+      greatest = ap (greatestOut g) s ∙ go (greatestOut g (origin g h)) (greatest-is g (K .plane) (origin g h))
         where
-          go : (o : Option ℕ) → greatestOut g (origin g h) ≡ o → BestIs (leaves g (origin g h)) (λ x y. lesser g y x) (halves m) o → o ≡ some h
-          go none e b = absurd (b h (record { below = l; has = eq-eqb (origin g h) (origin g h) refl }))
-          go (some r) e b =
+          at : eqb (origin g h) (origin g h) ≡ true
+          at = eq-eqb (origin g h) (origin g h) refl
+
+          go : (o : Option ℕ) → BestIs (leaves g (origin g h)) (λ x y. lesser g y x) (halves m) o → o ≡ some h
+          go none b = absurd (b h (record { below = l; has = at }))
+          go (some r) b =
               elim (ℕ-discrete h r) [
                 | yes q ↦ ap some (sym q)
-                | no q ↦ absurd (none-greater g (K .plane) h z r (b .is .below) (eqb-true (origin g r) (origin g h) (b .is .has)) (b .beats h (record { below = l; has = eq-eqb (origin g h) (origin g h) refl }) q))
+                | no q ↦ absurd (none-greater g (K .plane) h z r (b .is .below) (eqb-true (origin g r) (origin g h) (b .is .has)) (b .beats h (record { below = l; has = at }) q))
               ]
 
-      -- its label is what is seen strictly west
+      -- its label is what is seen strictly west, and so is its potential
       hole-right : Below h → off h ≡ pos 0
       hole-right ih =
+          let hv = real-at g (K .plane) (origin g h) in
           (λ i. (ap pos (K .hole-label h l (greatest-makes g (K .plane) h greatest) ∙ ap (λ (v : ℕ). orZero (label m) (Gr.west g (point g v) nowhere)) s)
-          ∙ looked m K (start g h) (real-at g (K .plane) (origin g h)) nowhere (≤ℤ-refl (pos 0)) (west-right h l ih)) i -ℤ left-strict i)
+          ∙ seen-label (start g h) hv nowhere (≤ℤ-refl (pos 0)) (west-right h l ih)) i -ℤ strict-left g m K (self-covers m K) h l u (none-greater g (K .plane) h z) i)
           ∙ +ℤ-invr (pot m (above false (start g h) nowhere))
 
     goes-up : Below h → off h ≡ pos 0
@@ -185,14 +173,14 @@ module _ (m : Map) (K : Keeps m) where
       by h l z ih false d = goes-down h l d ih
 
   pub theorem-A : (h : ℕ) → h < halves m → pos (label m h) ≡ pot m (atLeft (start g h) (goesUp g h) (upward g (h / 2)))
-  theorem-A h l = sub-zero→ (lab m h) (leftPot m h) (right h l)
+  theorem-A h l = sub-zero→ (lab m h) (leftIn m g h) (right h l)
 
   -- and so on the two sides of every edge
   pub west-is : (k : ℕ) → k < edges m → west m k ≡ pot m (above false (lo (seg m k)) (seg m k .up))
-  west-is k l = theorem-A (westSide g k) (west-below m K k l) ∙ west-pot k l
+  west-is k l = theorem-A (westSide g k) (west-below g k l) ∙ west-pot k l
 
   pub east-label : (k : ℕ) → k < edges m → east m k ≡ pot m (above true (lo (seg m k)) (seg m k .up))
   east-label k l = theorem-A (eastSide g k) (east-below g k l) ∙ east-pot k l
 
   pub theorem-B : (p : Pt) → pos 0 <ℤ p .D → (d : Vec) → pos 0 ≤ℤ d .y → pos (orZero (label m) (Gr.west g p d)) ≡ pot m (above false p d)
-  theorem-B p hp d hd = looked m K p hp d hd (λ W l c. east-label W l)
+  theorem-B p hp d hd = seen-label p hp d hd (λ W c. right (eastSide g W) (east-below g W (c .below)))

@@ -160,12 +160,9 @@ module _ (W : Seg) (p : Pt) where
   pub across-left : (e : Seg) → leftBy e q ≡ leftBy e p *ℤ W .up .y -ℤ leftBy W p *ℤ e .up .y
   across-left e = ring (W .foot .x ∷ W .foot .y ∷ W .up .x ∷ W .up .y ∷ e .foot .x ∷ e .foot .y ∷ e .up .x ∷ e .up .y ∷ p .X ∷ p .Y ∷ p .D ∷ []) (search reify depth 20) tt
 
-  -- a height there is a height here
-  pub across-height : (y : ℤ) → q .Y *ℤ pos 1 -ℤ y *ℤ q .D ≡ W .up .y *ℤ (p .Y *ℤ pos 1 -ℤ y *ℤ p .D)
-  across-height y = ring (W .up .y ∷ y ∷ p .Y ∷ p .D ∷ []) (search reify depth 20) tt
-
-  pub across-below : (a : Vec) → pos 0 <ℤ W .up .y → below q (whole a) ≡ below p (whole a)
-  across-below a h = ap isNeg (scaled (W .up .y) (p .Y *ℤ pos 1 -ℤ a .y *ℤ p .D) (q .Y *ℤ pos 1 -ℤ a .y *ℤ q .D) h (across-height (a .y)))
+  -- it is at the height of p
+  pub across-below : pos 0 <ℤ W .up .y → (z : Pt) → below q z ≡ below p z
+  across-below h z = ap isNeg (scaled (W .up .y) (p .Y *ℤ z .D -ℤ z .Y *ℤ p .D) (q .Y *ℤ z .D -ℤ z .Y *ℤ q .D) h (ring (W .up .y ∷ z .Y ∷ z .D ∷ p .Y ∷ p .D ∷ []) (search reify depth 20) tt))
 
 -- an edge at the height of a point is not level
 pub height-steep : (p : Pt) (e : Seg) → pos 0 <ℤ p .D → atHeightOf p e ≡ true → pos 0 <ℤ e .up .y

@@ -1,33 +1,48 @@
--- A look west in a map, along any direction that does not fall: its candidates are the edges of a cut (`candidate-is`); where it sees the edge W, the potential
--- of the cut is that of the right side of W at its lower end (`seen`); where it sees nothing, it is 0 (`unseen`). So, where the label on the east of each edge that
--- can be seen is the potential at its right, the label of what is seen is the potential of the cut (`looked`). Assumes nothing.
+-- A look west in a plane graph O that covers a map m, along any direction that does not fall, in m's potentials: where it sees the edge W of O, what it counts of m has the
+-- potential at the left of the half-edge seen, on W's east side (`seen`); where it sees nothing, 0 (`unseen`). With O the map's own graph this is the look of
+-- theorem B; with the overlay's it leads from a hole walk to the walk around it. In order: O's candidates as cuts; each edge of m that is counted lies along a
+-- piece that O counts (`counted-piece`); none is nearer than W; then along the right of W to its lower end. Assumes nothing.
 use mathlib.Core.Path.{_≡_, refl, sym, _∙_, ap}
 use mathlib.Core.Bool.{Bool, true, false, not, _&&_}
 use mathlib.Core.Option.{Option, none, some}
 use Prim.Native.Nat.{ℕ, _<_}
 use lib.IntN.{ℤ, pos}
 use lib.Signed.{_≤ℤ_, _<ℤ_}
+use Rattle.exact.specs.Order.{0<-*}
 use Rattle.exact.specs.Sign.{Sign, neg, zer, plus, sgn, isPlus, negS, pick, lexS, sgn-negℤ}
-use Rattle.exact.specs.Tests.{never, not-true}
-use Rattle.seq.specs.Seq.{orZero}
+use Rattle.exact.specs.Tests.{clash, never, not-true, and-both, and-parts}
 use Rattle.seq.specs.Terms.{Has, Top}
-use Rattle.paper.specs.Plane.{Pt, Vec, cross, below, leftBy}
-use Rattle.paper.specs.Graph.{Graph, upward, atHeight, leftOf, westward, nearer, eastSide}
+use Rattle.paper.specs.Plane.{Pt, Vec, Seg, cross, before, below, leftBy}
+use Rattle.paper.specs.Graph.{Graph, edgeCount, edge, low, high, upward, atHeight, leftOf, westward, nearer, eastSide}
 use Rattle.paper.specs.Graph as Gr
-use Rattle.paper.specs.Map.{Map, label}
+use Rattle.paper.specs.Map.{Map}
+use Rattle.planelaws.specs.Cone.{UpV, rises-up}
+use Rattle.planelaws.specs.Ends.{0<1, below-before, below-level}
 use Rattle.planelaws.specs.Angles.{cross-swap}
+use Rattle.planelaws.specs.Sides.{left-foot, left-head}
+use Rattle.graphlaws.specs.Plane.{real-at, ends-real}
+use Rattle.graphlaws.specs.East.{east-half, east-down, east-start}
 use Rattle.graphlaws.specs.West.{candidate, Sees, west-sees}
 use Rattle.maplaws.specs.Keeps.{seg, edges, Keeps}
 use Rattle.potential.specs.Near.{near}
-use Rattle.potential.specs.Cuts.{lo, above}
-use Rattle.potential.specs.Pot.{lab, east, pot}
+use Rattle.potential.specs.Cuts.{lo, hi, above, atLeft, Leaves}
+use Rattle.potential.specs.Pot.{pot}
 use Rattle.potential.specs.Edges.{seg-rises}
 use Rattle.potential.specs.Moves.{pot-ext, pot-none}
-use Rattle.potential.specs.Along.{at-point}
-use Rattle.potential.specs.Look.{atHeightOf, above-height, across, across-on, across-left}
-use Rattle.potential.specs.Seen.{across-real, across-low, across-high, look-across}
+use Rattle.potential.specs.Along.{at-piece}
+use Rattle.potential.specs.Look.{atHeightOf, above-height, across, across-on, across-left, across-below, height-steep}
+use Rattle.potential.specs.Seen.{look-across, lower-below, across-after, across-before}
+use Rattle.potential.specs.Line.{same-turn, same-climb, same-side}
+use Rattle.potential.specs.Covers.{Covers, PieceAt}
+use Rattle.potential.specs.Star.{leftIn, along-piece}
 
--- the tests of 01 by signs
+-- in m, the potential at the left of what is seen; 0 where the outside is
+abbrev pub seenIn : Map → Graph → Option ℕ → ℤ
+seenIn m O none = pos 0
+seenIn m O (some h) = leftIn m O h
+
+-- ── the tests of 01 by signs ──
+
 west-signs : (s k : Sign) → isPlus (pick (negS s) k) ≡ near false s k
 west-signs neg k = refl
 west-signs zer neg = refl
@@ -42,48 +57,145 @@ near-signs zer zer e = refl
 near-signs zer plus e = refl
 near-signs plus k e = never (sym e)
 
-module _ (m : Map) (K : Keeps m) (p : Pt) (hp : pos 0 <ℤ p .D) (d : Vec) (hd : pos 0 ≤ℤ d .y) where
-  abbrev g : Graph
-  g = m .graph
-
-  pub candidate-is : (k : ℕ) → k < edges m → candidate g p d k ≡ above false p d (seg m k)
-  candidate-is k l =
-      (λ i. (not (below p (sym (K .foot-is k l) i)) && below p (sym (K .head-is k l) i)) && west i)
-      ∙ sym (above-height p d (seg m k) (seg-rises m K k l) hd)
-    where
-      west : westward g p d k ≡ near false (sgn (leftOf g p k)) (sgn (cross d (upward g k)))
-      west = ap (λ (s : Sign). isPlus (pick s (sgn (cross d (upward g k))))) (sgn-negℤ (leftOf g p k)) ∙ west-signs (sgn (leftOf g p k)) (sgn (cross d (upward g k)))
+module _ (O : Graph) (p : Pt) where
+  pub westward-near : (d : Vec) (k : ℕ) → westward O p d k ≡ near false (sgn (leftOf O p k)) (sgn (cross d (upward O k)))
+  westward-near d k = ap (λ (s : Sign). isPlus (pick s (sgn (cross d (upward O k))))) (sgn-negℤ (leftOf O p k)) ∙ west-signs (sgn (leftOf O p k)) (sgn (cross d (upward O k)))
 
   -- where k is not nearer than W, it lies west of the right of W, above W's point at the height of p
-  not-nearer : (k W : ℕ) → nearer g p k W ≡ false → near true (sgn (leftBy (seg m k) (across (seg m W) p))) (sgn (cross (seg m W .up) (seg m k .up))) ≡ true
+  not-nearer : (k W : ℕ) → nearer O p k W ≡ false → near true (sgn (leftOf O (across (edge O W .carrier) p) k)) (sgn (cross (upward O W) (upward O k))) ≡ true
   not-nearer k W e =
-      near-signs (sgn (leftBy (seg m k) (across (seg m W) p))) (sgn (cross (seg m W .up) (seg m k .up)))
-      ((λ i. isPlus (pick (sgn (across-left (seg m W) p (seg m k) i)) ((sym (sgn-negℤ (cross (seg m W .up) (seg m k .up))) ∙ ap sgn (sym (cross-swap (seg m W .up) (seg m k .up)))) i))) ∙ e)
+      near-signs (sgn (leftOf O (across (edge O W .carrier) p) k)) (sgn (cross (upward O W) (upward O k)))
+      ((λ i. isPlus (pick (sgn (across-left (edge O W .carrier) p (edge O k .carrier) i)) ((sym (sgn-negℤ (cross (upward O W) (upward O k))) ∙ ap sgn (sym (cross-swap (upward O W) (upward O k)))) i))) ∙ e)
 
-  module _ (W : ℕ) (t : Top (candidate g p d) (nearer g p) (edges m) W) where
-    counts : above false p d (seg m W) ≡ true
-    counts = sym (candidate-is W (t .is .below)) ∙ t .is .has
+opp : (b : Bool) → not b ≡ true → b ≡ false
+opp true e = never e
+opp false e = refl
 
-    pub seen : pot m (above false p d) ≡ pot m (above true (lo (seg m W)) (seg m W .up))
-    seen =
-        let f = seg m W in
-        let l = t .is .below in
-        let u = seg-rises m K W l in
-        pot-ext m (above false p d) (above true (across f p) (f .up)) (λ k j.
-        look-across p hp d hd f u counts (seg m k) (seg-rises m K k j) (λ e. not-nearer k W (t .none-better k (record { below = j; has = candidate-is k j ∙ e }))))
-        ∙ at-point m K W l (across f p) (across-real p hp d hd f u counts) (across-on f p) (across-low p hp d hd f u counts) (across-high p hp d hd f u counts) true
+module _ (O : Graph) (m : Map) (K : Keeps m) (C : Covers O m) (p : Pt) (hp : pos 0 <ℤ p .D) (d : Vec) (hd : pos 0 ≤ℤ d .y) where
+  abbrev F : ℕ → Seg
+  F k = edge O k .carrier
 
-  pub unseen : ((k : ℕ) → Has (candidate g p d) (edges m) k → ⊥) → pot m (above false p d) ≡ pos 0
-  unseen n = pot-none m (above false p d) (λ k l. not-true (above false p d (seg m k)) (λ e. n k (record { below = l; has = candidate-is k l ∙ e })))
+  rises-O : (k : ℕ) → k < edgeCount O → UpV (upward O k)
+  rises-O k l = rises-up (upward O k) (C .plane .rising k l)
 
-  -- ── the label of what is seen ──
+  -- ── a candidate of O is in the cut of its carrier ──
 
-  abbrev RightOf : ℕ → Type 0
-  RightOf W = east m W ≡ pot m (above true (lo (seg m W)) (seg m W .up))
+  module _ (W : ℕ) (c : Has (candidate O p d) (edgeCount O) W) where
+    parts : (atHeight O p W ≡ true) × (westward O p d W ≡ true)
+    parts = and-parts (atHeight O p W) (westward O p d W) (c .has)
 
-  looked-by : (o : Option ℕ) → Sees g p d o → ((W : ℕ) → W < edges m → above false p d (seg m W) ≡ true → RightOf W) → pos (orZero (label m) o) ≡ pot m (above false p d)
-  looked-by none n r = sym (unseen n)
-  looked-by (some h) (W, t, e) r = ap (lab m) (sym e) ∙ r W (t .is .below) (counts W t) ∙ sym (seen W t)
+    at-low : below p (low O W) ≡ false
+    at-low = opp (below p (low O W)) (and-parts (not (below p (low O W))) (below p (high O W)) (parts .0) .0)
 
-  pub looked : ((W : ℕ) → W < edges m → above false p d (seg m W) ≡ true → RightOf W) → pos (orZero (label m) (Gr.west g p d)) ≡ pot m (above false p d)
-  looked r = looked-by (Gr.west g p d) (west-sees g (K .plane) p hp d) r
+    at-high : below p (high O W) ≡ true
+    at-high = and-parts (not (below p (low O W))) (below p (high O W)) (parts .0) .1
+
+    real-low : pos 0 <ℤ low O W .D
+    real-low = C .within W (c .below) .segment .p-real
+
+    real-high : pos 0 <ℤ high O W .D
+    real-high = C .within W (c .below) .segment .r-real
+
+    at-height : atHeightOf p (F W) ≡ true
+    at-height = and-both {a = not (below p (lo (F W)))} (ap not above-lo) under-hi
+      where
+        above-lo : below p (lo (F W)) ≡ false
+        above-lo = not-true (below p (lo (F W))) (λ e. clash (below-level p (lo (F W)) (low O W) hp 0<1 real-low e (not-true (below (low O W) (lo (F W))) (λ f. clash (below-before (low O W) (lo (F W)) f) (C .within W (c .below) .bottom)))) at-low)
+
+        under-hi : below p (hi (F W)) ≡ true
+        under-hi = below-level p (high O W) (hi (F W)) hp real-high 0<1 at-high (not-true (below (hi (F W)) (high O W)) (λ f. clash (below-before (hi (F W)) (high O W) f) (C .within W (c .below) .top)))
+
+    counts : above false p d (F W) ≡ true
+    counts = above-height p d (F W) (rises-O W (c .below)) hd ∙ and-both at-height (sym (westward-near O p d W) ∙ parts .1)
+
+    steep : pos 0 <ℤ upward O W .y
+    steep = height-steep p (F W) hp at-height
+
+    -- ── the right side of W ──
+
+    pub east-left : leftIn m O (eastSide O W) ≡ pot m (above true (low O W) (upward O W))
+    east-left = (λ i. pot m (atLeft (east-start O (C .plane) W (c .below) i) (east-down O (C .plane) W (c .below) i) (upward O (east-half O W i)))) ∙ along-piece O m K C true W (c .below)
+
+    -- from W's point at the height of p down to its lower end
+    down-right : pot m (above true (across (F W) p) (upward O W)) ≡ pot m (above true (low O W) (upward O W))
+    down-right =
+        let w = C .within W (c .below) in
+        at-piece m K (F W) (low O W) (high O W) w (λ j l. C .clear W j (c .below) l) (across (F W) p) (0<-* hp steep) (across-on (F W) p)
+        (across-after (F W) steep p (low O W) (w .segment .p-on) at-low) (across-before (F W) steep p (high O W) (w .segment .r-on) at-high) true
+
+  -- ── an edge of m that is counted lies along a piece that O counts ──
+
+  module _ (j : ℕ) (lj : j < edges m) (cj : above false p d (seg m j) ≡ true) where
+    abbrev s : Seg
+    s = seg m j
+
+    us : UpV (s .up)
+    us = seg-rises m K j lj
+
+    here : (atHeightOf p s ≡ true) × (near false (sgn (leftBy s p)) (sgn (cross d (s .up))) ≡ true)
+    here = and-parts (atHeightOf p s) (near false (sgn (leftBy s p)) (sgn (cross d (s .up)))) (sym (above-height p d s us hd) ∙ cj)
+
+    heights : (not (below p (lo s)) ≡ true) × (below p (hi s) ≡ true)
+    heights = and-parts (not (below p (lo s))) (below p (hi s)) (here .0)
+
+    climbs : pos 0 <ℤ s .up .y
+    climbs = height-steep p s hp (here .0)
+
+    -- its point at the height of p
+    abbrev x : Pt
+    x = across s p
+
+    hx : pos 0 <ℤ x .D
+    hx = 0<-* hp climbs
+
+    piece : PieceAt O s x true
+    piece = C .piece-at j lj x hx true record {
+      reaches = and-both {a = not (before x (lo s))} (ap not (across-after s climbs p (lo s) (left-foot s) (opp (below p (lo s)) (heights .0)))) (across-before s climbs p (hi s) (left-head s) (heights .1));
+      on = ap sgn (across-on s p);
+    }
+
+    abbrev k : ℕ
+    k = piece .piece
+
+    abbrev lk : k < edgeCount O
+    lk = piece .below
+
+    -- the same line
+    side-as : (z : Pt) → sgn (leftOf O z k) ≡ sgn (leftBy s z)
+    side-as = same-side (F k) s (rises-O k lk) us (piece .parallel) x hx (piece .on) (across-on s p)
+
+    turn-as : (u : Vec) → sgn (cross u (upward O k)) ≡ sgn (cross u (s .up))
+    turn-as = same-turn (upward O k) (s .up) (rises-O k lk) us (piece .parallel)
+
+    piece-height : atHeight O p k ≡ true
+    piece-height =
+        let r = and-parts (not (before x (low O k))) (before x (high O k)) (piece .reaches) in
+        let steep : pos 0 <ℤ upward O k .y = same-climb (upward O k) (s .up) (rises-O k lk) us (piece .parallel) climbs in
+        and-both {a = not (below p (low O k))}
+        (ap not (sym (across-below s p climbs (low O k)) ∙ not-true (below x (low O k)) (λ e. clash (below-before x (low O k) e) (opp (before x (low O k)) (r .0)))))
+        (sym (across-below s p climbs (high O k)) ∙ lower-below (F k) steep x (high O k) (piece .on) (C .within k lk .segment .r-on) (r .1))
+
+    counted-piece : Has (candidate O p d) (edgeCount O) k
+    counted-piece = record { below = lk; has = and-both piece-height (westward-near O p d k ∙ (λ i. near false (side-as p i) (turn-as d i)) ∙ here .1) }
+
+    -- and where that is not nearer than W, it lies west of the right of W
+    not-nearer-as : (W : ℕ) → nearer O p k W ≡ false → near true (sgn (leftBy s (across (F W) p))) (sgn (cross (upward O W) (s .up))) ≡ true
+    not-nearer-as W e = sym (λ i. near true (side-as (across (F W) p) i) (turn-as (upward O W) i)) ∙ not-nearer O p k W e
+
+  -- ── what is seen ──
+
+  pub seen : (W : ℕ) → Top (candidate O p d) (nearer O p) (edgeCount O) W → pot m (above false p d) ≡ leftIn m O (eastSide O W)
+  seen W t =
+      pot-ext m (above false p d) (above true (across (F W) p) (upward O W)) (λ j l.
+      look-across p hp d hd (F W) (rises-O W (t .is .below)) (counts W (t .is)) (seg m j) (seg-rises m K j l) (λ e. not-nearer-as j l e W (t .none-better (k j l e) (counted-piece j l e))))
+      ∙ down-right W (t .is) ∙ sym (east-left W (t .is))
+
+  pub unseen : ((k : ℕ) → Has (candidate O p d) (edgeCount O) k → ⊥) → pot m (above false p d) ≡ pos 0
+  unseen n = pot-none m (above false p d) (λ j l. not-true (above false p d (seg m j)) (λ e. n (k j l e) (counted-piece j l e)))
+
+  seen-by : (o : Option ℕ) → Sees O p d o → pot m (above false p d) ≡ seenIn m O o
+  seen-by none n = unseen n
+  seen-by (some h) (W, t, e) = seen W t ∙ ap (leftIn m O) e
+
+  pub looked : pot m (above false p d) ≡ seenIn m O (Gr.west O p d)
+  looked = seen-by (Gr.west O p d) (west-sees O (C .plane) p hp d)

@@ -20,11 +20,8 @@ use Rattle.graphlaws.specs.Follow.{follower-origin, follower-below, predecessor
 use Rattle.graphlaws.specs.East.{east-below}
 use Rattle.maplaws.specs.Keeps.{seg, edges, halves, vertices, Keeps}
 use Rattle.potential.specs.Sums.{Bijection, reindex, sum-pairs}
+use Rattle.potential.specs.Sides.{westSide}
 use Rattle.potential.specs.Cut.{Φ, weightAt, Balanced}
-
--- the half-edge on the west side of edge k: the one that goes up
-abbrev pub westSide : Graph → ℕ → ℕ
-westSide g k = twin (eastSide g k)
 
 -- a half-edge's label, as a whole number
 abbrev pub lab : Map → ℕ → ℤ

@@ -24,7 +24,7 @@ use Rattle.planelaws.specs.Cone.{Up, above as rising, level, UpV}
 use Rattle.planelaws.specs.Points.{before-up}
 use Rattle.planelaws.specs.Ends.{0<1, lt-below, below-before}
 use Rattle.planelaws.specs.Angles.{cross-swap, turn-trans}
-use Rattle.planelaws.specs.Sides.{chord, left-foot}
+use Rattle.planelaws.specs.Sides.{chord}
 use Rattle.graphlaws.specs.West.{candidate}
 use Rattle.maplaws.specs.Keeps.{seg, edges, Keeps}
 use Rattle.potential.specs.Near.{near}
@@ -105,7 +105,7 @@ module _ (p : Pt) (hp : pos 0 <ℤ p .D) (d : Vec) (hd : pos 0 ≤ℤ d .y) (W :
         law a b x y z h = ≡-by₁ h (negℤ (pos 1)) (ring (a ∷ b ∷ x ∷ y ∷ z ∷ []) (search reify depth 20) tt)
 
     same-height : atHeightOf p e ≡ atHeightOf q e
-    same-height i = not (sym (across-below W p (e .foot) steep) i) && sym (across-below W p (head e) steep) i
+    same-height i = not (sym (across-below W p steep (lo e)) i) && sym (across-below W p steep (hi e)) i
 
     abbrev here : Bool
     here = near false (sgn (leftBy e p)) (sgn (cross d (e .up)))
@@ -125,31 +125,26 @@ module _ (p : Pt) (hp : pos 0 <ℤ p .D) (d : Vec) (hd : pos 0 ≤ℤ d .y) (W :
         go false h = refl
         go true h = bool-ext here there (λ t. nearest (above-height p d e ue hd ∙ and-both h t)) (back h)
 
-  -- ── q on W ──
+-- ── the point on its edge ──
 
-  -- along a line that climbs, what comes before is below
-  lower-below : (x z : Pt) → leftBy W x ≡ pos 0 → leftBy W z ≡ pos 0 → before x z ≡ true → below x z ≡ true
-  lower-below x z a b e = lt-below x z (less (x .Y *ℤ z .D) (z .Y *ℤ x .D) (go (before-up x z e)))
-    where
-      less : (a b : ℤ) → pos 0 <ℤ (b -ℤ a) → a <ℤ b
-      less a b = zomega (a ∷ b ∷ []) (search sq depth 20) (omega arith)
+-- along a line that climbs, what comes before is below
+pub lower-below : (W : Seg) → pos 0 <ℤ W .up .y → (x z : Pt) → leftBy W x ≡ pos 0 → leftBy W z ≡ pos 0 → before x z ≡ true → below x z ≡ true
+lower-below W steep x z a b e = lt-below x z (less (x .Y *ℤ z .D) (z .Y *ℤ x .D) (go (before-up x z e)))
+  where
+    less : (a b : ℤ) → pos 0 <ℤ (b -ℤ a) → a <ℤ b
+    less a b = zomega (a ∷ b ∷ []) (search sq depth 20) (omega arith)
 
-      flat : (ux uy x y : ℤ) → y ≡ pos 0 → ux *ℤ y -ℤ uy *ℤ x ≡ pos 0 → pos 0 ≡ uy *ℤ x
-      flat ux uy x y z c = zomega (ux ∷ uy ∷ x ∷ y ∷ []) {A = ux *ℤ y ≡ pos 0 → ux *ℤ y -ℤ uy *ℤ x ≡ pos 0 → pos 0 ≡ uy *ℤ x} (search sq depth 20) (omega arith) (≡-by₁ z ux (ring (ux ∷ y ∷ []) (search reify depth 20) tt)) c
+    flat : (ux uy x y : ℤ) → y ≡ pos 0 → ux *ℤ y -ℤ uy *ℤ x ≡ pos 0 → pos 0 ≡ uy *ℤ x
+    flat ux uy x y z c = zomega (ux ∷ uy ∷ x ∷ y ∷ []) {A = ux *ℤ y ≡ pos 0 → ux *ℤ y -ℤ uy *ℤ x ≡ pos 0 → pos 0 ≡ uy *ℤ x} (search sq depth 20) (omega arith) (≡-by₁ z ux (ring (ux ∷ y ∷ []) (search reify depth 20) tt)) c
 
-      go : UpV (dir x z) → pos 0 <ℤ dir x z .y
-      go (rising h) = h
-      go (level y h) = absurd (<→≢ (0<-* steep h) (flat (W .up .x) (W .up .y) (dir x z .x) (dir x z .y) y (chord W x z a b)))
+    go : UpV (dir x z) → pos 0 <ℤ dir x z .y
+    go (rising h) = h
+    go (level y h) = absurd (<→≢ (0<-* steep h) (flat (W .up .x) (W .up .y) (dir x z .x) (dir x z .y) y (chord W x z a b)))
 
-  pub across-low : before q (lo W) ≡ false
-  across-low = not-true (before q (lo W)) (λ e. clash (sym (across-below W p (W .foot) steep) ∙ lower-below q (lo W) (across-on W p) (left-foot W) e) low)
-    where
-      opp : (b : Bool) → not b ≡ true → b ≡ false
-      opp true e = never e
-      opp false e = refl
+-- between two points of its line that stand at the heights of an edge, p at its height
+module _ (W : Seg) (steep : pos 0 <ℤ W .up .y) (p : Pt) (z : Pt) (on : leftBy W z ≡ pos 0) where
+  pub across-after : below p z ≡ false → before (across W p) z ≡ false
+  across-after h = not-true (before (across W p) z) (λ e. clash (sym (across-below W p steep z) ∙ lower-below W steep (across W p) z (across-on W p) on e) h)
 
-      low : below p (lo W) ≡ false
-      low = opp (below p (lo W)) (and-parts (not (below p (lo W))) (below p (hi W)) (counted .0) .0)
-
-  pub across-high : before q (hi W) ≡ true
-  across-high = below-before q (hi W) (across-below W p (head W) steep ∙ and-parts (not (below p (lo W))) (below p (hi W)) (counted .0) .1)
+  pub across-before : below p z ≡ true → before (across W p) z ≡ true
+  across-before h = below-before (across W p) z (across-below W p steep z ∙ h)
