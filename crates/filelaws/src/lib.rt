@@ -1,0 +1,1 @@
+// The laws of the overlay file: everything is in specs/. No code.
