@@ -25,3 +25,4 @@ pub mod Files
 pub mod OneFace
 pub mod LabelIn
 pub mod Example
+pub mod Agree
