@@ -8,7 +8,6 @@ use Rattle.paper.specs.Plane.{Pt, Seg}
 use Rattle.paper.specs.Graph.{Graph, Edge}
 use Rattle.plane.specs.Values.{seg}
 use Rattle.plane.specs.Bounds as Bounds
-use lib.Signed.{_<ℤ_}
 
 abbrev pub pointWidth : ℕ
 pointWidth = 4
@@ -48,11 +47,10 @@ NearAt ps v = Bounds.Near (pointAt ps v)
 abbrev pub EdgeAt : List ℤ → ℕ → Type 0
 EdgeAt cs k = Bounds.Edge (carrierAt cs k)
 
--- n points, each with D > 0
+-- n points
 pub record Points (ps : List ℤ) (n : ℕ) : Type 0 where
   pub long : 4 * n ≤ length ps
   pub near : (v : ℕ) → v < n → NearAt ps v
-  pub positive : (v : ℕ) → v < n → pos 0 <ℤ numberAt ps v 2
 
 -- m numbers, each below n
 pub record Numbers (xs : List ℕ) (m n : ℕ) : Type 0 where
@@ -73,3 +71,20 @@ pub record Flat (ps : List ℤ) (os : List ℕ) (cs : List ℤ) (n e : ℕ) : Ty
   pub points : Points ps n
   pub origins : Origins os (2 * e) n
   pub carriers : Carriers cs e
+
+-- ── how a function reads the tables ──
+
+-- where half-edge h starts
+abbrev pub startAt : List ℤ → List ℕ → ℕ → Pt
+startAt ps os h = pointAt ps (originAt os h)
+
+-- half-edge h has an origin, that has a row, and it is a point
+pub record Starts (ps : List ℤ) (os : List ℕ) (h : ℕ) : Type 0 where
+  pub named : h < length os
+  pub row : 4 * originAt os h + 4 ≤ length ps
+  pub near : NearAt ps (originAt os h)
+
+-- edge k has a carrier
+pub record Carried (cs : List ℤ) (k : ℕ) : Type 0 where
+  pub row : 4 * k + 4 ≤ length cs
+  pub near : EdgeAt cs k

@@ -3,3 +3,4 @@ pub mod Decode
 pub mod Filling
 pub mod Places
 pub mod Firsts
+pub mod Heading

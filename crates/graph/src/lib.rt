@@ -1,2 +1,3 @@
 // Followers, walks, looks and faces of a graph in flat tables.
 pub mod places; // the first place of each number in a table
+pub mod heading; // which way a half-edge goes

@@ -1,7 +1,7 @@
 -- `graph::places::fill` meets its contract. Assumes nothing.
+use mathlib.Core.Path.{refl}
 use Prim.Native.Nat.{_-_}
 use borrow.Author.Needs.{needs}
-use mathlib.Core.Path.{refl}
 use Rattle.graph.specs.Filling.{Filling, fill-starts, fill-turns, fill-ends}
 use Rattle.graph.proofs.places.fill.Statement.{statement}
 use Rattle.graph.proofs.places.fill.Tie as tie

@@ -3,8 +3,8 @@ use mathlib.Core.Path.{_≡_, refl, _∙_, ap, subst}
 use Prim.Native.Nat.{_-_, _<_}
 use native.Mathlib.Omega.{arith}
 use borrow.Author.Needs.{needs}
-use Rattle.seq.specs.Seq.{List, ℕ, getD, length}
 use Rattle.seq.specs.Filled.{length-filled}
+use Rattle.seq.specs.Seq.{List, ℕ, getD, length}
 use Rattle.graph.specs.Places.{Placing, places-start, places-turn, places-end}
 use Rattle.graph.proofs.places.first_places.Statement.{statement}
 use Rattle.graph.proofs.places.first_places.Tie as tie

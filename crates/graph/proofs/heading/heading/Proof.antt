@@ -1,0 +1,42 @@
+-- `graph::heading::heading` meets its contract. Assumes nothing.
+use mathlib.Core.Path.{_≡_, sym, _∙_, ap}
+use borrow.Author.Needs.{needs}
+use Rattle.seq.specs.Seq.{Bool, cond, List, ℕ, _/_, ℤ}
+use Rattle.paper.specs.Plane.{Vec, Seg, opposite}
+use Rattle.plane.proofs.Machine.{vec-back}
+use Rattle.graph.specs.Flat.{carrierAt}
+use Rattle.graph.specs.Heading.{upAt, headingAt}
+use Rattle.graph.proofs.heading.heading.Statement.{statement}
+use Rattle.graph.proofs.heading.heading.Tie as tie
+
+-- the definition, where it is known whether h goes up
+by : (ps : List ℤ) (os : List ℕ) (cs : List ℤ) (h : ℕ) {u : Vec} {c : Bool} → u ≡ carrierAt cs (h / 2) .up → upAt ps os h ≡ c → cond c u (opposite u) ≡ headingAt ps os cs h
+by ps os cs h e f = λ i. cond (sym f i) (e i) (opposite (e i))
+
+carrier-at-requires : tie.Need-carrier-at-requires
+carrier-at-requires c κs = search needs
+
+goes-up-requires : tie.Need-goes-up-requires
+goes-up-requires c κs = search needs
+
+opposite-requires : tie.Need-opposite-requires
+opposite-requires c κs = search needs
+
+returns : tie.Need-returns
+returns c =
+    let s = c .before .before .before .before .before in
+    let r = c .before .before .before .carrier-at in
+    by (s .args .points .now) (s .args .origins .now) (s .args .carriers .now) (s .args .h)
+    (vec-back (r .result .u) (r .result .v) (r .ensures .1 .up-is) ∙ ap (λ (z : Seg). z .up) (r .ensures .0)) (sym (c .before .goes-up .ensures) ∙ c .if1 .taken)
+
+returns-2 : tie.Need-returns-2
+returns-2 c =
+    let s = c .before .before .before .before .before .before in
+    let r = c .before .before .before .before .carrier-at in
+    c .opposite .ensures .0
+    ∙ by (s .args .points .now) (s .args .origins .now) (s .args .carriers .now) (s .args .h)
+    (vec-back (r .result .u) (r .result .v) (r .ensures .1 .up-is) ∙ ap (λ (z : Seg). z .up) (r .ensures .0)) (sym (c .before .before .goes-up .ensures) ∙ c .before .if1 .left)
+
+pub heading-spec : {M : Type 1} → statement M
+heading-spec =
+    tie.close (tie.spec carrier-at-requires goes-up-requires opposite-requires returns returns-2)

@@ -1,0 +1,77 @@
+-- `graph::heading::headings` meets its contract. Assumes nothing.
+use mathlib.Core.Path.{_≡_, refl, sym, _∙_, ap}
+use Prim.Native.Nat.{_≤_, _<_}
+use native.Mathlib.Omega.{arith}
+use borrow.Author.Needs.{needs}
+use Rattle.seq.specs.Seq.{List, ℕ, _*_, _/_, _-_, ℤ}
+use Rattle.paper.specs.Graph.{twin, heading}
+use Rattle.paper.specs.Limits.{absent}
+use Rattle.paper.specs.Plane.{Vec}
+use Rattle.graph.specs.Filling.{Laying, lay-starts, lay-turns, lay-ends}
+use Rattle.graph.specs.Flat.{flatGraph, Flat, Starts, Carried}
+use Rattle.graph.specs.Heading.{row, headingAt, flat-starts, flat-carried, flat-heading, twin-flat}
+use Rattle.graph.proofs.heading.headings.Statement.{statement}
+use Rattle.graph.proofs.heading.headings.Tie as tie
+
+-- what is known of half-edge h
+module _ (ps : List ℤ) (os : List ℕ) (cs : List ℤ) (n e h : ℕ) (F : Flat ps os cs n e) (l : h < 2 * e) where
+  asked : 2 * e ≤ absent → (h ≤ absent) × Starts ps os h × Starts ps os (twin h) × Carried cs (h / 2)
+  asked b = (omega arith, flat-starts ps os cs n e F h l, flat-starts ps os cs n e F (twin h) (twin-flat ps os cs n e h l), flat-carried ps os cs n e F (h / 2) (omega arith))
+
+  stored : {u : Vec} → u ≡ headingAt ps os cs h → row u ≡ row (heading (flatGraph ps os cs n e) h)
+  stored q = ap row (q ∙ sym (flat-heading ps os cs n e F h l))
+
+abbrev Inv-loop : tie.InvT-loop
+Inv-loop points origins carriers n e out₀ m h₀ out h = Laying 2 (λ j. row (heading (flatGraph points origins carriers n e) j)) (2 * e) out₀ out h
+
+abbrev μ-loop : tie.MeasureT-loop
+μ-loop points origins carriers n e out₀ m h₀ out h = 2 * e - h
+
+mul-m : tie.Need-mul-m Inv-loop μ-loop
+mul-m c = search needs
+
+loop-holds : tie.Need-loop-holds Inv-loop μ-loop
+loop-holds c = lay-starts 2 _ (λ k. refl) _ _ (search needs)
+
+heading-requires : tie.Need-heading-requires Inv-loop μ-loop
+heading-requires c κs =
+    let s = c .before .before .before .before in
+    asked (s .args .points .now) (s .args .origins .now) (s .args .carriers .now) (s .args .n) (s .args .e) (c .before .before .loop .h) (s .pre .0) (c .before .loop-test .taken) (s .pre .1 .0)
+
+store-requires : tie.Need-store-requires Inv-loop μ-loop
+store-requires c κs = search needs
+
+add-h : tie.Need-add-h Inv-loop μ-loop
+add-h c = search needs
+
+loop-less : tie.Need-loop-less Inv-loop μ-loop
+loop-less c = search needs
+
+loop-again : tie.Need-loop-again Inv-loop μ-loop
+loop-again c =
+    let s = c .before .before .before .before .before .before .before in
+    let l = c .before .before .before .before .before .loop in
+    let e = stored (s .args .points .now) (s .args .origins .now) (s .args .carriers .now) (s .args .n) (s .args .e) (l .h) (s .pre .0) (c .before .before .before .before .loop-test .taken) (c .before .before .heading .ensures) in
+    rw (c .before .store .ensures) (lay-turns 2 _ (λ k. refl) (l .inv) _ (c .before .before .before .before .loop-test .taken) e)
+
+same-length : tie.Need-same-length Inv-loop μ-loop
+same-length c = search needs
+
+returns : tie.Need-returns Inv-loop μ-loop
+returns c = lay-ends 2 _ (λ k. refl) (c .before .loop .inv) (search needs)
+
+pub headings-spec : {M : Type 1} → statement M
+headings-spec =
+    tie.close
+    (tie.spec
+    Inv-loop
+    μ-loop
+    mul-m
+    loop-holds
+    heading-requires
+    store-requires
+    add-h
+    loop-less
+    loop-again
+    same-length
+    returns)
