@@ -6,3 +6,6 @@ pub mod Sources
 pub mod Order
 pub mod Pieces
 pub mod Chain
+pub mod OneLine
+pub mod Net
+pub mod NetPlane
