@@ -4,3 +4,4 @@ pub mod VerdictLaws
 pub mod FormLaws
 pub mod MapLaws
 pub mod PartsLaws
+pub mod LoadLaws

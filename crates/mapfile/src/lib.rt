@@ -6,6 +6,7 @@ pub mod bytes; // numbers in bytes, low byte first
 pub mod fields; // counts, corners, origins, labels
 pub mod form; // rules 1 to 4
 pub mod parts; // rules 5 to 7
+pub mod load; // the map in flat tables
 
 use crate::form::form;
 use crate::parts::parts;

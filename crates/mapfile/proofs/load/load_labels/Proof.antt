@@ -1,0 +1,89 @@
+-- `mapfile::load::load_labels` meets its contract: below the counter the cells are those of the file, and the others as they were. Assumes nothing.
+use mathlib.Core.Path.{_≡_, refl, ap, _∙_}
+use Prim.Native.Nat.{_≤_}
+use native.Mathlib.Omega.{arith}
+use borrow.Author.Needs.{needs}
+use lib.ListN.{length-set}
+use denote.Ref.{now}
+use Rattle.seq.specs.Filled.{filled-none, filled-more}
+use Rattle.seq.specs.Seq.{ℕ, _*_, _-_, length, filled}
+use Rattle.paper.specs.Map.{edgesIn, labelAt}
+use Rattle.mapfile.proofs.LoadLaws.{cells-of-labels}
+use Rattle.mapfile.proofs.load.load_labels.Statement.{statement}
+use Rattle.mapfile.proofs.load.load_labels.Tie as tie
+
+abbrev Inv-loop : tie.InvT-loop
+Inv-loop file labels₀ n h₀ labels h = (h ≤ n) × (length labels ≡ length labels₀) × (labels ≡ filled h (labelAt file) labels₀)
+
+abbrev μ-loop : tie.MeasureT-loop
+μ-loop file labels₀ n h₀ labels h = n - h
+
+edge-count-requires : tie.Need-edge-count-requires Inv-loop μ-loop
+edge-count-requires c κs = search needs
+
+cast-n : tie.Need-cast-n Inv-loop μ-loop
+cast-n c = search needs
+
+mul-n : tie.Need-mul-n Inv-loop μ-loop
+mul-n c = search needs
+
+loop-holds : tie.Need-loop-holds Inv-loop μ-loop
+loop-holds c = (search needs, refl, filled-none (labelAt (now (c .before .before .before .args .file))) (now (c .before .before .before .args .labels)))
+
+cast-i : tie.Need-cast-i Inv-loop μ-loop
+cast-i c = search needs
+
+label-at-requires : tie.Need-label-at-requires Inv-loop μ-loop
+label-at-requires c κs = search needs
+
+mul-labels : tie.Need-mul-labels Inv-loop μ-loop
+mul-labels c = search needs
+
+slice-write-labels : tie.Need-slice-write-labels Inv-loop μ-loop
+slice-write-labels c = search needs
+
+add-h : tie.Need-add-h Inv-loop μ-loop
+add-h c = search needs
+
+loop-less : tie.Need-loop-less Inv-loop μ-loop
+loop-less c = search needs
+
+loop-again : tie.Need-loop-again Inv-loop μ-loop
+loop-again c =
+    let at = c .before .before in
+    let a = at .before .before .before .before .args in (
+      omega arith,
+      simp length-set (omega arith),
+      rw (at .loop .inv .2) (filled-more (labelAt (now (a .file))) (at .loop .h) (now (a .labels)) (c .label-at .result) (omega arith) (c .label-at .ensures)),
+    )
+
+same-length : tie.Need-same-length Inv-loop μ-loop
+same-length c = search needs
+
+returns : tie.Need-returns Inv-loop μ-loop
+returns c =
+    let at = c .before in
+    let a = at .before .before .before .before .args in
+    let s = now (a .file) in
+    let e : at .loop .h ≡ 2 * edgesIn s = omega arith in
+    at .loop .inv .2 ∙ ap (λ (h : ℕ). filled h (labelAt s) (now (a .labels))) e ∙ cells-of-labels s (now (a .labels))
+
+pub load-labels-spec : {M : Type 1} → statement M
+load-labels-spec =
+    tie.close
+    (tie.spec
+    Inv-loop
+    μ-loop
+    edge-count-requires
+    cast-n
+    mul-n
+    loop-holds
+    cast-i
+    label-at-requires
+    mul-labels
+    slice-write-labels
+    add-h
+    loop-less
+    loop-again
+    same-length
+    returns)

@@ -1,0 +1,89 @@
+-- `mapfile::load::load_origins` meets its contract: below the counter the cells are those of the file, and the others as they were. Assumes nothing.
+use mathlib.Core.Path.{_≡_, refl, ap, _∙_}
+use Prim.Native.Nat.{_≤_}
+use native.Mathlib.Omega.{arith}
+use borrow.Author.Needs.{needs}
+use lib.ListN.{length-set}
+use denote.Ref.{now}
+use Rattle.seq.specs.Filled.{filled-none, filled-more}
+use Rattle.seq.specs.Seq.{ℕ, _*_, _-_, length, filled}
+use Rattle.paper.specs.Map.{edgesIn, originAt}
+use Rattle.mapfile.proofs.LoadLaws.{cells-of-origins}
+use Rattle.mapfile.proofs.load.load_origins.Statement.{statement}
+use Rattle.mapfile.proofs.load.load_origins.Tie as tie
+
+abbrev Inv-loop : tie.InvT-loop
+Inv-loop file origins₀ n h₀ origins h = (h ≤ n) × (length origins ≡ length origins₀) × (origins ≡ filled h (originAt file) origins₀)
+
+abbrev μ-loop : tie.MeasureT-loop
+μ-loop file origins₀ n h₀ origins h = n - h
+
+edge-count-requires : tie.Need-edge-count-requires Inv-loop μ-loop
+edge-count-requires c κs = search needs
+
+cast-n : tie.Need-cast-n Inv-loop μ-loop
+cast-n c = search needs
+
+mul-n : tie.Need-mul-n Inv-loop μ-loop
+mul-n c = search needs
+
+loop-holds : tie.Need-loop-holds Inv-loop μ-loop
+loop-holds c = (search needs, refl, filled-none (originAt (now (c .before .before .before .args .file))) (now (c .before .before .before .args .origins)))
+
+cast-i : tie.Need-cast-i Inv-loop μ-loop
+cast-i c = search needs
+
+origin-at-requires : tie.Need-origin-at-requires Inv-loop μ-loop
+origin-at-requires c κs = search needs
+
+mul-origins : tie.Need-mul-origins Inv-loop μ-loop
+mul-origins c = search needs
+
+slice-write-origins : tie.Need-slice-write-origins Inv-loop μ-loop
+slice-write-origins c = search needs
+
+add-h : tie.Need-add-h Inv-loop μ-loop
+add-h c = search needs
+
+loop-less : tie.Need-loop-less Inv-loop μ-loop
+loop-less c = search needs
+
+loop-again : tie.Need-loop-again Inv-loop μ-loop
+loop-again c =
+    let at = c .before .before in
+    let a = at .before .before .before .before .args in (
+      omega arith,
+      simp length-set (omega arith),
+      rw (at .loop .inv .2) (filled-more (originAt (now (a .file))) (at .loop .h) (now (a .origins)) (c .origin-at .result) (omega arith) (c .origin-at .ensures)),
+    )
+
+same-length : tie.Need-same-length Inv-loop μ-loop
+same-length c = search needs
+
+returns : tie.Need-returns Inv-loop μ-loop
+returns c =
+    let at = c .before in
+    let a = at .before .before .before .before .args in
+    let s = now (a .file) in
+    let e : at .loop .h ≡ 2 * edgesIn s = omega arith in
+    at .loop .inv .2 ∙ ap (λ (h : ℕ). filled h (originAt s) (now (a .origins))) e ∙ cells-of-origins s (now (a .origins))
+
+pub load-origins-spec : {M : Type 1} → statement M
+load-origins-spec =
+    tie.close
+    (tie.spec
+    Inv-loop
+    μ-loop
+    edge-count-requires
+    cast-n
+    mul-n
+    loop-holds
+    cast-i
+    origin-at-requires
+    mul-origins
+    slice-write-origins
+    add-h
+    loop-less
+    loop-again
+    same-length
+    returns)

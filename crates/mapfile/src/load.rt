@@ -1,0 +1,63 @@
+// The map of a file in flat tables, as the graph code reads them. A table may be longer than needed: the other cells stay as they were.
+use crate::fields::corner_x;
+use crate::fields::corner_y;
+use crate::fields::edge_count;
+use crate::fields::label_at;
+use crate::fields::origin_at;
+use crate::fields::vertex_count;
+use seq::store4_i64;
+ghost use mathlib.Core.Path.{_≡_};
+ghost use Prim.Native.Nat.{_*_, _≤_};
+ghost use lib.ListN.{length};
+ghost use Rattle.seq.specs.Seq.{filled, laid};
+ghost use Rattle.paper.specs.Graph.{origin};
+ghost use Rattle.paper.specs.Map.{mapOf, vertexCount, edgesIn, label};
+ghost use Rattle.mapfile.specs.Rows.{pointRow};
+
+// The points, each a row of X, Y, D = 1 and a spare cell.
+pub fn load_points(file: &[u8], points: &mut [i64])
+    requires { ⌜ 4 * vertexCount (now file) ≤ length (now points) ⌝ }
+    ensures { λ _. ⌜ now (points .exit) ≡ laid (vertexCount (now (file .entry))) (pointRow (mapOf (now (file .entry)) .graph)) (now (points .entry)) ⌝ }
+{
+    let n = vertex_count(file);
+    let mut v: u16 = 0;
+    while v < n {
+        store4_i64(
+            points,
+            v as usize,
+            corner_x(file, v),
+            corner_y(file, v),
+            1,
+            0,
+        );
+        v += 1;
+    }
+}
+
+// The vertex that each half-edge starts from.
+pub fn load_origins(file: &[u8], origins: &mut [u16])
+    requires { ⌜ 2 * edgesIn (now file) ≤ length (now origins) ⌝ }
+    ensures { λ _. ⌜ now (origins .exit) ≡ filled (2 * edgesIn (now (file .entry))) (origin (mapOf (now (file .entry)) .graph)) (now (origins .entry)) ⌝ }
+{
+    let n = 2 * edge_count(file) as u32;
+    let mut h: u32 = 0;
+    while h < n {
+        let i = h as usize;
+        origins[i] = origin_at(file, h);
+        h += 1;
+    }
+}
+
+// The label of each half-edge.
+pub fn load_labels(file: &[u8], labels: &mut [u16])
+    requires { ⌜ 2 * edgesIn (now file) ≤ length (now labels) ⌝ }
+    ensures { λ _. ⌜ now (labels .exit) ≡ filled (2 * edgesIn (now (file .entry))) (label (mapOf (now (file .entry)))) (now (labels .entry)) ⌝ }
+{
+    let n = 2 * edge_count(file) as u32;
+    let mut h: u32 = 0;
+    while h < n {
+        let i = h as usize;
+        labels[i] = label_at(file, h);
+        h += 1;
+    }
+}
