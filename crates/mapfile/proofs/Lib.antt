@@ -5,3 +5,4 @@ pub mod FormLaws
 pub mod MapLaws
 pub mod PartsLaws
 pub mod LoadLaws
+pub mod KeptLaws

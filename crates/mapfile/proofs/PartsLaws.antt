@@ -21,13 +21,13 @@ use Rattle.mapfile.proofs.MapLaws.{points-count, point-is, from-is, to-
 -- ── the map's tests are those of the bytes ──
 
 module _ (s : List ℕ) where
-  far-is : (v : ℕ) → v < vertexCount s → tooFar (mapOf s .graph) v ≡ farAt s v
+  pub far-is : (v : ℕ) → v < vertexCount s → tooFar (mapOf s .graph) v ≡ farAt s v
   far-is v h = ap (λ (p : Pt). ltb reach (natAbs (p .X)) || ltb reach (natAbs (p .Y))) (point-is s v h)
 
   pub least-far : least (tooFar (mapOf s .graph)) (vertexCount s) ≡ least (farAt s) (vertexCount s)
   least-far = least-ext (tooFar (mapOf s .graph)) (farAt s) (vertexCount s) far-is
 
-  doubled-is : (v : ℕ) → v < vertexCount s → doubled (mapOf s .graph) v ≡ doubledAt s v
+  pub doubled-is : (v : ℕ) → v < vertexCount s → doubled (mapOf s .graph) v ≡ doubledAt s v
   doubled-is v h =
       some-ext (λ u. same (point (mapOf s .graph) v) (point (mapOf s .graph) u)) (liesOn s v) v
       (λ u l i. same (point-is s v h i) (point-is s u (omega arith) i))
@@ -35,7 +35,7 @@ module _ (s : List ℕ) where
   pub least-doubled : least (doubled (mapOf s .graph)) (vertexCount s) ≡ least (doubledAt s) (vertexCount s)
   least-doubled = least-ext (doubled (mapOf s .graph)) (doubledAt s) (vertexCount s) doubled-is
 
-  ends-is : (k : ℕ) → k < edgesIn s → badEnds (mapOf s .graph) k ≡ badEndsAt s k
+  pub ends-is : (k : ℕ) → k < edgesIn s → badEnds (mapOf s .graph) k ≡ badEndsAt s k
   ends-is k h i =
       let n = points-count s i in
       let a = from-is s k h i in

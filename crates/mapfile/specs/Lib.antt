@@ -1,3 +1,4 @@
 pub mod Verdict
 pub mod Parts
 pub mod Rows
+pub mod Kept

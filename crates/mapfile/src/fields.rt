@@ -3,8 +3,9 @@
 use crate::bytes::i16_at;
 use crate::bytes::u16_at;
 use crate::limits::MAP_HEAD;
+use plane::point::Vector;
 ghost use mathlib.Core.Path.{_≡_};
-ghost use Rattle.paper.specs.Plane.{Vec};
+ghost use Rattle.plane.specs.Values.{vecOf};
 ghost use Rattle.paper.specs.Map.{vertexCount, edgesIn, vertexPlace, cornerAt, halfPlace, originAt, labelAt};
 
 pub fn vertex_count(file: &[u8]) -> u16
@@ -36,6 +37,16 @@ pub fn corner_y(file: &[u8], v: u16) -> i64
     ensures { λ r. ⌜ r ≡ cornerAt (now (file .entry)) v .y ⌝ }
 {
     i16_at(file, vertex_place(v) + 2)
+}
+
+// The corner of vertex v.
+pub fn corner(file: &[u8], v: u16) -> Vector
+    ensures { λ r. ⌜ vecOf r ≡ cornerAt (now (file .entry)) v ⌝ }
+{
+    Vector {
+        x: corner_x(file, v),
+        y: corner_y(file, v),
+    }
 }
 
 // Where half-edge h has its own two bytes.

@@ -1,18 +1,25 @@
 // The map of a file in flat tables, as the graph code reads them. A table may be longer than needed: the other cells stay as they were.
+use crate::fields::corner;
 use crate::fields::corner_x;
 use crate::fields::corner_y;
 use crate::fields::edge_count;
 use crate::fields::label_at;
 use crate::fields::origin_at;
 use crate::fields::vertex_count;
+use plane::edge::between;
+use plane::point::Seg;
 use seq::store4_i64;
 ghost use mathlib.Core.Path.{_≡_};
-ghost use Prim.Native.Nat.{_*_, _≤_};
+ghost use mathlib.Core.List.{_++_};
+ghost use mathlib.Core.Option.{none};
+ghost use Prim.Native.Nat.{_*_, _≤_, _<_};
 ghost use lib.ListN.{length};
 ghost use Rattle.seq.specs.Seq.{filled, laid};
-ghost use Rattle.paper.specs.Graph.{origin};
-ghost use Rattle.paper.specs.Map.{mapOf, vertexCount, edgesIn, label};
-ghost use Rattle.mapfile.specs.Rows.{pointRow};
+ghost use Rattle.paper.specs.Graph.{origin, edge};
+ghost use Rattle.paper.specs.Refusal.{firstOf};
+ghost use Rattle.paper.specs.Map.{mapOf, vertexCount, edgesIn, label, formFaults, partFaults};
+ghost use Rattle.plane.specs.Values.{segOf};
+ghost use Rattle.mapfile.specs.Rows.{pointRow, carrierRow};
 
 // The points, each a row of X, Y, D = 1 and a spare cell.
 pub fn load_points(file: &[u8], points: &mut [i64])
@@ -45,6 +52,30 @@ pub fn load_origins(file: &[u8], origins: &mut [u16])
         let i = h as usize;
         origins[i] = origin_at(file, h);
         h += 1;
+    }
+}
+
+// Edge k from its lower end, of a file that passes rules 1 to 7.
+fn carrier(file: &[u8], k: u16) -> Seg
+    requires { ⌜ (k < edgesIn (now file)) × (firstOf (formFaults (now file) ++ partFaults (mapOf (now file) .graph)) ≡ none) ⌝ }
+    ensures { λ r. ⌜ segOf r ≡ edge (mapOf (now (file .entry)) .graph) k .carrier ⌝ }
+{
+    let a = corner(file, origin_at(file, 2 * k as u32));
+    let b = corner(file, origin_at(file, 2 * k as u32 + 1));
+    between(a, b)
+}
+
+// The carrier of each edge: its lower end and the direction to its upper end.
+pub fn load_carriers(file: &[u8], carriers: &mut [i64])
+    requires { ⌜ (4 * edgesIn (now file) ≤ length (now carriers)) × (firstOf (formFaults (now file) ++ partFaults (mapOf (now file) .graph)) ≡ none) ⌝ }
+    ensures { λ _. ⌜ now (carriers .exit) ≡ laid (edgesIn (now (file .entry))) (carrierRow (mapOf (now (file .entry)) .graph)) (now (carriers .entry)) ⌝ }
+{
+    let n = edge_count(file);
+    let mut k: u16 = 0;
+    while k < n {
+        let s = carrier(file, k);
+        store4_i64(carriers, k as usize, s.x, s.y, s.u, s.v);
+        k += 1;
     }
 }
 

@@ -55,8 +55,7 @@ loop-again c =
     let x = toZ-ofZ w64 _ (record { sfits = stored .before .before .corner-x .ok }) ∙ stored .before .before .corner-x .ensures in (
       omega arith,
       stored .store4-i64 .kept .0 ∙ at .loop .inv .1,
-      stored .store4-i64 .ensures
-          ∙ rw (at .loop .inv .2) (laid-more 4 (cornerRow s) (four-cells s) (at .loop .v) (now (a .points)) _ (omega arith) (λ i. x i ∷ y i ∷ pos 1 ∷ pos 0 ∷ [])),
+      rw (stored .store4-i64 .ensures, at .loop .inv .2) (laid-more 4 (cornerRow s) (four-cells s) (at .loop .v) (now (a .points)) _ (omega arith) (λ i. x i ∷ y i ∷ pos 1 ∷ pos 0 ∷ [])),
     )
 
 same-length : tie.Need-same-length Inv-loop μ-loop
