@@ -9,3 +9,5 @@ pub mod Chain
 pub mod OneLine
 pub mod Net
 pub mod NetPlane
+pub mod Inside
+pub mod Round
