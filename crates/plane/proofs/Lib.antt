@@ -1,3 +1,5 @@
 pub mod Machine
 pub mod Signs
 pub mod Edges
+pub mod Box
+pub mod Crosses

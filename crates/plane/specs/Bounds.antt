@@ -1,10 +1,11 @@
 -- How large the numbers of corners, directions, points and edges are: document 01's limits, by their names. First the numbers, then a record for each kind of
 -- value. Assumes nothing.
 use Prim.Native.Nat.{ℕ, _*_, _≤_}
-use lib.IntN.{pos, natAbs}
+use lib.IntN.{ℤ, pos, natAbs}
 use lib.Signed.{_<ℤ_}
 use Rattle.paper.specs.Limits.{reach, denominators}
 use Rattle.paper.specs.Plane.{Vec, Pt, Seg, head}
+use Rattle.seq.specs.Seq.{Option, none, some}
 
 -- "X and Y lie within 2,000·D either way"
 abbrev pub numerators : ℕ
@@ -40,3 +41,14 @@ pub record Edge (s : Seg) : Type 0 where
   pub foot-is : Corner (s .foot)
   pub head-is : Corner (head s)
   pub up-is : Direction (s .up)
+
+-- a parameter of a crossing: n over the denominator, which is positive
+pub record Over (n d : ℤ) : Type 0 where
+  pub positive : pos 0 <ℤ d
+  pub n-is : natAbs n ≤ denominators
+  pub d-is : natAbs d ≤ denominators
+
+-- the point, where there is one, is near
+abbrev pub NearIf : Option Pt → Type 0
+NearIf none = Unit
+NearIf (some p) = Near p

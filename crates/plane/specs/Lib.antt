@@ -1,2 +1,3 @@
 pub mod Values
 pub mod Bounds
+pub mod Parameters

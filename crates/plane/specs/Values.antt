@@ -1,5 +1,5 @@
 -- The values of the code as the values of document 01's definitions: a Point is a point in fractions, a Vector a corner or a direction, a Seg an edge in whole
--- numbers. Assumes nothing.
+-- numbers, a Cross a point or none. Assumes nothing.
 use lib.IntN.{ℤ}
 use Rattle.exact.specs.Lowest.{pt}
 use Rattle.exact.specs.declared.lowest.Point.{Point}
@@ -7,6 +7,9 @@ use Rattle.paper.specs.Plane.{Pt, Vec, vec, minusV}
 use Rattle.paper.specs.Plane as Plane
 use Rattle.plane.specs.declared.point.Vector.{Vector}
 use Rattle.plane.specs.declared.point.Seg.{Seg}
+use Rattle.plane.specs.declared.crossing.Cross.{Cross}
+use Rattle.plane.specs.declared.crossing.Cross.the-variants.{Nothing, At}
+use Rattle.seq.specs.Seq.{Option, none, some}
 
 -- the edge from the corner x, y along u, v
 abbrev pub seg : ℤ → ℤ → ℤ → ℤ → Plane.Seg
@@ -24,3 +27,7 @@ vecOf u = vec (u .x) (u .y)
 
 abbrev pub segOf : Seg → Plane.Seg
 segOf s = seg (s .x) (s .y) (s .u) (s .v)
+
+abbrev pub crossOf : Cross → Option Pt
+crossOf Nothing = none
+crossOf (At p) = some (ptOf p)

@@ -6,3 +6,4 @@ pub mod edge; // edge.rt: an edge's ends, and the edge between two corners
 pub mod side; // side.rt: on which side of an edge a point lies
 pub mod angle; // angle.rt: the order of directions
 pub mod clash; // clash.rt: a point on an edge, and two edges that may not stand in one map
+pub mod crossing; // crossing.rt: where two edges meet
