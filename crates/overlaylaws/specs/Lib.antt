@@ -11,3 +11,7 @@ pub mod Net
 pub mod NetPlane
 pub mod Inside
 pub mod Round
+pub mod Cells
+pub mod Parts
+pub mod Named
+pub mod Fits

@@ -1,29 +1,32 @@
 -- Round a vertex of the overlay: an edge of a map that leaves it, up or down, goes the way of an overlay half-edge that leaves it (`out`), whose piece comes from that edge.
--- So no edge of a map leaves it strictly between a half-edge and the next one clockwise (`sector`). Assumes nothing.
+-- So no edge of a map leaves it strictly between a half-edge and the next one clockwise (`sector`); and every vertex is left by one (`vertex-left`). Assumes nothing.
 use mathlib.Core.Path.{_≡_, refl, sym, _∙_, ap, subst}
+use mathlib.Core.Logic.{inl, inr, ⊎-elim}
 use Prim.Native.Nat.{_<_, _-_}
 use native.Mathlib.Decide.{ℕ-discrete}
 use native.Mathlib.Omega.{arith}
 use Rattle.seq.specs.Seq.{Bool, true, false, cond, List, some, ℕ, zero, suc, _+_, _*_, _/_, length, getD, pos}
 use Rattle.seq.specs.Terms.{Among}
 use Rattle.seq.specs.Tests.{clash}
-use Rattle.seq.specs.Members.{among-at}
-use Rattle.paper.specs.Plane.{Pt, Vec, Seg, whole, head, opposite, dir, cross, before, lessAngle}
+use Rattle.seq.specs.Members.{at-among, among-at}
+use Rattle.paper.specs.Plane.{Pt, Vec, Seg, whole, nowhere, head, opposite, dir, cross, before, lessAngle}
 use Rattle.paper.specs.Graph.{Graph, edgeCount, halfCount, pointIn, edge, origin, goesUp, upward, heading}
 use Rattle.paper.specs.Map.{Map}
 use Rattle.paper.specs.Pieces.{layer, along, verticesOf, edgesOf}
 use Rattle.planelaws.specs.Cone.{UpV, NonZero, up-rises, up-nonzero, opposite-nonzero}
-use Rattle.planelaws.specs.Points.{before-up, before-irr}
+use Rattle.planelaws.specs.Points.{before-up, before-irr, before-le}
+use Rattle.planelaws.specs.Ends.{0<1}
 use Rattle.planelaws.specs.Angles.{SameWay, cross-swap-0, parallel-trans, same-way-sym, same-way-opposite, less-same-way, same-way-greater}
 use Rattle.planelaws.specs.Sides.{chord}
-use Rattle.planelaws.specs.Edges.{On}
+use Rattle.planelaws.specs.Edges.{On, seg-up, on-foot, on-head}
 use Rattle.graphlaws.specs.Halves.{even-double, odd-double, half-first, half-second, first-below, second-below, origin-first, origin-second}
 use Rattle.graphlaws.specs.Plane.{heading-moves}
 use Rattle.graphlaws.specs.Downward.{inner as inside, wrap as round}
 use Rattle.graphlaws.specs.Follow.{Clockwise, lesser}
 use Rattle.maplaws.specs.Keeps.{seg, edges}
-use Rattle.overlaylaws.specs.Maps.{AllKeep, seg-rises}
-use Rattle.overlaylaws.specs.Places.{places}
+use Rattle.overlaylaws.specs.Maps.{AllKeep, seg-rises, vertex-end}
+use Rattle.overlaylaws.specs.Vertices.{Vertex, vertex-from}
+use Rattle.overlaylaws.specs.Places.{places, at-real}
 use Rattle.overlaylaws.specs.Links.{Runs, along-has}
 use Rattle.overlaylaws.specs.Sources.{sourceAt}
 use Rattle.overlaylaws.specs.Pieces.{pieceAt}
@@ -206,3 +209,35 @@ module _ (ms : List Map) (K : AllKeep ms) (i t r : ℕ) (lt : t < halfCount (ove
   sector (round f n) =
       wrap (λ e. f r lr o e) (λ k b q y. f (h k b q) (found k b q .below) (found k b q .leaves) (under-as k b q t lt y))
       (λ k b q x. n (h k b q) (found k b q .below) (found k b q .leaves) (over-as k b q r lr x))
+
+-- ── every vertex is left ──
+
+module _ (ms : List Map) (K : AllKeep ms) (x : ℕ) (lx : x < length (verticesOf ms)) where
+  abbrev p : Pt
+  p = pointIn (verticesOf ms) x
+
+  -- it is on an edge of a map
+  on-edge : Vertex ms p → (i : ℕ) × (k : ℕ) × (i < length ms) × (k < edges (layer ms i)) × On (seg (layer ms i) k) p
+  on-edge (inl c) =
+      let i = c .layer-of in
+      let (k, l, e) = vertex-end (layer ms i) (K i (c .in-list)) (c .vertex) (c .below) in
+      let u = seg-rises (layer ms i) (K i (c .in-list)) k l in
+      (i, k, c .in-list, l, ⊎-elim (λ f. subst (On (seg (layer ms i) k)) (sym f ∙ c .is) (on-foot (seg (layer ms i) k) u)) (λ f. subst (On (seg (layer ms i) k)) (sym f ∙ c .is) (on-head (seg (layer ms i) k) u)) e)
+  on-edge (inr c) = (c .first-layer, c .first-edge, c .first-in, c .first-below, c .touch .first)
+
+  -- which leaves it, up or down
+  left-by : (i k : ℕ) (li : i < length ms) (lk : k < edges (layer ms i)) → On (seg (layer ms i) k) p → (b : Bool) × Leaves ms x i k b
+  left-by i k li lk o = go (before p (whole (head (seg (layer ms i) k)))) refl
+    where
+      go : (c : Bool) → before p (whole (head (seg (layer ms i) k))) ≡ c → (b : Bool) × Leaves ms x i k b
+      go true e = (true, record { in-list = li; of-map = lk; on = o; goes = e })
+      go false e =
+          let s = seg (layer ms i) k in
+          (false, record { in-list = li; of-map = lk; on = o; goes = before-le (whole (s .foot)) (whole (head s)) p 0<1 0<1 (at-real (verticesOf ms) (places ms K) x) (seg-up s (seg-rises (layer ms i) (K i li) k lk)) e })
+
+  pub vertex-left : (h : ℕ) × (h < halfCount (overlaid ms)) × (origin (overlaid ms) h ≡ x)
+  vertex-left =
+      let (i, k, li, lk, o) = on-edge (vertex-from ms K p (at-among (verticesOf ms) x (whole nowhere) lx)) in
+      let (b, q) = left-by i k li lk o in
+      let r = out ms K x i k lx b q in
+      (r .half, r .below, r .leaves)

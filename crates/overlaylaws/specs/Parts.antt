@@ -1,0 +1,89 @@
+-- The parts of the overlay of a list of maps, and the cells of its tables, by the overlay's graph: counts, pieces, followers, faces. Assumes nothing.
+use mathlib.Core.Path.{_≡_, refl, sym, _∙_, ap, subst}
+use Prim.Native.Nat.{_<_}
+use native.Mathlib.Omega.{arith}
+use Rattle.seq.specs.Seq.{List, ℕ, suc, _*_, _/_, length, getD, select, position}
+use Rattle.seq.specs.Table.{table-at}
+use Rattle.paper.specs.Graph.{Graph, edgeCount, halfCount, twin, origin, follower, followers}
+use Rattle.paper.specs.Map.{Map}
+use Rattle.paper.specs.Pieces.{Piece, verticesOf, edgesOf}
+use Rattle.paper.specs.Faces.{Walks, walksOf, leadsOuter, faceIn, overlayOf, net, sourcesOf}
+use Rattle.paper.specs.Tables.{Tables, originOf, twinOf, followerOf, predecessorOf, countsOf, tablesOf}
+use Rattle.paper.specs.Tables as T
+use Rattle.graphlaws.specs.Follow.{followers-at}
+use Rattle.graphlaws.specs.Plane.{Plane}
+use Rattle.graphlaws.specs.Faces.{faceOf}
+use Rattle.overlaylaws.specs.Maps.{AllKeep}
+use Rattle.overlaylaws.specs.Places.{places}
+use Rattle.overlaylaws.specs.Pieces.{pieceAt}
+use Rattle.overlaylaws.specs.NetPlane.{net-plane}
+use Rattle.overlaylaws.specs.Inside.{overlaid}
+use Rattle.overlaylaws.specs.Cells.{half-cell}
+
+module _ (ms : List Map) where
+  -- ── the parts ──
+
+  pub net-is : net (overlayOf ms) ≡ overlaid ms
+  unfolding overlayOf
+  net-is = refl
+
+  pub walks-are : overlayOf ms .walks ≡ walksOf (overlaid ms)
+  unfolding overlayOf
+  walks-are = refl
+
+  pub pieces-are : overlayOf ms .pieces ≡ edgesOf ms (verticesOf ms)
+  unfolding overlayOf
+  pieces-are = refl
+
+  pub sources-are : (k : ℕ) → sourcesOf (overlayOf ms) k ≡ pieceAt (edgesOf ms (verticesOf ms)) k .sources
+  unfolding overlayOf
+  sources-are k = refl
+
+  pub outers-are : overlayOf ms .outers ≡ select (leadsOuter (walksOf (overlaid ms))) (halfCount (overlaid ms))
+  unfolding overlayOf
+  outers-are = refl
+
+  pub face-is : (h : ℕ) → h < halfCount (overlaid ms) → getD (overlayOf ms .face) h 0 ≡ faceOf (overlaid ms) h
+  unfolding overlayOf
+  face-is h l = table-at (faceIn (walksOf (overlaid ms)) (length (verticesOf ms))) (halfCount (overlaid ms)) h 0 l
+
+  -- ── the counts ──
+
+  pub vertex-count : countsOf (overlayOf ms) .vertices ≡ length (verticesOf ms)
+  unfolding overlayOf
+  vertex-count = refl
+
+  pub edge-count : countsOf (overlayOf ms) .edges ≡ edgeCount (overlaid ms)
+  unfolding overlayOf
+  edge-count = refl
+
+  pub face-count : countsOf (overlayOf ms) .faces ≡ suc (length (select (leadsOuter (walksOf (overlaid ms))) (halfCount (overlaid ms))))
+  unfolding overlayOf
+  face-count = refl
+
+  abbrev pub made : Tables
+  made = tablesOf ms (overlayOf ms)
+
+  -- ── the row of half-edge h ──
+
+  module _ (h : ℕ) (l : h < halfCount (overlaid ms)) where
+    counted : h < 2 * countsOf (overlayOf ms) .edges
+    counted = subst (λ (n : ℕ). h < 2 * n) (sym edge-count) l
+
+    pub origin-is : originOf made h ≡ origin (overlaid ms) h
+    unfolding overlayOf
+    origin-is = half-cell ms (overlayOf ms) h 0 counted (omega arith)
+
+    pub twin-is : twinOf made h ≡ twin h
+    twin-is = half-cell ms (overlayOf ms) h 1 counted (omega arith)
+
+    pub predecessor-is : predecessorOf made h ≡ position h (followers (overlaid ms))
+    unfolding overlayOf
+    predecessor-is = half-cell ms (overlayOf ms) h 3 counted (omega arith)
+
+    pub face-cell-is : T.faceOf made h ≡ faceOf (overlaid ms) h
+    face-cell-is = half-cell ms (overlayOf ms) h 4 counted (omega arith) ∙ face-is h l
+
+    pub follower-is : AllKeep ms → followerOf made h ≡ follower (overlaid ms) h
+    unfolding overlayOf
+    follower-is K = half-cell ms (overlayOf ms) h 2 counted (omega arith) ∙ followers-at (overlaid ms) (net-plane ms K (verticesOf ms) (places ms K)) h l
