@@ -1,11 +1,10 @@
 -- Which way a half-edge goes, in flat tables: what the code computes, and that it is the definition's. Then a table of headings, rows of two. Assumes nothing.
-use mathlib.Core.Path.{_≡_, refl, sym, _∙_, ap}
-use Prim.Native.Nat.{_≤_, _<_}
-use native.Mathlib.Nat.{mul-le-mul-left}
+use mathlib.Core.Path.{_≡_}
+use Prim.Native.Nat.{_<_}
 use native.Mathlib.Omega.{arith}
 use Rattle.seq.specs.Seq.{Bool, cond, List, [], _∷_, ℕ, _+_, _*_, _/_, length, ℤ, pos, cell}
-use Rattle.paper.specs.Plane.{Pt, Vec, vec, opposite, before}
-use Rattle.paper.specs.Graph.{Graph, halfCount, twin, goesUp, heading}
+use Rattle.paper.specs.Plane.{Vec, vec, opposite, before}
+use Rattle.paper.specs.Graph.{twin, goesUp, heading}
 use Rattle.graphlaws.specs.Halves.{twin-below}
 use Rattle.graph.specs.Flat.{carrierAt, originAt, startAt, flatGraph, Flat, Starts, Carried}
 use Rattle.graph.specs.Decode.{flat-halves, flat-start, flat-upward}
@@ -29,24 +28,23 @@ row u = u .x ∷ u .y ∷ []
 abbrev pub vecAt : List ℤ → ℕ → Vec
 vecAt hs h = vec (cell (pos 0) 2 hs h 0) (cell (pos 0) 2 hs h 1)
 
-module _ (ps : List ℤ) (os : List ℕ) (cs : List ℤ) (n e : ℕ) where
-  -- the twin of one of the half-edges is one too
-  pub twin-flat : (h : ℕ) → h < 2 * e → twin h < 2 * e
-  twin-flat h l =
-      let m = flat-halves ps os cs n e in
-      omega (arith, m, twin-below (flatGraph ps os cs n e) h (omega arith))
+-- the twin of one of the half-edges of e edges is one too
+pub twin-under : (e h : ℕ) → h < 2 * e → twin h < 2 * e
+twin-under e h l = let m = flat-halves [] [] [] 0 e in omega (arith, m, twin-below (flatGraph [] [] [] 0 e) h (omega arith))
 
-  module _ (F : Flat ps os cs n e) where
-    pub flat-starts : (h : ℕ) → h < 2 * e → Starts ps os h
-    flat-starts h l =
-        let v = F .origins .named h l in
-        record { named = omega (arith, F .origins .long); row = omega (arith, F .points .long); near = F .points .near (originAt os h) v }
+-- ── the definition's ──
 
-    pub flat-carried : (k : ℕ) → k < e → Carried cs k
-    flat-carried k l = record { row = omega (arith, F .carriers .long); near = F .carriers .near k l }
+module _ (ps : List ℤ) (os : List ℕ) (cs : List ℤ) (n e : ℕ) (F : Flat ps os cs n e) where
+  pub flat-starts : (h : ℕ) → h < 2 * e → Starts ps os h
+  flat-starts h l =
+      let v = F .origins .named h l in
+      record { named = omega (arith, F .origins .long); row = omega (arith, F .points .long); near = F .points .near (originAt os h) v }
 
-    pub flat-up : (h : ℕ) → h < 2 * e → goesUp (flatGraph ps os cs n e) h ≡ upAt ps os h
-    flat-up h l = λ i. before (flat-start ps os cs n e (F .origins) h l i) (flat-start ps os cs n e (F .origins) (twin h) (twin-flat h l) i)
+  pub flat-carried : (k : ℕ) → k < e → Carried cs k
+  flat-carried k l = record { row = omega (arith, F .carriers .long); near = F .carriers .near k l }
 
-    pub flat-heading : (h : ℕ) → h < 2 * e → heading (flatGraph ps os cs n e) h ≡ headingAt ps os cs h
-    flat-heading h l = λ i. cond (flat-up h l i) (flat-upward ps os cs n e (h / 2) (omega arith) i) (opposite (flat-upward ps os cs n e (h / 2) (omega arith) i))
+  pub flat-up : (h : ℕ) → h < 2 * e → goesUp (flatGraph ps os cs n e) h ≡ upAt ps os h
+  flat-up h l = λ i. before (flat-start ps os cs n e (F .origins) h l i) (flat-start ps os cs n e (F .origins) (twin h) (twin-under e h l) i)
+
+  pub flat-heading : (h : ℕ) → h < 2 * e → heading (flatGraph ps os cs n e) h ≡ headingAt ps os cs h
+  flat-heading h l = λ i. cond (flat-up h l i) (flat-upward ps os cs n e (h / 2) (omega arith) i) (opposite (flat-upward ps os cs n e (h / 2) (omega arith) i))

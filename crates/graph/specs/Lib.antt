@@ -4,3 +4,5 @@ pub mod Filling
 pub mod Places
 pub mod Firsts
 pub mod Heading
+pub mod Pick
+pub mod Follow

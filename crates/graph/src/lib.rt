@@ -1,3 +1,4 @@
 // Followers, walks, looks and faces of a graph in flat tables.
 pub mod places; // the first place of each number in a table
 pub mod heading; // which way a half-edge goes
+pub mod follow; // the follower of every half-edge

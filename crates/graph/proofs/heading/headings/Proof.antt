@@ -9,14 +9,14 @@ use Rattle.paper.specs.Limits.{absent}
 use Rattle.paper.specs.Plane.{Vec}
 use Rattle.graph.specs.Filling.{Laying, lay-starts, lay-turns, lay-ends}
 use Rattle.graph.specs.Flat.{flatGraph, Flat, Starts, Carried}
-use Rattle.graph.specs.Heading.{row, headingAt, flat-starts, flat-carried, flat-heading, twin-flat}
+use Rattle.graph.specs.Heading.{row, headingAt, flat-starts, flat-carried, flat-heading, twin-under}
 use Rattle.graph.proofs.heading.headings.Statement.{statement}
 use Rattle.graph.proofs.heading.headings.Tie as tie
 
 -- what is known of half-edge h
 module _ (ps : List ℤ) (os : List ℕ) (cs : List ℤ) (n e h : ℕ) (F : Flat ps os cs n e) (l : h < 2 * e) where
   asked : 2 * e ≤ absent → (h ≤ absent) × Starts ps os h × Starts ps os (twin h) × Carried cs (h / 2)
-  asked b = (omega arith, flat-starts ps os cs n e F h l, flat-starts ps os cs n e F (twin h) (twin-flat ps os cs n e h l), flat-carried ps os cs n e F (h / 2) (omega arith))
+  asked b = (omega arith, flat-starts ps os cs n e F h l, flat-starts ps os cs n e F (twin h) (twin-under e h l), flat-carried ps os cs n e F (h / 2) (omega arith))
 
   stored : {u : Vec} → u ≡ headingAt ps os cs h → row u ≡ row (heading (flatGraph ps os cs n e) h)
   stored q = ap row (q ∙ sym (flat-heading ps os cs n e F h l))
