@@ -1,11 +1,11 @@
 -- The map that a file holds is drawn on corners: its vertices are corners, and each edge is the edge between two of them. Assumes nothing.
-use mathlib.Core.Path.{_≡_, refl, sym, _∙_, ap, subst}
+use mathlib.Core.Path.{_≡_, sym, _∙_, ap, subst}
 use Prim.Native.Nat.{_<_}
 use lib.ListN.{length-map, List·getD-map}
 use Rattle.seq.specs.Seq.{List, ℕ, _+_, _*_, table}
 use Rattle.seq.specs.Table.{length-table, table-at}
-use Rattle.paper.specs.Plane.{Vec, Seg, nowhere, whole, between}
-use Rattle.paper.specs.Graph.{Edge, edgeCount, point, noEdge, edge}
+use Rattle.paper.specs.Plane.{Vec, nowhere, whole, between}
+use Rattle.paper.specs.Graph.{Edge, point, noEdge, edge}
 use Rattle.paper.specs.Map.{Map, corner, edgeBetween, vertexCount, edgesIn, cornerAt, originAt, mapOf}
 use Rattle.maplaws.specs.Keeps.{seg, edges, vertices}
 

@@ -1,7 +1,6 @@
 -- A file that passes holds a map that keeps the rules: `passes-keeps`. Its counts and coordinates are within 01's limits (`Form` and `Rules`, by Passes).
 -- Assumes nothing.
 use mathlib.Core.Path.{_≡_, sym, _∙_, ap}
-use Prim.Native.Nat.{_<_}
 use Rattle.seq.specs.Seq.{List, none, ℕ}
 use Rattle.paper.specs.Map.{Map, label, fault, mapOf}
 use Rattle.planelaws.specs.NoClash.{common-end}

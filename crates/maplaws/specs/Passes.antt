@@ -1,6 +1,6 @@
 -- A file passes exactly if it keeps the rules: `passes-form` and `passes-rules`, and back, `rules-pass`. In order: a chain of refusals that gives none; each test
 -- as the fact that it stands for, and back; the ten of them in the chain. Assumes nothing.
-use mathlib.Core.Path.{_≡_, refl, sym, _∙_, ap}
+use mathlib.Core.Path.{_≡_, refl, sym, ap}
 use Prim.Native.Nat.{_≤_, _<_}
 use native.Mathlib.Omega.{arith}
 use borrow.Author.Tests.{ltb-false, leb-false, lt-leb, le-ltb, eqb-true, eqb-false, eq-eqb, ne-eqb}

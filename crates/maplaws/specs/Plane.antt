@@ -7,19 +7,19 @@ use native.Mathlib.Decide.{decLt, ℕ-discrete}
 use native.Mathlib.Omega.{arith}
 use lib.IntN.{pos}
 use lib.Signed.{_<ℤ_}
-use Rattle.seq.specs.Seq.{Bool, true, false, cond, not, ℕ, _+_, _*_, _/_, length}
-use Rattle.seq.specs.Tests.{clash as both, never, not-true, not-false, way}
-use Rattle.paper.specs.Plane.{Pt, Vec, Seg, whole, head, between, opposite, cross, rises, before, same, lower, upper, leftBy}
+use Rattle.seq.specs.Seq.{Bool, true, false, cond, not, ℕ, _+_, _*_, _/_}
+use Rattle.seq.specs.Tests.{clash as both, not-true, not-false}
+use Rattle.paper.specs.Plane.{Pt, Vec, Seg, whole, head, opposite, cross, rises, before, same, lower, upper, leftBy}
 use Rattle.paper.specs.Graph.{Graph, point, edge, twin, origin, start, low, high, goesUp, upward, heading}
 use Rattle.paper.specs.Map.{Map}
-use Rattle.planelaws.specs.Cone.{UpV, up-rises, rises-up, rises-opposite, up-nonzero}
+use Rattle.planelaws.specs.Cone.{UpV, up-rises, rises-opposite, up-nonzero}
 use Rattle.planelaws.specs.Points.{neither, same-sym}
 use Rattle.planelaws.specs.Ends.{0<1, whole-equal}
 use Rattle.planelaws.specs.Angles.{cross-opposite, SameWay}
 use Rattle.planelaws.specs.Sides.{left-foot, left-head}
 use Rattle.planelaws.specs.Edges.{between-foot, between-head, between-up}
 use Rattle.planelaws.specs.NoClash.{foot-turned, head-turned}
-use Rattle.graphlaws.specs.Halves.{twin-twin, twin-half, twin-below, half-below, twin-first, twin-second, origin-first, origin-second, first-below, second-below, Which, first, second, which}
+use Rattle.graphlaws.specs.Halves.{twin-twin, twin-half, twin-below, half-below, twin-first, twin-second, origin-first, origin-second, Which, first, second, which}
 use Rattle.graphlaws.specs.Plane.{Plane, up-ends}
 use Rattle.maplaws.specs.Keeps.{seg, edges, halves, vertices}
 use Rattle.maplaws.specs.Rules.{Rules}

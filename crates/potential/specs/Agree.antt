@@ -1,10 +1,10 @@
 -- The labels of an overlay agree: over a list of maps that keep the rules, and a plane graph g with sources for its edges that covers each of them (`Overlaid`), any two half-edges of one walk have the
 -- same labels (`walk-labels`), and so have any two of one face (`face-labels`); they are the labels that the face holds, 0 for face 0 (`held-labels`).
 -- Each label is found alone, from the half-edge's own place (`labelIn`), so that this can't be met by labels that are made up. Assumes nothing.
-use mathlib.Core.Path.{_≡_, refl, sym, _∙_, ap}
+use mathlib.Core.Path.{_≡_, sym, _∙_, ap}
 use Prim.Native.Nat.{_<_}
 use native.Mathlib.Omega.{arith}
-use Rattle.seq.specs.Seq.{List, Option, none, ℕ, zero, suc, _/_, length, getD, replicate, table, ℤ, pos}
+use Rattle.seq.specs.Seq.{List, none, ℕ, zero, suc, _/_, length, getD, replicate, pos}
 use Rattle.seq.specs.Table.{table-at, table-ext, table-const}
 use Rattle.paper.specs.Graph.{Graph, edgeCount, halfCount, even, goesUp}
 use Rattle.paper.specs.Map.{Map}
@@ -12,7 +12,7 @@ use Rattle.paper.specs.Pieces.{Piece, layer}
 use Rattle.paper.specs.Faces.{Overlay, walksOf, faceIn, labelIn, overlayBy, sourcesOf, labelsOf}
 use Rattle.graphlaws.specs.Halves.{half-below}
 use Rattle.graphlaws.specs.Walks.{Along, along-below, along-same}
-use Rattle.graphlaws.specs.Faces.{faceOf, face-same, face-below, face-onto}
+use Rattle.graphlaws.specs.Faces.{faceOf, face-below, face-onto}
 use Rattle.maplaws.specs.Keeps.{Keeps}
 use Rattle.potential.specs.Covers.{Covers}
 use Rattle.potential.specs.Star.{leftIn, followed}

@@ -10,7 +10,6 @@ use Rattle.exact.specs.Order.{<→≢}
 use Rattle.exact.specs.Sign.{Sign, neg, zer, plus, sgn, isNeg, isZer, isPlus, negS, sgn-negℤ, Sg, is-neg, is-zer, is-plus, sg}
 use Rattle.paper.specs.Plane.{Pt, Seg, cross, order, before, same, leftBy}
 use Rattle.paper.specs.Map.{Map}
-use Rattle.planelaws.specs.Cone.{UpV}
 use Rattle.planelaws.specs.Points.{after, before-asym, before-trans, le-before, before-le, neither, same-before, before-same}
 use Rattle.planelaws.specs.Ends.{0<1}
 use Rattle.planelaws.specs.Angles.{cross-swap}

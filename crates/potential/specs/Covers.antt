@@ -6,13 +6,13 @@ use mathlib.Core.Bool.{Bool, true, false, not, _&&_}
 use Prim.Native.Nat.{ℕ, _<_}
 use lib.IntN.{pos}
 use lib.Signed.{_<ℤ_}
-use Rattle.exact.specs.Sign.{sgn, isZer}
+use Rattle.exact.specs.Sign.{isZer}
 use Rattle.exact.specs.Tests.{clash, and-parts}
 use Rattle.seq.specs.Seq.{length}
-use Rattle.paper.specs.Plane.{Pt, Vec, Seg, opposite, cross, rises, before, same, leftBy}
-use Rattle.paper.specs.Graph.{Graph, edgeCount, halfCount, point, edge, origin, start, low, high, upward, heading, eastSide}
+use Rattle.paper.specs.Plane.{Pt, Vec, Seg, opposite, cross, before, same, leftBy}
+use Rattle.paper.specs.Graph.{Graph, edgeCount, halfCount, point, edge, origin, low, high, upward, heading, eastSide}
 use Rattle.paper.specs.Map.{Map}
-use Rattle.planelaws.specs.Cone.{UpV, rises-up, up-rises, up-nonzero}
+use Rattle.planelaws.specs.Cone.{rises-up, up-rises, up-nonzero}
 use Rattle.planelaws.specs.Points.{neither}
 use Rattle.planelaws.specs.Angles.{cross-self, SameWay, same-way-opposite}
 use Rattle.planelaws.specs.Sides.{zero-is}

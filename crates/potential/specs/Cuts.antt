@@ -5,10 +5,10 @@
 --     under on p d e    the same just under p, for a segment that arrives at p along d: lower end < p ≤ upper end
 -- Along `nowhere` no edge turns: `above true p nowhere` is what lies west of p, goes through it or starts there, `above false p nowhere` what lies strictly west.
 -- "p is right of e" is a sign: no division, no x at a height. Then: cuts that agree on the edges at p; one point by other numbers. Assumes nothing.
-use mathlib.Core.Path.{_≡_, refl, sym, _∙_, ap}
+use mathlib.Core.Path.{_≡_, sym, _∙_, ap}
 use mathlib.Core.Bool.{Bool, true, false, not, _&&_}
 use mathlib.Core.List.{[], _∷_}
-use lib.IntN.{ℤ, pos, _-ℤ_}
+use lib.IntN.{pos}
 use lib.Signed.{_<ℤ_}
 use Rattle.exact.specs.Solve.{ring, reify}
 use Rattle.exact.specs.Sign.{Sign, zer, sgn, sgn-is, is-zer, isNeg, isPlus}

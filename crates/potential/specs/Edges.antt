@@ -1,23 +1,23 @@
 -- What rules 6 to 9 say of the edges of a map, as the cuts use it. In order: an edge goes up, from one vertex to another; the two half-edges of an edge; no edge meets
 -- the inside of another; none goes through a vertex; and no two start at one point with one angle. Assumes nothing.
 use mathlib.Core.Path.{_≡_, refl, sym, _∙_, ap, subst}
-use mathlib.Core.Bool.{Bool, true, false, cond, not}
-use mathlib.Core.Logic.{_⊎_, inl, inr}
+use mathlib.Core.Bool.{Bool, true, false}
+use mathlib.Core.Logic.{inl, inr}
 use Prim.Native.Nat.{ℕ, _/_, _<_}
 use native.Mathlib.Decide.{ℕ-discrete}
 use lib.IntN.{pos}
 use lib.Signed.{_<ℤ_}
 use Rattle.exact.specs.Tests.{clash}
-use Rattle.paper.specs.Plane.{Pt, Vec, Seg, opposite, cross, rises, before, same, leftBy}
-use Rattle.paper.specs.Graph.{Graph, point, twin, origin, start, goesUp, upward, heading, eastSide}
+use Rattle.paper.specs.Plane.{Pt, Seg, cross, rises, same}
+use Rattle.paper.specs.Graph.{Graph, point, start, goesUp, upward, heading, eastSide}
 use Rattle.paper.specs.Map.{Map}
 use Rattle.planelaws.specs.Cone.{UpV, rises-up}
-use Rattle.planelaws.specs.Points.{before-irr, before-asym, same-self}
+use Rattle.planelaws.specs.Points.{before-irr, same-self}
 use Rattle.planelaws.specs.Ends.{0<1}
-use Rattle.planelaws.specs.Angles.{cross-self, SameWay}
+use Rattle.planelaws.specs.Angles.{cross-self}
 use Rattle.planelaws.specs.Edges.{On, Inside, IsEnd, on-foot, on-head, inside-on, end-not-inside}
-use Rattle.graphlaws.specs.Halves.{twin-half, twin-once, twin-below, half-below}
-use Rattle.graphlaws.specs.Plane.{real-at, goesUp-twin, up-ends, down-ends}
+use Rattle.graphlaws.specs.Halves.{twin-once, half-below}
+use Rattle.graphlaws.specs.Plane.{real-at, up-ends, down-ends}
 use Rattle.graphlaws.specs.East.{east-once, east-start, east-end}
 use Rattle.maplaws.specs.Keeps.{seg, edges, halves, vertices, Keeps}
 use Rattle.potential.specs.Cuts.{lo, hi}

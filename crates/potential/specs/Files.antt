@@ -7,7 +7,7 @@ use mathlib.Core.Path.{_≡_, sym}
 use Prim.Native.Nat.{_<_}
 use lib.Signed.{_≤ℤ_, _<ℤ_, ≤ℤ-refl}
 use Rattle.exact.specs.Order.{<→≤, ≤-of-≡}
-use Rattle.seq.specs.Seq.{List, true, false, none, ℕ, _/_, ℤ, pos, orZero}
+use Rattle.seq.specs.Seq.{List, true, false, none, ℕ, _/_, pos, orZero}
 use Rattle.paper.specs.Plane.{Pt, Vec, nowhere, rises}
 use Rattle.paper.specs.Graph.{Graph, halfCount, start, goesUp, upward, west}
 use Rattle.paper.specs.Map.{Map, label, fault, mapOf}

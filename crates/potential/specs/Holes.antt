@@ -1,16 +1,16 @@
 -- Hole walks of a plane graph O that covers a map m, in m's potentials: at the left of a hole walk is what is at the left of the half-edge that it sees, or 0 where it sees
 -- the outside (`hole-left`). A half-edge of greatest angle out of its origin that goes up has at its left what lies strictly west of its origin
 -- (`strict-left`), and the one that makes a walk a hole walk is such a half-edge. Assumes nothing.
-use mathlib.Core.Path.{_≡_, refl, sym, _∙_, ap}
+use mathlib.Core.Path.{_≡_, sym, _∙_, ap}
 use mathlib.Core.Bool.{Bool, true, false, cond, not}
 use mathlib.Core.List.{List}
 use Prim.Native.Nat.{ℕ, _/_, _<_}
 use native.Mathlib.Decide.{ℕ-discrete}
 use borrow.Author.Tests.{eqb-true, eq-eqb}
 use lib.IntN.{pos}
-use lib.Signed.{_<ℤ_, ≤ℤ-refl}
+use lib.Signed.{≤ℤ-refl}
 use Rattle.exact.specs.Tests.{clash, not-false}
-use Rattle.paper.specs.Plane.{Vec, nowhere, opposite, before, lessAngle}
+use Rattle.paper.specs.Plane.{nowhere, opposite, before, lessAngle}
 use Rattle.paper.specs.Graph.{Graph, halfCount, point, twin, origin, start, goesUp, upward, heading, follower, followers, smallest, holeWalk, makesHole, west, holeLook}
 use Rattle.paper.specs.Map.{Map}
 use Rattle.planelaws.specs.Cone.{rises-up, up-nonzero}

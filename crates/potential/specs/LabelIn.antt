@@ -5,11 +5,11 @@ use mathlib.Core.Path.{_≡_, refl, sym, _∙_, ap}
 use mathlib.Core.Bool.{Bool, true, false, cond}
 use mathlib.Core.Option.{Option, none, some}
 use Prim.Native.Nat.{ℕ, _/_, _<_}
-use lib.IntN.{ℤ, pos}
+use lib.IntN.{pos}
 use lib.Signed.{_<ℤ_}
-use Rattle.exact.specs.Sign.{Sign, zer, sgn, isZer, negS, sgn-negℤ}
+use Rattle.exact.specs.Sign.{zer, sgn, isZer, negS, sgn-negℤ}
 use Rattle.paper.specs.Plane.{Pt, Vec, cross, before, leftBy}
-use Rattle.paper.specs.Graph.{Graph, edgeCount, halfCount, even, twin, start, low, goesUp, upward, eastSide}
+use Rattle.paper.specs.Graph.{Graph, edgeCount, halfCount, even, twin, low, goesUp, upward, eastSide}
 use Rattle.paper.specs.Map.{Map, label}
 use Rattle.paper.specs.Faces.{labelIn}
 use Rattle.planelaws.specs.Cone.{UpV, rises-up}
@@ -19,7 +19,7 @@ use Rattle.graphlaws.specs.Halves.{half-below}
 use Rattle.graphlaws.specs.Plane.{up-ends, down-ends}
 use Rattle.maplaws.specs.Keeps.{seg, edges, Keeps}
 use Rattle.potential.specs.Near.{near, near-off}
-use Rattle.potential.specs.Cuts.{lo, hi, above, under, atLeft, Leaves}
+use Rattle.potential.specs.Cuts.{lo, hi, above, atLeft, Leaves}
 use Rattle.potential.specs.Pot.{west, east, pot}
 use Rattle.potential.specs.Edges.{seg-rises}
 use Rattle.potential.specs.Moves.{pot-above}

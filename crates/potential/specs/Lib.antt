@@ -13,8 +13,8 @@ pub mod Sector
 pub mod Covers
 pub mod Star
 pub mod Along
-pub mod Look
-pub mod Seen
+pub mod Height
+pub mod Across
 pub mod Line
 pub mod Looks
 pub mod Holes

@@ -3,13 +3,13 @@
 -- theorem B; with the overlay's it leads from a hole walk to the walk around it. In order: O's candidates as cuts; each edge of m that is counted lies along a
 -- piece that O counts (`counted-piece`); none is nearer than W; then along the right of W to its lower end. Assumes nothing.
 use mathlib.Core.Path.{_≡_, refl, sym, _∙_, ap}
-use mathlib.Core.Bool.{Bool, true, false, not, _&&_}
+use mathlib.Core.Bool.{Bool, true, false, not}
 use mathlib.Core.Option.{Option, none, some}
 use Prim.Native.Nat.{ℕ, _<_}
 use lib.IntN.{ℤ, pos}
 use lib.Signed.{_≤ℤ_, _<ℤ_}
 use Rattle.exact.specs.Order.{0<-*}
-use Rattle.exact.specs.Sign.{Sign, neg, zer, plus, sgn, isPlus, negS, pick, lexS, sgn-negℤ}
+use Rattle.exact.specs.Sign.{Sign, neg, zer, plus, sgn, isPlus, negS, pick, sgn-negℤ}
 use Rattle.exact.specs.Tests.{clash, never, not-true, and-both, and-parts}
 use Rattle.seq.specs.Terms.{Has, Top}
 use Rattle.paper.specs.Plane.{Pt, Vec, Seg, cross, before, below, leftBy}
@@ -20,18 +20,17 @@ use Rattle.planelaws.specs.Cone.{UpV, rises-up}
 use Rattle.planelaws.specs.Ends.{0<1, below-before, below-level}
 use Rattle.planelaws.specs.Angles.{cross-swap}
 use Rattle.planelaws.specs.Sides.{left-foot, left-head}
-use Rattle.graphlaws.specs.Plane.{real-at, ends-real}
 use Rattle.graphlaws.specs.East.{east-half, east-down, east-start}
 use Rattle.graphlaws.specs.West.{candidate, Sees, west-sees}
 use Rattle.maplaws.specs.Keeps.{seg, edges, Keeps}
 use Rattle.potential.specs.Near.{near}
-use Rattle.potential.specs.Cuts.{lo, hi, above, atLeft, Leaves}
+use Rattle.potential.specs.Cuts.{lo, hi, above, atLeft}
 use Rattle.potential.specs.Pot.{pot}
 use Rattle.potential.specs.Edges.{seg-rises}
 use Rattle.potential.specs.Moves.{pot-ext, pot-none}
 use Rattle.potential.specs.Along.{at-piece}
-use Rattle.potential.specs.Look.{atHeightOf, above-height, across, across-on, across-left, across-below, height-steep}
-use Rattle.potential.specs.Seen.{look-across, lower-below, across-after, across-before}
+use Rattle.potential.specs.Height.{atHeightOf, above-height, height-steep}
+use Rattle.potential.specs.Across.{across, across-on, across-left, across-below, look-across, lower-below, across-after, across-before}
 use Rattle.potential.specs.Line.{same-turn, same-climb, same-side}
 use Rattle.potential.specs.Covers.{Covers, PieceAt}
 use Rattle.potential.specs.Star.{leftIn, along-piece}

@@ -12,9 +12,9 @@ use Prim.Native.Nat.{ℕ, _<_}
 use native.Mathlib.Decide.{ℕ-discrete}
 use borrow.Author.Tests.{eq-eqb, ne-eqb}
 use lib.Dec.{eqb}
-use lib.IntN.{ℤ, pos, _-ℤ_, +ℤ-invr}
+use lib.IntN.{pos, _-ℤ_, +ℤ-invr}
 use lib.Signed.{_<ℤ_}
-use Rattle.exact.specs.Sign.{Sign, zer, sgn, isZer}
+use Rattle.exact.specs.Sign.{zer, sgn, isZer}
 use Rattle.exact.specs.Tests.{clash, and-parts}
 use Rattle.seq.specs.Terms.{ind}
 use Rattle.paper.specs.Plane.{Pt, Vec, Seg, nowhere, cross, before, same, leftBy}
@@ -27,7 +27,7 @@ use Rattle.planelaws.specs.Edges.{Inside, seg-up}
 use Rattle.maplaws.specs.Keeps.{seg, edges, Keeps}
 use Rattle.potential.specs.Cut.{Φ-ext, Φ-none, Φ-one, cut}
 use Rattle.potential.specs.Near.{near, near-off}
-use Rattle.potential.specs.Cuts.{lo, hi, reachAbove, above, under, Leaves, above-agree, under-agree, above-same}
+use Rattle.potential.specs.Cuts.{lo, hi, above, under, Leaves, above-agree, under-agree, above-same}
 use Rattle.potential.specs.Slide.{leftOf, slide}
 use Rattle.potential.specs.Clear.{Within, Clear, apart, whole-edge}
 use Rattle.potential.specs.Through.{through, strict-both}

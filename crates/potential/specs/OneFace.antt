@@ -9,9 +9,9 @@ use Prim.Native.Nat.{ℕ, zero, suc, _<_}
 use native.Mathlib.Nat.{not-suc-le-zero}
 use native.Mathlib.Omega.{arith}
 use lib.IntN.{ℤ, pos}
-use Rattle.seq.specs.Seq.{getD, count, select, orZero}
+use Rattle.seq.specs.Seq.{getD, select, orZero}
 use Rattle.paper.specs.Graph.{Graph, halfCount, followers, smallest, holeLook}
-use Rattle.paper.specs.Faces.{walksOf, leadAt, holeAt, leadsOuter}
+use Rattle.paper.specs.Faces.{walksOf, holeAt, leadsOuter}
 use Rattle.paper.specs.Map.{Map}
 use Rattle.graphlaws.specs.Walks.{lead-along, along-same, hole-is}
 use Rattle.graphlaws.specs.Holes.{smallest-below}

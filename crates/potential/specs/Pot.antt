@@ -2,12 +2,12 @@
 -- jumps; the potential; the edge's ends as vertices; balance, from rule 10's first half: the follower is a bijection of the half-edges, starts where its
 -- half-edge arrives and has the same label, so that at every vertex the labels that leave add up to the labels that arrive. Angles are not needed.
 -- Assumes nothing.
-use mathlib.Core.Path.{_≡_, refl, sym, _∙_, ap, subst}
+use mathlib.Core.Path.{_≡_, refl, sym, _∙_}
 use mathlib.Core.Bool.{Bool, true, false, cond}
 use mathlib.Core.List.{[], _∷_}
-use Prim.Native.Nat.{ℕ, _+_, _*_, _<_}
+use Prim.Native.Nat.{ℕ, _+_, _*_}
 use lib.Dec.{eqb}
-use lib.IntN.{ℤ, pos, _+ℤ_, _-ℤ_, _*ℤ_, +ℤ-invr}
+use lib.IntN.{ℤ, pos, _+ℤ_, _-ℤ_, _*ℤ_, +ℤ-comm, +ℤ-invr}
 use Rattle.exact.specs.Solve.{ring, reify, sub-zero→}
 use Rattle.seq.specs.Seq.{position}
 use Rattle.seq.specs.Terms.{sum, upto, ind}
@@ -87,30 +87,23 @@ module _ (m : Map) (K : Keeps m) where
     abbrev atHigh : ℕ → ℤ
     atHigh k = ind (eqb (highEnd m k) z) *ℤ jump m k
 
-    share-by : (k : ℕ) (d : ℕ) (u : ℕ) → (d ≡ 2 * k + 1) × (u ≡ 2 * k) → inn k -ℤ out k ≡ from u *ℤ (lab m d -ℤ lab m u) -ℤ from d *ℤ (lab m d -ℤ lab m u)
-    share-by k d u e =
-        law (from (2 * k)) (from (2 * k + 1)) (lab m (2 * k)) (lab m (2 * k + 1))
-        ∙ sym (λ t. from (e .1 t) *ℤ (lab m (e .0 t) -ℤ lab m (e .1 t)) -ℤ from (e .0 t) *ℤ (lab m (e .0 t) -ℤ lab m (e .1 t)))
+    -- of the half-edges u and d, whichever goes up
+    pair : (u d : ℕ) → (from d *ℤ lab m u +ℤ from u *ℤ lab m d) -ℤ (from u *ℤ lab m u +ℤ from d *ℤ lab m d) ≡ from u *ℤ (lab m d -ℤ lab m u) -ℤ from d *ℤ (lab m d -ℤ lab m u)
+    pair u d = law (from u) (from d) (lab m u) (lab m d)
       where
         law : (a b x y : ℤ) → (b *ℤ x +ℤ a *ℤ y) -ℤ (a *ℤ x +ℤ b *ℤ y) ≡ a *ℤ (y -ℤ x) -ℤ b *ℤ (y -ℤ x)
         law a b x y = ring (a ∷ b ∷ x ∷ y ∷ []) (search reify depth 20) tt
 
-    share-back : (k : ℕ) (d : ℕ) (u : ℕ) → (d ≡ 2 * k) × (u ≡ 2 * k + 1) → inn k -ℤ out k ≡ from u *ℤ (lab m d -ℤ lab m u) -ℤ from d *ℤ (lab m d -ℤ lab m u)
-    share-back k d u e =
-        law (from (2 * k)) (from (2 * k + 1)) (lab m (2 * k)) (lab m (2 * k + 1))
-        ∙ sym (λ t. from (e .1 t) *ℤ (lab m (e .0 t) -ℤ lab m (e .1 t)) -ℤ from (e .0 t) *ℤ (lab m (e .0 t) -ℤ lab m (e .1 t)))
-      where
-        law : (a b x y : ℤ) → (b *ℤ x +ℤ a *ℤ y) -ℤ (a *ℤ x +ℤ b *ℤ y) ≡ b *ℤ (x -ℤ y) -ℤ a *ℤ (x -ℤ y)
-        law a b x y = ring (a ∷ b ∷ x ∷ y ∷ []) (search reify depth 20) tt
+    share-by : (k u d : ℕ) → (inn k -ℤ out k ≡ (from d *ℤ lab m u +ℤ from u *ℤ lab m d) -ℤ (from u *ℤ lab m u +ℤ from d *ℤ lab m d)) → twin d ≡ u →
+        inn k -ℤ out k ≡ from (twin d) *ℤ (lab m d -ℤ lab m (twin d)) -ℤ from d *ℤ (lab m d -ℤ lab m (twin d))
+    share-by k u d e t = e ∙ pair u d ∙ sym (λ i. from (t i) *ℤ (lab m d -ℤ lab m (t i)) -ℤ from d *ℤ (lab m d -ℤ lab m (t i)))
 
-    -- either half-edge may go up
     share : (k : ℕ) → inn k -ℤ out k ≡ atLow k -ℤ atHigh k
     share k = go (goesUp g (2 * k))
       where
-        go : (c : Bool) → let d = cond c (2 * k + 1) (2 * k) in
-            inn k -ℤ out k ≡ from (twin d) *ℤ (lab m d -ℤ lab m (twin d)) -ℤ from d *ℤ (lab m d -ℤ lab m (twin d))
-        go true = share-by k (2 * k + 1) (twin (2 * k + 1)) (refl, twin-second k)
-        go false = share-back k (2 * k) (twin (2 * k)) (refl, twin-first k)
+        go : (c : Bool) → let d = cond c (2 * k + 1) (2 * k) in inn k -ℤ out k ≡ from (twin d) *ℤ (lab m d -ℤ lab m (twin d)) -ℤ from d *ℤ (lab m d -ℤ lab m (twin d))
+        go true = share-by k (2 * k) (2 * k + 1) refl (twin-second k)
+        go false = share-by k (2 * k + 1) (2 * k) (λ i. +ℤ-comm (from (2 * k + 1) *ℤ lab m (2 * k)) (from (2 * k) *ℤ lab m (2 * k + 1)) i -ℤ +ℤ-comm (from (2 * k) *ℤ lab m (2 * k)) (from (2 * k + 1) *ℤ lab m (2 * k + 1)) i) (twin-first k)
 
     arrives : sum (upto (edges m)) inn ≡ sum (upto (halves m)) (λ h. to h *ℤ lab m h)
     arrives =

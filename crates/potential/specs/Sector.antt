@@ -3,7 +3,7 @@
 -- rise, each taken up (true) or down (false). Angles run from 0 (east) to under 360 degrees, so that all that go up come before all that go down.
 -- Six cases; where the circle closes (t is the first, r the last), p is passed by the move `pot-through`. Assumes nothing.
 use mathlib.Core.Path.{_≡_, refl, sym, _∙_, ap}
-use mathlib.Core.Bool.{Bool, true, false, cond, not, _&&_, _||_}
+use mathlib.Core.Bool.{Bool, true, false, cond, not}
 use Prim.Native.Nat.{ℕ, _<_}
 use lib.Dec.{T}
 use lib.IntN.{ℤ, pos}

@@ -5,9 +5,9 @@
 use mathlib.Core.Path.{_≡_, refl, sym, _∙_, ap}
 use mathlib.Core.Bool.{Bool, true, false, not, _&&_}
 use lib.Dec.{T}
-use lib.IntN.{ℤ, pos, _-ℤ_, +ℤ-invr}
+use lib.IntN.{pos, _-ℤ_, +ℤ-invr}
 use lib.Signed.{_<ℤ_}
-use Rattle.exact.specs.Sign.{sgn, isPlus, negS, sums, sgn-negℤ, NotOpposite, NotSame, plus-both}
+use Rattle.exact.specs.Sign.{sgn, isPlus, sums, sgn-negℤ, NotOpposite, NotSame, plus-both}
 use Rattle.exact.specs.Tests.{clash}
 use Rattle.seq.specs.Terms.{ind}
 use Rattle.paper.specs.Plane.{Pt, Seg, cross, before, leftBy}

@@ -4,10 +4,8 @@
 use mathlib.Core.Path.{_≡_, refl, sym, _∙_, ap}
 use mathlib.Core.Bool.{Bool, true, false, not}
 use Prim.Native.Nat.{ℕ, _/_, _<_}
-use lib.IntN.{ℤ, pos}
-use lib.Signed.{_<ℤ_}
-use Rattle.seq.specs.Seq.{length}
-use Rattle.paper.specs.Plane.{Pt, Vec, lessAngle}
+use lib.IntN.{ℤ}
+use Rattle.paper.specs.Plane.{Vec, lessAngle}
 use Rattle.paper.specs.Graph.{Graph, edgeCount, halfCount, point, edge, twin, origin, start, low, high, goesUp, upward, heading, follower}
 use Rattle.paper.specs.Map.{Map}
 use Rattle.planelaws.specs.Cone.{UpV, NonZero, rises-up, up-nonzero, opposite-nonzero}

@@ -1,16 +1,16 @@
 -- Past a point v: from what lies west of v or arrives at it to what lies west of v or leaves it. The test on points is "is v"; nothing is assumed of the edge.
 -- What lies strictly west is one cut, just above v and just under it: no move is needed. Assumes nothing.
 use mathlib.Core.Path.{_≡_, refl, sym, _∙_, ap, subst}
-use mathlib.Core.Bool.{Bool, true, false, not, _&&_}
+use mathlib.Core.Bool.{true, false, not, _&&_}
 use lib.Dec.{T}
 use lib.IntN.{pos, _-ℤ_, +ℤ-invr}
 use lib.Signed.{_<ℤ_}
 use Rattle.exact.specs.Sign.{Sign, neg, zer, plus, sgn, isNeg, isZer, isPlus, sums}
 use Rattle.exact.specs.Tests.{never}
 use Rattle.seq.specs.Terms.{ind}
-use Rattle.paper.specs.Plane.{Pt, Seg, nowhere, order, before, same, leftBy}
+use Rattle.paper.specs.Plane.{Pt, Seg, nowhere, order, same, leftBy}
 use Rattle.planelaws.specs.Cone.{UpV}
-use Rattle.planelaws.specs.Points.{after, order-trans, same-sym}
+use Rattle.planelaws.specs.Points.{after, order-trans}
 use Rattle.planelaws.specs.Ends.{0<1}
 use Rattle.planelaws.specs.Sides.{left-foot, left-head, left-same-sign}
 use Rattle.planelaws.specs.Edges.{seg-up}

@@ -1,11 +1,9 @@
--- What a look west from any point p sees, along any direction that does not fall: where it sees the edge W, the potential of what it counts is that of the right side of
--- W at its LOWER end; where it sees nothing, it is 0. In order: `look-across`, one edge at a time: what is counted lies west of the right of W, above the
--- point q of W at p's height; the counted edges are 01's candidates (`candidate-is`), and none is nearer than W; then along the right of W from q to its
--- lower end (`seen`). Assumes nothing.
+-- Where an edge W crosses the height of a point p (`across`), and what a look from p along a direction that does not fall counts there. In order: the point, sides and heights
+-- there and here; `look-across`: where W is counted and an edge e that is counted is not nearer, e is counted exactly if it lies west of the right of W, above
+-- the point; along a line that climbs, what comes before is below, so that the point stands on the line by its height. Assumes nothing.
 use mathlib.Core.Path.{_≡_, refl, sym, _∙_, ap, subst}
 use mathlib.Core.Bool.{Bool, true, false, not, _&&_}
 use mathlib.Core.List.{[], _∷_}
-use Prim.Native.Nat.{ℕ, _<_}
 use native.Mathlib.Omega.{arith}
 use lib.Dec.{T}
 use lib.IntN.{ℤ, pos, negℤ, _+ℤ_, _-ℤ_, _*ℤ_}
@@ -13,29 +11,42 @@ use lib.Signed.{_≤ℤ_, _<ℤ_}
 use Rattle.exact.specs.Solve.{ring, reify}
 use Rattle.exact.specs.Order.{zomega, sq, 0<-*, Tri, lt, eq, gt, tri, <→≢, ≤→≯}
 use Rattle.exact.specs.Mul.{≡-by₁, 0<-cancel}
-use Rattle.exact.specs.Sign.{Sign, neg, zer, plus, sgn, isNeg, isPlus, negS, sums, sgn-sums, sgn-negℤ, pick, lexS, plus→}
+use Rattle.exact.specs.Sign.{Sign, neg, zer, plus, sgn, isPlus, negS, sums, sgn-sums, sgn-negℤ, plus→, isNeg}
 use Rattle.exact.specs.Tests.{never, clash, not-true, and-parts, and-both}
 use Rattle.seq.specs.Tests.{bool-ext}
-use Rattle.seq.specs.Terms.{Has, Top}
-use Rattle.paper.specs.Plane.{Pt, Vec, Seg, head, dir, cross, before, below, leftBy}
-use Rattle.paper.specs.Graph.{Graph, low, high, upward, atHeight, leftOf, westward, nearer}
-use Rattle.paper.specs.Map.{Map}
-use Rattle.planelaws.specs.Cone.{Up, above as rising, level, UpV}
+use Rattle.paper.specs.Plane.{Pt, Vec, Seg, dir, cross, before, below, leftBy}
+use Rattle.planelaws.specs.Cone.{above as rising, level, UpV}
 use Rattle.planelaws.specs.Points.{before-up}
 use Rattle.planelaws.specs.Ends.{0<1, lt-below, below-before}
-use Rattle.planelaws.specs.Angles.{cross-swap, turn-trans}
+use Rattle.planelaws.specs.Angles.{turn-trans}
 use Rattle.planelaws.specs.Sides.{chord}
-use Rattle.graphlaws.specs.West.{candidate}
-use Rattle.maplaws.specs.Keeps.{seg, edges, Keeps}
 use Rattle.potential.specs.Near.{near}
 use Rattle.potential.specs.Cuts.{lo, hi, above}
-use Rattle.potential.specs.Pot.{pot}
-use Rattle.potential.specs.Edges.{seg-rises}
-use Rattle.potential.specs.Moves.{pot-ext}
-use Rattle.potential.specs.Along.{at-point}
-use Rattle.potential.specs.Look.{atHeightOf, above-height, right-height, across, across-on, across-left, across-below, height-steep}
+use Rattle.potential.specs.Height.{scaled, atHeightOf, above-height, right-height, height-steep}
+
+-- ── the point ──
+
+abbrev pub across : Seg → Pt → Pt
+across W p = record { X = p .X *ℤ W .up .y +ℤ leftBy W p; Y = p .Y *ℤ W .up .y; D = p .D *ℤ W .up .y }
+
+module _ (W : Seg) (p : Pt) where
+  pub across-on : leftBy W (across W p) ≡ pos 0
+  across-on = ring (W .foot .x ∷ W .foot .y ∷ W .up .x ∷ W .up .y ∷ p .X ∷ p .Y ∷ p .D ∷ []) (search reify depth 20) tt
+
+  -- an edge there and here
+  pub across-left : (e : Seg) → leftBy e (across W p) ≡ leftBy e p *ℤ W .up .y -ℤ leftBy W p *ℤ e .up .y
+  across-left e = ring (W .foot .x ∷ W .foot .y ∷ W .up .x ∷ W .up .y ∷ e .foot .x ∷ e .foot .y ∷ e .up .x ∷ e .up .y ∷ p .X ∷ p .Y ∷ p .D ∷ []) (search reify depth 20) tt
+
+  -- it is at the height of p
+  pub across-below : pos 0 <ℤ W .up .y → (z : Pt) → below (across W p) z ≡ below p z
+  across-below h z = ap isNeg (scaled (W .up .y) (p .Y *ℤ z .D -ℤ z .Y *ℤ p .D) (across W p .Y *ℤ z .D -ℤ z .Y *ℤ across W p .D) h (ring (W .up .y ∷ z .Y ∷ z .D ∷ p .Y ∷ p .D ∷ []) (search reify depth 20) tt))
 
 -- ── one edge ──
+
+turned : (k : Sign) → T (isPlus k) → near false zer k ≡ true
+turned neg t = absurd t
+turned zer t = absurd t
+turned plus t = refl
 
 -- w, kw: of W at p and against d; s, k′: of e at p and against d; t: of e at q; k: of e against W
 seen-signs : (w kw s t k k′ : Sign) → near false w kw ≡ true → T (sums s (negS w) t) → (kw ≡ plus → T (sums kw k k′)) → near true t k ≡ true → near false s k′ ≡ true
@@ -54,17 +65,7 @@ seen-signs zer plus zer neg k k′ h a b n = absurd a
 seen-signs zer plus zer plus k k′ h a b n = absurd a
 seen-signs zer plus zer zer neg k′ h a b n = never n
 seen-signs zer plus zer zer zer k′ h a b n = turned k′ (b refl)
-  where
-    turned : (k′ : Sign) → T (isPlus k′) → near false zer k′ ≡ true
-    turned neg t = absurd t
-    turned zer t = absurd t
-    turned plus t = refl
 seen-signs zer plus zer zer plus k′ h a b n = turned k′ (b refl)
-  where
-    turned : (k′ : Sign) → T (isPlus k′) → near false zer k′ ≡ true
-    turned neg t = absurd t
-    turned zer t = absurd t
-    turned plus t = refl
 seen-signs zer plus plus neg k k′ h a b n = absurd a
 seen-signs zer plus plus zer k k′ h a b n = absurd a
 seen-signs zer plus plus plus k k′ h a b n = never n
@@ -85,14 +86,11 @@ module _ (p : Pt) (hp : pos 0 <ℤ p .D) (d : Vec) (hd : pos 0 ≤ℤ d .y) (W :
   counted : (atHeightOf p W ≡ true) × (near false (sgn (leftBy W p)) (sgn (cross d (W .up))) ≡ true)
   counted = and-parts (atHeightOf p W) (near false (sgn (leftBy W p)) (sgn (cross d (W .up)))) (sym (above-height p d W uW hd) ∙ counts)
 
-  pub steep : pos 0 <ℤ W .up .y
+  steep : pos 0 <ℤ W .up .y
   steep = height-steep p W hp (counted .0)
 
   abbrev q : Pt
   q = across W p
-
-  pub across-real : pos 0 <ℤ q .D
-  across-real = 0<-* hp steep
 
   module _ (e : Seg) (ue : UpV (e .up)) where
     sides : pos 0 <ℤ e .up .y → T (sums (sgn (leftBy e p)) (negS (sgn (leftBy W p))) (sgn (leftBy e q)))

@@ -1,24 +1,19 @@
--- What a look west counts, as a cut, and what it sees. In order:
---     above-height   the cut above p along d is 01's candidates, by height ("lower y ≤ y of p < upper y") and not by point order, for a direction that does not fall
---     across         the point of an edge W at the height of p; sides there and here
---     look-across    where the nearest of the edges counted is W, they are the edges of the cut at the right of W, above its point at the height of p
--- A level edge is never counted. Assumes nothing.
+-- The cuts by height. The cut above p along d, for a direction that does not fall, is 01's candidates: by height ("lower y ≤ y of p < upper y") and not by point order,
+-- for a level edge is not counted, and an edge that starts or ends at the height of p is on the side of p that its end is (`above-height`, `right-height`).
+-- Assumes nothing.
 use mathlib.Core.Path.{_≡_, refl, sym, _∙_, ap, subst}
 use mathlib.Core.Bool.{Bool, true, false, not, _&&_}
 use mathlib.Core.List.{[], _∷_}
 use native.Mathlib.Omega.{arith}
-use lib.Dec.{T}
 use lib.IntN.{ℤ, pos, negℤ, _+ℤ_, _-ℤ_, _*ℤ_}
 use lib.Signed.{_≤ℤ_, _<ℤ_}
 use Rattle.exact.specs.Solve.{ring, reify}
 use Rattle.exact.specs.Order.{zomega, sq, 0≤-*, 0<-*, <→≤, ≤-of-≡}
 use Rattle.exact.specs.Mul.{≡-by₁, ≡-by₂, 0<-cancel}
-use Rattle.exact.specs.Sign.{Sign, neg, zer, plus, sgn, sgn-is, sgn-plus, sgn-neg, sg-scale, Sg, is-neg, is-zer, is-plus, sg, isNeg, isZer, isPlus, negS, sums, sgn-sums, sgn-negℤ, pick, lexS, plus→}
-use Rattle.exact.specs.Tests.{never, and-parts, T-true, true-T}
-use Rattle.seq.specs.Tests.{bool-ext}
-use Rattle.paper.specs.Plane.{Pt, Vec, Seg, whole, cross, before, below, leftBy}
-use Rattle.planelaws.specs.Cone.{Up, above as rising, level, UpV}
-use Rattle.planelaws.specs.Angles.{turn-trans}
+use Rattle.exact.specs.Sign.{Sign, neg, zer, plus, sgn, sgn-is, sgn-neg, sg-scale, Sg, is-neg, is-zer, is-plus, sg, isNeg, isZer, negS, sgn-negℤ, pick, lexS}
+use Rattle.exact.specs.Tests.{never, and-parts}
+use Rattle.paper.specs.Plane.{Pt, Vec, Seg, cross, below, leftBy}
+use Rattle.planelaws.specs.Cone.{above as rising, level, UpV}
 use Rattle.planelaws.specs.Sides.{zero-is}
 use Rattle.potential.specs.Near.{near}
 use Rattle.potential.specs.Cuts.{lo, hi, reachAbove, above}
@@ -27,7 +22,7 @@ use Rattle.potential.specs.Cuts.{lo, hi, reachAbove, above}
 abbrev pub atHeightOf : Pt → Seg → Bool
 atHeightOf p e = not (below p (lo e)) && below p (hi e)
 
-scaled : (c t z : ℤ) → pos 0 <ℤ c → z ≡ c *ℤ t → sgn z ≡ sgn t
+pub scaled : (c t z : ℤ) → pos 0 <ℤ c → z ≡ c *ℤ t → sgn z ≡ sgn t
 scaled c t z p h = ap sgn h ∙ sgn-is (c *ℤ t) (sg-scale c t p (sg t))
 
 -- ── point order and height ──
@@ -143,26 +138,6 @@ module _ (p : Pt) (d : Vec) (e : Seg) (ue : UpV (e .up)) where
   right-height h = by-height p e true (sgn (cross d (e .up))) ue (λ z x. ap (near true zer) (sgn-neg
       (zomega (cross d (e .up) ∷ d .y ∷ e .up .x ∷ []) {A = cross d (e .up) ≡ negℤ (d .y *ℤ e .up .x) → pos 0 <ℤ (d .y *ℤ e .up .x) → cross d (e .up) <ℤ pos 0} (search sq depth 20) (omega arith)
       (level-turn d (e .up) z) (0<-* h x))))
-
--- ── the point of W at the height of p ──
-
-abbrev pub across : Seg → Pt → Pt
-across W p = record { X = p .X *ℤ W .up .y +ℤ leftBy W p; Y = p .Y *ℤ W .up .y; D = p .D *ℤ W .up .y }
-
-module _ (W : Seg) (p : Pt) where
-  abbrev q : Pt
-  q = across W p
-
-  pub across-on : leftBy W q ≡ pos 0
-  across-on = ring (W .foot .x ∷ W .foot .y ∷ W .up .x ∷ W .up .y ∷ p .X ∷ p .Y ∷ p .D ∷ []) (search reify depth 20) tt
-
-  -- an edge there and here
-  pub across-left : (e : Seg) → leftBy e q ≡ leftBy e p *ℤ W .up .y -ℤ leftBy W p *ℤ e .up .y
-  across-left e = ring (W .foot .x ∷ W .foot .y ∷ W .up .x ∷ W .up .y ∷ e .foot .x ∷ e .foot .y ∷ e .up .x ∷ e .up .y ∷ p .X ∷ p .Y ∷ p .D ∷ []) (search reify depth 20) tt
-
-  -- it is at the height of p
-  pub across-below : pos 0 <ℤ W .up .y → (z : Pt) → below q z ≡ below p z
-  across-below h z = ap isNeg (scaled (W .up .y) (p .Y *ℤ z .D -ℤ z .Y *ℤ p .D) (q .Y *ℤ z .D -ℤ z .Y *ℤ q .D) h (ring (W .up .y ∷ z .Y ∷ z .D ∷ p .Y ∷ p .D ∷ []) (search reify depth 20) tt))
 
 -- an edge at the height of a point is not level
 pub height-steep : (p : Pt) (e : Seg) → pos 0 <ℤ p .D → atHeightOf p e ≡ true → pos 0 <ℤ e .up .y
