@@ -2,5 +2,4 @@ pub mod Keeps
 pub mod Rules
 pub mod Passes
 pub mod Corners
-pub mod Plane
 pub mod Files
