@@ -15,3 +15,6 @@ pub mod Cells
 pub mod Parts
 pub mod Named
 pub mod Fits
+pub mod Put
+pub mod EmptyMap
+pub mod EmptyTables
