@@ -7,15 +7,12 @@ use lib.ListN.{getD}
 use lib.IntN.{ℤ, pos}
 use lib.Signed.{mag}
 use mir.Syntax.{w64}
-use mir.Val.{toZ, ofZ, hbits}
+use mir.Val.{hbits}
 use mir.ValLaws.{toZ-ofZ}
 use Rattle.exact.specs.Lowest.{pt}
+use Rattle.plane.proofs.Machine.{back}
 use Rattle.plane.specs.Values.{seg}
 use Rattle.graph.specs.Flat.{numberAt, pointAt, carrierAt}
-
--- what is read back from the bits of z
-abbrev pub back : ℤ → ℤ
-back z = toZ w64 (ofZ w64 z)
 
 -- a number that fits
 abbrev pub Small : ℤ → Type 0
