@@ -48,7 +48,7 @@ is-equal p q e =
     rw (ex, ey, ed)
 
 pub points-fewer : (ps : List ℤ) (n : ℕ) → Points ps (n + 1) → Points ps n
-points-fewer ps n h = record { long = omega (arith, h .long); near = λ v l. h .near v (omega arith); positive = λ v l. h .positive v (omega arith) }
+points-fewer ps n h = record { long = omega (arith, h .long); near = λ v l. h .near v (omega arith) }
 
 -- ── rows put in order ──
 

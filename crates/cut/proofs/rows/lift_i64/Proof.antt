@@ -1,10 +1,9 @@
 -- `cut::rows::lift_i64` meets its contract. Assumes nothing.
 use Prim.Native.Nat.{_-_}
-use lib.ListN.{getD}
 use lib.IntN.{pos}
 use Rattle.cut.specs.Lifted.{Lifting, lift-starts, lift-turns, lift-ends}
 use borrow.Author.Needs.{needs}
-use Rattle.cut.proofs.Machine.{reads}
+use Rattle.graph.proofs.Rows.{read}
 use Rattle.cut.proofs.rows.lift_i64.Statement.{statement}
 use Rattle.cut.proofs.rows.lift_i64.Tie as tie
 
@@ -39,7 +38,7 @@ loop-less : tie.Need-loop-less Inv-loop μ-loop
 loop-less c = search needs
 
 loop-again : tie.Need-loop-again Inv-loop μ-loop
-loop-again c = lift-turns (c .before .before .loop .inv) _ (pos 0) (search needs) (reads (getD (c .before .before .loop .t) (c .before .before .loop .i - 1) (pos 0)) (c .t .given))
+loop-again c = lift-turns (c .before .before .loop .inv) _ (pos 0) (search needs) (read (c .before .before .loop .t) (c .before .before .loop .i - 1) (c .t .given))
 
 same-length : tie.Need-same-length Inv-loop μ-loop
 same-length c = search needs
