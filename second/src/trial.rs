@@ -2,9 +2,11 @@
 //! definitions against them. README.md has the form of the lines.
 
 use crate::check::check;
+use crate::literal::slip::{OF_MAPS, OF_PAIRS};
 use crate::make::damage::{damage_map, KINDS};
 use crate::make::few::{few, two_few};
 use crate::make::overlay_damage;
+use crate::make::telling::{telling_map, telling_pair};
 use crate::overlay::{overlay_files, Overlay, Room};
 use crate::ovfile::{file_of, read};
 use crate::random::Random;
@@ -12,8 +14,8 @@ use std::fmt::Write;
 
 /// Map lines for each pair line.
 const MAPS: usize = 5;
-/// One map in so many is valid.
-const VALID: usize = 4;
+/// One map in so many is made to show a slip, and is not always valid.
+const TELLING: usize = 3;
 /// No file of a map line is longer.
 const LONGEST: usize = 260;
 
@@ -22,7 +24,7 @@ pub fn run(seed: u64, n: usize) -> String {
     let mut out = String::new();
     for round in 0..n {
         let mut random = Random::new(seed.wrapping_add(round as u64), "trial");
-        let files = pair(&mut random);
+        let files = pair(&mut random, round);
         let mut line = |text: String| writeln!(out, "{text}").expect("a string takes all text");
         let done = overlay_files(&files[0], &files[1], &Room::FULL);
         line(pair_line(&files, done));
@@ -30,7 +32,7 @@ pub fn run(seed: u64, n: usize) -> String {
             let file = map(&mut random, round * MAPS + i);
             line(map_line(&file));
         }
-        line(room_line(&mut random));
+        line(room_line(&mut random, round));
         line(read_line(&mut random));
     }
     out
@@ -44,23 +46,27 @@ fn hex(bytes: &[u8]) -> String {
     }
 }
 
-/// A pair; one in eight has a damaged file.
-fn pair(random: &mut Random) -> [Vec<u8>; 2] {
-    let [first, second] = two_few(random);
+/// The pair of a round. Of four pairs three are made to show a slip, and of the fourth kind
+/// every second has a damaged file.
+fn pair(random: &mut Random, round: usize) -> [Vec<u8>; 2] {
+    let [first, second] = match round % 4 {
+        0 => two_few(random),
+        _ => telling_pair(random, OF_PAIRS[(round - round / 4 - 1) % OF_PAIRS.len()], two_few),
+    };
     let mut files = [first.bytes(), second.bytes()];
-    if random.once_in(8) {
+    if round % 8 == 4 {
         let kind = random.below(KINDS.len());
         files[random.below(2)] = damaged(random, kind);
     }
     files
 }
 
-/// The file of map line i: every fourth is valid, the others go through all kinds of damage.
+/// The file of map line i: every third is made to show a slip, the others go through all kinds
+/// of damage.
 fn map(random: &mut Random, i: usize) -> Vec<u8> {
-    if i.is_multiple_of(VALID) {
-        few(random).bytes()
-    } else {
-        damaged(random, (i - i / VALID - 1) % KINDS.len())
+    match i % TELLING {
+        0 => telling_map(random, OF_MAPS[i / TELLING % OF_MAPS.len()], few).bytes(),
+        _ => damaged(random, (i - i / TELLING - 1) % KINDS.len()),
     }
 }
 
@@ -122,8 +128,8 @@ fn words(rows: [usize; 4]) -> String {
     rows.map(|n| n.to_string()).join(" ")
 }
 
-fn room_line(random: &mut Random) -> String {
-    let files = pair(random);
+fn room_line(random: &mut Random, round: usize) -> String {
+    let files = pair(random, round);
     let rows = rows(random, needs(&files));
     let room = Room::lent(rows[0], rows[1], rows[2], rows[3]);
     let answer = match overlay_files(&files[0], &files[1], &room) {

@@ -1,13 +1,14 @@
 //! Rules 5 to 10 as document 01 says them.
 
 use super::net::Net;
+use super::slip::Slip;
 use crate::answer::Refusal;
 use crate::limits::REACH;
 use crate::map::Map;
 use crate::point::{side, Point};
 
 /// The first refusal among 5 to 10.
-pub fn fault(map: &Map) -> Option<Refusal> {
+pub fn fault(map: &Map, slip: Option<Slip>) -> Option<Refusal> {
     let (vertices, edges) = (map.vertices.len(), map.edges.len());
     let place = |n: u16, found: Option<usize>| found.map(|place| Refusal::new(n, place));
     place(5, (0..vertices).find(|&v| beyond(map.vertices[v])))
@@ -17,7 +18,8 @@ pub fn fault(map: &Map) -> Option<Refusal> {
         })
         .or_else(|| place(7, (0..edges).find(|&k| bad_ends(map, k))))
         .or_else(|| {
-            let clashes = |k: usize| (0..edges).any(|j| j != k && clash(map, j, k));
+            let other = |j: usize, k: usize| j < k || (slip != Some(Slip::LaterEdge) && j > k);
+            let clashes = |k: usize| (0..edges).any(|j| other(j, k) && clash(map, j, k));
             place(8, (0..edges).find(|&k| clashes(k)))
         })
         .or_else(|| {
@@ -26,7 +28,7 @@ pub fn fault(map: &Map) -> Option<Refusal> {
             };
             place(9, (0..vertices).find(|&v| !(0..edges).any(|k| ends(v, k))))
         })
-        .or_else(|| place(10, disagree(map)))
+        .or_else(|| place(10, disagree(map, slip)))
 }
 
 fn beyond((x, y): (i16, i16)) -> bool {
@@ -59,15 +61,30 @@ fn clash(map: &Map, j: usize, k: usize) -> bool {
 /// "Labels disagree at a half-edge if its label differs from its follower's, or if it is the
 /// greatest-angle half-edge that makes its walk a hole walk and its label differs from that of
 /// the half-edge seen west in the same map, or from 0 where the outside is seen."
-fn disagree(map: &Map) -> Option<usize> {
-    let net = Net::of(map);
+fn disagree(map: &Map, slip: Option<Slip>) -> Option<usize> {
+    let net = Net::of(map, slip);
     let outgoing = net.outgoing();
     let followers: Vec<usize> = (0..net.half_edges()).map(|h| net.follower(&outgoing, h)).collect();
-    (0..net.half_edges()).find(|&h| {
-        let differs = map.label(h) != map.label(followers[h]);
-        let walk = net.walk(&followers, h);
-        let hole = net.hole_mark(&outgoing, &walk) == Some(h);
-        let west = |h: usize| net.seen(&net.points[net.origin(h)], None);
-        differs || (hole && map.label(h) != west(h).map_or(0, |g| map.label(g)))
-    })
+    let follower_differs = |h: usize| map.label(h) != map.label(followers[h]);
+    let seen_differs = |h: usize| {
+        let hole = net.hole_mark(&outgoing, &net.walk(&followers, h)) == Some(h);
+        hole && map.label(h) != seen_label(map, &net, &followers, h)
+    };
+    let half_edges = 0..net.half_edges();
+    if slip == Some(Slip::FollowersFirst) {
+        let first = half_edges.clone().find(|&h| follower_differs(h));
+        return first.or_else(|| half_edges.clone().find(|&h| seen_differs(h)));
+    }
+    half_edges.into_iter().find(|&h| follower_differs(h) || seen_differs(h))
+}
+
+/// The label of the half-edge seen west from the origin of h, or 0 where the outside is seen.
+fn seen_label(map: &Map, net: &Net, followers: &[usize], h: usize) -> u16 {
+    match (net.seen(&net.points[net.origin(h)], None), net.slip) {
+        (None, _) | (_, Some(Slip::OutsideOnly)) => 0,
+        (Some(g), Some(Slip::WalkSeen)) => {
+            map.label(net.walk(followers, g).into_iter().min().unwrap_or(g))
+        }
+        (Some(g), _) => map.label(g),
+    }
 }

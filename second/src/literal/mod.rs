@@ -5,3 +5,4 @@ pub mod check;
 pub mod net;
 pub mod overlay;
 pub mod reader;
+pub mod slip;

@@ -1,5 +1,6 @@
 //! Followers, walks, hole walks and looking west, as document 01 says them.
 
+use super::slip::Slip;
 use crate::graph::by_angle;
 use crate::map::Map;
 use crate::point::Point;
@@ -12,17 +13,19 @@ pub struct Net {
     pub ends: Vec<(usize, usize)>,
     pub bases: Vec<(i64, i64)>,
     pub ways: Vec<(i64, i64)>,
+    pub slip: Option<Slip>,
 }
 
 impl Net {
     /// A map as it stands.
-    pub fn of(map: &Map) -> Net {
+    pub fn of(map: &Map, slip: Option<Slip>) -> Net {
         let whole = |&(x, y): &(i16, i16)| Point::whole(x as i64, y as i64);
         Net {
             points: map.vertices.iter().map(whole).collect(),
             ends: map.edges.iter().map(|e| (e.from as usize, e.to as usize)).collect(),
             bases: map.edges.iter().map(|e| map.place(e.from)).collect(),
             ways: map.segments().iter().map(|s| s.way()).collect(),
+            slip,
         }
     }
 
@@ -60,10 +63,11 @@ impl Net {
         last.expect("the twin is there")
     }
 
-    /// "A walk is what following gives": the half-edges from h on.
+    /// "A walk is what following gives": the half-edges from h on. Only after a slip may it
+    /// not come back to h.
     pub fn walk(&self, followers: &[usize], h: usize) -> Vec<usize> {
         let mut walk = vec![h];
-        while followers[walk[walk.len() - 1]] != h {
+        while followers[walk[walk.len() - 1]] != h && walk.len() < followers.len() {
             walk.push(followers[walk[walk.len() - 1]]);
         }
         walk
@@ -71,21 +75,30 @@ impl Net {
 
     /// The smallest vertex of a walk.
     pub fn smallest(&self, walk: &[usize]) -> usize {
-        let smallest = walk.iter().map(|&h| self.origin(h)).min_by_key(|&v| self.points[v]);
+        let vertices = walk.iter().map(|&h| self.origin(h));
+        let smallest = match self.slip {
+            Some(Slip::LeastNumber) => vertices.min(),
+            _ => vertices.min_by_key(|&v| self.points[v]),
+        };
         smallest.expect("a walk has a vertex")
     }
 
-    /// The half-edge of greatest angle out of a vertex.
-    pub fn greatest(&self, outgoing: &[Vec<usize>], v: usize) -> usize {
-        let all = outgoing[v].iter().copied();
-        all.max_by(|&f, &g| by_angle(self.way(f), self.way(g))).expect("a vertex has an edge")
+    /// The half-edge of greatest angle among some.
+    fn greatest(&self, some: impl Iterator<Item = usize>) -> usize {
+        some.max_by(|&f, &g| by_angle(self.way(f), self.way(g))).expect("a vertex has an edge")
     }
 
     /// "It is a hole walk exactly if it holds the half-edge of greatest angle out of its own
     /// smallest vertex": that half-edge.
     pub fn hole_mark(&self, outgoing: &[Vec<usize>], walk: &[usize]) -> Option<usize> {
-        let greatest = self.greatest(outgoing, self.smallest(walk));
-        walk.contains(&greatest).then_some(greatest)
+        let smallest = self.smallest(walk);
+        let mut own = walk.iter().copied().filter(|&h| self.origin(h) == smallest);
+        let greatest = self.greatest(outgoing[smallest].iter().copied());
+        match self.slip {
+            Some(Slip::OwnAngles) => Some(self.greatest(own)),
+            Some(Slip::AnyCorner) => own.min().filter(|&h| h == greatest),
+            _ => own.find(|&h| h == greatest),
+        }
     }
 
     /// The lower and the upper end of edge k.
@@ -118,30 +131,44 @@ impl Net {
     /// upward angle. What is seen is the half-edge on its east side." With no e only edges
     /// strictly west count.
     pub fn seen(&self, p: &Point, along: Option<(i64, i64)>) -> Option<usize> {
-        let mut seen: Option<usize> = None;
-        for k in 0..self.ends.len() {
-            let (lower, upper) = self.lower_upper(k);
-            let height = |q: &Point| (q.y as i128 * p.d as i128).cmp(&(p.y as i128 * q.d as i128));
-            if height(lower) == Ordering::Greater || height(upper) != Ordering::Greater {
-                continue;
-            }
-            let x = self.at_height(k, p);
-            let counts = match compare(x, (p.x as i128, p.d as i128)) {
-                Ordering::Less => true,
-                Ordering::Equal => {
-                    along.is_some_and(|e| by_angle(self.upward(k), e) == Ordering::Greater)
-                }
-                Ordering::Greater => false,
-            };
-            let nearer = seen.is_none_or(|best| {
-                let order = compare(x, self.at_height(best, p));
-                order.then(by_angle(self.upward(best), self.upward(k))) == Ordering::Greater
-            });
-            if counts && nearer {
-                seen = Some(k);
-            }
+        let candidates = (0..self.ends.len()).filter(|&k| self.candidate(k, p, along));
+        let nearest = candidates.max_by(|&j, &k| {
+            let order = by_angle(self.upward(k), self.upward(j));
+            let angles =
+                if self.slip == Some(Slip::GreatestAngle) { order.reverse() } else { order };
+            compare(self.at_height(j, p), self.at_height(k, p)).then(angles)
+        });
+        nearest.map(|k| 2 * k + (self.upward(k) == self.ways[k]) as usize)
+    }
+
+    /// Is edge k a candidate for the look from p?
+    fn candidate(&self, k: usize, p: &Point, along: Option<(i64, i64)>) -> bool {
+        let (lower, upper) = self.lower_upper(k);
+        let height = |q: &Point| (q.y as i128 * p.d as i128).cmp(&(p.y as i128 * q.d as i128));
+        let below_upper = match self.slip {
+            Some(Slip::UpperEnd) => height(upper) != Ordering::Less && self.ways[k].1 != 0,
+            _ => height(upper) == Ordering::Greater,
+        };
+        if height(lower) == Ordering::Greater || !below_upper {
+            return false;
         }
-        seen.map(|k| 2 * k + (self.upward(k) == self.ways[k]) as usize)
+        match compare(self.at_height(k, p), (p.x as i128, p.d as i128)) {
+            Ordering::Less => true,
+            Ordering::Equal => self.counts_through(k, along),
+            Ordering::Greater => false,
+        }
+    }
+
+    /// Does edge k, which goes through p or starts there, count?
+    fn counts_through(&self, k: usize, along: Option<(i64, i64)>) -> bool {
+        let Some(e) = along else { return self.slip == Some(Slip::NotStrict) };
+        let order = by_angle(self.upward(k), e);
+        match self.slip {
+            Some(Slip::NotThrough) => false,
+            Some(Slip::SmallerAngle) => order == Ordering::Less,
+            Some(Slip::NotOverLevel) if e.1 == 0 => false,
+            _ => order == Ordering::Greater,
+        }
     }
 }
 

@@ -1,6 +1,7 @@
 //! The overlay as document 01 says it.
 
 use super::net::Net;
+use super::slip::Slip;
 use crate::limits::NO_HALF_EDGE;
 use crate::map::Map;
 use crate::point::{side, Point};
@@ -9,7 +10,7 @@ use crate::tables::{FaceRow, HalfEdgeRow, Sources, Tables, VertexRow};
 
 /// The crossing of two edges that are not parallel: "exactly when both parameters lie from 0
 /// to 1, ends included".
-fn crossing(s: &Segment, t: &Segment) -> Option<Point> {
+fn crossing(s: &Segment, t: &Segment, slip: Option<Slip>) -> Option<Point> {
     let ((u1, u2), (v1, v2)) = (s.way(), t.way());
     let (w1, w2) = (t.ax - s.ax, t.ay - s.ay);
     let bottom = u1 * v2 - u2 * v1;
@@ -22,26 +23,33 @@ fn crossing(s: &Segment, t: &Segment) -> Option<Point> {
         0 <= top && top <= bottom
     };
     let met = from_0_to_1(first) && from_0_to_1(second);
-    let point = || Point::lowest(s.ax * bottom + u1 * first, s.ay * bottom + u2 * first, bottom);
-    met.then(point)
+    let (x, y) = (s.ax * bottom + u1 * first, s.ay * bottom + u2 * first);
+    let sign = bottom.signum();
+    met.then(|| match slip {
+        Some(Slip::NotLowest) => Point { x: x * sign, y: y * sign, d: bottom * sign },
+        _ => Point::lowest(x, y, bottom),
+    })
 }
 
 /// The overlay vertices: all input vertices and crossings, in point order, each once.
-fn vertices(maps: [&Map; 2]) -> Vec<Point> {
+fn vertices(maps: [&Map; 2], slip: Option<Slip>) -> Vec<Point> {
     let whole = |&(x, y): &(i16, i16)| Point::whole(x as i64, y as i64);
     let mut points: Vec<Point> = maps.iter().flat_map(|m| m.vertices.iter().map(whole)).collect();
     for s in maps[0].segments() {
-        points.extend(maps[1].segments().iter().filter_map(|t| crossing(&s, t)));
+        points.extend(maps[1].segments().iter().filter_map(|t| crossing(&s, t, slip)));
     }
     points.sort();
     points.dedup();
     points
 }
 
+/// A piece of an edge: its lower and upper vertex number, and where it comes from.
+type Piece = ((usize, usize), Sources);
+
 /// "Edges are the pieces of input edges between neighbouring overlay vertices on them; a piece
 /// that comes from both maps stands once. They are sorted by lower, then upper vertex number."
-fn pieces(maps: [&Map; 2], points: &[Point]) -> Vec<((usize, usize), Sources)> {
-    let mut pieces: Vec<((usize, usize), Sources)> = Vec::new();
+fn pieces(maps: [&Map; 2], points: &[Point], slip: Option<Slip>) -> Vec<Piece> {
+    let mut pieces: Vec<Piece> = Vec::new();
     for (m, map) in maps.iter().enumerate() {
         for (k, s) in map.segments().iter().enumerate() {
             let [a, b] = s.ends();
@@ -49,12 +57,16 @@ fn pieces(maps: [&Map; 2], points: &[Point]) -> Vec<((usize, usize), Sources)> {
                 let p = &points[*v];
                 a.min(b) <= *p && *p <= a.max(b) && side(&a, &b, p) == 0
             };
-            let on: Vec<usize> = (0..points.len()).filter(on).collect();
+            let mut on: Vec<usize> = (0..points.len()).filter(on).collect();
+            if slip == Some(Slip::FirstCrossing) && on.len() > 3 {
+                on.drain(2..on.len() - 1);
+            }
             for pair in on.windows(2) {
                 let source = Some(k as u16);
-                match pieces.iter_mut().find(|(ends, _)| *ends == (pair[0], pair[1])) {
-                    Some((_, sources)) => sources.1 = source,
-                    None => {
+                let known = pieces.iter_mut().find(|(ends, _)| *ends == (pair[0], pair[1]));
+                match known {
+                    Some((_, sources)) if slip != Some(Slip::SharedTwice) => sources.1 = source,
+                    _ => {
                         let sources = if m == 0 { (source, None) } else { (None, source) };
                         pieces.push(((pair[0], pair[1]), sources));
                     }
@@ -67,7 +79,7 @@ fn pieces(maps: [&Map; 2], points: &[Point]) -> Vec<((usize, usize), Sources)> {
 }
 
 /// The vertices and edges of the overlay; an edge's line is that of its first source.
-fn net(maps: [&Map; 2], points: Vec<Point>, pieces: &[((usize, usize), Sources)]) -> Net {
+fn net(maps: [&Map; 2], points: Vec<Point>, pieces: &[Piece], slip: Option<Slip>) -> Net {
     let carrier = |sources: &Sources| match *sources {
         (Some(k), _) => maps[0].segment(k as usize),
         (None, Some(k)) => maps[1].segment(k as usize),
@@ -87,6 +99,7 @@ fn net(maps: [&Map; 2], points: Vec<Point>, pieces: &[((usize, usize), Sources)]
         ends: pieces.iter().map(|(ends, _)| *ends).collect(),
         bases: carriers.iter().map(|s| (s.ax, s.ay)).collect(),
         ways: carriers.into_iter().map(upward).collect(),
+        slip,
     }
 }
 
@@ -101,6 +114,7 @@ fn label(map: &Map, of_map: &Net, net: &Net, source: Option<u16>, h: usize) -> u
             let with_it = (from < to) == upward;
             map.label(2 * k as usize + !with_it as usize)
         }
+        None if net.slip == Some(Slip::BoundaryOnly) => 0,
         None => {
             let lower = &net.points[net.ends[h / 2].0];
             of_map.seen(lower, Some(net.ways[h / 2])).map_or(0, |g| map.label(g))
@@ -131,14 +145,18 @@ fn sort_walks(net: &Net, followers: &[usize]) -> Sorted {
     let hole: Vec<bool> = walks.iter().map(|w| net.hole_mark(&outgoing, w).is_some()).collect();
     let least: Vec<usize> = (0..walks.len()).filter(|&w| !hole[w]).map(|w| walks[w][0]).collect();
     let west = |w: usize| net.seen(&net.points[net.smallest(&walks[w])], None);
+    let steps = if net.slip == Some(Slip::OneStep) { 1 } else { walks.len() };
     let face = |mut w: usize| {
-        while hole[w] {
+        for _ in 0..steps {
+            if !hole[w] {
+                break;
+            }
             match west(w) {
                 Some(h) => w = walk_of[h],
                 None => return 0,
             }
         }
-        1 + least.iter().position(|&h| walk_of[h] == w).expect("an outer walk has a face")
+        least.iter().position(|&h| walk_of[h] == w).map_or(0, |f| f + 1)
     };
     let faces: Vec<usize> = (0..walks.len()).map(face).collect();
     let mut holes = vec![0; least.len() + 1];
@@ -147,12 +165,12 @@ fn sort_walks(net: &Net, followers: &[usize]) -> Sorted {
 }
 
 /// The tables of the overlay and the pair of each half-edge, with no regard to the room.
-pub fn overlay(first: &Map, second: &Map) -> (Tables, Vec<(u16, u16)>) {
+pub fn overlay(first: &Map, second: &Map, slip: Option<Slip>) -> (Tables, Vec<(u16, u16)>) {
     let maps = [first, second];
-    let points = vertices(maps);
-    let pieces = pieces(maps, &points);
-    let net = net(maps, points, &pieces);
-    let of_maps = maps.map(Net::of);
+    let points = vertices(maps, slip);
+    let pieces = pieces(maps, &points, slip);
+    let net = net(maps, points, &pieces, slip);
+    let of_maps = maps.map(|map| Net::of(map, slip));
     let outgoing = net.outgoing();
     let followers: Vec<usize> = (0..net.half_edges()).map(|h| net.follower(&outgoing, h)).collect();
     let pair = |h: usize| {
@@ -161,16 +179,17 @@ pub fn overlay(first: &Map, second: &Map) -> (Tables, Vec<(u16, u16)>) {
     };
     let pairs: Vec<(u16, u16)> = (0..net.half_edges()).map(pair).collect();
     let sorted = sort_walks(&net, &followers);
+    let number = |h: Option<usize>| h.map_or(NO_HALF_EDGE, |h| h as u16);
     let half_edge = |h: usize| HalfEdgeRow {
         origin: net.origin(h) as u16,
         twin: (h ^ 1) as u16,
         follower: followers[h] as u16,
-        predecessor: followers.iter().position(|&f| f == h).expect("following is onto") as u16,
+        predecessor: number(followers.iter().position(|&f| f == h)),
         face: sorted.face_of[h] as u16,
     };
     let vertex = |v: usize| {
         let Point { x, y, d } = net.points[v];
-        VertexRow { x, y, d, out: outgoing[v][0] as u16 }
+        VertexRow { x, y, d, out: number(outgoing[v].first().copied()) }
     };
     let outside =
         FaceRow { first: 0, second: 0, least: NO_HALF_EDGE, holes: sorted.holes[0] as u16 };

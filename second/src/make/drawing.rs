@@ -33,11 +33,11 @@ pub enum Palette {
 
 impl Palette {
     pub fn any(random: &mut Random) -> Palette {
-        match random.below(6) {
-            0 => Palette::Each,
-            1 => Palette::Same(random.bits() as u16),
-            2 => Palette::Wild,
-            n => Palette::Few(n as u16 - 1),
+        match random.below(8) {
+            0 | 1 => Palette::Each,
+            2 => Palette::Same(random.bits() as u16),
+            3 | 4 => Palette::Wild,
+            n => Palette::Few(n as u16 - 3),
         }
     }
 

@@ -16,7 +16,7 @@ const MOST: usize = 12;
 /// A form: draws into a drawing with the help of some places, all within a reach.
 type Form = fn(&mut Drawing, &mut Random, &[Place], i64);
 
-const FORMS: &[Form] = &[any_edges, triangles, petals, box_and_more, rays, long_edges];
+const FORMS: &[Form] = &[any_edges, triangles, petals, box_and_more, rays, long_edges, rows, rows];
 
 fn any_edges(drawing: &mut Drawing, random: &mut Random, places: &[Place], _: i64) {
     scribble(drawing, random, places, MOST, 40);
@@ -47,6 +47,31 @@ fn box_and_more(drawing: &mut Drawing, random: &mut Random, places: &[Place], re
         _ => {
             let (a, b) = (random.pick(places), random.pick(places));
             drawing.rectangle((a.0.min(b.0), a.1.min(b.1)), (a.0.max(b.0), a.1.max(b.1)));
+        }
+    }
+}
+
+/// A box with walls that have a vertex at half its height, and small pieces at the same height:
+/// what is seen looking west from them goes through vertices.
+fn rows(drawing: &mut Drawing, random: &mut Random, _: &[Place], reach: i64) {
+    let reach = reach.max(4);
+    let corners = [(-reach, -reach), (reach, -reach), (reach, reach), (-reach, reach)];
+    if random.below(5) > 0 {
+        drawing.ring(&corners);
+    }
+    for _ in 0..random.range(1, 2) {
+        let middle = (random.range(-reach, reach), 0);
+        for corner in corners {
+            if random.below(5) > 1 {
+                drawing.join(middle, corner);
+            }
+        }
+    }
+    for _ in 0..random.range(1, 4) {
+        let (x, y) = (random.range(-reach, reach), random.pick(&[0, 0, 0, 1, -1]));
+        let (dx, dy) = (random.range(-2, 2), random.range(0, 2));
+        if drawing.join((x, y), (x + dx, y + dy)) && random.once_in(2) {
+            drawing.path(&[(x + dx, y + dy), (x + 1 - dx, y + 1), (x, y)]);
         }
     }
 }

@@ -7,6 +7,7 @@ pub mod overlay_damage;
 pub mod pairs;
 pub mod plain;
 pub mod sizes;
+pub mod telling;
 pub mod wild;
 
 use crate::map::Map;
@@ -27,7 +28,8 @@ impl Kind {
 
 /// All kinds of valid maps.
 pub fn kinds() -> impl Iterator<Item = &'static Kind> {
-    plain::KINDS.iter().chain(few::KINDS).chain(wild::KINDS).chain(sizes::KINDS)
+    let small = plain::KINDS.iter().chain(few::KINDS).chain(telling::KINDS);
+    small.chain(wild::KINDS).chain(sizes::KINDS)
 }
 
 /// The bytes of a map file of this kind, valid or damaged; `any` takes one of all kinds.

@@ -6,9 +6,11 @@ use super::drawing::{Drawing, Place};
 use super::few::two_few;
 use super::plain::{cells, place};
 use super::sizes::{comb, filler, thick};
+use super::telling::telling_pair;
 use super::wild::{places, scribble};
 use super::{kinds, map_file, valid_map};
 use crate::limits::{EDGES, MAP_EDGES, VERTICES};
+use crate::literal::slip::OF_PAIRS;
 use crate::map::{Edge, Map};
 use crate::overlay::{overlay, Room};
 use crate::random::Random;
@@ -31,6 +33,7 @@ const fn kind(
 pub const KINDS: &[PairKind] = &[
     kind("mixed", "two valid maps of any kinds", mixed),
     kind("few", "two maps of two to twelve edges", some_few),
+    kind("telling", "two maps on which some slip would show", telling),
     kind("tiny", "two maps on the same few places", tiny),
     kind("same", "one map twice, numbered and labelled anew", same),
     kind("shift", "a map over itself, moved a little", shift),
@@ -86,6 +89,15 @@ fn mixed(random: &mut Random) -> [Vec<u8>; 2] {
 
 fn some_few(random: &mut Random) -> [Vec<u8>; 2] {
     let [first, second] = two_few(random);
+    files(first, second)
+}
+
+fn telling(random: &mut Random) -> [Vec<u8>; 2] {
+    let slip = random.pick(OF_PAIRS);
+    let [first, second] = match random.below(3) {
+        0 => telling_pair(random, slip, |random| [valid_map(random), valid_map(random)]),
+        _ => telling_pair(random, slip, two_few),
+    };
     files(first, second)
 }
 

@@ -46,7 +46,7 @@ pub fn run(n: u64, seed: u64) -> Result<String, String> {
 fn single(file: &[u8]) -> Result<bool, String> {
     let Ok(map) = decode(file) else { return Ok(false) };
     holds(map.bytes() == file, || "the bytes of the map differ from the file".into())?;
-    let (found, literal) = (fault(&map), literal::check::fault(&map));
+    let (found, literal) = (fault(&map), literal::check::fault(&map, None));
     holds(found == literal, || format!("check: {found:?}, by 01's words {literal:?}"))?;
     turned::checks(&map, found)?;
     Ok(found.is_none())
@@ -72,7 +72,7 @@ fn pair(files: &[Vec<u8>; 2]) -> Result<bool, String> {
 
 /// The tables and pairs are those of document 01's own ways.
 fn by_01(first: &Map, second: &Map, done: &Overlay) -> Found {
-    let (tables, pairs) = literal::overlay::overlay(first, second);
+    let (tables, pairs) = literal::overlay::overlay(first, second, None);
     holds(tables.vertices == done.tables.vertices, || "vertices differ from 01's".into())?;
     holds(tables.sources == done.tables.sources, || "sources differ from 01's".into())?;
     holds(tables.half_edges == done.tables.half_edges, || "half-edges differ from 01's".into())?;
