@@ -1,0 +1,62 @@
+-- `mapcheck::net::first_clash` meets its contract: nothing below the counter has been found. Assumes nothing.
+use mathlib.Core.Path.{_≡_, refl, sym, ap, _∙_}
+use Prim.Native.Nat.{_≤_}
+use native.Mathlib.Omega.{arith}
+use borrow.Author.Needs.{needs}
+use denote.Ref.{now}
+use Rattle.seq.specs.Seq.{_-_, least}
+use Rattle.seq.specs.Least.{least-found, least-more}
+use Rattle.mapcheck.specs.Net.{clashAt}
+use Rattle.mapcheck.proofs.net.first_clash.Statement.{statement}
+use Rattle.mapcheck.proofs.net.first_clash.Tie as tie
+
+abbrev Inv-loop : tie.InvT-loop
+Inv-loop carriers e k j₀ j = (j ≤ e) × (least (clashAt carriers k) j ≡ j)
+
+abbrev μ-loop : tie.MeasureT-loop
+μ-loop carriers e k j₀ j = e - j
+
+loop-holds : tie.Need-loop-holds Inv-loop μ-loop
+loop-holds c = (search needs, refl)
+
+clashes-requires : tie.Need-clashes-requires Inv-loop μ-loop
+clashes-requires c κs = search needs
+
+returns : tie.Need-returns Inv-loop μ-loop
+returns c =
+    let at = c .before .before .before in
+    let a = at .before .args in
+    sym (least-found (clashAt (now (a .carriers)) (a .k)) (a .e) (at .loop .j) (omega arith) (at .loop .inv .1) (sym (c .before .clashes .ensures) ∙ c .if1 .taken))
+
+add-j : tie.Need-add-j Inv-loop μ-loop
+add-j c = search needs
+
+loop-less : tie.Need-loop-less Inv-loop μ-loop
+loop-less c = search needs
+
+loop-again : tie.Need-loop-again Inv-loop μ-loop
+loop-again c =
+    let at = c .before .before .before in
+    let a = at .before .args in
+    (omega arith, least-more (clashAt (now (a .carriers)) (a .k)) (at .loop .j) (at .loop .inv .1) (sym (c .before .clashes .ensures) ∙ c .if1 .left))
+
+returns-2 : tie.Need-returns-2 Inv-loop μ-loop
+returns-2 c =
+    let at = c .before in
+    let a = at .before .args in
+    let q : at .loop .j ≡ a .e = omega arith in
+    sym (ap (least (clashAt (now (a .carriers)) (a .k))) (sym q) ∙ at .loop .inv .1 ∙ q)
+
+pub first-clash-spec : {M : Type 1} → statement M
+first-clash-spec =
+    tie.close
+    (tie.spec
+    Inv-loop
+    μ-loop
+    loop-holds
+    clashes-requires
+    returns
+    add-j
+    loop-less
+    loop-again
+    returns-2)

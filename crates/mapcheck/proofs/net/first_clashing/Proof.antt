@@ -1,0 +1,67 @@
+-- `mapcheck::net::first_clashing` meets its contract: nothing below the counter has been found. Assumes nothing.
+use mathlib.Core.Path.{_≡_, refl, sym, ap, _∙_}
+use Prim.Native.Nat.{_≤_}
+use native.Mathlib.Omega.{arith}
+use borrow.Author.Needs.{needs}
+use borrow.Author.Tests.{lt-ltb, le-ltb}
+use denote.Ref.{now}
+use Rattle.seq.specs.Seq.{Bool, not, _-_, ltb, least}
+use Rattle.seq.specs.Least.{least-found, least-more, least-le}
+use Rattle.mapcheck.specs.Net.{clashAt, clashingAt}
+use Rattle.mapcheck.proofs.net.first_clashing.Statement.{statement}
+use Rattle.mapcheck.proofs.net.first_clashing.Tie as tie
+
+abbrev Inv-loop : tie.InvT-loop
+Inv-loop carriers e k₀ k = (k ≤ e) × (least (clashingAt carriers e) k ≡ k)
+
+abbrev μ-loop : tie.MeasureT-loop
+μ-loop carriers e k₀ k = e - k
+
+loop-holds : tie.Need-loop-holds Inv-loop μ-loop
+loop-holds c = (search needs, refl)
+
+first-clash-requires : tie.Need-first-clash-requires Inv-loop μ-loop
+first-clash-requires c κs = search needs
+
+returns : tie.Need-returns Inv-loop μ-loop
+returns c =
+    let at = c .before .before .before in
+    let a = at .before .args in
+    sym (least-found (clashingAt (now (a .carriers)) (a .e)) (a .e) (at .loop .k) (omega arith) (at .loop .inv .1)
+    (lt-ltb (least (clashAt (now (a .carriers)) (at .loop .k)) (a .e)) (a .e) (omega (arith, c .before .first-clash .ensures, c .if1 .taken))))
+
+add-k : tie.Need-add-k Inv-loop μ-loop
+add-k c = search needs
+
+loop-less : tie.Need-loop-less Inv-loop μ-loop
+loop-less c = search needs
+
+loop-again : tie.Need-loop-again Inv-loop μ-loop
+loop-again c =
+    let at = c .before .before .before in
+    let a = at .before .args in (
+      omega arith,
+      least-more (clashingAt (now (a .carriers)) (a .e)) (at .loop .k) (at .loop .inv .1)
+          (le-ltb (least (clashAt (now (a .carriers)) (at .loop .k)) (a .e)) (a .e) (omega (arith, c .before .first-clash .ensures, c .if1 .left))),
+    )
+
+returns-2 : tie.Need-returns-2 Inv-loop μ-loop
+returns-2 c =
+    let at = c .before in
+    let a = at .before .args in
+    let q : at .loop .k ≡ a .e = omega arith in
+    sym (ap (least (clashingAt (now (a .carriers)) (a .e))) (sym q) ∙ at .loop .inv .1 ∙ q)
+
+pub first-clashing-spec : {M : Type 1} → statement M
+first-clashing-spec =
+    tie.close
+    (tie.spec
+    Inv-loop
+    μ-loop
+    loop-holds
+    first-clash-requires
+    returns
+    add-k
+    loop-less
+    loop-again
+    returns-2)

@@ -1,0 +1,80 @@
+// Rules 8 and 9: edges that share more than ends, and vertices without an edge, each a search for its least place.
+use graph::heading::carrier_at;
+use plane::clash::clash;
+ghost use mathlib.Core.Path.{_≡_};
+ghost use Prim.Native.Nat.{_≤_, _<_};
+ghost use lib.ListN.{length};
+ghost use Rattle.seq.specs.Seq.{least};
+ghost use Rattle.graph.specs.Flat.{Carriers};
+ghost use Rattle.mapcheck.specs.Net.{clashAt, clashingAt, startsAt, lonelyAt};
+
+// Whether edges k and j are two that share a point that is not an end of both.
+fn clashes(carriers: &[i64], e: usize, k: usize, j: usize) -> bool
+    requires { ⌜ Carriers (now carriers) e × (k < e) × (j < e) ⌝ }
+    ensures { λ r. ⌜ r ≡ clashAt (now (carriers .entry)) k j ⌝ }
+{
+    if k == j {
+        return false;
+    }
+    clash(carrier_at(carriers, k), carrier_at(carriers, j))
+}
+
+// The least edge that edge k clashes with, or e.
+fn first_clash(carriers: &[i64], e: usize, k: usize) -> usize
+    requires { ⌜ Carriers (now carriers) e × (k < e) ⌝ }
+    ensures { λ r. ⌜ r ≡ least (clashAt (now (carriers .entry)) k) e ⌝ }
+{
+    let mut j = 0;
+    while j < e {
+        if clashes(carriers, e, k, j) {
+            return j;
+        }
+        j += 1;
+    }
+    e
+}
+
+// 8 "an edge shares with another any point that is not an end of both": the least such edge, or e.
+pub fn first_clashing(carriers: &[i64], e: usize) -> usize
+    requires { ⌜ Carriers (now carriers) e ⌝ }
+    ensures { λ r. ⌜ r ≡ least (clashingAt (now (carriers .entry)) e) e ⌝ }
+{
+    let mut k = 0;
+    while k < e {
+        if first_clash(carriers, e, k) < e {
+            return k;
+        }
+        k += 1;
+    }
+    e
+}
+
+// The least of m half-edges that starts from vertex v, or m.
+fn first_start(origins: &[u16], m: usize, v: usize) -> usize
+    requires { ⌜ m ≤ length (now origins) ⌝ }
+    ensures { λ r. ⌜ r ≡ least (startsAt (now (origins .entry)) v) m ⌝ }
+{
+    let mut h = 0;
+    while h < m {
+        if origins[h] as usize == v {
+            return h;
+        }
+        h += 1;
+    }
+    m
+}
+
+// 9 "a vertex has no edge": the least such vertex of n, or n.
+pub fn first_lonely(origins: &[u16], m: usize, n: usize) -> usize
+    requires { ⌜ m ≤ length (now origins) ⌝ }
+    ensures { λ r. ⌜ r ≡ least (lonelyAt (now (origins .entry)) m) n ⌝ }
+{
+    let mut v = 0;
+    while v < n {
+        if first_start(origins, m, v) == m {
+            return v;
+        }
+        v += 1;
+    }
+    n
+}
