@@ -1,12 +1,13 @@
 -- The pieces of one input edge join up to it: the vertices on it, in order, start with its lower end and end with its upper end, and between each of them and the next
--- there is a piece that has the edge as its source (`Chain`). So each piece ends where the next starts. Assumes nothing.
+-- there is a piece that has the edge as its source (`Chain`). So each piece ends where the next starts, and a test on points that turns between the ends of the edge turns
+-- between those of one of its pieces (`turning-piece`): each point of an edge is on a piece of it. Assumes nothing.
 use mathlib.Core.Path.{_≡_, refl, sym, _∙_, ap, subst}
 use mathlib.Core.Logic.{inl, inr}
 use Prim.Native.Nat.{_<_, _≤_, _-_, suc-le-suc}
 use native.Mathlib.Nat.{not-suc-le-zero, le-of-suc-le-suc}
 use native.Mathlib.Decide.{decLt}
 use native.Mathlib.Omega.{arith}
-use Rattle.seq.specs.Seq.{true, false, List, [], _∷_, some, ℕ, zero, suc, length, getD}
+use Rattle.seq.specs.Seq.{Bool, true, false, List, [], _∷_, some, ℕ, zero, suc, length, getD}
 use Rattle.seq.specs.Terms.{Among, Asc}
 use Rattle.seq.specs.Tests.{clash}
 use Rattle.seq.specs.Members.{at-among, among-at}
@@ -69,6 +70,15 @@ module _ (l : List ℕ) (a : Asc l) where
         | no q ↦ let t : n ≡ length l - 1 = omega arith in ap (λ (m : ℕ). getD l m 0) (sym t) ∙ e
       ]
 
+-- a test that turns on the way turns at some step
+pub turning : (t : ℕ → Bool) (n : ℕ) → t 0 ≡ false → t n ≡ true → (j : ℕ) × (j < n) × (t j ≡ false) × (t (suc j) ≡ true)
+turning t zero e f = absurd (clash f e)
+turning t (suc n) e f = go (t n) refl (turning t n e)
+  where
+    go : (c : Bool) → t n ≡ c → (t n ≡ true → (j : ℕ) × (j < n) × (t j ≡ false) × (t (suc j) ≡ true)) → (j : ℕ) × (j < suc n) × (t j ≡ false) × (t (suc j) ≡ true)
+    go true q ih = let (j, l, x, y) = ih q in (j, omega arith, x, y)
+    go false q ih = (n, omega arith, q, f)
+
 -- ── the vertices on an edge ──
 
 -- of edge k of map i: the vertices on it, and a piece from each to the next
@@ -78,6 +88,14 @@ pub record Chain (ms : List Map) (i k : ℕ) (l : List ℕ) : Type 0 where
   pub last : pointIn (verticesOf ms) (getD l (length l - 1) 0) ≡ whole (head (seg (layer ms i) k))
   pub piece : (j : ℕ) → suc j < length l → (r : ℕ) × (r < length (edgesOf ms (verticesOf ms))) × (pieceAt (edgesOf ms (verticesOf ms)) r .lo ≡ getD l j 0)
       × (pieceAt (edgesOf ms (verticesOf ms)) r .hi ≡ getD l (suc j) 0) × (sourceAt (pieceAt (edgesOf ms (verticesOf ms)) r .sources) i ≡ some k)
+
+-- a piece of edge k of map i on which a test turns: it fails at the lower end and holds at the upper
+pub record Turns (ms : List Map) (i k : ℕ) (t : Pt → Bool) : Type 0 where
+  pub piece : ℕ
+  pub below : piece < length (edgesOf ms (verticesOf ms))
+  pub source : sourceAt (pieceAt (edgesOf ms (verticesOf ms)) piece .sources) i ≡ some k
+  pub at-low : t (pointIn (verticesOf ms) (pieceAt (edgesOf ms (verticesOf ms)) piece .lo)) ≡ false
+  pub at-high : t (pointIn (verticesOf ms) (pieceAt (edgesOf ms (verticesOf ms)) piece .hi)) ≡ true
 
 module _ (ms : List Map) (K : AllKeep ms) (i k : ℕ) (li : i < length ms) (lk : k < edges (layer ms i)) where
   abbrev vs : List Pt
@@ -153,3 +171,13 @@ module _ (ms : List Map) (K : AllKeep ms) (i k : ℕ) (li : i < length ms) (lk :
           (subst (λ (z : ℕ). Runs ms vs i k z (pieceAt (edgesOf ms vs) r .hi)) (sym x) (subst (λ (z : ℕ). Runs ms vs i k (getD l j 0) z) (sym y) (runs j b))),
     );
   }
+
+  -- a test that fails at the lower end and holds at the upper: on some piece it does so too
+  pub turning-piece : (t : Pt → Bool) → t (whole (seg (layer ms i) k .foot)) ≡ false → t (whole (head (seg (layer ms i) k))) ≡ true → Turns ms i k t
+  turning-piece t e f =
+      let (j, b, x, y) = turning (λ j. t (pointIn vs (getD l j 0))) (length l - 1) (ap t starts ∙ e) (ap t ends ∙ f) in
+      go j x y (chain .piece j (omega arith))
+    where
+      go : (j : ℕ) → t (pointIn vs (getD l j 0)) ≡ false → t (pointIn vs (getD l (suc j) 0)) ≡ true → (r : ℕ) × (r < length (edgesOf ms vs)) × (pieceAt (edgesOf ms vs) r .lo ≡ getD l j 0)
+          × (pieceAt (edgesOf ms vs) r .hi ≡ getD l (suc j) 0) × (sourceAt (pieceAt (edgesOf ms vs) r .sources) i ≡ some k) → Turns ms i k t
+      go j x y (r, c, lo, hi, s) = record { piece = r; below = c; source = s; at-low = ap (λ (v : ℕ). t (pointIn vs v)) lo ∙ x; at-high = ap (λ (v : ℕ). t (pointIn vs v)) hi ∙ y }

@@ -18,3 +18,4 @@ pub mod Fits
 pub mod Put
 pub mod EmptyMap
 pub mod EmptyTables
+pub mod Along
