@@ -70,6 +70,10 @@ module _ (ms : List Map) (K : AllKeep ms) where
         subst (λ (x : ℕ). Runs ms vs i k x (edge g r .to)) (sym (from-is ms vs r))
         (subst (λ (x : ℕ). Runs ms vs i k (pieceAt (edgesOf ms vs) r .lo) x) (sym (to-is ms vs r)) (sourced ms K vs (places ms K) r l .from i k s))
 
+    -- it is an edge of a map of the list
+    pub source-there : (i < length ms) × (k < edges (layer ms i))
+    source-there = (runs .in-list, runs .of-map)
+
     pub source-up : UpV (seg (layer ms i) k .up)
     source-up = seg-rises (layer ms i) (K i (runs .in-list)) k (runs .of-map)
 
