@@ -1,15 +1,24 @@
--- Rules 1 and 3 as the code tests them, one thing after the other. Assumes nothing.
-use mathlib.Core.Path.{_≡_, refl, sym}
+-- Tests as the code makes them, one after the other: one of two numbers beyond a bound; rule 1; the length of a map file. Assumes nothing.
+use mathlib.Core.Path.{_≡_, refl}
 use Prim.Native.Nat.{_≤_, _<_}
+use native.Mathlib.Omega.{arith}
 use borrow.Author.Tests.{lt-ltb, le-ltb, eq-eqb, ne-eqb}
-use Rattle.seq.specs.Seq.{Bool, true, false, not, _&&_, _||_, List, ℕ, ltb, eqb, length}
-use Rattle.seq.specs.Tests.{or-l}
+use Rattle.seq.specs.Seq.{Bool, true, false, not, _&&_, _||_, List, ℕ, _+_, _*_, ltb, eqb, length}
 use Rattle.paper.specs.Bytes.{ascii, byteAt, marked}
-use Rattle.paper.specs.Limits.{mapHead, mapVertices, mapEdges}
-use Rattle.paper.specs.Map.{vertexCount, edgesIn}
+use Rattle.paper.specs.Limits.{mapHead}
+use Rattle.paper.specs.Map.{vertexCount, edgesIn, vertexPlace, mapLength}
+
+-- ── one of two ──
+
+pub beyond : (k x : ℕ) (b : Bool) → k < x → true ≡ (ltb k x || b)
+beyond k x b h = rw (lt-ltb k x h)
+
+pub within : (k x : ℕ) (b : Bool) → x ≤ k → b ≡ (ltb k x || b)
+within k x b h = rw (le-ltb k x h)
+
+-- ── 1 "under 9 bytes, or mark wrong" ──
 
 module _ (s : List ℕ) where
-  -- 1 "under 9 bytes, or mark wrong"
   abbrev wrong : Bool
   wrong = ltb (length s) mapHead || not (marked (ascii "ZMP") s 0)
 
@@ -30,12 +39,6 @@ module _ (s : List ℕ) where
         alone true = refl
         alone false = refl
 
-  -- 3 "V > 200 or E > 300"
-  pub many-vertices : mapVertices < vertexCount s → true ≡ (ltb mapVertices (vertexCount s) || ltb mapEdges (edgesIn s))
-  many-vertices h = sym (or-l (ltb mapEdges (edgesIn s)) (lt-ltb mapVertices (vertexCount s) h))
-
-  pub by-edges : vertexCount s ≤ mapVertices → ltb mapEdges (edgesIn s) ≡ (ltb mapVertices (vertexCount s) || ltb mapEdges (edgesIn s))
-  by-edges h = sym (or-skip (ltb mapEdges (edgesIn s)) (le-ltb mapVertices (vertexCount s) h))
-    where
-      or-skip : {a : Bool} (b : Bool) → a ≡ false → (a || b) ≡ b
-      or-skip b e = rw e
+  -- "Length is 9 + 4V + 8E"
+  pub length-is : vertexPlace (vertexCount s) + 8 * edgesIn s ≡ mapLength s
+  length-is = omega arith

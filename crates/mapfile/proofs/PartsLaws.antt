@@ -3,10 +3,9 @@
 use mathlib.Core.Path.{_≡_, refl, sym, ap, _∙_}
 use Prim.Native.Nat.{_≤_, _<_}
 use native.Mathlib.Omega.{arith}
-use borrow.Author.Tests.{lt-ltb, le-ltb, le-leb, lt-leb}
+use borrow.Author.Tests.{le-leb, lt-leb}
 use Rattle.seq.specs.Least.{least-ext, some-ext}
 use Rattle.seq.specs.Seq.{Bool, zero, suc, negsuc, [], _∷_, true, false, _&&_, _||_, List, ℕ, ltb, leb, eqb, ℤ, pos, natAbs, _-ℤ_, _*ℤ_, least}
-use Rattle.seq.specs.Tests.{or-l}
 use Rattle.exact.specs.Mach.{eqZ}
 use Rattle.exact.specs.Sign.{sgn, isZer, lexS}
 use Rattle.exact.specs.Solve.{ring, reify}
@@ -44,15 +43,6 @@ module _ (s : List ℕ) where
 
   pub least-ends : least (badEnds (mapOf s .graph)) (edgesIn s) ≡ least (badEndsAt s) (edgesIn s)
   least-ends = least-ext (badEnds (mapOf s .graph)) (badEndsAt s) (edgesIn s) ends-is
-
--- ── 5, one coordinate after the other ──
-
-module _ (x y : ℕ) where
-  pub far-x : reach < x → true ≡ (ltb reach x || ltb reach y)
-  far-x h = sym (or-l (ltb reach y) (lt-ltb reach x h))
-
-  pub far-y : x ≤ reach → ltb reach y ≡ (ltb reach x || ltb reach y)
-  far-y h = rw (le-ltb reach x h)
 
 -- ── 6, one coordinate after the other ──
 

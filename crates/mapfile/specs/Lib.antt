@@ -2,3 +2,4 @@ pub mod Verdict
 pub mod Parts
 pub mod Rows
 pub mod Kept
+pub mod Header

@@ -1,23 +1,22 @@
 // Rules 1 to 4: the form of a map file.
 use crate::bytes::byte_at;
-use crate::bytes::u16_at;
-use crate::fields::edge_count;
-use crate::fields::half_place;
-use crate::fields::vertex_count;
+use crate::fields::vertex_place;
 use crate::limits::MAP_EDGES;
 use crate::limits::MAP_HEAD;
 use crate::limits::MAP_VERTICES;
+use crate::reader::read_header;
 use crate::refusal::Check;
 use crate::refusal::first;
 use crate::refusal::given;
 ghost use mathlib.Core.Path.{_≡_};
 ghost use mathlib.Core.Bool.{not, _||_};
-ghost use lib.Dec.{ltb, eqb};
+ghost use Prim.Native.Nat.{_+_, _*_};
+ghost use lib.Dec.{ltb};
 ghost use lib.ListN.{length};
 ghost use Rattle.paper.specs.Limits.{mapHead, mapVertices, mapEdges};
-ghost use Rattle.paper.specs.Bytes.{ascii, marked, u16};
+ghost use Rattle.paper.specs.Bytes.{ascii, marked};
 ghost use Rattle.paper.specs.Refusal.{firstOf};
-ghost use Rattle.paper.specs.Map.{vertexCount, edgesIn, mapLength, formFaults};
+ghost use Rattle.paper.specs.Map.{vertexPlace, formFaults};
 ghost use Rattle.mapfile.specs.Verdict.{verdict};
 
 // 1 "under 9 bytes, or mark wrong"
@@ -37,29 +36,30 @@ pub fn bad_mark(file: &[u8]) -> bool
 }
 
 // 3 "V > 200 or E > 300"
-pub fn over_limits(file: &[u8]) -> bool
-    ensures { λ r. ⌜ r ≡ (ltb mapVertices (vertexCount (now (file .entry))) || ltb mapEdges (edgesIn (now (file .entry)))) ⌝ }
+pub fn over_limits(vertices: u16, edges: u16) -> bool
+    ensures { λ r. ⌜ r ≡ (ltb mapVertices vertices || ltb mapEdges edges) ⌝ }
 {
-    if MAP_VERTICES < vertex_count(file) {
+    if MAP_VERTICES < vertices {
         return true;
     }
-    MAP_EDGES < edge_count(file)
+    MAP_EDGES < edges
 }
 
 // "Length is 9 + 4V + 8E"
-pub fn map_length(file: &[u8]) -> usize
-    ensures { λ r. ⌜ r ≡ mapLength (now (file .entry)) ⌝ }
+pub fn map_length(vertices: u16, edges: u16) -> usize
+    ensures { λ r. ⌜ r ≡ vertexPlace vertices + 8 * edges ⌝ }
 {
-    half_place(file, 2 * edge_count(file) as u32)
+    vertex_place(vertices) + 8 * edges as usize
 }
 
 // The first of rules 1 to 4 that the file breaks.
 pub fn form(file: &[u8]) -> Check
     ensures { λ r. ⌜ verdict r ≡ firstOf (formFaults (now (file .entry))) ⌝ }
 {
+    let h = read_header(file);
     let mark = given(1, 0, bad_mark(file));
-    let version = given(2, 0, u16_at(file, 3) != 1);
-    let limits = given(3, 0, over_limits(file));
-    let length = given(4, 0, file.len() != map_length(file));
+    let version = given(2, 0, h.version != 1);
+    let limits = given(3, 0, over_limits(h.vertices, h.edges));
+    let length = given(4, 0, file.len() != map_length(h.vertices, h.edges));
     first(mark, first(version, first(limits, length)))
 }

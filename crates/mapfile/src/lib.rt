@@ -3,6 +3,7 @@
 pub mod limits; // the numbers of 01
 pub mod refusal; // a refusal, and chains of checks
 pub mod bytes; // numbers in bytes, low byte first
+pub mod reader; // the reader that holds the file and its place
 pub mod fields; // counts, corners, origins, labels
 pub mod form; // rules 1 to 4
 pub mod parts; // rules 5 to 7

@@ -4,8 +4,8 @@ use Prim.Native.Nat.{_≤_}
 use native.Mathlib.Omega.{arith}
 use borrow.Author.Needs.{needs}
 use denote.Ref.{now}
-use Rattle.seq.specs.Seq.{_-_, least}
 use Rattle.seq.specs.Least.{least-found, least-more}
+use Rattle.seq.specs.Seq.{_-_, least}
 use Rattle.paper.specs.Map.{edgesIn}
 use Rattle.mapfile.specs.Parts.{badEndsAt}
 use Rattle.mapfile.proofs.PartsLaws.{least-ends}

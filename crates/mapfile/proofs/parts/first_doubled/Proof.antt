@@ -5,8 +5,8 @@ use native.Mathlib.Omega.{arith}
 use borrow.Author.Needs.{needs}
 use borrow.Author.Tests.{lt-ltb, le-ltb}
 use denote.Ref.{now}
-use Rattle.seq.specs.Seq.{ℕ, _-_, ltb, least}
 use Rattle.seq.specs.Least.{least-found, least-more}
+use Rattle.seq.specs.Seq.{ℕ, _-_, ltb, least}
 use Rattle.paper.specs.Map.{vertexCount}
 use Rattle.mapfile.specs.Parts.{doubledAt}
 use Rattle.mapfile.proofs.PartsLaws.{least-doubled}

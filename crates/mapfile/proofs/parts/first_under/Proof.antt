@@ -4,8 +4,8 @@ use Prim.Native.Nat.{_≤_}
 use native.Mathlib.Omega.{arith}
 use borrow.Author.Needs.{needs}
 use denote.Ref.{now}
-use Rattle.seq.specs.Seq.{_-_, least}
 use Rattle.seq.specs.Least.{least-found, least-more}
+use Rattle.seq.specs.Seq.{_-_, least}
 use Rattle.mapfile.specs.Parts.{liesOn}
 use Rattle.mapfile.proofs.parts.first_under.Statement.{statement}
 use Rattle.mapfile.proofs.parts.first_under.Tie as tie

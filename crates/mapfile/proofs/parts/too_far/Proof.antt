@@ -7,7 +7,7 @@ use denote.Ref.{now}
 use Rattle.seq.specs.Seq.{ltb, natAbs}
 use Rattle.paper.specs.Limits.{reach}
 use Rattle.paper.specs.Map.{cornerAt}
-use Rattle.mapfile.proofs.PartsLaws.{far-x, far-y}
+use Rattle.mapfile.proofs.FormLaws.{beyond, within}
 use Rattle.mapfile.proofs.parts.too_far.Statement.{statement}
 use Rattle.mapfile.proofs.parts.too_far.Tie as tie
 
@@ -22,7 +22,7 @@ returns c =
     let a = c .before .before .before .before .args in
     let x = c .before .magnitude .ensures ∙ ap natAbs (toZ-ofZ w64 _ (record { sfits = c .before .before .corner-x .ok }) ∙ c .before .before .corner-x .ensures) in
     let s = now (a .file) in
-    far-x (natAbs (cornerAt s (a .v) .x)) (natAbs (cornerAt s (a .v) .y)) (rw x at (c .if1 .taken))
+    beyond reach (natAbs (cornerAt s (a .v) .x)) (ltb reach (natAbs (cornerAt s (a .v) .y))) (rw x at (c .if1 .taken))
 
 corner-y-requires : tie.Need-corner-y-requires
 corner-y-requires c κs = search needs
@@ -37,7 +37,7 @@ returns-2 c =
     let x = d .magnitude .ensures ∙ ap natAbs (toZ-ofZ w64 _ (record { sfits = d .before .corner-x .ok }) ∙ d .before .corner-x .ensures) in
     let y = c .magnitude2 .ensures ∙ ap natAbs (toZ-ofZ w64 _ (record { sfits = c .before .corner-y .ok }) ∙ c .before .corner-y .ensures) in
     let s = now (a .file) in
-    ap (ltb reach) y ∙ far-y (natAbs (cornerAt s (a .v) .x)) (natAbs (cornerAt s (a .v) .y)) (rw x at (c .before .before .if1 .left))
+    ap (ltb reach) y ∙ within reach (natAbs (cornerAt s (a .v) .x)) (ltb reach (natAbs (cornerAt s (a .v) .y))) (rw x at (c .before .before .if1 .left))
 
 pub too-far-spec : {M : Type 1} → statement M
 too-far-spec =
