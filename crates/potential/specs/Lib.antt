@@ -24,5 +24,6 @@ pub mod Labels
 pub mod Files
 pub mod OneFace
 pub mod LabelIn
-pub mod Example
+pub mod Overlay
 pub mod Agree
+pub mod Example
