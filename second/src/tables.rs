@@ -53,14 +53,16 @@ impl Tables {
         self.faces.iter().skip(1).filter(|f| f.first == 0).count()
     }
 
-    /// Works out each vertex's least outgoing half-edge from the origins.
+    /// Works out each vertex's least outgoing half-edge from the origins; an origin that names
+    /// no vertex is passed over.
     pub fn set_least_outgoing(&mut self) {
         for vertex in &mut self.vertices {
             vertex.out = NO_HALF_EDGE;
         }
         for (h, row) in self.half_edges.iter().enumerate() {
-            let vertex = &mut self.vertices[row.origin as usize];
-            vertex.out = vertex.out.min(h as u16);
+            if let Some(vertex) = self.vertices.get_mut(row.origin as usize) {
+                vertex.out = vertex.out.min(h as u16);
+            }
         }
     }
 

@@ -6,10 +6,12 @@ use crate::literal::slip::{OF_MAPS, OF_PAIRS};
 use crate::make::damage::{damage_map, KINDS};
 use crate::make::few::{few, two_few};
 use crate::make::overlay_damage;
+use crate::make::table_damage::{self, Order};
 use crate::make::telling::{telling_map, telling_pair};
 use crate::overlay::{overlay_files, Overlay, Room};
-use crate::ovfile::{file_of, read};
+use crate::ovfile::{file_of, read, write};
 use crate::random::Random;
+use crate::tables::Tables;
 use std::fmt::Write;
 
 /// Map lines for each pair line.
@@ -19,7 +21,7 @@ const TELLING: usize = 3;
 /// No file of a map line is longer.
 const LONGEST: usize = 260;
 
-/// The lines of n rounds: a pair, five maps, a room, a read file.
+/// The lines of n rounds: a pair, five maps, a room, a file read, a file written.
 pub fn run(seed: u64, n: usize) -> String {
     let mut out = String::new();
     for round in 0..n {
@@ -34,6 +36,7 @@ pub fn run(seed: u64, n: usize) -> String {
         }
         line(room_line(&mut random, round));
         line(read_line(&mut random));
+        line(write_line(&mut random));
     }
     out
 }
@@ -139,18 +142,23 @@ fn room_line(random: &mut Random, round: usize) -> String {
     format!("room {} {} {} {answer}", hex(&files[0]), hex(&files[1]), words(rows))
 }
 
-fn read_line(random: &mut Random) -> String {
-    let (tables, mut file) = loop {
+/// The tables of a small overlay, and its file.
+fn small_overlay(random: &mut Random) -> (Tables, Vec<u8>) {
+    loop {
         let [first, second] = two_few(random).map(|map| map.bytes());
         let done = overlay_files(&first, &second, &Room::FULL).map(|o| o.tables);
-        if let Ok((tables, file)) = done.and_then(|t| file_of(&t).map(|file| (t, file))) {
-            break (tables, file);
+        if let Ok(both) = done.and_then(|t| file_of(&t).map(|file| (t, file))) {
+            return both;
         }
-    };
+    }
+}
+
+fn read_line(random: &mut Random) -> String {
+    let (t, mut file) = small_overlay(random);
     if !random.once_in(5) {
         file = overlay_damage::damaged(random, &file);
     }
-    let full = [tables.vertices.len(), tables.half_edges.len(), tables.edges(), tables.faces.len()];
+    let full = [t.vertices.len(), t.half_edges.len(), t.edges(), t.faces.len()];
     let rows = if random.once_in(4) { rows(random, full) } else { full.map(|n| n + 1) };
     let room = Room::lent(rows[0], rows[1], rows[2], rows[3]);
     let answer = match read(&file, &room) {
@@ -158,4 +166,31 @@ fn read_line(random: &mut Random) -> String {
         Err(refusal) => refusal.to_string(),
     };
     format!("read {} {} {answer}", hex(&file), words(rows))
+}
+
+/// The rows of a table as text: fields parted by commas, rows by semicolons, `-` for no row.
+fn text<T, const N: usize>(rows: &[T], fields: impl Fn(&T) -> [i64; N]) -> String {
+    let row = |row: &T| fields(row).map(|n| n.to_string()).join(",");
+    match rows {
+        [] => "-".to_string(),
+        _ => rows.iter().map(row).collect::<Vec<_>>().join(";"),
+    }
+}
+
+fn write_line(random: &mut Random) -> String {
+    let (tables, _) = small_overlay(random);
+    let Order { tables: t, counts: c, length } = table_damage::damaged(random, &tables);
+    let answer = match write(&t, c, length) {
+        Ok(file) => format!("done {}", hex(&file)),
+        Err(refusal) => refusal.to_string(),
+    };
+    let vertices = text(&t.vertices, |v| [v.x, v.y, v.d, v.out as i64]);
+    let half_edges = text(&t.half_edges, |h| {
+        [h.origin, h.twin, h.follower, h.predecessor, h.face].map(i64::from)
+    });
+    let stored = |source: Option<u16>| source.map_or(0, |k| k as i64 + 1);
+    let sources = text(&t.sources, |s| [stored(s.0), stored(s.1)]);
+    let faces = text(&t.faces, |f| [f.first, f.second, f.least, f.holes].map(i64::from));
+    let counts = words([c.vertices, c.edges, c.faces, length]);
+    format!("write {counts} {vertices} {half_edges} {sources} {faces} {answer}")
 }

@@ -6,3 +6,4 @@ pub mod net;
 pub mod overlay;
 pub mod reader;
 pub mod slip;
+pub mod writer;

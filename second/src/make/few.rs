@@ -89,10 +89,14 @@ fn rays(drawing: &mut Drawing, random: &mut Random, places: &[Place], _: i64) {
 fn long_edges(drawing: &mut Drawing, random: &mut Random, _: &[Place], reach: i64) {
     for _ in 0..random.range(2, 5) {
         let (a, b) = (random.range(-reach, reach), random.range(-reach, reach));
+        let flip = random.pick(&[1, -1]);
         match random.below(3) {
             0 => drawing.join((a, -reach), (b, reach)),
             1 => drawing.join((-reach, a), (reach, b)),
-            _ => drawing.join((-reach, -reach + a.abs() / 9), (reach - b.abs() / 9, reach)),
+            _ => {
+                let (low, high) = (a.abs() / 9 - reach, reach - b.abs() / 9);
+                drawing.join((-reach, low * flip), (high, reach * flip))
+            }
         };
     }
     let ends = drawing.places().to_vec();
@@ -114,7 +118,7 @@ fn draw(random: &mut Random, places: &[Place], reach: i64) -> Drawing {
 
 /// Small and large reaches, small ones more often.
 fn some_reach(random: &mut Random) -> i64 {
-    random.pick(&[1, 2, 2, 3, 3, 4, 7, 40, 500, 2_000])
+    random.pick(&[1, 2, 2, 3, 3, 4, 7, 40, 500, 2_000, 2_000])
 }
 
 pub fn few(random: &mut Random) -> Map {

@@ -7,6 +7,7 @@ pub mod overlay_damage;
 pub mod pairs;
 pub mod plain;
 pub mod sizes;
+pub mod table_damage;
 pub mod telling;
 pub mod wild;
 

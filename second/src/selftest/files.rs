@@ -1,12 +1,14 @@
-//! Laws of overlay files: reading returns what was written, writing what was read; the reader's
-//! refusals.
+//! Laws of overlay files: reading returns what was written, writing what was read; the refusals
+//! of reader and writer.
 
 use super::{holds, Found};
 use crate::literal;
 use crate::make::overlay_damage::damaged;
+use crate::make::table_damage;
 use crate::overlay::{Overlay, Room};
-use crate::ovfile::{file_of, read};
+use crate::ovfile::{file_of, read, write};
 use crate::random::Random;
+use crate::tables::Tables;
 
 /// Damaged files for each overlay.
 const TRIES: u64 = 8;
@@ -19,6 +21,7 @@ pub fn all(done: &Overlay) -> Found {
     for seed in 0..tries {
         let mut random = Random::new(seed + file.len() as u64, "files");
         reader(&damaged(&mut random, &file), &mut random)?;
+        writer(&done.tables, &mut random)?;
     }
     reader(&file, &mut Random::new(0, "files"))
 }
@@ -40,4 +43,21 @@ fn reader(file: &[u8], random: &mut Random) -> Found {
         }
         Err(_) => Ok(()),
     }
+}
+
+/// The writer refuses as 01's words say, and what it writes is read as the counted rows.
+fn writer(tables: &Tables, random: &mut Random) -> Found {
+    let order = table_damage::damaged(random, tables);
+    let written = write(&order.tables, order.counts, order.length);
+    let literal = literal::writer::fault(&order.tables, order.counts, order.length);
+    let refusal = written.as_ref().err().copied();
+    holds(refusal == literal, || format!("writer: {refusal:?}, by 01's words {literal:?}"))?;
+    let Ok(file) = written else { return Ok(()) };
+    let mut counted = order.tables;
+    counted.vertices.truncate(order.counts.vertices);
+    counted.half_edges.truncate(2 * order.counts.edges);
+    counted.sources.truncate(order.counts.edges);
+    counted.faces.truncate(order.counts.faces);
+    let read = read(&file, &Room::FULL);
+    holds(read == Ok(counted), || "what was written is not read back".into())
 }
