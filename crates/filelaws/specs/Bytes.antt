@@ -24,6 +24,15 @@ pub length-leSigned : (w : ℕ) (z : ℤ) → length (leSigned w z) ≡ w
 length-leSigned w (pos n) = length-le w n
 length-leSigned w (negsuc n) = length-le w (256 ^ w - suc n)
 
+-- the unsigned number whose bytes a signed one has
+abbrev pub wrapped : ℕ → ℤ → ℕ
+wrapped w (pos n) = n
+wrapped w (negsuc n) = 256 ^ w - suc n
+
+pub leSigned-wrapped : (w : ℕ) (z : ℤ) → leSigned w z ≡ le w (wrapped w z)
+leSigned-wrapped w (pos n) = refl
+leSigned-wrapped w (negsuc n) = refl
+
 -- how many numbers w bytes have
 pub some-numbers : (w : ℕ) → 0 < 256 ^ w
 some-numbers w = one-le-pow w 256 (omega arith)
@@ -35,7 +44,8 @@ number-of zero n s i h b = omega arith
 number-of (suc w) n s i h b = rw (b .0, number-of w (n / 256) s (suc i) (omega arith) (b .1)) (omega arith)
 
 module _ (w : ℕ) (s : List ℕ) (i : ℕ) where
-  signed-by : (n : ℕ) (c : Bool) → ltb n (256 ^ w / 2) ≡ c → number w s i ≡ n → signedAt w s i ≡ cond c (pos n) (negsuc (256 ^ w - suc n))
+  -- the lower half of the numbers stands for itself, the upper half for the negative ones
+  pub signed-by : (n : ℕ) (c : Bool) → ltb n (256 ^ w / 2) ≡ c → number w s i ≡ n → signedAt w s i ≡ cond c (pos n) (negsuc (256 ^ w - suc n))
   signed-by n c e q = rw (q, e)
 
   -- a number that fits

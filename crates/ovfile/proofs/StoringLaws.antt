@@ -1,0 +1,57 @@
+-- Loops that store rows of w bytes one after the other from a place on: the bytes stored so far are `rows f i`. Assumes nothing.
+use mathlib.Core.Path.{_≡_, refl, sym, _∙_, ap}
+use Prim.Native.Nat.{_≤_, _<_}
+use native.Mathlib.Nat.{add-zero, add-suc, suc-add, zero-add}
+use native.Mathlib.Numerals.{one-add}
+use native.Mathlib.Omega.{arith}
+use lib.ListN.{set}
+use lib.Seq.{length-sets, sets-eq}
+use Rattle.seq.specs.Seq.{List, [], _∷_, _++_, ℕ, suc, _+_, _*_, length, getD, drop, sets, rows, over, gather}
+use Rattle.seq.specs.Rows.{length-rows, rows-more, rows-+, rows-ext}
+
+module _ {A : Type 0} where
+  -- what is stored behind something stored is stored with it
+  pub stored-behind : (d : List A) (at : ℕ) (xs ys : List A) → sets (sets d at xs) (at + length xs) ys ≡ sets d at (xs ++ ys)
+  stored-behind d at [] ys = ap (λ (k : ℕ). sets d k ys) (add-zero at)
+  stored-behind d at (x ∷ xs) ys =
+      ap (λ (k : ℕ). sets (sets (set d at x) (suc at) xs) k ys) (add-suc at (length xs) ∙ sym (suc-add at (length xs)))
+      ∙ stored-behind (set d at x) (suc at) xs ys
+
+  -- stored from the start on it is laid over
+  pub stored-first : (d xs : List A) → length xs ≤ length d → sets d 0 xs ≡ over xs d
+  unfolding over
+  stored-first d xs h = sets-eq xs d 0 (omega arith) ∙ ap (λ (k : ℕ). xs ++ drop k d) (zero-add (length xs))
+
+-- t is what the loop that stores the rows f 0, f 1, .. of w bytes from a place on has made of d before turn i
+pub record Storing (w : ℕ) (f : ℕ → List ℕ) (at n : ℕ) (d t : List ℕ) (i : ℕ) : Type 0 where
+  pub room : at + w * n ≤ length d
+  pub within : i ≤ n
+  pub kept : length t ≡ length d
+  pub is : t ≡ sets d at (rows f i)
+
+module _ (w : ℕ) (f : ℕ → List ℕ) (each : (k : ℕ) → length (f k) ≡ w) where
+  pub storing-starts : (at n : ℕ) (d : List ℕ) → at + w * n ≤ length d → Storing w f at n d d 0
+  storing-starts at n d h = record { room = h; within = omega arith; kept = refl; is = refl }
+
+  pub storing-turns : {at n : ℕ} {d t : List ℕ} {i : ℕ} → Storing w f at n d t i → (u : List ℕ) → i < n → u ≡ sets t (at + w * i) (f i) → Storing w f at n d u (i + 1)
+  storing-turns {at} {n} {d} {t} {i} r u l e =
+      record {
+        room = r .room;
+        within = omega arith;
+        kept = ap length e ∙ length-sets t (at + w * i) (f i) ∙ r .kept;
+        is = e ∙ ap (λ (x : List ℕ). sets x (at + w * i) (f i)) (r .is)
+            ∙ ap (λ (k : ℕ). sets (sets d at (rows f i)) (at + k) (f i)) (sym (length-rows w f i (λ k m. each k)))
+            ∙ stored-behind d at (rows f i) (f i) ∙ ap (sets d at) (sym (rows-more f i));
+      }
+
+  pub storing-ends : {at n : ℕ} {d t : List ℕ} {i : ℕ} → Storing w f at n d t i → n ≤ i → t ≡ sets d at (rows f n)
+  storing-ends {at} {n} {d} {t} {i} r l = let e : i ≡ n = omega (arith, r .within) in r .is ∙ ap (λ (k : ℕ). sets d at (rows f k)) e
+
+-- the fields of a record are rows
+pub gather-rows : (g : ℕ → List ℕ) (xs : List ℕ) → rows (λ i. g (getD xs i 0)) (length xs) ≡ gather g xs
+gather-rows g [] = refl
+gather-rows g (x ∷ xs) =
+    ap (rows (λ i. g (getD (x ∷ xs) i 0))) (sym (one-add (length xs)))
+    ∙ rows-+ (λ i. g (getD (x ∷ xs) i 0)) 1 (length xs)
+    ∙ ap (λ (r : List ℕ). g x ++ r)
+    (rows-ext (λ i. g (getD (x ∷ xs) (1 + i) 0)) (λ i. g (getD xs i 0)) (length xs) (λ k l. ap (λ (j : ℕ). g (getD (x ∷ xs) j 0)) (one-add k)) ∙ gather-rows g xs)

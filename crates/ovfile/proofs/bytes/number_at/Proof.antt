@@ -1,0 +1,69 @@
+-- `ovfile::bytes::number_at` meets its contract: past the end every byte is 0, and before it the places can be counted. Assumes nothing.
+use mathlib.Core.Path.{sym}
+use native.Mathlib.Omega.{arith}
+use borrow.Author.Needs.{needs}
+use denote.Ref.{now}
+use Rattle.ovfile.proofs.BytesLaws.{Reading, number-past, reading-starts, reading-turns, reading-ends, reading-small}
+use Rattle.ovfile.proofs.bytes.number_at.Statement.{statement}
+use Rattle.ovfile.proofs.bytes.number_at.Tie as tie
+
+abbrev Inv-loop : tie.InvT-loop
+Inv-loop file at width n₀ i₀ n i = Reading width file at i n
+
+abbrev μ-loop : tie.MeasureT-loop
+μ-loop file at width n₀ i₀ n i = i
+
+returns : tie.Need-returns Inv-loop μ-loop
+returns c = let a = c .before .before .args in sym (number-past (a .width) (now (a .file)) (a .at) (c .if1 .taken))
+
+loop-holds : tie.Need-loop-holds Inv-loop μ-loop
+loop-holds c = let a = c .before .before .args in reading-starts (a .width) (now (a .file)) (a .at)
+
+sub-i : tie.Need-sub-i Inv-loop μ-loop
+sub-i c = search needs
+
+add-byte-at : tie.Need-add-byte-at Inv-loop μ-loop
+add-byte-at c = omega (arith, c .before .loop .inv .within)
+
+byte-at-requires : tie.Need-byte-at-requires Inv-loop μ-loop
+byte-at-requires c κs = search needs
+
+cast-n : tie.Need-cast-n Inv-loop μ-loop
+cast-n c = search needs
+
+mul-n : tie.Need-mul-n Inv-loop μ-loop
+mul-n c =
+    let at = c .before .before in
+    omega (arith, reading-small _ _ _ (at .loop .inv) (λ i. at .before .before .shared-slice-known .given i .fits) (omega arith) (c .before .loop-test .taken))
+
+add-n : tie.Need-add-n Inv-loop μ-loop
+add-n c =
+    let at = c .before .before in
+    omega (arith, reading-small _ _ _ (at .loop .inv) (λ i. at .before .before .shared-slice-known .given i .fits) (omega arith) (c .before .loop-test .taken))
+
+loop-less : tie.Need-loop-less Inv-loop μ-loop
+loop-less c = search needs
+
+loop-again : tie.Need-loop-again Inv-loop μ-loop
+loop-again c = reading-turns _ _ _ (c .before .before .loop .inv) (c .byte-at .result) (c .before .loop-test .taken) (c .byte-at .ensures)
+
+returns-2 : tie.Need-returns-2 Inv-loop μ-loop
+returns-2 c = reading-ends _ _ _ (c .before .loop .inv) (c .loop-test .left)
+
+pub number-at-spec : {M : Type 1} → statement M
+number-at-spec =
+    tie.close
+    (tie.spec
+    Inv-loop
+    μ-loop
+    returns
+    loop-holds
+    sub-i
+    add-byte-at
+    byte-at-requires
+    cast-n
+    mul-n
+    add-n
+    loop-less
+    loop-again
+    returns-2)

@@ -1,0 +1,46 @@
+-- `ovfile::bytes::numbers` meets its contract. Assumes nothing.
+use mathlib.Core.Path.{_≡_, sym, ap, _∙_}
+use Prim.Native.Nat.{_≤_}
+use native.Mathlib.Nat.{pow-succ'}
+use native.Mathlib.Numerals.{add-one}
+use native.Mathlib.Omega.{arith}
+use borrow.Author.Needs.{needs}
+use Rattle.seq.specs.Seq.{ℕ, _*_, _-_, _^_}
+use Rattle.ovfile.proofs.BytesLaws.{powers-fit}
+use Rattle.ovfile.proofs.bytes.numbers.Statement.{statement}
+use Rattle.ovfile.proofs.bytes.numbers.Tie as tie
+
+abbrev Inv-loop : tie.InvT-loop
+Inv-loop width n₀ i₀ n i = (i ≤ width) × (n ≡ 256 ^ i)
+
+abbrev μ-loop : tie.MeasureT-loop
+μ-loop width n₀ i₀ n i = width - i
+
+loop-holds : tie.Need-loop-holds Inv-loop μ-loop
+loop-holds c = search needs
+
+mul-n : tie.Need-mul-n Inv-loop μ-loop
+mul-n c =
+    let at = c .before in
+    omega (arith, powers-fit (at .loop .i) (at .before .args .width) (omega arith) (omega arith))
+
+add-i : tie.Need-add-i Inv-loop μ-loop
+add-i c = search needs
+
+loop-less : tie.Need-loop-less Inv-loop μ-loop
+loop-less c = search needs
+
+loop-again : tie.Need-loop-again Inv-loop μ-loop
+loop-again c =
+    let at = c .before .loop in
+    (omega arith, ap (λ (n : ℕ). 256 * n) (at .inv .1) ∙ sym (rw (add-one (at .i)) (pow-succ' 256 (at .i))))
+
+returns : tie.Need-returns Inv-loop μ-loop
+returns c =
+    let at = c .before .loop in
+    let e : at .i ≡ c .before .before .args .width = omega arith in
+    at .inv .1 ∙ ap (λ (i : ℕ). 256 ^ i) e
+
+pub numbers-spec : {M : Type 1} → statement M
+numbers-spec =
+    tie.close (tie.spec Inv-loop μ-loop loop-holds mul-n add-i loop-less loop-again returns)

@@ -1,0 +1,84 @@
+-- `ovfile::bytes::put_fields` meets its contract: the fields are rows of two bytes. Assumes nothing.
+use mathlib.Core.Path.{_≡_, ap, _∙_}
+use native.Mathlib.Omega.{arith}
+use borrow.Author.Needs.{needs}
+use denote.Ref.{now}
+use Rattle.seq.specs.Seq.{List, ℕ, _-_, length, getD, sets}
+use Rattle.paper.specs.Bytes.{le}
+use Rattle.filelaws.specs.Bytes.{length-le}
+use Rattle.ovfile.proofs.StoringLaws.{Storing, storing-starts, storing-turns, storing-ends, gather-rows}
+use Rattle.ovfile.proofs.bytes.put_fields.Statement.{statement}
+use Rattle.ovfile.proofs.bytes.put_fields.Tie as tie
+
+abbrev field : List ℕ → ℕ → List ℕ
+field fields i = le 2 (getD fields i 0)
+
+two : (fields : List ℕ) (i : ℕ) → length (field fields i) ≡ 2
+two fields i = length-le 2 (getD fields i 0)
+
+abbrev Inv-loop : tie.InvT-loop
+Inv-loop buffer₀ at fields i₀ buffer i = Storing 2 (field fields) at (length fields) buffer₀ buffer i
+
+abbrev μ-loop : tie.MeasureT-loop
+μ-loop buffer₀ at fields i₀ buffer i = length fields - i
+
+loop-holds : tie.Need-loop-holds Inv-loop μ-loop
+loop-holds c = let a = c .before .before .args in storing-starts 2 (field (now (a .fields))) (two (now (a .fields))) _ _ _ (omega arith)
+
+mul-put : tie.Need-mul-put Inv-loop μ-loop
+mul-put c = search needs
+
+add-put : tie.Need-add-put Inv-loop μ-loop
+add-put c = search needs
+
+mul-put-2 : tie.Need-mul-put-2 Inv-loop μ-loop
+mul-put-2 c = search needs
+
+shared-slice-read-put : tie.Need-shared-slice-read-put Inv-loop μ-loop
+shared-slice-read-put c = search needs
+
+cast-put : tie.Need-cast-put Inv-loop μ-loop
+cast-put c = omega (arith, c .shared-slice-known2 .given (c .before .before .before .loop .i))
+
+put-requires : tie.Need-put-requires Inv-loop μ-loop
+put-requires c κs = omega (arith, c .before .before .before .loop .inv .room, c .before .before .before .loop .inv .kept)
+
+add-i : tie.Need-add-i Inv-loop μ-loop
+add-i c = search needs
+
+loop-less : tie.Need-loop-less Inv-loop μ-loop
+loop-less c = search needs
+
+loop-again : tie.Need-loop-again Inv-loop μ-loop
+loop-again c =
+    let at = c .before .before .before .before .before .before in
+    let fields = now (at .before .before .before .args .fields) in
+    storing-turns 2 (field fields) (two fields) (at .loop .inv) _ (c .before .before .before .before .before .loop-test .taken) (c .before .before .put .ensures)
+
+same-length : tie.Need-same-length Inv-loop μ-loop
+same-length c = search needs
+
+returns : tie.Need-returns Inv-loop μ-loop
+returns c =
+    let a = c .before .before .before .before .args in
+    storing-ends 2 (field (now (a .fields))) (two (now (a .fields))) (c .before .loop .inv) (c .loop-test .left)
+    ∙ ap (sets (now (a .buffer)) (a .at)) (gather-rows (le 2) (now (a .fields)))
+
+pub put-fields-spec : {M : Type 1} → statement M
+put-fields-spec =
+    tie.close
+    (tie.spec
+    Inv-loop
+    μ-loop
+    loop-holds
+    mul-put
+    add-put
+    mul-put-2
+    shared-slice-read-put
+    cast-put
+    put-requires
+    add-i
+    loop-less
+    loop-again
+    same-length
+    returns)

@@ -1,0 +1,50 @@
+-- `ovfile::bytes::twos` meets its contract. Assumes nothing.
+use mathlib.Core.Path.{_≡_, ap, _∙_}
+use native.Mathlib.Omega.{arith}
+use borrow.Author.Needs.{needs}
+use lib.Signed.{ltZ-yes, ltZ-no}
+use mir.Syntax.{w64}
+use mir.ValLaws.{toZ-ofZ}
+use Rattle.seq.specs.Seq.{_-_, natAbs}
+use Rattle.exact.specs.Mach.{trbs, taken, left}
+use Rattle.ovfile.proofs.BytesLaws.{wrapped-low, wrapped-high}
+use Rattle.ovfile.proofs.bytes.twos.Statement.{statement}
+use Rattle.ovfile.proofs.bytes.twos.Tie as tie
+
+numbers-requires : tie.Need-numbers-requires
+numbers-requires c κs = search needs
+
+magnitude-requires : tie.Need-magnitude-requires
+magnitude-requires c κs = search needs
+
+magnitude-is : (c : tie.After-magnitude) → c .magnitude .result ≡ natAbs (c .before .before .before .args .z)
+magnitude-is c = let s = c .before .before .before in c .magnitude .ensures ∙ ap natAbs (toZ-ofZ w64 (s .args .z) (s .fits .z))
+
+sub-result : tie.Need-sub-result
+sub-result c = omega (arith, magnitude-is c)
+
+magnitude-requires-2 : tie.Need-magnitude-requires-2
+magnitude-requires-2 c κs = search needs
+
+returns : tie.Need-returns
+returns c =
+    let a = c .before .before .before .args in
+    (λ i. c .before .numbers .ensures i - magnitude-is c i)
+    ∙ wrapped-high (a .width) (a .z) (ltZ-yes (taken (c .before .before .if1 .taken) (search trbs depth 20) tt))
+
+returns-2 : tie.Need-returns-2
+returns-2 c =
+    let s = c .before .before in
+    c .magnitude2 .ensures ∙ ap natAbs (toZ-ofZ w64 (s .args .z) (s .fits .z))
+    ∙ wrapped-low (s .args .width) (s .args .z) (ltZ-no (left (c .before .if1 .left) (search trbs depth 20) tt))
+
+pub twos-spec : {M : Type 1} → statement M
+twos-spec =
+    tie.close
+    (tie.spec
+    numbers-requires
+    magnitude-requires
+    sub-result
+    magnitude-requires-2
+    returns
+    returns-2)

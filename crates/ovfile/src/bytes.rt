@@ -1,0 +1,94 @@
+// Numbers in bytes, "low byte first", over the width: read from a file, where a byte past the end counts as 0, and stored in a buffer.
+use exact::cast::magnitude;
+use mapfile::bytes::byte_at;
+ghost use mathlib.Core.Path.{_≡_};
+ghost use Prim.Native.Nat.{_+_, _*_, _<_, _≤_, _^_};
+ghost use lib.IntN.{natAbs};
+ghost use lib.ListN.{length};
+ghost use lib.Seq.{sets};
+ghost use Rattle.seq.specs.Seq.{gather};
+ghost use Rattle.paper.specs.Bytes.{number, signedAt, le};
+ghost use Rattle.filelaws.specs.Bytes.{wrapped};
+
+// How many numbers w bytes have.
+pub fn numbers(width: usize) -> u64
+    requires { ⌜ width < 8 ⌝ }
+    ensures { λ r. ⌜ r ≡ 256 ^ width ⌝ }
+{
+    let mut n: u64 = 1;
+    let mut i = 0;
+    while i < width {
+        n = 256 * n;
+        i += 1;
+    }
+    n
+}
+
+// The unsigned number in the bytes at a place, from the high byte down.
+pub fn number_at(file: &[u8], at: usize, width: usize) -> u64
+    requires { ⌜ width < 8 ⌝ }
+    ensures { λ r. ⌜ r ≡ number width (now (file .entry)) at ⌝ }
+{
+    if file.len() <= at {
+        return 0;
+    }
+    let mut n: u64 = 0;
+    let mut i = width;
+    while 0 < i {
+        i -= 1;
+        n = byte_at(file, at + i) as u64 + 256 * n;
+    }
+    n
+}
+
+// The signed number there, two's complement.
+pub fn signed_at(file: &[u8], at: usize, width: usize) -> i64
+    requires { ⌜ width < 8 ⌝ }
+    ensures { λ r. ⌜ r ≡ signedAt width (now (file .entry)) at ⌝ }
+{
+    let n = number_at(file, at, width);
+    let all = numbers(width);
+    if n < all / 2 {
+        n as i64
+    } else {
+        n as i64 - all as i64
+    }
+}
+
+// The unsigned number whose bytes a signed one has, two's complement.
+pub fn twos(z: i64, width: usize) -> u64
+    requires { ⌜ (width < 8) × (natAbs z ≤ 256 ^ width) ⌝ }
+    ensures { λ r. ⌜ r ≡ wrapped width z ⌝ }
+{
+    if z < 0 {
+        numbers(width) - magnitude(z)
+    } else {
+        magnitude(z)
+    }
+}
+
+// Stores the low bytes of a number at a place.
+pub fn put(buffer: &mut [u8], at: usize, width: usize, n: u64)
+    requires { ⌜ at + width ≤ length (now buffer) ⌝ }
+    ensures { λ _. ⌜ now (buffer .exit) ≡ sets (now (buffer .entry)) at (le width n) ⌝ }
+{
+    let mut rest = n;
+    let mut i = 0;
+    while i < width {
+        buffer[at + i] = (rest % 256) as u8;
+        rest = rest / 256;
+        i += 1;
+    }
+}
+
+// Stores 16-bit numbers one after the other.
+pub fn put_fields(buffer: &mut [u8], at: usize, fields: &[u32])
+    requires { ⌜ at + 2 * length (now fields) ≤ length (now buffer) ⌝ }
+    ensures { λ _. ⌜ now (buffer .exit) ≡ sets (now (buffer .entry)) at (gather (le 2) (now (fields .entry))) ⌝ }
+{
+    let mut i = 0;
+    while i < fields.len() {
+        put(buffer, at + 2 * i, 2, fields[i] as u64);
+        i += 1;
+    }
+}
