@@ -1,6 +1,6 @@
 -- Where bytes stand in a list, both ways: a part of what stands there stands at its place, and parts that stand at their places stand there together.
 -- The parts are two lists end to end, rows of one width, and the fields of a record, all of w bytes. Assumes nothing.
-use mathlib.Core.Path.{_≡_, refl, sym, _∙_, ap}
+use mathlib.Core.Path.{_≡_, sym, _∙_, ap}
 use Prim.Native.Nat.{_<_, suc-le-suc}
 use native.Mathlib.Nat.{add-zero, add-suc, suc-add, mul-zero, mul-suc, zero-add, not-suc-le-zero, le-of-suc-le-suc}
 use native.Mathlib.Decide.{decLt}

@@ -1,2 +1,8 @@
 // The overlay file (01, "Overlay file"): its writer and its reader, for any counts, tables and bytes.
+mod limits; // the numbers of 01
 mod bytes; // numbers in bytes, low byte first, over the width
+mod room; // the three counts, and room for them
+mod cells; // the cells of flat tables
+mod sound; // sound edge records
+
+pub use room::Counts;

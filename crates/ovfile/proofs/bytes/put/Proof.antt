@@ -1,5 +1,4 @@
 -- `ovfile::bytes::put` meets its contract: what is left of the number is still to be stored. Assumes nothing.
-use native.Mathlib.Omega.{arith}
 use borrow.Author.Needs.{needs}
 use Rattle.seq.specs.Seq.{_-_}
 use Rattle.ovfile.proofs.BytesLaws.{Putting, putting-starts, putting-turns, putting-ends}

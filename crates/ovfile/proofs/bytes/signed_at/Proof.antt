@@ -1,13 +1,12 @@
 -- `ovfile::bytes::signed_at` meets its contract: the upper half of the numbers stands for the negative ones. Assumes nothing.
-use mathlib.Core.Path.{_≡_, sym, ap, _∙_}
-use Prim.Native.Nat.{_≤_, _<_}
+use mathlib.Core.Path.{sym, ap, _∙_}
+use Prim.Native.Nat.{_<_}
 use native.Mathlib.Omega.{arith}
 use borrow.Author.Needs.{needs}
 use borrow.Author.Tests.{lt-ltb, le-ltb}
 use denote.Ref.{now}
 use Rattle.seq.specs.Seq.{ℕ, true, false, _+_, _/_, _^_, pos, _-ℤ_}
-use Rattle.exact.specs.Mach.{tr, trn, fits, plain}
-use Rattle.paper.specs.Bytes.{number}
+use Rattle.exact.specs.Mach.{trn, fits, plain}
 use Rattle.filelaws.specs.Bytes.{signed-by, number-below}
 use Rattle.ovfile.proofs.BytesLaws.{powers-small, number-small, below-zero}
 use Rattle.ovfile.proofs.bytes.signed_at.Statement.{statement}

@@ -1,0 +1,24 @@
+-- `ovfile::sound::has_source` meets its contract. Assumes nothing.
+use mathlib.Core.Path.{_∙_}
+use denote.Ref.{now}
+use Rattle.seq.specs.Seq.{not, _||_, eqb, cell}
+use Rattle.paper.specs.Limits.{maps}
+use Rattle.ovfile.proofs.SoundLaws.{some-two}
+use borrow.Author.Needs.{needs}
+use Rattle.ovfile.proofs.sound.has_source.Statement.{statement}
+use Rattle.ovfile.proofs.sound.has_source.Tie as tie
+
+source-cell-requires : tie.Need-source-cell-requires
+source-cell-requires c κs = search needs
+
+source-cell-requires-2 : tie.Need-source-cell-requires-2
+source-cell-requires-2 c κs = search needs
+
+returns : tie.Need-returns
+returns c =
+    let a = c .before .before .before .args in
+    (λ i. not (eqb (c .before .source-cell .ensures i) 0) || not (eqb (c .source-cell2 .ensures i) 0))
+    ∙ some-two (λ i. not (eqb (cell 0 maps (now (a .sources)) (a .k) i) 0))
+
+pub has-source-spec : {M : Type 1} → statement M
+has-source-spec = tie.close (tie.spec source-cell-requires source-cell-requires-2 returns)
