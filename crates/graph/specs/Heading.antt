@@ -40,6 +40,9 @@ module _ (ps : List ℤ) (os : List ℕ) (cs : List ℤ) (n e : ℕ) (F : Flat p
       let v = F .origins .named h l in
       record { named = omega (arith, F .origins .long); row = omega (arith, F .points .long); near = F .points .near (originAt os h) v }
 
+  pub flat-ends : (k : ℕ) → k < e → Starts ps os (2 * k) × Starts ps os (2 * k + 1)
+  flat-ends k l = (flat-starts (2 * k) (omega arith), flat-starts (2 * k + 1) (omega arith))
+
   pub flat-carried : (k : ℕ) → k < e → Carried cs k
   flat-carried k l = record { row = omega (arith, F .carriers .long); near = F .carriers .near k l }
 

@@ -6,3 +6,4 @@ pub mod Firsts
 pub mod Heading
 pub mod Pick
 pub mod Follow
+pub mod Look

@@ -1,7 +1,6 @@
 -- The best candidate so far as a number, by a default that no candidate is: what a loop that looks for the best keeps. Its turn; that it is the default or a
 -- candidate; and the best from it. Assumes nothing.
 use mathlib.Core.Path.{_≡_, refl, sym, _∙_, ap}
-use mathlib.Core.Logic.{_⊎_, inl, inr}
 use Prim.Native.Nat.{_≤_, _<_}
 use native.Mathlib.Omega.{arith}
 use borrow.Author.Tests.{eq-eqb, ne-eqb}
@@ -37,14 +36,27 @@ module _ (p : ℕ → Bool) (b : ℕ → ℕ → Bool) (d : ℕ) where
   pub pick-turn : (n : ℕ) → Away n → pick p b d (n + 1) ≡ cond (p n) (better b d n (pick p b d n)) (pick p b d n)
   pick-turn n a = by n a (best p b n) refl (p n) refl
 
-  -- it is the default where there is no candidate, or the best
-  found-by : (n : ℕ) → Away n → (o : Option ℕ) → best p b n ≡ o → ((Option·getD o d ≡ d) × (o ≡ none)) ⊎ ((Option·getD o d ≡ d → ⊥) × (o ≡ some (Option·getD o d)) × Has p n (Option·getD o d))
-  found-by n a none e = inl (refl, refl)
-  found-by n a (some r) e = inr (a r (best-has p b n r e), refl, best-has p b n r e)
+  -- the same of numbers that a loop holds: n is a candidate, and it is not
+  pub turn-yes : (n r s : ℕ) → Away n → p n ≡ true → r ≡ pick p b d n → s ≡ better b d n r → s ≡ pick p b d (n + 1)
+  turn-yes n r s a q e f = f ∙ ap (better b d n) e ∙ ap (λ (c : Bool). cond c (better b d n (pick p b d n)) (pick p b d n)) (sym q) ∙ sym (pick-turn n a)
 
-  pub pick-found : (n : ℕ) → Away n →
-      ((pick p b d n ≡ d) × (best p b n ≡ none)) ⊎ ((pick p b d n ≡ d → ⊥) × (best p b n ≡ some (pick p b d n)) × Has p n (pick p b d n))
-  pick-found n a = found-by n a (best p b n) refl
+  pub turn-no : (n r s : ℕ) → Away n → p n ≡ false → r ≡ pick p b d n → s ≡ r → s ≡ pick p b d (n + 1)
+  turn-no n r s a q e f = f ∙ e ∙ ap (λ (c : Bool). cond c (better b d n (pick p b d n)) (pick p b d n)) (sym q) ∙ sym (pick-turn n a)
+
+  -- it is the default where there is no candidate; otherwise it is the best
+  none-by : (n : ℕ) → Away n → (o : Option ℕ) → best p b n ≡ o → Option·getD o d ≡ d → o ≡ none
+  none-by n a none e q = refl
+  none-by n a (some r) e q = absurd (a r (best-has p b n r e) q)
+
+  pub pick-none : (n : ℕ) → Away n → pick p b d n ≡ d → best p b n ≡ none
+  pick-none n a q = none-by n a (best p b n) refl q
+
+  some-by : (o : Option ℕ) → (Option·getD o d ≡ d → ⊥) → o ≡ some (Option·getD o d)
+  some-by none f = absurd (f refl)
+  some-by (some r) f = refl
+
+  pub pick-some : (n : ℕ) → (pick p b d n ≡ d → ⊥) → best p b n ≡ some (pick p b d n)
+  pick-some n f = some-by (best p b n) f
 
   below-by : (n m : ℕ) → d < m → n ≤ m → (o : Option ℕ) → best p b n ≡ o → Option·getD o d < m
   below-by n m l h none e = l

@@ -2,3 +2,4 @@
 pub mod places; // the first place of each number in a table
 pub mod heading; // which way a half-edge goes
 pub mod follow; // the follower of every half-edge
+pub mod look; // looking west

@@ -1,4 +1,6 @@
 -- `graph::heading::opposite` meets its contract. Assumes nothing.
+use Rattle.graph.proofs.Rows.{minus}
+-- `graph::heading::opposite` meets its contract. Assumes nothing.
 use mathlib.Core.List.{[], _∷_}
 use mathlib.Core.Path.{_≡_, _∙_}
 use lib.IntN.{ℤ, pos, negℤ, _-ℤ_}
@@ -8,10 +10,6 @@ use Rattle.paper.specs.Plane.{vec}
 use Rattle.plane.proofs.Machine.{back}
 use Rattle.graph.proofs.heading.opposite.Statement.{statement}
 use Rattle.graph.proofs.heading.opposite.Tie as tie
-
--- 0 - z is -z
-minus : (z : ℤ) → pos 0 -ℤ z ≡ negℤ z
-minus z = ring (z ∷ []) (search reify depth 20) tt
 
 sub-t2 : tie.Need-sub-t2
 sub-t2 c = fits (search tr depth 20) tt

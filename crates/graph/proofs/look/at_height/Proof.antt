@@ -1,0 +1,68 @@
+-- `graph::look::at_height` meets its contract. Assumes nothing.
+use mathlib.Core.Path.{_≡_, sym, _∙_, ap}
+use borrow.Author.Needs.{needs}
+use Rattle.seq.specs.Seq.{Bool, cond, not, _+_, _*_}
+use Rattle.paper.specs.Plane.{Pt, below}
+use Rattle.plane.specs.Values.{ptOf}
+use Rattle.graph.specs.Flat.{startAt}
+use Rattle.graph.proofs.look.at_height.Statement.{statement}
+use Rattle.graph.proofs.look.at_height.Tie as tie
+
+-- the definition, where it is known which ends are above p
+by : (p a b : Pt) {c d : Bool} → below p a ≡ c → below p b ≡ d → cond c (not d) d ≡ cond (below p a) (not (below p b)) (below p b)
+by p a b e f = λ i. cond (sym e i) (not (sym f i)) (sym f i)
+
+mul-start : tie.Need-mul-start
+mul-start c = search needs
+
+start-requires : tie.Need-start-requires
+start-requires c κs = search needs
+
+below-requires : tie.Need-below-requires
+below-requires c κs = search needs
+
+mul-start-2 : tie.Need-mul-start-2
+mul-start-2 c = search needs
+
+add-start : tie.Need-add-start
+add-start c = search needs
+
+start-requires-2 : tie.Need-start-requires-2
+start-requires-2 c κs = search needs
+
+below-requires-2 : tie.Need-below-requires-2
+below-requires-2 c κs = search needs
+
+returns : tie.Need-returns
+returns c =
+    let a = c .before .before .before .before .before .before .args in
+    let p = ptOf (a .p) in
+    let ps = a .points .now in
+    let os = a .origins .now in
+    by p (startAt ps os (2 * a .k)) (startAt ps os (2 * a .k + 1))
+    (ap (below p) (sym (c .before .before .before .before .start .ensures .0)) ∙ sym (c .before .before .before .below .ensures) ∙ c .if1 .taken)
+    (ap (below p) (sym (c .before .before .start2 .ensures .0)) ∙ sym (c .before .below2 .ensures))
+
+returns-2 : tie.Need-returns-2
+returns-2 c =
+    let a = c .before .before .before .before .before .before .args in
+    let p = ptOf (a .p) in
+    let ps = a .points .now in
+    let os = a .origins .now in
+    by p (startAt ps os (2 * a .k)) (startAt ps os (2 * a .k + 1))
+    (ap (below p) (sym (c .before .before .before .before .start .ensures .0)) ∙ sym (c .before .before .before .below .ensures) ∙ c .if1 .left)
+    (ap (below p) (sym (c .before .before .start2 .ensures .0)) ∙ sym (c .before .below2 .ensures))
+
+pub at-height-spec : {M : Type 1} → statement M
+at-height-spec =
+    tie.close
+    (tie.spec
+    mul-start
+    start-requires
+    below-requires
+    mul-start-2
+    add-start
+    start-requires-2
+    below-requires-2
+    returns
+    returns-2)

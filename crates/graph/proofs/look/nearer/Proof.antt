@@ -1,0 +1,63 @@
+-- `graph::look::nearer` meets its contract. Assumes nothing.
+use mathlib.Core.Path.{_≡_, _∙_}
+use lib.IntN.{_-ℤ_, _*ℤ_}
+use borrow.Author.Needs.{needs}
+use Rattle.exact.specs.Mach.{tr, fits, plain}
+use Rattle.paper.specs.Plane.{vec, cross, rises}
+use Rattle.plane.proofs.Machine.{back, vec-back}
+use Rattle.plane.specs.Values.{segOf}
+use Rattle.graph.proofs.look.nearer.Statement.{statement}
+use Rattle.graph.proofs.look.nearer.Tie as tie
+
+cross-of-requires : tie.Need-cross-of-requires
+cross-of-requires c κs = search needs
+
+left-by-requires : tie.Need-left-by-requires
+left-by-requires c κs = search needs
+
+mul-ahead : tie.Need-mul-ahead
+mul-ahead c = fits (search tr depth 20) tt
+
+left-by-requires-2 : tie.Need-left-by-requires-2
+left-by-requires-2 c κs = search needs
+
+mul-ahead-2 : tie.Need-mul-ahead-2
+mul-ahead-2 c = fits (search tr depth 20) tt
+
+sub-ahead : tie.Need-sub-ahead
+sub-ahead c = fits (search tr depth 20) tt
+
+rises-requires : tie.Need-rises-requires
+rises-requires c κs = search needs
+
+returns : tie.Need-returns
+returns c =
+    let a = c .before .before .before .before .before .before .before .before .before .before .before .before .args in
+    let q = c .before .before .before .before .before .before .before .cross-of in
+    let l = c .before .before .before .before .before .before .left-by in
+    let m = c .before .before .before .left-by2 in
+    let s = a .s in
+    let t = a .t in
+    let pre = c .before .before .before .before .before .before .before .before .before .before .before .before .pre in
+    let near = l .ensures .1 in
+    let far = m .ensures .1 in
+    let sv = pre .0 .up-is .y-is in
+    let tv = pre .1 .up-is .y-is in
+    let x : back (q .result) ≡ q .result = plain (search tr depth 20) tt in
+    let y : back (back (back (l .result) *ℤ back (t .v)) -ℤ back (back (m .result) *ℤ back (s .v))) ≡ l .result *ℤ t .v -ℤ m .result *ℤ s .v = plain (search tr depth 20) tt in
+    let turn : cross (vec (back (s .u)) (back (s .v))) (vec (back (t .u)) (back (t .v))) ≡ cross (segOf s .up) (segOf t .up) =
+    λ i. cross (vec-back (s .u) (s .v) (pre .0 .up-is) i) (vec-back (t .u) (t .v) (pre .1 .up-is) i) in
+    c .rises .ensures ∙ (λ i. rises (vec ((x ∙ q .ensures .0 ∙ turn) i) ((y ∙ (λ j. l .ensures .0 j *ℤ t .v -ℤ m .ensures .0 j *ℤ s .v)) i)))
+
+pub nearer-spec : {M : Type 1} → statement M
+nearer-spec =
+    tie.close
+    (tie.spec
+    cross-of-requires
+    left-by-requires
+    mul-ahead
+    left-by-requires-2
+    mul-ahead-2
+    sub-ahead
+    rises-requires
+    returns)

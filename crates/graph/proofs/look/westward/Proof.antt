@@ -1,0 +1,40 @@
+-- `graph::look::westward` meets its contract. Assumes nothing.
+use mathlib.Core.Path.{_≡_, _∙_, ap}
+use lib.IntN.{pos, negℤ, _-ℤ_}
+use borrow.Author.Needs.{needs}
+use Rattle.exact.specs.Mach.{tr, fits, plain}
+use Rattle.paper.specs.Plane.{vec, cross, rises}
+use Rattle.plane.proofs.Machine.{back, vec-back}
+use Rattle.plane.specs.Values.{vecOf, segOf}
+use Rattle.graph.proofs.Rows.{minus}
+use Rattle.graph.proofs.look.westward.Statement.{statement}
+use Rattle.graph.proofs.look.westward.Tie as tie
+
+cross-of-requires : tie.Need-cross-of-requires
+cross-of-requires c κs = search needs
+
+left-by-requires : tie.Need-left-by-requires
+left-by-requires c κs = search needs
+
+sub-t6 : tie.Need-sub-t6
+sub-t6 c = fits (search tr depth 20) tt
+
+rises-requires : tie.Need-rises-requires
+rises-requires c κs = search needs
+
+returns : tie.Need-returns
+returns c =
+    let a = c .before .before .before .before .before .before .before .args in
+    let q = c .before .before .cross-of in
+    let l = c .before .left-by in
+    let s = a .s in
+    let x : back (q .result) ≡ q .result = plain (search tr depth 20) tt in
+    let y : back (pos 0 -ℤ back (l .result)) ≡ pos 0 -ℤ l .result = plain (search tr depth 20) tt in
+    let pre = c .before .before .before .before .before .before .before .pre in
+    let turn : cross (vec (back (a .d .x)) (back (a .d .y))) (vec (back (s .u)) (back (s .v))) ≡ cross (vecOf (a .d)) (segOf s .up) =
+    λ i. cross (vec-back (a .d .x) (a .d .y) (pre .2) i) (vec-back (s .u) (s .v) (pre .0 .up-is) i) in
+    c .rises .ensures ∙ (λ i. rises (vec ((x ∙ q .ensures .0 ∙ turn) i) ((y ∙ minus (l .result) ∙ ap negℤ (l .ensures .0)) i)))
+
+pub westward-spec : {M : Type 1} → statement M
+westward-spec =
+    tie.close (tie.spec cross-of-requires left-by-requires sub-t6 rises-requires returns)
