@@ -7,6 +7,7 @@ use second::overlay::{overlay_files, Room};
 use second::ovfile::{file_of, read};
 use second::random::Random;
 use second::text;
+use std::io::Write;
 use std::process::ExitCode;
 
 const USAGE: &str = "\
@@ -19,6 +20,8 @@ second digest ZONES BLOCKS [ROOM]         counts and digest of the overlay's tab
 second kinds                              the kinds of maps and pairs
 second make KIND SEED OUT.zmp             make a map file
 second pair KIND SEED DIR                 make DIR/zones.zmp and DIR/blocks.zmp
+second set SEED N DIR                     make N pairs of all kinds in turn, in folders of DIR
+second digests DIR                        the digest of the pair in each folder of DIR
 second damage-overlay SEED FILE OUT       damage an overlay file
 second text FILE.txt OUT.zmp              make a map file from text, and check it
 second untext FILE.zmp                    the text of a map file
@@ -36,7 +39,8 @@ fn main() -> ExitCode {
     let args: Vec<&str> = args.iter().map(String::as_str).collect();
     match run(&args) {
         Ok(text) => {
-            print!("{text}");
+            // A reader that has seen enough may close the pipe.
+            let _ = std::io::stdout().write_all(text.as_bytes());
             ExitCode::SUCCESS
         }
         Err(text) => {
@@ -61,6 +65,8 @@ fn run(args: &[&str]) -> Outcome {
             let file = make::map_file(kind, number(seed)?).ok_or("no such kind of map")?;
             save(out, &file).map(|()| String::new())
         }
+        ["set", seed, n, dir] => set(number(seed)?, number(n)?, dir),
+        ["digests", dir] => digests(dir),
         ["damage-overlay", seed, file, out] => damage_overlay(number(seed)?, file, out),
         ["text", file, out] => from_text(file, out),
         ["untext", file] => to_text(file),
@@ -162,6 +168,31 @@ fn pair(kind: &str, seed: u64, dir: &str) -> Outcome {
     std::fs::create_dir_all(dir).map_err(|why| format!("{dir}: {why}"))?;
     save(&format!("{dir}/zones.zmp"), &zones)?;
     save(&format!("{dir}/blocks.zmp"), &blocks).map(|()| String::new())
+}
+
+/// Pair i is in the folder `NNNN-KIND` and has the seed SEED + i.
+fn set(seed: u64, n: usize, dir: &str) -> Outcome {
+    let kinds = make::pairs::KINDS;
+    for i in 0..n {
+        let kind = kinds[i % kinds.len()].name;
+        pair(kind, seed.wrapping_add(i as u64), &format!("{dir}/{i:04}-{kind}"))?;
+    }
+    Ok(String::new())
+}
+
+/// `NAME ANSWER` for each folder, in the order of their names.
+fn digests(dir: &str) -> Outcome {
+    let why = |why: std::io::Error| format!("{dir}: {why}");
+    let mut folders: Vec<_> =
+        std::fs::read_dir(dir).map_err(why)?.collect::<Result<_, _>>().map_err(why)?;
+    folders.retain(|entry| entry.path().is_dir());
+    folders.sort_by_key(|entry| entry.file_name());
+    let line = |entry: &std::fs::DirEntry| {
+        let file = |name: &str| entry.path().join(name).to_string_lossy().into_owned();
+        let answer = digest(&file("zones.zmp"), &file("blocks.zmp"), &Room::FULL);
+        format!("{} {answer}", entry.file_name().to_string_lossy())
+    };
+    Ok(folders.iter().map(line).collect())
 }
 
 fn damage_overlay(seed: u64, file: &str, out: &str) -> Outcome {

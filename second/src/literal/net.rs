@@ -1,7 +1,6 @@
 //! Followers, walks, hole walks and looking west, as document 01 says them.
 
 use super::slip::Slip;
-use crate::graph::by_angle;
 use crate::map::Map;
 use crate::point::Point;
 use std::cmp::Ordering;
@@ -170,6 +169,19 @@ impl Net {
             _ => order == Ordering::Greater,
         }
     }
+}
+
+/// "Angles of outgoing half-edges run from 0 (east) counter-clockwise to just under 360 degrees":
+/// the quarter first, then the slope within it.
+fn by_angle(a: (i64, i64), b: (i64, i64)) -> Ordering {
+    let quarter = |(x, y): (i64, i64)| match (x.signum(), y.signum()) {
+        (1, 0 | 1) => (0, x, y),
+        (0 | -1, 1) => (1, y, -x),
+        (-1, 0 | -1) => (2, -x, -y),
+        _ => (3, -y, x),
+    };
+    let ((p, run_a, rise_a), (q, run_b, rise_b)) = (quarter(a), quarter(b));
+    p.cmp(&q).then((rise_a * run_b).cmp(&(rise_b * run_a)))
 }
 
 /// Compares two fractions with bottoms above 0.
