@@ -6,3 +6,4 @@ pub mod MapLaws
 pub mod PartsLaws
 pub mod LoadLaws
 pub mod KeptLaws
+pub mod GraphLaws
