@@ -15,7 +15,7 @@ use Rattle.paper.specs.Limits.{reach}
 use Rattle.paper.specs.Map.{vertexCount, edgesIn, originAt, mapOf}
 use Rattle.paper.specs.Plane.{Vec, minusV, whole, before, between}
 use Rattle.plane.specs.Bounds.{numerators, span, Corner, Near, Edge}
-use Rattle.mapfile.specs.Kept.{Parts}
+use Rattle.mapfile.specs.Kept.{Kept}
 use Rattle.mapfile.proofs.MapLaws.{point-is, carrier-is, origin-is}
 
 -- ── an edge between corners ──
@@ -45,7 +45,7 @@ between-edge a b = either-way (before (whole b) (whole a)) a b
 
 -- ── the map's graph ──
 
-module _ (s : List ℕ) (kept : Parts s) where
+module _ (s : List ℕ) (kept : Kept s) where
   pub point-near : (v : ℕ) → v < vertexCount s → Near (point (mapOf s .graph) v)
   point-near v l =
       let c = kept .near v l in

@@ -26,7 +26,7 @@ module _ (s : List ℕ) where
   pub least-far : least (tooFar (mapOf s .graph)) (vertexCount s) ≡ least (farAt s) (vertexCount s)
   least-far = least-ext (tooFar (mapOf s .graph)) (farAt s) (vertexCount s) far-is
 
-  pub doubled-is : (v : ℕ) → v < vertexCount s → doubled (mapOf s .graph) v ≡ doubledAt s v
+  doubled-is : (v : ℕ) → v < vertexCount s → doubled (mapOf s .graph) v ≡ doubledAt s v
   doubled-is v h =
       some-ext (λ u. same (point (mapOf s .graph) v) (point (mapOf s .graph) u)) (liesOn s v) v
       (λ u l i. same (point-is s v h i) (point-is s u (omega arith) i))

@@ -2,7 +2,7 @@
 use mathlib.Core.Path.{_≡_, refl, sym, ap, _∙_}
 use Prim.Native.Nat.{_<_}
 use native.Mathlib.Omega.{arith}
-use Rattle.seq.specs.Least.{no-some, no-some-is}
+use Rattle.seq.specs.Least.{no-some-is}
 use Rattle.seq.specs.Seq.{Bool, true, false, ℕ, ltb, least, List, [], _∷_, _++_, Option, none, some, Option·getD}
 use Rattle.paper.specs.Refusal.{given, atLeast, firstOf, Refusal}
 use Rattle.mapfile.specs.Verdict.{refusalOf, verdict}
@@ -52,32 +52,14 @@ pub given-none : (number k : ℕ) (b : Bool) → given number k b ≡ none → b
 given-none number k true e = absurd (never e)
 given-none number k false e = refl
 
-pub none-given : (number k : ℕ) (b : Bool) → b ≡ false → given number k b ≡ none
-none-given number k b e = rw e
-
 -- no place below n has p
 pub at-least-none : (number : ℕ) (p : ℕ → Bool) (n : ℕ) → atLeast number p n ≡ none → (k : ℕ) → k < n → p k ≡ false
 at-least-none number p n e = no-some-is p n (given-none number (least p n) (ltb (least p n) n) e)
-
-pub none-at-least : (number : ℕ) (p : ℕ → Bool) (n : ℕ) → ((k : ℕ) → k < n → p k ≡ false) → atLeast number p n ≡ none
-none-at-least number p n h = none-given number (least p n) (ltb (least p n) n) (no-some p n h)
 
 -- the first check of a chain that gives nothing, and the others
 pub rest : {x : Option Refusal} {fs : List (Option Refusal)} → Chain none (x ∷ fs) → (x ≡ none) × Chain none fs
 rest {x = none} c = (refl, record { is = c .is })
 rest {x = some r} c = absurd (never (sym (c .is)))
-
-pub silent : Chain none []
-silent = record { is = refl }
-
-pub with : {x : Option Refusal} {fs : List (Option Refusal)} → x ≡ none → Chain none fs → Chain none (x ∷ fs)
-with {x} {fs} e c = record { is = c .is ∙ ap (λ (y : Option Refusal). firstOf (y ∷ fs)) (sym e) }
-
--- two chains
-pub first-parts : (xs ys : List (Option Refusal)) → firstOf (xs ++ ys) ≡ none → (firstOf xs ≡ none) × (firstOf ys ≡ none)
-first-parts [] ys e = (refl, e)
-first-parts (none ∷ xs) ys e = first-parts xs ys e
-first-parts (some r ∷ xs) ys e = absurd (never e)
 
 -- ── what a verdict says determines the check ──
 

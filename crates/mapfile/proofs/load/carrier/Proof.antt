@@ -37,7 +37,7 @@ between-requires c κs =
     let from = c .before .before in
     let start = from .before .before .before in
     let s = now (start .args .file) in
-    let p = kept s (start .pre .1) .parts in
+    let p = kept s (start .pre .1) in
     let k = start .args .k in
     let l = start .pre .0 in (
       subst Corner (sym (from .corner .ensures ∙ ap (cornerAt s) (from .before .origin-at .ensures))) (p .near (originAt s (2 * k)) (p .from k l)),
@@ -50,7 +50,7 @@ returns c =
     let from = to .before .before in
     let start = from .before .before .before in
     let s = now (start .args .file) in
-    let p = kept s (start .pre .1) .parts in
+    let p = kept s (start .pre .1) in
     let k = start .args .k in
     let l = start .pre .0 in
     let a = from .corner .ensures ∙ ap (cornerAt s) (from .before .origin-at .ensures) in
