@@ -19,24 +19,24 @@ use Rattle.maplaws.specs.Rules.{Form, Rules}
 
 -- ── a chain of refusals that gives none ──
 
-abbrev AllNone : List (Option Refusal) → Type 0
+abbrev pub AllNone : List (Option Refusal) → Type 0
 AllNone rs = Every (λ r. r ≡ none) rs
 
-first-all : (rs : List (Option Refusal)) → firstOf rs ≡ none → AllNone rs
+pub first-all : (rs : List (Option Refusal)) → firstOf rs ≡ none → AllNone rs
 first-all [] e = tt
 first-all (none ∷ rs) e = (refl, first-all rs e)
 first-all (some r ∷ rs) e = absurd (let z : _≡_ {A = ℕ} 0 1 = cc in omega arith)
 
-all-first : (rs : List (Option Refusal)) → AllNone rs → firstOf rs ≡ none
+pub all-first : (rs : List (Option Refusal)) → AllNone rs → firstOf rs ≡ none
 all-first [] a = refl
 all-first (none ∷ rs) (e, a) = all-first rs a
 all-first (some r ∷ rs) (e, a) = e
 
-given-none : (r k : ℕ) (b : Bool) → given r k b ≡ none → b ≡ false
+pub given-none : (r k : ℕ) (b : Bool) → given r k b ≡ none → b ≡ false
 given-none r k true e = absurd (let z : _≡_ {A = ℕ} 0 1 = cc in omega arith)
 given-none r k false e = refl
 
-none-given : (r k : ℕ) (b : Bool) → b ≡ false → given r k b ≡ none
+pub none-given : (r k : ℕ) (b : Bool) → b ≡ false → given r k b ≡ none
 none-given r k true e = absurd (both refl e)
 none-given r k false e = refl
 

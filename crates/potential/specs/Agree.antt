@@ -7,7 +7,7 @@ use Rattle.seq.specs.Seq.{List, ℕ, zero, suc, _/_, length, getD, table, pos}
 use Rattle.seq.specs.Table.{table-ext, table-const}
 use Rattle.paper.specs.Graph.{Graph, halfCount}
 use Rattle.paper.specs.Map.{Map}
-use Rattle.paper.specs.Pieces.{layer, verticesOf, edgesOf}
+use Rattle.paper.specs.Pieces.{layer, verticesOf}
 use Rattle.paper.specs.Faces.{labelIn, overlayOf, labelsOf}
 use Rattle.graphlaws.specs.Halves.{half-below}
 use Rattle.graphlaws.specs.Plane.{Plane}
@@ -15,11 +15,10 @@ use Rattle.graphlaws.specs.Walks.{Along, along-below, along-same}
 use Rattle.graphlaws.specs.Faces.{faceOf, face-below, face-onto}
 use Rattle.overlaylaws.specs.Maps.{AllKeep}
 use Rattle.overlaylaws.specs.Places.{places}
-use Rattle.overlaylaws.specs.Sources.{sourceAt}
-use Rattle.overlaylaws.specs.Pieces.{pieceAt}
 use Rattle.overlaylaws.specs.Net.{goes-even}
 use Rattle.overlaylaws.specs.NetPlane.{net-plane}
 use Rattle.overlaylaws.specs.Inside.{overlaid}
+use Rattle.overlaylaws.specs.Along.{sourcesAt}
 use Rattle.overlaylaws.specs.Cells.{faceLabels}
 use Rattle.potential.specs.Star.{leftIn, followed}
 use Rattle.potential.specs.OneFace.{outersOf, heldIn, one-face}
@@ -38,7 +37,7 @@ module _ (ms : List Map) (K : AllKeep ms) where
 
   -- the label of half-edge h in map i
   abbrev labelOf : ℕ → ℕ → ℕ
-  labelOf i h = labelIn (layer ms i) g h (sourceAt (pieceAt (edgesOf ms (verticesOf ms)) (h / 2) .sources) i)
+  labelOf i h = labelIn (layer ms i) g h (sourcesAt ms (h / 2) i)
 
   labels-are : (h : ℕ) → labelsOf ms (overlayOf ms) h ≡ table (λ i. labelOf i h) (length ms)
   unfolding overlayOf
@@ -52,7 +51,7 @@ module _ (ms : List Map) (K : AllKeep ms) where
   is-left : (i h : ℕ) → i < length ms → h < halfCount g → pos (labelOf i h) ≡ leftIn (layer ms i) g h
   is-left i h li l =
       label-in g (layer ms i) (K i li) (overlay-covers ms K i li) h l (goes-even ms K (verticesOf ms) (places ms K) h l)
-      (sourceAt (pieceAt (edgesOf ms (verticesOf ms)) (h / 2) .sources) i) (source-is ms K i (h / 2) li (half-below g h l))
+      (sourcesAt ms (h / 2) i) (source-is ms K i (h / 2) li (half-below g h l))
 
   held-at : (i h : ℕ) → i < length ms → h < halfCount g → (f : ℕ) → faceOf g h ≡ f → pos (labelOf i h) ≡ heldIn (layer ms i) g f
   held-at i h li l f e = is-left i h li l ∙ one-face g (layer ms i) (K i li) (overlay-covers ms K i li) h l ∙ ap (heldIn (layer ms i) g) e

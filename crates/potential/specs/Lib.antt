@@ -26,4 +26,6 @@ pub mod OneFace
 pub mod LabelIn
 pub mod Overlay
 pub mod Agree
+pub mod Done
+pub mod Demand3
 pub mod Example

@@ -1,47 +1,33 @@
 -- The overlay's graph covers each of its maps (`overlay-covers`): a piece has no vertex inside and no edge of a map that crosses it, and where an edge of a map leaves a
 -- point, one of its pieces does. And the source that a piece names in a map is what it lies along there (`source-is`). Assumes nothing.
 use mathlib.Core.Path.{_≡_, refl, sym, _∙_, ap, subst, subst₂}
-use Prim.Native.Nat.{_<_, _-_}
-use native.Mathlib.Omega.{arith}
+use Prim.Native.Nat.{_<_}
 use Rattle.exact.specs.Sign.{isZer}
-use Rattle.seq.specs.Seq.{Bool, true, false, cond, not, List, Option, none, some, ℕ, zero, suc, _*_, _/_, length, getD, pos}
+use Rattle.seq.specs.Seq.{Bool, true, false, not, List, Option, none, some, ℕ, length, pos}
 use Rattle.seq.specs.Tests.{clash, and-both, and-parts, not-true, not-false}
 use Rattle.seq.specs.Members.{at-among}
-use Rattle.paper.specs.Plane.{Pt, Seg, whole, nowhere, opposite, cross, before, leftBy}
-use Rattle.paper.specs.Graph.{Graph, edgeCount, pointIn, edge, low, high, upward, heading}
+use Rattle.paper.specs.Plane.{Pt, Seg, whole, nowhere, cross, before, leftBy}
+use Rattle.paper.specs.Graph.{Graph, edgeCount, pointIn, edge, low, high, upward}
 use Rattle.paper.specs.Map.{Map}
-use Rattle.paper.specs.Pieces.{layer, along, verticesOf, edgesOf}
-use Rattle.planelaws.specs.Cone.{up-rises, up-nonzero}
-use Rattle.planelaws.specs.Points.{before-asym, before-le}
-use Rattle.planelaws.specs.Ends.{0<1}
-use Rattle.planelaws.specs.Angles.{SameWay, cross-swap-0, same-way-trans}
+use Rattle.paper.specs.Pieces.{layer, verticesOf}
+use Rattle.planelaws.specs.Points.{before-asym}
 use Rattle.planelaws.specs.Sides.{zero-is}
-use Rattle.planelaws.specs.Lines.{one-line}
-use Rattle.graphlaws.specs.Halves.{first-below, origin-first, half-first, even-double}
 use Rattle.maplaws.specs.Keeps.{seg, edges}
-use Rattle.overlaylaws.specs.Maps.{AllKeep, seg-rises}
+use Rattle.overlaylaws.specs.Maps.{AllKeep}
 use Rattle.overlaylaws.specs.Places.{places, at-real}
 use Rattle.overlaylaws.specs.Links.{Neighbours}
-use Rattle.overlaylaws.specs.Sources.{sourceAt, none-some}
-use Rattle.overlaylaws.specs.Pieces.{pieceAt}
-use Rattle.overlaylaws.specs.Chain.{Chain, chain}
-use Rattle.overlaylaws.specs.Net.{net-edges, from-is, to-is, near, carrier-up, ends-before, low-is, high-is, sourced, goes-even}
+use Rattle.overlaylaws.specs.Net.{near, carrier-up, ends-before, low-is, high-is}
 use Rattle.overlaylaws.specs.NetPlane.{net-plane}
 use Rattle.overlaylaws.specs.Inside.{overlaid, carrierAt, lowAt, highAt, vertex-off, lo-off, hi-off, no-meet}
-use Rattle.overlaylaws.specs.Round.{Out, out, source-up, source-on, source-way}
+use Rattle.overlaylaws.specs.Round.{source-there, source-on, source-way}
+use Rattle.overlaylaws.specs.Along.{sourcesAt, Through, source-line, source-span, piece-through, source-none}
 use Rattle.potential.specs.Cuts.{lo, hi, Leaves}
 use Rattle.potential.specs.Clear.{Within, Clear}
 use Rattle.potential.specs.Covers.{spans, PieceAt, Covers}
-use Rattle.potential.specs.LabelIn.{AlongEdge, Source, along as lies-along, off}
+use Rattle.potential.specs.LabelIn.{AlongEdge, Source, along, off}
 
--- what is false at 0 and true at n changes somewhere
-pub changes : (f : ℕ → Bool) (n : ℕ) → f 0 ≡ false → f n ≡ true → (t : ℕ) × (t < n) × (f t ≡ false) × (f (suc t) ≡ true)
-changes f zero a b = absurd (clash b a)
-changes f (suc n) a b = go (f n) refl (changes f n a)
-  where
-    go : (c : Bool) → f n ≡ c → (f n ≡ true → (t : ℕ) × (t < n) × (f t ≡ false) × (f (suc t) ≡ true)) → (t : ℕ) × (t < suc n) × (f t ≡ false) × (f (suc t) ≡ true)
-    go false e h = (n, omega arith, e, b)
-    go true e h = let (t, l, x, y) = h e in (t, omega arith, x, y)
+was-not : {b : Bool} → not b ≡ true → b ≡ false
+was-not {b} e = not-true b (λ z. clash e (ap not z))
 
 module _ (ms : List Map) (K : AllKeep ms) where
   abbrev O : Graph
@@ -76,13 +62,12 @@ module _ (ms : List Map) (K : AllKeep ms) where
       top = n .on-hi .high;
     }
 
-    module _ (i j : ℕ) (li : i < length ms) (lj : j < edges (layer ms i)) where
-      clear : Clear (carrierAt ms k) (lowAt ms k) (highAt ms k) (seg (layer ms i) j)
-      clear = record {
-        lo-off = lo-off ms K k l i j li lj;
-        hi-off = hi-off ms K k l i j li lj;
-        no-meet = λ w q hq oe of a b. no-meet ms K k l i j li lj w q (record { real = hq; past = a; under = b }) oe of;
-      }
+    clear : (i j : ℕ) → i < length ms → j < edges (layer ms i) → Clear (carrierAt ms k) (lowAt ms k) (highAt ms k) (seg (layer ms i) j)
+    clear i j li lj = record {
+      lo-off = lo-off ms K k l i j li lj;
+      hi-off = hi-off ms K k l i j li lj;
+      no-meet = λ w q hq oe of a b. no-meet ms K k l i j li lj w q (record { real = hq; past = a; under = b }) oe of;
+    }
 
   -- ── where an edge of a map leaves a point, a piece does ──
 
@@ -90,40 +75,28 @@ module _ (ms : List Map) (K : AllKeep ms) where
     abbrev e : Seg
     e = seg (layer ms i) j
 
-    abbrev on-edge : List ℕ
-    on-edge = along vs (layer ms i .graph) j
-
-    abbrev at : ℕ → Pt
-    at t = pointIn vs (getD on-edge t 0)
-
-    c : Chain ms i j on-edge
-    c = chain ms K i j li lj
-
-    -- the piece from one vertex on the edge to the next
-    piece-from : leftBy e q ≡ pos 0 → (b : Bool) (t : ℕ) → suc t < length on-edge → spans b q (at t) (at (suc t)) ≡ true → PieceAt O e q b
-    piece-from o b t lt s =
-        let (r, lr, x, y, f) = c .piece t lt in
-        let l : r < edgeCount O = subst (λ (z : ℕ). r < z) (sym (net-edges ms vs)) lr in
-        let a : low O r ≡ at t = at-low r l ∙ ap (pointIn vs) (from-is ms vs r ∙ x) in
-        let d : high O r ≡ at (suc t) = at-high r l ∙ ap (pointIn vs) (to-is ms vs r ∙ y) in
+    -- a piece of the edge, on which a test turns that says where q is
+    turned : leftBy e q ≡ pos 0 → (b : Bool) (t : Pt → Bool) → ((x y : Pt) → t x ≡ false → t y ≡ true → spans b q x y ≡ true) → Through ms i j t → PieceAt O e q b
+    turned o b t s r =
+        let k = r .piece in
+        let l = r .below in
         record {
-          piece = r;
+          piece = k;
           below = l;
-          parallel = source-way ms K r l i j f .parallel;
-          on = one-line e (carrierAt ms r) (lowAt ms r) q (source-up ms K r l i j f) (at-real vs (places ms K) (edge O r .from)) (source-way ms K r l i j f .parallel)
-              (source-on ms K r l i j f .0 .line) (n r l .on-lo .line) o;
-          reaches = (λ z. spans b q (a z) (d z)) ∙ s;
+          parallel = source-way ms K k l i j (r .source) .parallel;
+          on = source-line ms K k l i j (r .source) q o;
+          reaches = (λ z. spans b q (at-low k l z) (at-high k l z)) ∙ s (lowAt ms k) (highAt ms k) (r .at-low) (r .at-high);
         }
 
     piece-at : (b : Bool) → Leaves q b e → PieceAt O e q b
     piece-at true o =
         let r = and-parts (not (before q (lo e))) (before q (hi e)) (o .reaches) in
-        let (t, l, x, y) = changes (λ t. before q (at t)) (length on-edge - 1) (ap (before q) (c .first) ∙ not-true (before q (lo e)) (λ z. clash (r .0) (ap not z))) (ap (before q) (c .last) ∙ r .1) in
-        piece-from (zero-is (leftBy e q) (ap isZer (o .on))) true t (omega arith) (and-both {a = not (before q (at t))} (ap not x) y)
+        turned (zero-is (leftBy e q) (ap isZer (o .on))) true (before q) (λ x y u v. and-both {a = not (before q x)} (ap not u) v)
+        (piece-through ms K i j li lj (before q) (was-not (r .0)) (r .1))
     piece-at false o =
         let r = and-parts (before (lo e) q) (not (before (hi e) q)) (o .reaches) in
-        let (t, l, x, y) = changes (λ t. not (before (at t) q)) (length on-edge - 1) (ap (λ (p : Pt). not (before p q)) (c .first) ∙ ap not (r .0)) (ap (λ (p : Pt). not (before p q)) (c .last) ∙ r .1) in
-        piece-from (zero-is (leftBy e q) (ap isZer (o .on))) false t (omega arith) (and-both {a = before (at t) q} (not-false (before (at t) q) (λ z. clash (ap not z) x)) y)
+        turned (zero-is (leftBy e q) (ap isZer (o .on))) false (λ x. not (before x q)) (λ x y u v. and-both {a = before x q} (not-false (before x q) (λ z. clash (ap not z) u)) v)
+        (piece-through ms K i j li lj (λ x. not (before x q)) (ap not (r .0)) (r .1))
 
   -- ── the overlay covers its maps ──
 
@@ -143,50 +116,32 @@ module _ (ms : List Map) (K : AllKeep ms) where
     abbrev m : Map
     m = layer ms i
 
-    abbrev sources : ℕ → Option ℕ
-    sources r = sourceAt (pieceAt (edgesOf ms vs) r .sources) i
-
-    along-source : (W : ℕ) → sources k ≡ some W → AlongEdge O m k W
+    along-source : (W : ℕ) → sourcesAt ms k i ≡ some W → AlongEdge O m k W
     along-source W s =
-        let (a, b) = source-on ms K k l i W s in
+        let a = source-on ms K k l i W s .0 in
         record {
-          below = sourced ms K vs (places ms K) k l .from i W s .of-map;
+          below = source-there ms K k l i W s .1;
           parallel = source-way ms K k l i W s .parallel;
           on = ap (leftBy (seg m W)) (at-low k l) ∙ a .line;
           from-low = ap (λ (p : Pt). before p (lo (seg m W))) (at-low k l) ∙ a .low;
-          to-high = ap (λ (p : Pt). before p (hi (seg m W))) (at-low k l) ∙ before-le (lowAt ms k) (highAt ms k) (hi (seg m W)) (within k l .segment .p-real) (within k l .segment .r-real) 0<1 (within k l .segment .climbs) (b .high);
+          to-high = ap (λ (p : Pt). before p (hi (seg m W))) (at-low k l) ∙ source-span ms K k l i W s .0;
         }
 
-    -- an edge of the map that leaves the lower end along the piece is its source: the half-edge that goes its way there is the piece's own
-    same-half : (j : ℕ) → j < edges m → cross (upward O k) (seg m j .up) ≡ pos 0 → (o : Out ms (edge O k .from) i j true) → o .half ≡ 2 * k
-    same-half j lj p o =
-        let P = net-plane ms K vs (places ms K) in
-        let up = goes-even ms K vs (places ms K) (2 * k) (first-below k O l) ∙ even-double k in
-        let u = seg-rises m (K i li) j lj in
-        P .apart (o .half) (2 * k) (o .below) (first-below k O l) (o .leaves ∙ sym (origin-first k O))
-        (same-way-trans (heading O (o .half)) (seg m j .up) (heading O (2 * k)) (up-nonzero (seg m j .up) u) (o .way)
-        (subst (SameWay (seg m j .up)) (sym (λ z. cond (up z) (upward O (half-first k z)) (opposite (upward O (half-first k z)))))
-        (record { parallel = cross-swap-0 (upward O k) (seg m j .up) p; half = up-rises (seg m j .up) u ∙ sym (P .rising k l) })))
-
-    off-source : sources k ≡ none → (j : ℕ) → j < edges m → Leaves (low O k) true (seg m j) → cross (upward O k) (seg m j .up) ≡ pos 0 → ⊥
+    off-source : sourcesAt ms k i ≡ none → (j : ℕ) → j < edges m → Leaves (low O k) true (seg m j) → cross (upward O k) (seg m j .up) ≡ pos 0 → ⊥
     off-source s j lj o p =
         let q = subst (λ (x : Pt). Leaves x true (seg m j)) (at-low k l) o in
         let r = and-parts (not (before (lowAt ms k) (lo (seg m j)))) (before (lowAt ms k) (hi (seg m j))) (q .reaches) in
-        let x = out ms K (edge O k .from) i j (omega (arith, n k l .rises, n k l .below)) true (record {
+        let on-line = zero-is (leftBy (seg m j) (lowAt ms k)) (ap isZer (q .on)) in
+        source-none ms K k l i s j (record {
           in-list = li;
           of-map = lj;
-          on = record {
-            line = zero-is (leftBy (seg m j) (lowAt ms k)) (ap isZer (q .on));
-            low = not-true (before (lowAt ms k) (lo (seg m j))) (λ z. clash (r .0) (ap not z));
-            high = before-asym (lowAt ms k) (hi (seg m j)) (r .1);
-          };
+          on = record { line = on-line; low = was-not (r .0); high = before-asym (lowAt ms k) (hi (seg m j)) (r .1) };
           goes = r .1;
-        }) in
-        none-some (sym s ∙ ap sources (sym (ap (λ (h : ℕ). h / 2) (same-half j lj p x) ∙ half-first k)) ∙ x .source)
+        }) p
 
-    pub source-is : Source (overlaid ms) (layer ms i) k (sourceAt (pieceAt (edgesOf ms (verticesOf ms)) k .sources) i)
-    source-is = go (sources k) refl
+    pub source-is : Source (overlaid ms) (layer ms i) k (sourcesAt ms k i)
+    source-is = go (sourcesAt ms k i) refl
       where
-        go : (o : Option ℕ) → sources k ≡ o → Source O m k o
+        go : (o : Option ℕ) → sourcesAt ms k i ≡ o → Source O m k o
         go none e = off (off-source e)
-        go (some W) e = lies-along W (along-source W e)
+        go (some W) e = along W (along-source W e)
