@@ -6,13 +6,12 @@ use exact::lowest::lowest;
 ghost use mathlib.Core.Bool.{true};
 ghost use mathlib.Core.Path.{_≡_};
 ghost use Prim.Native.Nat.{_≤_};
-ghost use lib.IntN.{natAbs, _+ℤ_, _*ℤ_};
-ghost use Rattle.exact.specs.Lowest.{pt};
+ghost use lib.IntN.{natAbs};
 ghost use Rattle.paper.specs.Limits.{denominators};
 ghost use Rattle.paper.specs.Plane.{within, crossAt, crossBy, crossing};
 ghost use Rattle.plane.specs.Values.{ptOf, segOf, crossOf};
 ghost use Rattle.plane.specs.Bounds.{Near, Edge, Over, NearIf};
-ghost use Rattle.plane.specs.Parameters.{firstOver, secondOver, numberOver};
+ghost use Rattle.plane.specs.Parameters.{firstOver, secondOver, numberOver, meeting};
 
 pub enum Cross {
     Nothing,
@@ -93,7 +92,7 @@ fn within(n: i64, d: i64) -> bool
 // The point of s at n/d, over d.
 fn along(s: Seg, n: i64, d: i64) -> Point
     requires { ⌜ Edge (segOf s) × Over n d × (within n d ≡ true) ⌝ }
-    ensures is { λ r. ⌜ ptOf r ≡ pt (s .x *ℤ d +ℤ n *ℤ s .u) (s .y *ℤ d +ℤ n *ℤ s .v) d ⌝ }
+    ensures is { λ r. ⌜ ptOf r ≡ meeting (segOf s) n d ⌝ }
     ensures near { λ r. ⌜ Near (ptOf r) ⌝ }
 {
     Point {

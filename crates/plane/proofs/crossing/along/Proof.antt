@@ -6,7 +6,9 @@ use Rattle.exact.specs.Lowest.{pt}
 use Rattle.exact.specs.Mach.{tr, fits, plain}
 use Rattle.exact.specs.Tests.{and-parts, le-t}
 use Rattle.paper.specs.Limits.{reach, denominators}
+use Rattle.plane.specs.Values.{segOf}
 use Rattle.plane.specs.Bounds.{Near}
+use Rattle.plane.specs.Parameters.{meeting}
 use Rattle.plane.proofs.Machine.{back}
 use Rattle.plane.proofs.Box.{weighed-below}
 use Rattle.plane.proofs.crossing.along.Statement.{statement}
@@ -31,7 +33,7 @@ add-t9 : tie.Need-add-t9
 add-t9 c = fits (search tr depth 20) tt
 
 -- the point, before the machine has it
-near : (c : tie.Start) → let s = c .args .s in let n = c .args .n in let d = c .args .d in Near (pt (s .x *ℤ d +ℤ n *ℤ s .u) (s .y *ℤ d +ℤ n *ℤ s .v) d)
+near : (c : tie.Start) → Near (meeting (segOf (c .args .s)) (c .args .n) (c .args .d))
 near c =
     let s = c .args .s in
     let n = c .args .n in
@@ -56,7 +58,7 @@ returns c =
     let x : back (back (back (s .x) *ℤ back d) +ℤ back (back n *ℤ back (s .u))) ≡ s .x *ℤ d +ℤ n *ℤ s .u = plain (search tr depth 20) tt in
     let y : back (back (back (s .y) *ℤ back d) +ℤ back (back n *ℤ back (s .v))) ≡ s .y *ℤ d +ℤ n *ℤ s .v = plain (search tr depth 20) tt in
     let z : back d ≡ d = plain (search tr depth 20) tt in
-    let is : pt (back (back (back (s .x) *ℤ back d) +ℤ back (back n *ℤ back (s .u)))) (back (back (back (s .y) *ℤ back d) +ℤ back (back n *ℤ back (s .v)))) (back d) ≡ pt (s .x *ℤ d +ℤ n *ℤ s .u) (s .y *ℤ d +ℤ n *ℤ s .v) d = λ i. pt (x i) (y i) (z i) in
+    let is : pt (back (back (back (s .x) *ℤ back d) +ℤ back (back n *ℤ back (s .u)))) (back (back (back (s .y) *ℤ back d) +ℤ back (back n *ℤ back (s .v)))) (back d) ≡ meeting (segOf s) n d = λ i. pt (x i) (y i) (z i) in
     (is, subst Near (sym is) (near st))
 
 pub along-spec : {M : Type 1} → statement M

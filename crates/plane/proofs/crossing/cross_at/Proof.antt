@@ -1,22 +1,18 @@
 -- `plane::crossing::cross_at` meets its contract: what `along` gives, in lowest terms, is the point of the definition. Assumes nothing.
 use mathlib.Core.Path.{_≡_, refl, sym, _∙_, ap, subst, subst₂}
 use mathlib.Core.Bool.{Bool, cond, _&&_}
-use lib.IntN.{ℤ, pos, _+ℤ_, _*ℤ_}
+use lib.IntN.{ℤ, pos}
 use lib.Signed.{_<ℤ_}
 use borrow.Author.Needs.{needs}
-use Rattle.exact.specs.Lowest.{pt}
 use Rattle.seq.specs.Seq.{none, some}
-use Rattle.paper.specs.Plane.{Pt, Seg, within, crossAt}
+use Rattle.paper.specs.Plane.{Seg, within, crossAt}
 use Rattle.plane.specs.Values.{segOf, ptOf}
 use Rattle.plane.specs.Bounds.{Near, Over}
+use Rattle.plane.specs.Parameters.{meeting}
 use Rattle.plane.proofs.Machine.{back, number-back, pt-back}
 use Rattle.plane.proofs.Crosses.{lowestOf, near-lowest}
 use Rattle.plane.proofs.crossing.cross_at.Statement.{statement}
 use Rattle.plane.proofs.crossing.cross_at.Tie as tie
-
--- the point at n/d, over d
-abbrev meeting : Seg → ℤ → ℤ → Pt
-meeting s n d = pt (s .foot .x *ℤ d +ℤ n *ℤ s .up .x) (s .foot .y *ℤ d +ℤ n *ℤ s .up .y) d
 
 -- the definition, where it is known of the two parameters
 by : (s : Seg) (n m d : ℤ) {a b : Bool} → a ≡ within n d → b ≡ within m d → cond (a && b) (some (lowestOf (meeting s n d))) none ≡ crossAt s n m d
