@@ -13,7 +13,7 @@ use Rattle.paper.specs.Graph.{Edge, point, noEdge, edge}
 use Rattle.paper.specs.Map.{Map, corner, edgeBetween, vertexCount, edgesIn, cornerAt, originAt, mapOf}
 use Rattle.planelaws.specs.Points.{same-sym}
 use Rattle.graphlaws.specs.Corners.{Corners}
-use Rattle.maplaws.specs.Keeps.{seg, edges, vertices}
+use Rattle.maplaws.specs.Keeps.{edges, vertices}
 use Rattle.maplaws.specs.Rules.{Rules}
 
 -- 6, whichever vertex is named first
