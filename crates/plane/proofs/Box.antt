@@ -1,5 +1,5 @@
 -- A point of an edge at n/d with 0 ≤ n ≤ d is within the bounds of the edge's ends: x·d + n·u = x·(d − n) + (x + u)·n. Assumes nothing.
-use mathlib.Core.Path.{_≡_, sym, subst}
+use mathlib.Core.Path.{_≡_}
 use mathlib.Core.List.{[], _∷_}
 use Prim.Native.Nat.{ℕ, _+_, _*_, _≤_}
 use native.Mathlib.Nat.{le-refl, le-trans, mul-le-mul, mul-add}

@@ -8,6 +8,7 @@ ghost use Rattle.paper.specs.Plane.{vec, cross, rises, lessAngle};
 ghost use Rattle.plane.specs.Values.{vecOf};
 ghost use Rattle.plane.specs.Bounds.{Direction};
 
+// The cross product of the directions a, b and c, d.
 pub fn cross_of(a: i64, b: i64, c: i64, d: i64) -> i64
     requires { ⌜ Direction (vec a b) × Direction (vec c d) ⌝ }
     ensures is { λ r. ⌜ r ≡ cross (vec a b) (vec c d) ⌝ }

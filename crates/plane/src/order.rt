@@ -8,7 +8,8 @@ ghost use Rattle.paper.specs.Plane.{order, before, same, below};
 ghost use Rattle.plane.specs.Values.{ptOf};
 ghost use Rattle.plane.specs.Bounds.{Near};
 
-fn order_of(px: i64, py: i64, pd: i64, qx: i64, qy: i64, qd: i64) -> Ordering
+// The order of two points by their numbers.
+pub fn order_of(px: i64, py: i64, pd: i64, qx: i64, qy: i64, qd: i64) -> Ordering
     requires { ⌜ Near (pt px py pd) × Near (pt qx qy qd) ⌝ }
     ensures { λ r. ⌜ signOf r ≡ order (pt px py pd) (pt qx qy qd) ⌝ }
 {
@@ -51,7 +52,8 @@ pub fn same(p: Point, q: Point) -> bool
     }
 }
 
-fn below_of(px: i64, py: i64, pd: i64, qx: i64, qy: i64, qd: i64) -> bool
+// Whether the first of two points, by their numbers, has the smaller y.
+pub fn below_of(px: i64, py: i64, pd: i64, qx: i64, qy: i64, qd: i64) -> bool
     requires { ⌜ Near (pt px py pd) × Near (pt qx qy qd) ⌝ }
     ensures { λ r. ⌜ r ≡ below (pt px py pd) (pt qx qy qd) ⌝ }
 {

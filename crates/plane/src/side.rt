@@ -11,7 +11,8 @@ ghost use Rattle.paper.specs.Plane.{leftBy, side, signNumber};
 ghost use Rattle.plane.specs.Values.{seg, ptOf, segOf};
 ghost use Rattle.plane.specs.Bounds.{Near, Edge, lefts};
 
-fn left(x: i64, y: i64, u: i64, v: i64, px: i64, py: i64, d: i64) -> i64
+// How far the point px/d, py/d lies to the left of the edge from x, y along u, v.
+pub fn left_of(x: i64, y: i64, u: i64, v: i64, px: i64, py: i64, d: i64) -> i64
     requires { ⌜ Edge (seg x y u v) × Near (pt px py d) ⌝ }
     ensures is { λ r. ⌜ r ≡ leftBy (seg x y u v) (pt px py d) ⌝ }
     ensures bound { λ r. ⌜ natAbs r ≤ lefts ⌝ }
@@ -25,9 +26,10 @@ pub fn left_by(s: Seg, p: Point) -> i64
     ensures is { λ r. ⌜ r ≡ leftBy (segOf s) (ptOf p) ⌝ }
     ensures bound { λ r. ⌜ natAbs r ≤ lefts ⌝ }
 {
-    left(s.x, s.y, s.u, s.v, p.x, p.y, p.d)
+    left_of(s.x, s.y, s.u, s.v, p.x, p.y, p.d)
 }
 
+// -1, 0 or 1.
 fn number(o: Ordering) -> i64
     ensures { λ r. ⌜ r ≡ signNumber (signOf o) ⌝ }
 {

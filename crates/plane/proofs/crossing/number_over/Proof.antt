@@ -1,7 +1,6 @@
 -- `plane::crossing::number_over` meets its contract. Assumes nothing.
 use mathlib.Core.Path.{_≡_, _∙_}
 use lib.IntN.{_-ℤ_}
-use borrow.Author.Needs.{needs}
 use Rattle.exact.specs.Mach.{tr, tru, fits, plain, atmost}
 use Rattle.paper.specs.Plane.{vec, cross}
 use Rattle.plane.proofs.Machine.{back, vec-back}

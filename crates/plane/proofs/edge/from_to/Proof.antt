@@ -2,7 +2,6 @@
 use mathlib.Core.Path.{_≡_, sym, subst}
 use lib.IntN.{_-ℤ_}
 use Rattle.exact.specs.Mach.{tr, fits, plain}
-use Rattle.paper.specs.Plane.{Seg}
 use Rattle.plane.specs.Values.{seg, vecOf, fromTo}
 use Rattle.plane.specs.Bounds.{Edge}
 use Rattle.plane.proofs.Machine.{back}

@@ -7,15 +7,15 @@ use Rattle.plane.proofs.Machine.{pt-back, seg-back}
 use Rattle.plane.proofs.side.left_by.Statement.{statement}
 use Rattle.plane.proofs.side.left_by.Tie as tie
 
-left-requires : tie.Need-left-requires
-left-requires c κs = search needs
+left-of-requires : tie.Need-left-of-requires
+left-of-requires c κs = search needs
 
 returns : tie.Need-returns
 returns c =
     let st = c .before .before .before .before .before .before .before .before in
     let s = st .args .s in
     let p = st .args .p in
-    (plain (search tr depth 20) tt ∙ c .left .ensures .0 ∙ (λ i. leftBy (seg-back (s .x) (s .y) (s .u) (s .v) (st .pre .0) i) (pt-back (p .x) (p .y) (p .d) (st .pre .1) i)), atmost (search tru depth 20) tt)
+    (plain (search tr depth 20) tt ∙ c .left-of .ensures .0 ∙ (λ i. leftBy (seg-back (s .x) (s .y) (s .u) (s .v) (st .pre .0) i) (pt-back (p .x) (p .y) (p .d) (st .pre .1) i)), atmost (search tru depth 20) tt)
 
 pub left-by-spec : {M : Type 1} → statement M
-left-by-spec = tie.close (tie.spec left-requires returns)
+left-by-spec = tie.close (tie.spec left-of-requires returns)
