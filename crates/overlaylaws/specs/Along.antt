@@ -1,20 +1,19 @@
 -- What a piece's sources say of the piece. Where it has a source in a map: it lies on the line of that edge, from its lower end to its upper (`source-line`, `source-span`), and
 -- every point of that edge is on such a piece (`piece-through`). Where it has none: no edge of that map leaves its lower end the way that it goes (`source-none`). Assumes
 -- nothing.
-use mathlib.Core.Path.{_≡_, refl, sym, _∙_, ap, subst}
+use mathlib.Core.Path.{_≡_, sym, _∙_, ap, subst}
 use Prim.Native.Nat.{_<_}
 use native.Mathlib.Omega.{arith}
 use lib.Signed.{_<ℤ_}
 use Rattle.seq.specs.Seq.{Bool, true, false, cond, List, Option, none, some, ℕ, _*_, _/_, length, pos}
 use Rattle.paper.specs.Plane.{Pt, Seg, Vec, whole, head, opposite, cross, before, leftBy}
-use Rattle.paper.specs.Graph.{Graph, edgeCount, halfCount, pointIn, edge, origin, goesUp, upward, heading}
+use Rattle.paper.specs.Graph.{Graph, edgeCount, pointIn, edge, goesUp, upward, heading}
 use Rattle.paper.specs.Map.{Map}
 use Rattle.paper.specs.Pieces.{layer, verticesOf, edgesOf}
-use Rattle.planelaws.specs.Cone.{UpV, up-rises, up-nonzero}
-use Rattle.planelaws.specs.Points.{before-asym, before-le, le-before}
+use Rattle.planelaws.specs.Cone.{up-rises, up-nonzero}
+use Rattle.planelaws.specs.Points.{before-le, le-before}
 use Rattle.planelaws.specs.Ends.{0<1}
 use Rattle.planelaws.specs.Angles.{SameWay, cross-swap-0, same-way-sym, same-way-trans}
-use Rattle.planelaws.specs.Edges.{On}
 use Rattle.planelaws.specs.Lines.{one-line}
 use Rattle.graphlaws.specs.Halves.{even-double, half-first, first-below, origin-first}
 use Rattle.maplaws.specs.Keeps.{seg, edges}

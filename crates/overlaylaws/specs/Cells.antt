@@ -3,17 +3,16 @@ use mathlib.Core.Path.{_≡_, refl, sym, _∙_, ap}
 use Prim.Native.Nat.{_<_}
 use native.Mathlib.Nat.{add-zero}
 use native.Mathlib.Omega.{arith}
-use lib.ListN.{length-append, length-replicate, length-map, List·getD-append, List·getD-map, getD-replicate}
+use lib.ListN.{length-append, length-replicate, length-map, List·getD-append, List·getD-map}
 use lib.Seq.{getD-append-add}
 use Rattle.seq.specs.Seq.{List, [], _∷_, _++_, ℕ, zero, suc, _+_, _*_, _/_, length, getD, replicate, pos, none}
 use Rattle.seq.specs.Rows.{length-rows, cell-rows}
-use Rattle.seq.specs.Table.{length-table, table-at}
+use Rattle.seq.specs.Table.{length-table}
 use Rattle.paper.specs.Limits.{absent}
-use Rattle.paper.specs.Graph.{halfCount, point, twin, origin, leaves}
 use Rattle.paper.specs.Map.{Map}
 use Rattle.paper.specs.Pieces.{layer}
 use Rattle.paper.specs.Faces.{Overlay, net, sourcesOf, labelIn, labelsOf, holesOf}
-use Rattle.paper.specs.Tables.{Tables, vertexWidth, halfWidth, faceWidth, vertexCell, halfCell, sourceCell, faceCell, leastHalf, vertexRow, halfRow, plusOne, sourceRow, faceRow, countsOf, tablesOf}
+use Rattle.paper.specs.Tables.{vertexWidth, halfWidth, faceWidth, vertexCell, halfCell, sourceCell, faceCell, vertexRow, halfRow, plusOne, sourceRow, faceRow, countsOf, tablesOf}
 use Rattle.overlaylaws.specs.Sources.{sourceAt}
 
 module _ (ms : List Map) (o : Overlay) where

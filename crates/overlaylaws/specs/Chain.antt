@@ -2,8 +2,7 @@
 -- there is a piece that has the edge as its source (`Chain`). So each piece ends where the next starts, and a test on points that turns between the ends of the edge turns
 -- between those of one of its pieces (`turning-piece`): each point of an edge is on a piece of it. Assumes nothing.
 use mathlib.Core.Path.{_≡_, refl, sym, _∙_, ap, subst}
-use mathlib.Core.Logic.{inl, inr}
-use Prim.Native.Nat.{_<_, _≤_, _-_, suc-le-suc}
+use Prim.Native.Nat.{_<_, _-_}
 use native.Mathlib.Nat.{not-suc-le-zero, le-of-suc-le-suc}
 use native.Mathlib.Decide.{decLt}
 use native.Mathlib.Omega.{arith}

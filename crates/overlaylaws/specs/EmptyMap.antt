@@ -1,17 +1,17 @@
 -- An empty map put anywhere into the list of maps changes no vertex (`empty-vertices`) and no edge of the overlay's graph (`empty-graph`), and so no follower, walk or face; each
 -- piece has one source more, none, at its place (`empty-pieces`). Of any list of maps, whether they keep the rules or not. Assumes nothing.
 use mathlib.Core.Path.{_≡_, refl, sym, _∙_, ap}
-use mathlib.Core.List.{map-map, map-append}
+use mathlib.Core.List.{map-append}
 use Prim.Native.Nat.{_<_, _≤_}
 use native.Mathlib.Omega.{arith}
 use borrow.Author.Tests.{eqb-true, eq-eqb, ne-eqb}
-use Rattle.seq.specs.Seq.{Bool, true, false, cond, List, [], _∷_, _++_, map, Option, none, some, ℕ, zero, suc, eqb, length, getD, rows, table, insertBy}
+use Rattle.seq.specs.Seq.{Bool, true, false, cond, List, [], _∷_, _++_, map, Option, none, some, ℕ, zero, suc, eqb, length, rows, insertBy}
 use Rattle.seq.specs.Tests.{bool-ext}
 use Rattle.seq.specs.Rows.{rows-ext}
-use Rattle.paper.specs.Plane.{Pt, Seg}
-use Rattle.paper.specs.Graph.{Graph, Edge, noEdge, edge, edgeCount}
+use Rattle.paper.specs.Plane.{Pt}
+use Rattle.paper.specs.Graph.{Graph, edgeCount}
 use Rattle.paper.specs.Map.{Map, empty}
-use Rattle.paper.specs.Pieces.{layer, meeting, meetings, crossings, inOrder, verticesOf, Piece, only, merged, joined, earlier, piecesInOrder, linksFrom, links, along, piecesOf, edgesOf, carrierOf, edgeOf, graphOf}
+use Rattle.paper.specs.Pieces.{layer, meetings, crossings, inOrder, verticesOf, Piece, only, merged, joined, earlier, piecesInOrder, linksFrom, links, along, piecesOf, edgesOf, carrierOf, edgeOf}
 use Rattle.overlaylaws.specs.Put.{put, length-put, put-before, put-own, put-past, table-put, rows-put}
 use Rattle.overlaylaws.specs.Links.{cutOut}
 use Rattle.overlaylaws.specs.Net.{netOf}

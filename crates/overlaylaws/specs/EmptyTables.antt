@@ -6,18 +6,16 @@ use Prim.Native.Nat.{_<_, _≤_}
 use native.Mathlib.Nat.{not-suc-le-zero, le-of-suc-le-suc}
 use native.Mathlib.Omega.{arith}
 use lib.ListN.{length-map, length-replicate}
-use Rattle.seq.specs.Seq.{List, [], _∷_, _++_, map, Option, none, some, ℕ, zero, suc, _*_, _/_, length, getD, replicate, rows, table}
+use Rattle.seq.specs.Seq.{List, [], _∷_, _++_, map, none, ℕ, zero, suc, _*_, _/_, length, getD, replicate, rows, table}
 use Rattle.seq.specs.Rows.{rows-ext}
 use Rattle.seq.specs.Table.{length-table}
 use Rattle.paper.specs.Limits.{absent}
-use Rattle.paper.specs.Graph.{Graph}
-use Rattle.paper.specs.Map.{Map, empty}
+use Rattle.paper.specs.Map.{Map}
 use Rattle.paper.specs.Pieces.{Piece, layer, verticesOf, edgesOf, edgeOf}
-use Rattle.paper.specs.Faces.{Overlay, Walks, walksOf, overlayBy, overlayOf, net, sourcesOf, labelIn, labelsOf, holesOf}
-use Rattle.paper.specs.Tables.{Counts, Tables, vertexRow, halfRow, plusOne, sourceRow, faceRow, countsOf, tablesOf}
+use Rattle.paper.specs.Faces.{Overlay, walksOf, overlayBy, overlayOf, net, sourcesOf, labelIn, labelsOf, holesOf}
+use Rattle.paper.specs.Tables.{vertexRow, halfRow, plusOne, sourceRow, faceRow, countsOf, tablesOf}
 use Rattle.overlaylaws.specs.Sources.{sourceAt}
 use Rattle.overlaylaws.specs.Pieces.{pieceAt}
-use Rattle.overlaylaws.specs.Inside.{overlaid}
 use Rattle.overlaylaws.specs.Put.{put, put-before, put-default, put-past, put-map, put-++, put-replicate, table-put}
 use Rattle.overlaylaws.specs.EmptyMap.{withEmpty, withNone, one-more, layer-before, layer-own, layer-past, empty-vertices, empty-pieces, empty-graph}
 

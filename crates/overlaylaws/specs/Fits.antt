@@ -1,6 +1,6 @@
 -- The numbers in the overlay's tables fit 16 bits, given 01's limits on vertices and edges: origins, twins, followers, predecessors, faces, least half-edges and hole counts are
 -- below 65,535, which stands for none. A face's labels are labels of the maps, or 0, and fit where those do. Assumes nothing.
-use mathlib.Core.Path.{_≡_, refl, sym, _∙_, ap, subst}
+use mathlib.Core.Path.{sym, subst}
 use Prim.Native.Nat.{_<_, _≤_}
 use native.Mathlib.Omega.{arith}
 use lib.ListN.{getD-replicate}
@@ -9,10 +9,10 @@ use Rattle.seq.specs.Count.{count-le}
 use Rattle.seq.specs.Select.{length-select}
 use Rattle.seq.specs.Table.{table-at}
 use Rattle.paper.specs.Limits.{absent, overlayVertices, overlayEdges}
-use Rattle.paper.specs.Graph.{Graph, halfCount, even, twin, eastSide, west, low, upward}
+use Rattle.paper.specs.Graph.{halfCount, even, twin, eastSide, west, low, upward}
 use Rattle.paper.specs.Map.{Map, label}
 use Rattle.paper.specs.Pieces.{layer}
-use Rattle.paper.specs.Faces.{Overlay, walksOf, leadsOuter, leadsHole, overlayOf, net, sourcesOf, labelIn, labelsOf, holesOf}
+use Rattle.paper.specs.Faces.{Overlay, walksOf, leadsOuter, leadsHole, overlayOf, net, sourcesOf, labelIn, labelsOf}
 use Rattle.paper.specs.Tables as T
 use Rattle.paper.specs.Tables.{Counts, Tables, faceCell, originOf, twinOf, followerOf, predecessorOf, countsOf, tablesOf}
 use Rattle.overlaylaws.specs.Maps.{AllKeep}

@@ -1,18 +1,17 @@
 -- What lies strictly inside a piece of the overlay: no vertex of a map, and no point of an edge of a map that is not parallel to it (`no-meet`); an edge of a map that has a
 -- point there covers the piece, and is its source in that map (`covered`). Assumes nothing.
 use mathlib.Core.Path.{_≡_, refl, sym, _∙_, ap, subst}
-use mathlib.Core.Logic.{_⊎_, inl, inr, ⊎-elim}
+use mathlib.Core.Logic.{inl, inr}
 use Prim.Native.Nat.{_<_}
 use native.Mathlib.Decide.{ℕ-discrete}
 use native.Mathlib.Omega.{arith}
 use lib.Signed.{_<ℤ_}
 use Rattle.exact.specs.Order.{Tri, lt, eq, gt, tri, <→≢}
-use Rattle.exact.specs.Lowest.{lowest, lowest-is, lowest-x, lowest-y}
+use Rattle.exact.specs.Lowest.{lowest, lowest-x, lowest-y}
 use Rattle.seq.specs.Seq.{true, false, List, some, ℕ, length, pos}
 use Rattle.seq.specs.Terms.{Among}
-use Rattle.seq.specs.Tests.{clash, not-true}
-use Rattle.seq.specs.Members.{at-among}
-use Rattle.paper.specs.Plane.{Pt, Seg, whole, nowhere, head, cross, before, same, leftBy}
+use Rattle.seq.specs.Tests.{not-true}
+use Rattle.paper.specs.Plane.{Pt, Seg, whole, head, cross, before, same, leftBy}
 use Rattle.paper.specs.Graph.{Graph, edgeCount, point, pointIn, edge}
 use Rattle.paper.specs.Map.{Map}
 use Rattle.paper.specs.Pieces.{layer, verticesOf, edgesOf}
@@ -28,7 +27,7 @@ use Rattle.maplaws.specs.Keeps.{seg, edges, vertices}
 use Rattle.overlaylaws.specs.Maps.{AllKeep, seg-rises}
 use Rattle.overlaylaws.specs.Vertices.{vertex-has, foot-there, head-there}
 use Rattle.overlaylaws.specs.Places.{places, at-real, before-at, number}
-use Rattle.overlaylaws.specs.Links.{Neighbours, Runs}
+use Rattle.overlaylaws.specs.Links.{Neighbours}
 use Rattle.overlaylaws.specs.Sources.{sourceAt}
 use Rattle.overlaylaws.specs.OneLine.{none-between}
 use Rattle.overlaylaws.specs.Pieces.{pieceAt}

@@ -19,3 +19,7 @@ pub mod Put
 pub mod EmptyMap
 pub mod EmptyTables
 pub mod Along
+pub mod Rays
+pub mod Alike
+pub mod Renumber
+pub mod Exchange

@@ -1,10 +1,10 @@
 -- The pieces of one edge: they go between neighbours among the vertices on it, and every two neighbours have one. First the links between neighbours of a rising list of
 -- numbers; then of the list of vertices on an edge; then the pieces of all edges of all maps, before they are put in order. Assumes nothing.
-use mathlib.Core.Path.{_≡_, refl, sym, _∙_, ap, subst}
+use mathlib.Core.Path.{_≡_, refl, sym, subst}
 use mathlib.Core.Logic.{_⊎_, inl, inr, ⊎-elim}
-use Prim.Native.Nat.{_<_, _≤_}
+use Prim.Native.Nat.{_<_}
 use native.Mathlib.Omega.{arith}
-use Rattle.seq.specs.Seq.{Bool, true, false, List, [], _∷_, Option, ℕ, length, getD, rows, select}
+use Rattle.seq.specs.Seq.{Bool, List, [], _∷_, Option, ℕ, length, rows}
 use Rattle.seq.specs.Terms.{Among, Asc}
 use Rattle.seq.specs.Select.{select-from, select-has, select-asc}
 use Rattle.seq.specs.Rows.{among-rows, rows-among}

@@ -5,30 +5,30 @@ use mathlib.Core.Path.{_≡_, refl, sym, _∙_, ap, subst, subst₂}
 use Prim.Native.Nat.{_<_, _≤_}
 use native.Mathlib.Omega.{arith}
 use borrow.Author.Tests.{eq-eqb, eqb-true, lt-ltb}
-use Rattle.seq.specs.Seq.{Bool, true, cond, List, Option, none, some, ℕ, suc, _+_, _*_, _/_, ltb, length, getD, pos, least, select}
+use Rattle.seq.specs.Seq.{Bool, cond, List, Option, none, some, ℕ, suc, _+_, _*_, length, getD, pos, least, select}
 use Rattle.seq.specs.Least.{least-below, least-holds}
 use Rattle.paper.specs.Limits.{absent}
-use Rattle.paper.specs.Graph.{Graph, edgeCount, halfCount, edge, twin, origin, leaves, follower, followers}
+use Rattle.paper.specs.Graph.{Graph, edgeCount, halfCount, twin, origin, leaves, follower}
 use Rattle.paper.specs.Map.{Map}
 use Rattle.paper.specs.Pieces.{layer, verticesOf, edgesOf}
-use Rattle.paper.specs.Faces.{walksOf, leadsOuter, overlayOf, sourcesOf, net}
+use Rattle.paper.specs.Faces.{walksOf, leadsOuter, overlayOf, sourcesOf}
 use Rattle.paper.specs.Tables as T
-use Rattle.paper.specs.Tables.{Counts, Tables, vertexCell, sourceCell, faceCell, originOf, twinOf, followerOf, predecessorOf, leastHalf, plusOne, countsOf, tablesOf}
-use Rattle.graphlaws.specs.Halves.{twin-below, twin-twin, first-below, second-below, origin-first, origin-second}
+use Rattle.paper.specs.Tables.{Counts, Tables, vertexCell, sourceCell, faceCell, originOf, twinOf, followerOf, predecessorOf, plusOne, countsOf, tablesOf}
+use Rattle.graphlaws.specs.Halves.{twin-below, first-below, second-below, origin-first, origin-second}
 use Rattle.graphlaws.specs.Plane.{Plane}
-use Rattle.graphlaws.specs.Follow.{follower-origin, follower-below, follower-once, predecessor-follower, follower-predecessor, predecessor-below}
+use Rattle.graphlaws.specs.Follow.{follower-origin, follower-below, predecessor-follower, follower-predecessor, predecessor-below}
 use Rattle.graphlaws.specs.Faces.{faceOf, face-below, face-onto}
 use Rattle.maplaws.specs.Keeps.{edges}
 use Rattle.overlaylaws.specs.Maps.{AllKeep}
 use Rattle.overlaylaws.specs.Places.{places}
-use Rattle.overlaylaws.specs.Sources.{sourceAt, source-cases}
+use Rattle.overlaylaws.specs.Sources.{sourceAt}
 use Rattle.overlaylaws.specs.Pieces.{Sourced, pieceAt}
 use Rattle.overlaylaws.specs.Net.{near, sourced}
 use Rattle.overlaylaws.specs.NetPlane.{net-plane}
 use Rattle.overlaylaws.specs.Inside.{overlaid}
 use Rattle.overlaylaws.specs.Round.{vertex-left}
-use Rattle.overlaylaws.specs.Cells.{vertex-cell, source-cell, least-cell, faceHalf}
-use Rattle.overlaylaws.specs.Parts.{net-is, sources-are, outers-are, vertex-count, edge-count, face-count, made, origin-is, twin-is, follower-is, predecessor-is, face-cell-is}
+use Rattle.overlaylaws.specs.Cells.{vertex-cell, source-cell, least-cell}
+use Rattle.overlaylaws.specs.Parts.{sources-are, outers-are, vertex-count, edge-count, face-count, origin-is, twin-is, follower-is, predecessor-is, face-cell-is}
 
 -- half-edge h of tables with counts c
 pub record HalfNamed (c : Counts) (t : Tables) (h : ℕ) : Type 0 where

@@ -4,16 +4,16 @@ use mathlib.Core.Path.{_≡_, refl, sym, _∙_, ap, subst}
 use Prim.Native.Nat.{_<_}
 use native.Mathlib.Omega.{arith}
 use lib.ListN.{length-map, List·getD-map}
-use Rattle.seq.specs.Seq.{Bool, true, false, cond, not, List, [], _∷_, map, Option, none, some, ℕ, zero, suc, _+_, _*_, _/_, length, getD}
-use Rattle.paper.specs.Plane.{Pt, Seg, Vec, whole, nowhere, opposite, before, lower, upper}
-use Rattle.paper.specs.Graph.{Graph, Edge, noEdge, edgeCount, halfCount, pointIn, edge, even, twin, origin, start, low, high, goesUp, upward, heading}
+use Rattle.seq.specs.Seq.{true, false, List, [], _∷_, map, Option, none, some, ℕ, zero, suc, _+_, _*_, _/_, length, getD}
+use Rattle.paper.specs.Plane.{Pt, Seg, before, lower, upper}
+use Rattle.paper.specs.Graph.{Graph, Edge, noEdge, edgeCount, halfCount, pointIn, edge, even, twin, origin, start, low, high, goesUp, upward}
 use Rattle.paper.specs.Map.{Map}
 use Rattle.paper.specs.Pieces.{layer, Piece, carrierOf, edgeOf, edgesOf, graphOf}
 use Rattle.planelaws.specs.Cone.{UpV}
 use Rattle.planelaws.specs.Points.{before-asym}
 use Rattle.planelaws.specs.Ends.{lower-is, upper-is}
-use Rattle.graphlaws.specs.Halves.{half-below, twin-twin, twin-half, twin-first, twin-second, even-double, odd-double, half-first, half-second, origin-first, origin-second, Which, first, second, which}
-use Rattle.maplaws.specs.Keeps.{seg, edges}
+use Rattle.graphlaws.specs.Halves.{half-below, twin-first, twin-second, even-double, odd-double, origin-first, origin-second, Which, first, second, which}
+use Rattle.maplaws.specs.Keeps.{seg}
 use Rattle.overlaylaws.specs.Maps.{AllKeep, seg-rises}
 use Rattle.overlaylaws.specs.Places.{Places, at-before}
 use Rattle.overlaylaws.specs.Links.{Neighbours, Runs}

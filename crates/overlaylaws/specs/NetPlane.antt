@@ -1,15 +1,14 @@
 -- The graph of the overlay is a plane graph (`net-plane`), in which no two edges share a stretch (`net-clear`): no two half-edges with one origin have the same angle, as two
 -- pieces on one line with one end in common have the other in common, and pieces with the same ends stand once. So all laws of `graphlaws` hold of the overlay:
 -- followers are a permutation, walks close, faces obey their recursion. Assumes nothing.
-use mathlib.Core.Path.{_≡_, refl, sym, _∙_, ap, subst}
+use mathlib.Core.Path.{_≡_, sym, _∙_, ap, subst}
 use Prim.Native.Nat.{_<_}
 use native.Mathlib.Omega.{arith}
-use Rattle.seq.specs.Seq.{Bool, true, false, cond, not, List, ℕ, _+_, _*_, _/_, length, pos}
+use Rattle.seq.specs.Seq.{Bool, true, false, cond, not, List, ℕ, _/_, length, pos}
 use Rattle.seq.specs.Tests.{clash}
-use Rattle.paper.specs.Plane.{Pt, Seg, Vec, opposite, cross, rises, before, leftBy}
+use Rattle.paper.specs.Plane.{Pt, Vec, opposite, cross, rises, before, leftBy}
 use Rattle.paper.specs.Graph.{Graph, edgeCount, halfCount, pointIn, edge, twin, origin, start, low, high, goesUp, upward, heading, leftOf}
 use Rattle.paper.specs.Map.{Map}
-use Rattle.paper.specs.Pieces.{edgesOf}
 use Rattle.planelaws.specs.Cone.{up-rises, up-nonzero, rises-opposite}
 use Rattle.planelaws.specs.Angles.{SameWay, cross-opposite}
 use Rattle.graphlaws.specs.Halves.{half-below}

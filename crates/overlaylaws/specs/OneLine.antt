@@ -1,11 +1,10 @@
 -- Two pieces on one line: with one lower vertex they have one upper, with one upper one lower, and where each starts before the other ends they are one. For the nearer
 -- end of the two would be a vertex on the other's edge between its ends, which are neighbours. Rule 8 is not used. Assumes nothing.
-use mathlib.Core.Path.{_≡_, sym, subst}
+use mathlib.Core.Path.{_≡_, subst}
 use Prim.Native.Nat.{_<_}
 use native.Mathlib.Omega.{arith}
-use lib.Signed.{_<ℤ_}
-use Rattle.seq.specs.Seq.{true, false, List, ℕ, length, pos}
-use Rattle.paper.specs.Plane.{Pt, Seg, cross, before, leftBy}
+use Rattle.seq.specs.Seq.{List, ℕ, length, pos}
+use Rattle.paper.specs.Plane.{Pt, Seg, cross, leftBy}
 use Rattle.paper.specs.Graph.{pointIn}
 use Rattle.planelaws.specs.Cone.{UpV}
 use Rattle.planelaws.specs.Points.{before-asym}

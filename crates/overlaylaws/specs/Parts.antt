@@ -1,17 +1,16 @@
 -- The parts of the overlay of a list of maps, and the cells of its tables, by the overlay's graph: counts, pieces, followers, faces. Assumes nothing.
-use mathlib.Core.Path.{_≡_, refl, sym, _∙_, ap, subst}
+use mathlib.Core.Path.{_≡_, refl, sym, _∙_, subst}
 use Prim.Native.Nat.{_<_}
 use native.Mathlib.Omega.{arith}
-use Rattle.seq.specs.Seq.{List, ℕ, suc, _*_, _/_, length, getD, select, position}
+use Rattle.seq.specs.Seq.{List, ℕ, suc, _*_, length, getD, select, position}
 use Rattle.seq.specs.Table.{table-at}
-use Rattle.paper.specs.Graph.{Graph, edgeCount, halfCount, twin, origin, follower, followers}
+use Rattle.paper.specs.Graph.{edgeCount, halfCount, twin, origin, follower, followers}
 use Rattle.paper.specs.Map.{Map}
-use Rattle.paper.specs.Pieces.{Piece, verticesOf, edgesOf}
-use Rattle.paper.specs.Faces.{Walks, walksOf, leadsOuter, faceIn, overlayOf, net, sourcesOf}
+use Rattle.paper.specs.Pieces.{verticesOf, edgesOf}
+use Rattle.paper.specs.Faces.{walksOf, leadsOuter, faceIn, overlayOf, net, sourcesOf}
 use Rattle.paper.specs.Tables.{Tables, originOf, twinOf, followerOf, predecessorOf, countsOf, tablesOf}
 use Rattle.paper.specs.Tables as T
 use Rattle.graphlaws.specs.Follow.{followers-at}
-use Rattle.graphlaws.specs.Plane.{Plane}
 use Rattle.graphlaws.specs.Faces.{faceOf}
 use Rattle.overlaylaws.specs.Maps.{AllKeep}
 use Rattle.overlaylaws.specs.Places.{places}

@@ -1,22 +1,21 @@
 -- The edges of the overlay (01, "Overlay tables"): a piece is there exactly if its ends are neighbouring vertices on some edge of some map, and its sources are exactly
 -- these: in each map the edge on which they are neighbours, or none (`piece-from`, `piece-has`). In a map there is one at most, by rule 8. The pieces rise strictly by
 -- lower, then upper vertex number, so that a piece of several maps stands once; and lower < upper < the number of vertices. Over any points in order. Assumes nothing.
-use mathlib.Core.Path.{_≡_, refl, sym, _∙_, ap, subst}
+use mathlib.Core.Path.{_≡_, sym, _∙_, ap, subst}
 use mathlib.Core.Logic.{_⊎_, inl, inr, ⊎-elim}
 use Prim.Native.Nat.{_<_}
-use native.Mathlib.Omega.{arith}
 use lib.Seq.{ext-getD}
-use Rattle.seq.specs.Seq.{true, false, List, [], Option, none, some, ℕ, length, getD}
+use Rattle.seq.specs.Seq.{List, [], Option, none, some, ℕ, length, getD}
 use Rattle.seq.specs.Terms.{Among, Rising}
 use Rattle.seq.specs.Members.{at-among, among-at}
 use Rattle.paper.specs.Plane.{Pt}
 use Rattle.paper.specs.Graph.{pointIn}
 use Rattle.paper.specs.Map.{Map}
-use Rattle.paper.specs.Pieces.{layer, Piece, only, merged, joined, earlier, piecesInOrder, edgesOf}
+use Rattle.paper.specs.Pieces.{layer, Piece, only, joined, earlier, edgesOf}
 use Rattle.overlaylaws.specs.Maps.{AllKeep, two-common}
 use Rattle.overlaylaws.specs.Places.{Places, at-real, at-before, rising-number, rising-once}
 use Rattle.overlaylaws.specs.Links.{pieceOf, cutOut, Runs, cut-from, cut-has}
-use Rattle.overlaylaws.specs.Sources.{sourceAt, none-some, some-equal, source-cases, length-only, only-own, only-is, length-merged, merged-from, merged-first}
+use Rattle.overlaylaws.specs.Sources.{sourceAt, source-cases, length-only, only-own, only-is, length-merged, merged-from, merged-first}
 use Rattle.overlaylaws.specs.Order.{SameEnds, ends-same, ends-swap, order-rising, order-all, Holds, order-holds}
 
 -- what a piece is: between neighbours on an edge, and its sources are exactly the edges on which its ends are neighbours

@@ -6,7 +6,6 @@ use Prim.Native.Nat.{_<_, _≤_, _-_}
 use native.Mathlib.Nat.{not-suc-le-zero, le-of-suc-le-suc}
 use native.Mathlib.Decide.{decLt, ℕ-discrete}
 use native.Mathlib.Omega.{arith}
-use lib.ListN.{length-append}
 use Rattle.seq.specs.Seq.{List, [], _∷_, _++_, map, ℕ, zero, suc, length, getD, replicate, rows, table}
 use Rattle.seq.specs.Rows.{rows-ext}
 use Rattle.seq.specs.Table.{length-table, table-at, table-is}

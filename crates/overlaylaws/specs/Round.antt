@@ -6,7 +6,6 @@ use Prim.Native.Nat.{_<_, _-_}
 use native.Mathlib.Decide.{ℕ-discrete}
 use native.Mathlib.Omega.{arith}
 use Rattle.seq.specs.Seq.{Bool, true, false, cond, List, some, ℕ, zero, suc, _+_, _*_, _/_, length, getD, pos}
-use Rattle.seq.specs.Terms.{Among}
 use Rattle.seq.specs.Tests.{clash}
 use Rattle.seq.specs.Members.{at-among, among-at}
 use Rattle.paper.specs.Plane.{Pt, Vec, Seg, whole, nowhere, head, opposite, dir, cross, before, lessAngle}

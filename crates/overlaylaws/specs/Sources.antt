@@ -2,12 +2,11 @@
 use mathlib.Core.Path.{_≡_, refl, sym, _∙_, ap}
 use mathlib.Core.Logic.{_⊎_, inl, inr}
 use Prim.Native.Nat.{_<_}
-use native.Mathlib.Nat.{not-suc-le-zero}
 use native.Mathlib.Decide.{ℕ-discrete, decLt}
 use native.Mathlib.Omega.{arith}
 use borrow.Author.Tests.{eq-eqb, ne-eqb}
 use lib.ListN.{List·getD-eq-default}
-use Rattle.seq.specs.Seq.{Bool, true, false, cond, List, [], _∷_, Option, none, some, ℕ, zero, suc, eqb, length, getD, table}
+use Rattle.seq.specs.Seq.{Bool, cond, List, [], _∷_, Option, none, some, ℕ, zero, suc, eqb, length, getD}
 use Rattle.seq.specs.Table.{length-table, table-at}
 use Rattle.paper.specs.Pieces.{only, merged}
 

@@ -6,7 +6,7 @@ use mathlib.Core.Logic.{_⊎_, inl, inr, ⊎-elim}
 use Prim.Native.Nat.{_<_, _≤_}
 use native.Mathlib.Decide.{decLt}
 use native.Mathlib.Omega.{arith}
-use Rattle.seq.specs.Seq.{List, [], _∷_, _++_, Option, none, some, ℕ, length, natAbs, rows, optional}
+use Rattle.seq.specs.Seq.{List, _++_, Option, none, some, ℕ, length, natAbs, rows, optional}
 use Rattle.seq.specs.Terms.{Among, Every, Rising, Transitive}
 use Rattle.seq.specs.Members.{among-++, ++-among, at-among, among-at, every-in, in-every}
 use Rattle.seq.specs.Rows.{among-rows, rows-among}
