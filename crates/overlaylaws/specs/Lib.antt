@@ -23,3 +23,4 @@ pub mod Rays
 pub mod Alike
 pub mod Renumber
 pub mod Exchange
+pub mod Files
