@@ -17,7 +17,7 @@ use Rattle.planelaws.specs.Points.{before-asym}
 use Rattle.planelaws.specs.Crossing.{Touch}
 use Rattle.maplaws.specs.Keeps.{Keeps, seg, edges, vertices}
 use Rattle.overlaylaws.specs.Maps.{AllKeep}
-use Rattle.overlaylaws.specs.Vertices.{Vertex, vertex-from, vertex-has, vertices-rising}
+use Rattle.overlaylaws.specs.Vertices.{Corner, Crossed, Vertex, vertex-from, vertex-has, vertices-rising}
 use Rattle.overlaylaws.specs.Places.{Places, places, at-real}
 use Rattle.overlaylaws.specs.Links.{Neighbours, Runs}
 use Rattle.overlaylaws.specs.Sources.{sourceAt, source-cases}
@@ -62,23 +62,25 @@ module _ (ms ns : List Map) (to back : ℕ → ℕ) (R : Renumbers ms ns to back
 
   -- ── vertices ──
 
-  vertex-to : (p : Pt) → Vertex ms p → Vertex ns p
-  vertex-to p (inl c) =
+  corner-to : (p : Pt) → Corner ms p → Corner ns p
+  corner-to p c =
       let i = c .layer-of in
       let e = sym (R .same i (c .in-list)) in
-      inl (record {
+      record {
         layer-of = to i;
         vertex = c .vertex;
         in-list = in-ns (R .to-in i (c .in-list));
         below = subst (λ (m : Map). c .vertex < vertices m) e (c .below);
         is = subst (λ (m : Map). point (m .graph) (c .vertex) ≡ p) e (c .is);
-      })
-  vertex-to p (inr c) =
+      }
+
+  crossed-to : (p : Pt) → Crossed ms p → Crossed ns p
+  crossed-to p c =
       let i = c .first-layer in
       let j = c .second-layer in
       let e = sym (R .same i (c .first-in)) in
       let f = sym (R .same j (c .second-in)) in
-      inr (record {
+      record {
         first-layer = to i;
         second-layer = to j;
         first-edge = c .first-edge;
@@ -89,7 +91,11 @@ module _ (ms ns : List Map) (to back : ℕ → ℕ) (R : Renumbers ms ns to back
         first-below = subst (λ (m : Map). c .first-edge < edges m) e (c .first-below);
         second-below = subst (λ (m : Map). c .second-edge < edges m) f (c .second-below);
         touch = subst₂ (λ (m n : Map). Touch (seg m (c .first-edge)) (seg n (c .second-edge)) p) e f (c .touch);
-      })
+      }
+
+  vertex-to : (p : Pt) → Vertex ms p → Vertex ns p
+  vertex-to p (inl c) = inl (corner-to p c)
+  vertex-to p (inr c) = inr (crossed-to p c)
 
   -- ── an edge with two neighbours on it ──
 
