@@ -1,0 +1,59 @@
+/* digests FOLDER...: the plain overlay's answer for FOLDER/zones.zmp and FOLDER/blocks.zmp, with the digest of its tables, as
+ * `second digests` prints it (second/README.md). */
+#include <stdio.h>
+#include <string.h>
+
+#include "files.h"
+#include "plain/plain.h"
+
+static int64_t vertices[4 * 1000];
+static uint16_t halves[5 * 4000];
+static uint32_t sources[2 * 2000];
+static uint16_t faces[4 * 1334];
+
+static uint64_t digest = 0xcbf29ce484222325;
+
+/* Adds a number's bytes, low byte first. */
+static void add(uint64_t number, int bytes)
+{
+    for (int i = 0; i < bytes; i++) {
+        digest = (digest ^ (number & 255)) * 0x100000001b3;
+        number >>= 8;
+    }
+}
+
+static void print_digest(struct plain_answer a)
+{
+    digest = 0xcbf29ce484222325;
+    add(a.vertices, 2);
+    add(a.edges, 2);
+    add(a.faces, 2);
+    for (int i = 0; i < 4 * a.vertices; i++)
+        add(vertices[i], 8);
+    for (int i = 0; i < 10 * a.edges; i++)
+        add(halves[i], 2);
+    for (int i = 0; i < 2 * a.edges; i++)
+        add(sources[i], 4);
+    for (int i = 0; i < 4 * a.faces; i++)
+        add(faces[i], 2);
+    printf("done %d %d %d %016llx\n", a.vertices, a.edges, a.faces, (unsigned long long)digest);
+}
+
+int main(int count, char **words)
+{
+    static struct file zones, blocks;
+
+    for (int i = 1; i < count; i++) {
+        struct plain_tables tables = { vertices, halves, sources, faces, 4 * 1000, 5 * 4000, 2 * 2000, 4 * 1334 };
+        char *name = strrchr(words[i], '/');
+
+        load_sheet(words[i], &zones, &blocks);
+        struct plain_answer a = plain_overlay(zones.bytes, zones.length, blocks.bytes, blocks.length, &tables);
+        printf("%s ", name ? name + 1 : words[i]);
+        if (a.number == 0)
+            print_digest(a);
+        else
+            printf("refused %d map %d place %d\n", a.number, a.map, a.place);
+    }
+    return 0;
+}

@@ -1,0 +1,6 @@
+/* For a compiler that comes without headers: only what bench/ uses. */
+#ifndef STDDEF_H
+#define STDDEF_H
+typedef __SIZE_TYPE__ size_t;
+#define NULL ((void *)0)
+#endif

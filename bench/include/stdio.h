@@ -1,0 +1,13 @@
+/* For a compiler that comes without headers: only what bench/ uses. */
+#ifndef STDIO_H
+#define STDIO_H
+#include <stddef.h>
+typedef struct file FILE;
+extern FILE *stderr;
+int fclose(FILE *);
+FILE *fopen(const char *, const char *);
+int fprintf(FILE *, const char *, ...);
+size_t fread(void *, size_t, size_t, FILE *);
+int printf(const char *, ...);
+int snprintf(char *, size_t, const char *, ...);
+#endif
