@@ -5,3 +5,6 @@ pub mod Placed
 pub mod Sorting
 pub mod Points
 pub mod Settling
+pub mod Capped
+pub mod PieceRows
+pub mod Put
