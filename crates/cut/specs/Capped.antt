@@ -1,13 +1,13 @@
 -- A list that is made step by step, each step at most one element longer, in a table with room for `cap` of them: where the table is full the steps are left
 -- out. Either nothing was left out, or the list has cap elements or more ("the count only grows"). First any such step; then lists that elements are put into,
 -- the last first, and lists that elements are collected in, the first first. Assumes nothing.
-use mathlib.Core.Path.{_≡_, refl, sym, _∙_, ap}
+use mathlib.Core.Path.{_≡_, refl, _∙_, ap}
 use Prim.Native.Nat.{_≤_, _<_}
 use native.Mathlib.Omega.{arith}
 use native.Mathlib.Decide.{decLt}
 use borrow.Author.Tests.{lt-ltb, le-ltb}
 use lib.ListN.{length-append}
-use Rattle.seq.specs.Seq.{Bool, true, false, cond, List, [], _∷_, _++_, ℕ, suc, _+_, ltb, length, insertBy, inOrderBy, isIn, fresh, collect}
+use Rattle.seq.specs.Seq.{Bool, true, false, cond, List, [], _∷_, _++_, ℕ, _+_, ltb, length, insertBy, inOrderBy, isIn, fresh, collect}
 
 -- the step f, or nothing where there is no room
 abbrev pub capped : {A : Type 0} → ℕ → (List A → List A) → List A → List A

@@ -8,3 +8,6 @@ pub mod Settling
 pub mod Capped
 pub mod PieceRows
 pub mod Put
+pub mod Rooms
+pub mod Compared
+pub mod PutTable

@@ -2,8 +2,7 @@
 -- it. Assumes nothing.
 use mathlib.Core.Path.{_≡_, refl, sym, _∙_, ap}
 use Prim.Native.Nat.{_≤_, _<_}
-use native.Mathlib.Nat.{not-suc-le-zero, add-zero, mul-suc, mul-le-mul-left}
-use native.Mathlib.Decide.{decLt, ℕ-discrete}
+use native.Mathlib.Decide.{ℕ-discrete}
 use native.Mathlib.Omega.{arith}
 use borrow.Author.Tests.{eq-eqb, ne-eqb}
 use lib.ListN.{set, length-set}
@@ -11,7 +10,7 @@ use lib.Seq.{getD-set-same, getD-set-other, ext-getD}
 use Rattle.seq.specs.Seq.{Bool, true, false, cond, List, [], _∷_, _++_, Option, none, some, ℕ, zero, suc, _+_, _*_, eqb, length, getD, cell, table}
 use Rattle.seq.specs.Table.{length-table, table-at, table-ext}
 use Rattle.paper.specs.Limits.{maps}
-use Rattle.paper.specs.Pieces.{Piece, only, merged, joined, earlier}
+use Rattle.paper.specs.Pieces.{Piece, only, merged, joined}
 
 abbrev pub pieceWidth : ℕ
 pieceWidth = 2 + maps

@@ -1,3 +1,5 @@
-// The overlay's vertices and pieces, from all maps' edges in one table.
-pub mod rows; // rows of the tables
-pub mod order; // order.rt: points put in order
+// The overlay's vertices, collected and ordered, and the pieces of the input edges, from all maps' edges in one table.
+pub mod limits; // the numbers of 01
+pub mod rows; // cells of a table moved
+pub mod order; // points put in order
+pub mod put; // a piece put in order
