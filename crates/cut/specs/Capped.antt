@@ -38,6 +38,14 @@ module _ {A : Type 0} (cap : ℕ) where
       ]
   capped-step f s t l (full e h) = full (ap length (capped-full f t (omega arith)) ∙ e) (omega (arith, s .grows l))
 
+  -- it stays within the room
+  pub capped-le : (f : List A → List A) → Slow f → (l : List A) → length l ≤ cap → length (capped cap f l) ≤ cap
+  capped-le f s l h =
+      elim (decLt (length l) cap) [
+        | yes q ↦ omega (arith, s .slowly l, ap length (capped-less f l q))
+        | no q ↦ omega (arith, ap length (capped-full f l (omega arith)))
+      ]
+
 -- what is known from the count
 pub cap-whole : {A : Type 0} {cap : ℕ} {t l : List A} → Cap cap t l → length t < cap → t ≡ l
 cap-whole (whole e h) q = e
@@ -76,6 +84,10 @@ module _ {A : Type 0} (b : A → A → Bool) (join : A → A → A) where
     pub putAll-++ : (l ps qs : List A) → putAll l (ps ++ qs) ≡ putAll (putAll l qs) ps
     putAll-++ l [] qs = refl
     putAll-++ l (p ∷ ps) qs = ap (λ (t : List A). capped cap (insertBy b join p) t) (putAll-++ l ps qs)
+
+    pub putAll-le : (l ps : List A) → length l ≤ cap → length (putAll l ps) ≤ cap
+    putAll-le l [] h = h
+    putAll-le l (p ∷ ps) h = capped-le cap (insertBy b join p) (insert-slow p) (putAll l ps) (putAll-le l ps h)
 
     pub putAll-cap : (ps : List A) → Cap cap (putAll [] ps) (inOrderBy b join ps)
     putAll-cap [] = whole refl (omega arith)

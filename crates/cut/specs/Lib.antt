@@ -11,3 +11,5 @@ pub mod Put
 pub mod Rooms
 pub mod Compared
 pub mod PutTable
+pub mod Cutting
+pub mod Cuts

@@ -3,3 +3,4 @@ pub mod limits; // the numbers of 01
 pub mod rows; // cells of a table moved
 pub mod order; // points put in order
 pub mod put; // a piece put in order
+pub mod pieces; // the edges cut into pieces

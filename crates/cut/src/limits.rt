@@ -4,3 +4,6 @@
 pub const VERTEX_ROWS: usize = 1001;
 
 pub const EDGE_ROWS: usize = 2001;
+
+// "Two map files go in"
+pub const MAPS: usize = 2;
