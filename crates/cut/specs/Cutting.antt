@@ -5,7 +5,7 @@ use mathlib.Core.List.{append-assoc, append-nil}
 use Prim.Native.Nat.{_≤_, _<_}
 use native.Mathlib.Omega.{arith}
 use borrow.Author.Tests.{lt-ltb, le-ltb}
-use Rattle.seq.specs.Seq.{Bool, true, false, cond, List, [], _∷_, _++_, Option, ℕ, zero, suc, _+_, _*_, _-_, ltb, length, select, rows, insertBy}
+use Rattle.seq.specs.Seq.{Bool, true, false, cond, List, [], _∷_, _++_, Option, ℕ, suc, _-_, ltb, length, select, rows, insertBy}
 use Rattle.seq.specs.Table.{length-table}
 use Rattle.paper.specs.Pieces.{Piece, links, linksFrom, earlier, joined}
 use Rattle.cut.specs.Capped.{capped, putAll, putAll-++, putAll-le}

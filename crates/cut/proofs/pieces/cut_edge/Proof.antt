@@ -5,7 +5,7 @@ use lib.ListN.{length}
 use Rattle.paper.specs.Limits.{maps}
 use Rattle.paper.specs.Plane.{onSeg}
 use Rattle.paper.specs.Pieces.{only}
-use Rattle.plane.specs.Values.{segOf, ptOf}
+use Rattle.plane.specs.Values.{segOf}
 use Rattle.plane.specs.Bounds.{Near}
 use Rattle.graph.specs.Flat.{pointAt}
 use Rattle.cut.specs.Rooms.{edgeRows}
@@ -16,11 +16,6 @@ use borrow.Author.Needs.{needs}
 use native.Mathlib.Omega.{arith}
 use Rattle.cut.proofs.pieces.cut_edge.Statement.{statement}
 use Rattle.cut.proofs.pieces.cut_edge.Tie as tie
-use Rattle.cut.proofs.pieces.cut_edge.Reads as reads
-use Rattle.cut.proofs.pieces.cut_edge.Lts as lts
-use Rattle.cut.proofs.pieces.link.Reads as link-reads
-use Rattle.graph.proofs.heading.point_at.Reads as point-at-reads
-use Rattle.plane.proofs.clash.on_seg.Reads as on-seg-reads
 
 abbrev Inv-loop : tie.InvT-loop
 Inv-loop points n s m number pieces₀ count total₀ next₀ v₀ pieces total next v =
@@ -30,19 +25,15 @@ Inv-loop points n s m number pieces₀ count total₀ next₀ v₀ pieces total 
 abbrev μ-loop : tie.MeasureT-loop
 μ-loop points n s m number pieces₀ count total₀ next₀ v₀ pieces total next v = v
 
--- src/pieces.rt:40:5
 loop-holds : tie.Need-loop-holds Inv-loop μ-loop
 loop-holds c = (refl, link-starts edgeRows _ _ _ _ _ (search needs))
 
--- src/pieces.rt:41:9
 sub-v : tie.Need-sub-v Inv-loop μ-loop
 sub-v c = search needs
 
--- src/pieces.rt:42:22
 point-at-requires : tie.Need-point-at-requires Inv-loop μ-loop
 point-at-requires c κs = search needs
 
--- src/pieces.rt:42:12
 on-seg-requires : tie.Need-on-seg-requires Inv-loop μ-loop
 on-seg-requires c κs =
     let s = c .before .before .before .before in
@@ -55,11 +46,9 @@ tested c = c .on-seg .ensures ∙ ap (onSeg (segOf (c .before .before .before .b
 link-requires : tie.Need-link-requires Inv-loop μ-loop
 link-requires c κs = search needs
 
--- src/pieces.rt:40:5
 loop-less : tie.Need-loop-less Inv-loop μ-loop
 loop-less c = search needs
 
--- src/pieces.rt:40:5
 loop-again : tie.Need-loop-again Inv-loop μ-loop
 loop-again c =
     let l = c .before .before .before .before .before .before .before .before .loop in (
@@ -67,21 +56,17 @@ loop-again c =
       link-turns edgeRows _ _ _ (l .inv .1) (c .before .before .link .last .0) (c .before .before .link .result) (search needs) (sym (tested (c .before .before .before .before .before)) ∙ c .before .before .before .before .if1 .taken) (c .before .before .link .ensures),
     )
 
--- src/pieces.rt:40:5
 loop-less-2 : tie.Need-loop-less-2 Inv-loop μ-loop
 loop-less-2 c = search needs
 
--- src/pieces.rt:40:5
 loop-again-2 : tie.Need-loop-again-2 Inv-loop μ-loop
 loop-again-2 c =
     let l = c .before .before .before .before .loop in
     (l .inv .0, link-skips edgeRows _ _ _ (l .inv .1) (search needs) (sym (tested (c .before)) ∙ c .if1 .left))
 
--- src/pieces.rt:33:1
 same-length : tie.Need-same-length Inv-loop μ-loop
 same-length c = search needs
 
--- src/pieces.rt:33:1
 returns : tie.Need-returns Inv-loop μ-loop
 returns c = link-ends edgeRows _ _ _ (c .before .loop .inv .1) (search needs)
 

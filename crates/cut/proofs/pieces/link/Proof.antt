@@ -9,31 +9,22 @@ use native.Mathlib.Omega.{arith}
 use borrow.Author.Needs.{needs}
 use Rattle.cut.proofs.pieces.link.Statement.{statement}
 use Rattle.cut.proofs.pieces.link.Tie as tie
-use Rattle.cut.proofs.pieces.link.Reads as reads
-use Rattle.cut.proofs.pieces.link.Lts as lts
-use Rattle.cut.proofs.put.put.Reads as put-reads
 
--- src/pieces.rt:27:9
 returns : tie.Need-returns
 returns c = let a = c .before .before .args in link-none edgeRows (a .n) (a .next) (a .v) (only maps (a .m) (a .number)) (piecesIn (a .pieces .now) (a .count)) (search needs)
 
--- src/pieces.rt:29:24
 cast-put : tie.Need-cast-put
 cast-put c = search needs
 
--- src/pieces.rt:29:34
 cast-put-2 : tie.Need-cast-put-2
 cast-put-2 c = search needs
 
--- src/pieces.rt:29:5
 put-requires : tie.Need-put-requires
 put-requires c κs = search needs
 
--- src/pieces.rt:22:1
 same-length : tie.Need-same-length
 same-length c = search needs
 
--- src/pieces.rt:22:1
 returns-2 : tie.Need-returns-2
 returns-2 c =
     let a = c .before .before .before .before .before .before .args in
