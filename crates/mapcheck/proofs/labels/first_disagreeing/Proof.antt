@@ -1,0 +1,68 @@
+-- `mapcheck::labels::first_disagreeing` meets its contract: nothing below the counter has been found. Assumes nothing.
+use mathlib.Core.Path.{_≡_, refl, sym, ap, _∙_}
+use Prim.Native.Nat.{_≤_}
+use native.Mathlib.Omega.{arith}
+use borrow.Author.Needs.{needs}
+use Rattle.seq.specs.Seq.{Bool, ℕ, _*_, _-_, least}
+use Rattle.seq.specs.Least.{least-found, least-more}
+use Rattle.mapcheck.specs.Labels.{disagreesAt}
+use Rattle.mapcheck.proofs.labels.first_disagreeing.Statement.{statement}
+use Rattle.mapcheck.proofs.labels.first_disagreeing.Tie as tie
+
+abbrev Inv-loop : tie.InvT-loop
+Inv-loop points origins carriers labels headings next n e m h₀ h = (h ≤ 2 * e) × (least (disagreesAt points origins carriers labels headings next n e) h ≡ h)
+
+abbrev μ-loop : tie.MeasureT-loop
+μ-loop points origins carriers labels headings next n e m h₀ h = 2 * e - h
+
+mul-m : tie.Need-mul-m Inv-loop μ-loop
+mul-m c = search needs
+
+loop-holds : tie.Need-loop-holds Inv-loop μ-loop
+loop-holds c = (search needs, refl)
+
+disagrees-requires : tie.Need-disagrees-requires Inv-loop μ-loop
+disagrees-requires c κs = search needs
+
+returns : tie.Need-returns Inv-loop μ-loop
+returns c =
+    let a = c .before .before .before .before .before .before .before .args in
+    let p = disagreesAt (a .points .now) (a .origins .now) (a .carriers .now) (a .labels .now) (a .headings .now) (a .next .now) (a .n) (a .e) in
+    let l = c .before .before .before .loop in
+    sym (least-found p (2 * a .e) (l .h) (omega arith) (l .inv .1) (sym (c .before .disagrees .ensures) ∙ c .if1 .taken))
+
+add-h : tie.Need-add-h Inv-loop μ-loop
+add-h c = search needs
+
+loop-less : tie.Need-loop-less Inv-loop μ-loop
+loop-less c = search needs
+
+loop-again : tie.Need-loop-again Inv-loop μ-loop
+loop-again c =
+    let a = c .before .before .before .before .before .before .before .args in
+    let p = disagreesAt (a .points .now) (a .origins .now) (a .carriers .now) (a .labels .now) (a .headings .now) (a .next .now) (a .n) (a .e) in
+    let l = c .before .before .before .loop in
+    (omega arith, least-more p (l .h) (l .inv .1) (sym (c .before .disagrees .ensures) ∙ c .if1 .left))
+
+returns-2 : tie.Need-returns-2 Inv-loop μ-loop
+returns-2 c =
+    let a = c .before .before .before .before .before .args in
+    let p = disagreesAt (a .points .now) (a .origins .now) (a .carriers .now) (a .labels .now) (a .headings .now) (a .next .now) (a .n) (a .e) in
+    let l = c .before .loop in
+    let q : l .h ≡ 2 * a .e = omega arith in
+    sym (ap (least p) (sym q) ∙ l .inv .1 ∙ q)
+
+pub first-disagreeing-spec : {M : Type 1} → statement M
+first-disagreeing-spec =
+    tie.close
+    (tie.spec
+    Inv-loop
+    μ-loop
+    mul-m
+    loop-holds
+    disagrees-requires
+    returns
+    add-h
+    loop-less
+    loop-again
+    returns-2)

@@ -1,0 +1,33 @@
+-- `mapcheck::labels::makes_hole` meets its contract. Assumes nothing.
+use mathlib.Core.Path.{_≡_, sym, ap, _∙_}
+use native.Mathlib.Omega.{arith}
+use borrow.Author.Needs.{needs}
+use borrow.Author.Tests.{lt-ltb, le-ltb}
+use denote.Ref.{now}
+use Rattle.seq.specs.Seq.{Bool, not, _&&_, least}
+use Rattle.mapcheck.specs.Labels.{greaterAt, smallestAt}
+use Rattle.mapcheck.proofs.labels.makes_hole.Statement.{statement}
+use Rattle.mapcheck.proofs.labels.makes_hole.Tie as tie
+
+first-greater-requires : tie.Need-first-greater-requires
+first-greater-requires c κs = search needs
+
+returns : tie.Need-returns
+returns c =
+    let a = c .before .before .before .before .args in
+    sym (ap (λ (b : Bool). not b && smallestAt (now (a .points)) (now (a .origins)) (now (a .next)) (a .m) (a .h))
+    (lt-ltb (least (greaterAt (now (a .origins)) (now (a .headings)) (a .h)) (a .m)) (a .m) (omega (arith, c .before .first-greater .ensures, c .if1 .taken))))
+
+is-smallest-requires : tie.Need-is-smallest-requires
+is-smallest-requires c κs = search needs
+
+returns-2 : tie.Need-returns-2
+returns-2 c =
+    let a = c .before .before .before .before .before .args in
+    c .is-smallest .ensures
+    ∙ sym (ap (λ (b : Bool). not b && smallestAt (now (a .points)) (now (a .origins)) (now (a .next)) (a .m) (a .h))
+    (le-ltb (least (greaterAt (now (a .origins)) (now (a .headings)) (a .h)) (a .m)) (a .m) (omega (arith, c .before .before .first-greater .ensures, c .before .if1 .left))))
+
+pub makes-hole-spec : {M : Type 1} → statement M
+makes-hole-spec =
+    tie.close (tie.spec first-greater-requires returns is-smallest-requires returns-2)

@@ -1,0 +1,76 @@
+-- `mapcheck::labels::seen_label` meets its contract. Assumes nothing.
+use mathlib.Core.Path.{_≡_, sym, ap, _∙_}
+use Prim.Native.Nat.{_<_}
+use native.Mathlib.Omega.{arith}
+use denote.Ref.{now}
+use Rattle.seq.specs.Seq.{ℕ, _*_, getD, orZero}
+use Rattle.paper.specs.Plane.{Pt, nowhere}
+use Rattle.paper.specs.Graph.{west}
+use Rattle.plane.specs.Values.{ptOf}
+use Rattle.graph.specs.Flat.{flatGraph}
+use Rattle.graph.specs.Decode.{flat-halves}
+use Rattle.graph.specs.Heading.{flat-starts}
+use Rattle.graph.specs.Look.{westOf}
+use Rattle.mapcheck.specs.Seen.{west-below}
+use borrow.Author.Needs.{needs}
+use Rattle.mapcheck.proofs.labels.seen_label.Statement.{statement}
+use Rattle.mapcheck.proofs.labels.seen_label.Tie as tie
+
+start-requires : tie.Need-start-requires
+start-requires c κs =
+    let s = c .before .before in
+    flat-starts (s .args .points .now) (s .args .origins .now) (s .args .carriers .now) (s .args .n) (s .args .e) (s .pre .0) (s .args .h) (s .pre .1 .1 .1)
+
+seen-half-requires : tie.Need-seen-half-requires
+seen-half-requires c κs = search needs
+
+enum-told : tie.Need-enum-told
+enum-told c = search needs
+
+enum-known-seen : tie.Need-enum-known-seen
+enum-known-seen c = search needs
+
+cast-result : tie.Need-cast-result
+cast-result c = search needs
+
+mul-result : tie.Need-mul-result
+mul-result c = search needs
+
+shared-slice-read-result : tie.Need-shared-slice-read-result
+shared-slice-read-result c =
+    let s = c .before .before .before .before .before .before .before .before in
+    let ps = s .args .points .now in
+    let os = s .args .origins .now in
+    let cs = s .args .carriers .now in
+    let n = s .args .n in
+    let e = s .args .e in
+    let q = sym (c .before .before .before .before .seen-half .ensures) ∙ ap westOf (c .before .before .seen .given .1) in
+    let l = west-below (flatGraph ps os cs n e) (ptOf (c .before .before .before .before .before .start .result)) nowhere (c .before .before .seen .given .0 .0) q in
+    omega (arith, l, flat-halves ps os cs n e, s .pre .1 .1 .0)
+
+returns : tie.Need-returns
+returns c =
+    let s = c .before .before .before .before .before .before in
+    let g = flatGraph (s .args .points .now) (s .args .origins .now) (s .args .carriers .now) (s .args .n) (s .args .e) in
+    sym (ap (orZero (λ (x : ℕ). getD (s .args .labels .now) x 0)) (ap (λ (p : Pt). west g p nowhere) (sym (c .before .before .before .start .ensures .0)) ∙ sym (c .before .before .seen-half .ensures) ∙ ap westOf (c .enum-told .given .1)))
+
+returns-2 : tie.Need-returns-2
+returns-2 c =
+    let s = c .before .before .before .before .before .before .before .before in
+    let g = flatGraph (s .args .points .now) (s .args .origins .now) (s .args .carriers .now) (s .args .n) (s .args .e) in
+    let at = c .before .before .before .before in
+    sym (ap (orZero (λ (x : ℕ). getD (s .args .labels .now) x 0)) (ap (λ (p : Pt). west g p nowhere) (sym (at .before .start .ensures .0)) ∙ sym (at .seen-half .ensures) ∙ ap westOf (c .before .before .seen .given .1)))
+
+pub seen-label-spec : {M : Type 1} → statement M
+seen-label-spec =
+    tie.close
+    (tie.spec
+    start-requires
+    seen-half-requires
+    enum-told
+    enum-known-seen
+    cast-result
+    mul-result
+    shared-slice-read-result
+    returns
+    returns-2)

@@ -1,0 +1,57 @@
+-- Rule 10 on flat tables: what the code tests of one half-edge, and what its tables are (`Linked`). Assumes nothing.
+use Prim.Native.Nat.{_≤_, _<_}
+use Rattle.seq.specs.Seq.{Bool, true, not, _&&_, _||_, List, [], _∷_, ℕ, _*_, eqb, length, getD, ℤ, someBelow, orZero, walkFrom}
+use Rattle.paper.specs.Limits.{absent}
+use Rattle.paper.specs.Plane.{nowhere, before, lessAngle}
+use Rattle.paper.specs.Graph.{west}
+use Rattle.graph.specs.Flat.{originAt, startAt, flatGraph, Flat, Starts, Numbers}
+use Rattle.graph.specs.Heading.{vecAt}
+use Rattle.graph.specs.Follow.{Headings}
+
+-- no element of a list has p
+abbrev pub noneOf : (ℕ → Bool) → List ℕ → Bool
+noneOf p [] = true
+noneOf p (x ∷ xs) = not (p x) && noneOf p xs
+
+-- its label differs from its follower's
+abbrev pub unlike : List ℕ → List ℕ → ℕ → Bool
+unlike ls nx h = not (eqb (getD ls h 0) (getD ls (getD nx h 0) 0))
+
+-- x leaves from where h does, with a greater angle
+abbrev pub greaterAt : List ℕ → List ℤ → ℕ → ℕ → Bool
+greaterAt os hs h x = eqb (originAt os x) (originAt os h) && lessAngle (vecAt hs h) (vecAt hs x)
+
+-- x starts at a smaller vertex than h
+abbrev pub earlierAt : List ℤ → List ℕ → ℕ → ℕ → Bool
+earlierAt ps os h x = before (startAt ps os x) (startAt ps os h)
+
+-- no half-edge of the walk of h, in at most m steps, starts at a smaller vertex
+abbrev pub smallestAt : List ℤ → List ℕ → List ℕ → ℕ → ℕ → Bool
+smallestAt ps os nx m h = noneOf (earlierAt ps os h) (walkFrom nx h m (getD nx h 0))
+
+-- of m half-edges h is that of greatest angle out of its origin, and its origin is the smallest vertex of its walk
+abbrev pub makesHoleAt : List ℤ → List ℕ → List ℤ → List ℕ → ℕ → ℕ → Bool
+makesHoleAt ps os hs nx m h = not (someBelow (greaterAt os hs h) m) && smallestAt ps os nx m h
+
+-- the label of what is seen strictly west of where h starts, "or 0 where the outside is seen"
+abbrev pub seenLabel : List ℤ → List ℕ → List ℤ → List ℕ → ℕ → ℕ → ℕ → ℕ
+seenLabel ps os cs ls n e h = orZero (λ x. getD ls x 0) (west (flatGraph ps os cs n e) (startAt ps os h) nowhere)
+
+-- 10 "Labels disagree at a half-edge"
+abbrev pub disagreesAt : List ℤ → List ℕ → List ℤ → List ℕ → List ℤ → List ℕ → ℕ → ℕ → ℕ → Bool
+disagreesAt ps os cs ls hs nx n e h = unlike ls nx h || (makesHoleAt ps os hs nx (2 * e) h && not (eqb (getD ls h 0) (seenLabel ps os cs ls n e h)))
+
+-- ── the tables ──
+
+-- where each of m half-edges starts, and what follows it
+pub record Walked (ps : List ℤ) (os nx : List ℕ) (m : ℕ) : Type 0 where
+  pub starts : (x : ℕ) → x < m → Starts ps os x
+  pub next : Numbers nx m m
+
+-- a graph of n points and e edges with its labels, headings and followers
+pub record Linked (ps : List ℤ) (os : List ℕ) (cs : List ℤ) (ls : List ℕ) (hs : List ℤ) (nx : List ℕ) (n e : ℕ) : Type 0 where
+  pub flat : Flat ps os cs n e
+  pub few : 2 * e ≤ absent
+  pub labels : 2 * e ≤ length ls
+  pub headings : Headings hs (2 * e)
+  pub next : Numbers nx (2 * e) (2 * e)
