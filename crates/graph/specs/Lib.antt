@@ -7,3 +7,4 @@ pub mod Heading
 pub mod Pick
 pub mod Follow
 pub mod Look
+pub mod Lead
