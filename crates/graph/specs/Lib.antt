@@ -8,3 +8,6 @@ pub mod Pick
 pub mod Follow
 pub mod Look
 pub mod Lead
+pub mod Chosen
+pub mod Turns
+pub mod Walked

@@ -17,6 +17,13 @@ pick p b d n = Option·getD (best p b n) d
 abbrev pub better : (ℕ → ℕ → Bool) → ℕ → ℕ → ℕ → ℕ
 better b d x r = cond (eqb r d) x (cond (b x r) x r)
 
+-- what the code answers: x where there is none yet, otherwise the better
+pub better-none : (b : ℕ → ℕ → Bool) (d x r : ℕ) → r ≡ d → x ≡ better b d x r
+better-none b d x r e = ap (λ (c : Bool). cond c x (cond (b x r) x r)) (sym (eq-eqb r d e))
+
+pub better-by : (b : ℕ → ℕ → Bool) (d x r : ℕ) {c : Bool} → (r ≡ d → ⊥) → b x r ≡ c → cond c x r ≡ better b d x r
+better-by b d x r f e = λ i. cond (sym (ne-eqb r d f) i) x (cond (sym e i) x r)
+
 module _ (p : ℕ → Bool) (b : ℕ → ℕ → Bool) (d : ℕ) where
   -- no candidate below n is the default
   abbrev pub Away : ℕ → Type 0

@@ -1,22 +1,15 @@
 -- `graph::look::nearest` meets its contract. Assumes nothing.
-use mathlib.Core.Path.{_≡_, sym, _∙_}
+use mathlib.Core.Path.{sym, _∙_}
 use native.Mathlib.Omega.{arith}
 use borrow.Author.Needs.{needs}
-use borrow.Author.Tests.{eq-eqb, ne-eqb}
-use Rattle.seq.specs.Seq.{Bool, cond, List, ℕ, ℤ}
-use Rattle.paper.specs.Plane.{Pt}
 use Rattle.plane.specs.Values.{ptOf}
 use Rattle.graph.specs.Look.{nearerOf, nearerAt}
-use Rattle.graph.specs.Pick.{better}
+use Rattle.graph.specs.Pick.{better-none, better-by}
 use Rattle.graph.proofs.look.nearest.Statement.{statement}
 use Rattle.graph.proofs.look.nearest.Tie as tie
 
--- the definition, where it is known which is nearer
-by : (cs : List ℤ) (p : Pt) (none k r : ℕ) {c : Bool} → (r ≡ none → ⊥) → nearerAt cs p k r ≡ c → cond c k r ≡ better (nearerAt cs p) none k r
-by cs p none k r f e = λ i. cond (sym (ne-eqb r none f) i) k (cond (sym e i) k r)
-
 returns : tie.Need-returns
-returns c = rw (eq-eqb (c .before .args .r) (c .before .args .none) (c .if1 .taken))
+returns c = let a = c .before .args in better-none (nearerAt (a .carriers .now) (ptOf (a .p))) (a .none) (a .k) (a .r) (c .if1 .taken)
 
 carrier-at-requires : tie.Need-carrier-at-requires
 carrier-at-requires c κs = search needs
@@ -31,14 +24,14 @@ returns-2 : tie.Need-returns-2
 returns-2 c =
     let a = c .before .before .before .before .before .args in
     let p = ptOf (a .p) in
-    by (a .carriers .now) p (a .none) (a .k) (a .r) (c .before .before .before .before .if1 .left)
+    better-by (nearerAt (a .carriers .now) p) (a .none) (a .k) (a .r) (c .before .before .before .before .if1 .left)
     ((λ i. nearerOf (sym (c .before .before .before .carrier-at .ensures .0) i) (sym (c .before .before .carrier-at2 .ensures .0) i) p) ∙ sym (c .before .nearer .ensures) ∙ c .if2 .taken)
 
 returns-3 : tie.Need-returns-3
 returns-3 c =
     let a = c .before .before .before .before .before .args in
     let p = ptOf (a .p) in
-    by (a .carriers .now) p (a .none) (a .k) (a .r) (c .before .before .before .before .if1 .left)
+    better-by (nearerAt (a .carriers .now) p) (a .none) (a .k) (a .r) (c .before .before .before .before .if1 .left)
     ((λ i. nearerOf (sym (c .before .before .before .carrier-at .ensures .0) i) (sym (c .before .before .carrier-at2 .ensures .0) i) p) ∙ sym (c .before .nearer .ensures) ∙ c .if2 .left)
 
 pub nearest-spec : {M : Type 1} → statement M

@@ -1,0 +1,52 @@
+-- `graph::walks::earlier` meets its contract. Assumes nothing.
+use mathlib.Core.Path.{sym, _∙_}
+use borrow.Author.Needs.{needs}
+use Rattle.paper.specs.Limits.{absent}
+use Rattle.paper.specs.Plane.{before}
+use Rattle.graph.specs.Pick.{better-none, better-by}
+use Rattle.graph.specs.Turns.{earlierAt}
+use Rattle.graph.proofs.walks.earlier.Statement.{statement}
+use Rattle.graph.proofs.walks.earlier.Tie as tie
+
+cast-result : tie.Need-cast-result
+cast-result c = search needs
+
+returns : tie.Need-returns
+returns c = let a = c .before .before .args in better-none (earlierAt (a .points .now) (a .origins .now)) absent (a .h) (a .r) (c .if1 .taken)
+
+start-requires : tie.Need-start-requires
+start-requires c κs = search needs
+
+start-requires-2 : tie.Need-start-requires-2
+start-requires-2 c κs = c .before .before .before .pre .2 (c .before .if1 .left)
+
+before-requires : tie.Need-before-requires
+before-requires c κs = search needs
+
+cast-result-2 : tie.Need-cast-result-2
+cast-result-2 c = search needs
+
+returns-2 : tie.Need-returns-2
+returns-2 c =
+    let a = c .before .before .before .before .before .before .args in
+    better-by (earlierAt (a .points .now) (a .origins .now)) absent (a .h) (a .r) (c .before .before .before .before .if1 .left)
+    ((λ i. before (sym (c .before .before .before .start .ensures .0) i) (sym (c .before .before .start2 .ensures .0) i)) ∙ sym (c .before .before2 .ensures) ∙ c .if2 .taken)
+
+returns-3 : tie.Need-returns-3
+returns-3 c =
+    let a = c .before .before .before .before .before .before .args in
+    better-by (earlierAt (a .points .now) (a .origins .now)) absent (a .h) (a .r) (c .before .before .before .before .if1 .left)
+    ((λ i. before (sym (c .before .before .before .start .ensures .0) i) (sym (c .before .before .start2 .ensures .0) i)) ∙ sym (c .before .before2 .ensures) ∙ c .if2 .left)
+
+pub earlier-spec : {M : Type 1} → statement M
+earlier-spec =
+    tie.close
+    (tie.spec
+    cast-result
+    returns
+    start-requires
+    start-requires-2
+    before-requires
+    cast-result-2
+    returns-2
+    returns-3)

@@ -1,0 +1,52 @@
+-- `graph::walks::greater` meets its contract. Assumes nothing.
+use mathlib.Core.Path.{sym, _∙_}
+use borrow.Author.Needs.{needs}
+use Rattle.paper.specs.Limits.{absent}
+use Rattle.paper.specs.Plane.{lessAngle}
+use Rattle.graph.specs.Pick.{better-none, better-by}
+use Rattle.graph.specs.Turns.{greaterAt}
+use Rattle.graph.proofs.walks.greater.Statement.{statement}
+use Rattle.graph.proofs.walks.greater.Tie as tie
+
+cast-result : tie.Need-cast-result
+cast-result c = search needs
+
+returns : tie.Need-returns
+returns c = let a = c .before .args in better-none (greaterAt (a .headings .now)) absent (a .h) (a .r) (c .if1 .taken)
+
+heading-at-requires : tie.Need-heading-at-requires
+heading-at-requires c κs = c .before .pre .2 (c .if1 .left)
+
+heading-at-requires-2 : tie.Need-heading-at-requires-2
+heading-at-requires-2 c κs = search needs
+
+less-angle-requires : tie.Need-less-angle-requires
+less-angle-requires c κs = search needs
+
+cast-result-2 : tie.Need-cast-result-2
+cast-result-2 c = search needs
+
+returns-2 : tie.Need-returns-2
+returns-2 c =
+    let a = c .before .before .before .before .before .args in
+    better-by (greaterAt (a .headings .now)) absent (a .h) (a .r) (c .before .before .before .before .if1 .left)
+    ((λ i. lessAngle (sym (c .before .before .before .heading-at .ensures .0) i) (sym (c .before .before .heading-at2 .ensures .0) i)) ∙ sym (c .before .less-angle .ensures) ∙ c .if2 .taken)
+
+returns-3 : tie.Need-returns-3
+returns-3 c =
+    let a = c .before .before .before .before .before .args in
+    better-by (greaterAt (a .headings .now)) absent (a .h) (a .r) (c .before .before .before .before .if1 .left)
+    ((λ i. lessAngle (sym (c .before .before .before .heading-at .ensures .0) i) (sym (c .before .before .heading-at2 .ensures .0) i)) ∙ sym (c .before .less-angle .ensures) ∙ c .if2 .left)
+
+pub greater-spec : {M : Type 1} → statement M
+greater-spec =
+    tie.close
+    (tie.spec
+    cast-result
+    returns
+    heading-at-requires
+    heading-at-requires-2
+    less-angle-requires
+    cast-result-2
+    returns-2
+    returns-3)

@@ -1,0 +1,116 @@
+-- `graph::walks::greatest` meets its contract. Assumes nothing.
+use mathlib.Core.Path.{refl}
+use native.Mathlib.Omega.{arith}
+use borrow.Author.Needs.{needs}
+use Rattle.seq.specs.Seq.{getD, _-_}
+use Rattle.graph.specs.Chosen.{Choosing, chosen-has, choose-starts, choose-cell, choose-turns, choose-ends}
+use Rattle.graph.specs.Flat.{originAt}
+use Rattle.graph.specs.Follow.{headed}
+use Rattle.graph.specs.Turns.{greaterAt}
+use Rattle.graph.proofs.walks.greatest.Statement.{statement}
+use Rattle.graph.proofs.walks.greatest.Tie as tie
+
+abbrev Inv-loop : tie.InvT-loop
+Inv-loop origins headings m out₀ n h₀ out h = Choosing (λ k. originAt origins k) (greaterAt headings) m n out₀ out h
+
+abbrev μ-loop : tie.MeasureT-loop
+μ-loop origins headings m out₀ n h₀ out h = m - h
+
+fill-requires : tie.Need-fill-requires Inv-loop μ-loop
+fill-requires c κs = search needs
+
+loop-holds : tie.Need-loop-holds Inv-loop μ-loop
+loop-holds c =
+    let s = c .before .before .before .before .before .before in
+    choose-starts (λ k. originAt (s .args .origins .now) k) (greaterAt (s .args .headings .now)) (s .args .m) (s .args .n) _ (s .args .out .now) (s .pre .1 .1 .1) (c .before .before .fill .ensures)
+
+mul-v : tie.Need-mul-v Inv-loop μ-loop
+mul-v c = search needs
+
+shared-slice-read-v : tie.Need-shared-slice-read-v Inv-loop μ-loop
+shared-slice-read-v c = search needs
+
+cast-v : tie.Need-cast-v Inv-loop μ-loop
+cast-v c =
+    let s = c .before .before .before .before .before .before .before .before .before in
+    let l = c .before .before .loop in
+    omega (arith, s .pre .0 .named (l .h) (c .before .loop-test .taken), l .inv .kept, l .inv .room)
+
+mul-r : tie.Need-mul-r Inv-loop μ-loop
+mul-r c =
+    let s = c .before .before .before .before .before .before .before .before .before in
+    let l = c .before .before .loop in
+    omega (arith, s .pre .0 .named (l .h) (c .before .loop-test .taken), l .inv .kept, l .inv .room)
+
+slice-read-r : tie.Need-slice-read-r Inv-loop μ-loop
+slice-read-r c =
+    let s = c .before .before .before .before .before .before .before .before .before .before in
+    let l = c .before .before .before .loop in
+    omega (arith, s .pre .0 .named (l .h) (c .before .before .loop-test .taken), l .inv .kept, l .inv .room)
+
+greater-requires : tie.Need-greater-requires Inv-loop μ-loop
+greater-requires c κs =
+    let s = c .before .before .before .before .before .before .before .before .before .before in
+    let l = c .before .before .before .loop in
+    let b = c .before .before .loop-test .taken in
+    let m = s .args .m in
+    let hs = s .args .headings .now in
+    let v = getD (s .args .origins .now) (l .h) 0 in
+    let r = getD (l .out) v 0 in
+    let e = choose-cell (λ k. originAt (s .args .origins .now) k) (greaterAt (s .args .headings .now)) (s .args .m) (s .args .n) _ (l .inv) v (s .pre .0 .named (l .h) b) in
+    (omega (arith, s .pre .1 .0), headed hs m (l .h) (s .pre .1 .1 .0) b, λ f. headed hs m r (s .pre .1 .1 .0) (omega (arith, chosen-has (λ k. originAt (s .args .origins .now) k) (greaterAt (s .args .headings .now)) (l .h) v r e f .0)))
+
+mul-out : tie.Need-mul-out Inv-loop μ-loop
+mul-out c =
+    let s = c .before .before .before .before .before .before .before .before .before .before .before in
+    let l = c .before .before .before .before .loop in
+    omega (arith, s .pre .0 .named (l .h) (c .before .before .before .loop-test .taken), l .inv .kept, l .inv .room)
+
+slice-write-out : tie.Need-slice-write-out Inv-loop μ-loop
+slice-write-out c =
+    let s = c .before .before .before .before .before .before .before .before .before .before .before in
+    let l = c .before .before .before .before .loop in
+    omega (arith, s .pre .0 .named (l .h) (c .before .before .before .loop-test .taken), l .inv .kept, l .inv .room)
+
+add-h : tie.Need-add-h Inv-loop μ-loop
+add-h c = search needs
+
+loop-less : tie.Need-loop-less Inv-loop μ-loop
+loop-less c = search needs
+
+loop-again : tie.Need-loop-again Inv-loop μ-loop
+loop-again c =
+    let s = c .before .before .before .before .before .before .before .before .before .before .before in
+    let l = c .before .before .before .before .loop in
+    let b = c .before .before .before .loop-test .taken in
+    choose-turns (λ k. originAt (s .args .origins .now) k) (greaterAt (s .args .headings .now)) (s .args .m) (s .args .n) _ (l .inv) _ _ b (s .pre .1 .0) refl (s .pre .0 .named (l .h) b) (c .greater .ensures)
+
+same-length : tie.Need-same-length Inv-loop μ-loop
+same-length c = search needs
+
+returns : tie.Need-returns Inv-loop μ-loop
+returns c =
+    let s = c .before .before .before .before .before .before .before .before in
+    choose-ends (λ k. originAt (s .args .origins .now) k) (greaterAt (s .args .headings .now)) (s .args .m) (s .args .n) _ (c .before .loop .inv) (omega arith) (s .args .out .now) (s .pre .1 .1 .1) (c .before .before .before .before .fill .ensures)
+
+pub greatest-spec : {M : Type 1} → statement M
+greatest-spec =
+    tie.close
+    (tie.spec
+    Inv-loop
+    μ-loop
+    fill-requires
+    loop-holds
+    mul-v
+    shared-slice-read-v
+    cast-v
+    mul-r
+    slice-read-r
+    greater-requires
+    mul-out
+    slice-write-out
+    add-h
+    loop-less
+    loop-again
+    same-length
+    returns)

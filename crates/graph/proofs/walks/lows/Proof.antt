@@ -1,0 +1,113 @@
+-- `graph::walks::lows` meets its contract. Assumes nothing.
+use mathlib.Core.Path.{refl}
+use native.Mathlib.Omega.{arith}
+use borrow.Author.Needs.{needs}
+use Rattle.seq.specs.Seq.{getD, _-_}
+use Rattle.graph.specs.Chosen.{Choosing, chosen-has, choose-starts, choose-cell, choose-turns, choose-ends}
+use Rattle.graph.specs.Turns.{earlierAt}
+use Rattle.graph.proofs.walks.lows.Statement.{statement}
+use Rattle.graph.proofs.walks.lows.Tie as tie
+
+abbrev Inv-loop : tie.InvT-loop
+Inv-loop points origins lead m out₀ h₀ out h = Choosing (λ k. getD lead k 0) (earlierAt points origins) m m out₀ out h
+
+abbrev μ-loop : tie.MeasureT-loop
+μ-loop points origins lead m out₀ h₀ out h = m - h
+
+fill-requires : tie.Need-fill-requires Inv-loop μ-loop
+fill-requires c κs = search needs
+
+loop-holds : tie.Need-loop-holds Inv-loop μ-loop
+loop-holds c =
+    let s = c .before .before .before .before .before .before .before in
+    choose-starts (λ k. getD (s .args .lead .now) k 0) (earlierAt (s .args .points .now) (s .args .origins .now)) (s .args .m) (s .args .m) _ (s .args .out .now) (s .pre .1 .1 .1) (c .before .before .fill .ensures)
+
+mul-l : tie.Need-mul-l Inv-loop μ-loop
+mul-l c = search needs
+
+shared-slice-read-l : tie.Need-shared-slice-read-l Inv-loop μ-loop
+shared-slice-read-l c = search needs
+
+cast-l : tie.Need-cast-l Inv-loop μ-loop
+cast-l c =
+    let s = c .before .before .before .before .before .before .before .before .before .before in
+    let l = c .before .before .loop in
+    omega (arith, s .pre .1 .0 .named (l .h) (c .before .loop-test .taken), l .inv .kept, l .inv .room)
+
+mul-r : tie.Need-mul-r Inv-loop μ-loop
+mul-r c =
+    let s = c .before .before .before .before .before .before .before .before .before .before in
+    let l = c .before .before .loop in
+    omega (arith, s .pre .1 .0 .named (l .h) (c .before .loop-test .taken), l .inv .kept, l .inv .room)
+
+slice-read-r : tie.Need-slice-read-r Inv-loop μ-loop
+slice-read-r c =
+    let s = c .before .before .before .before .before .before .before .before .before .before .before in
+    let l = c .before .before .before .loop in
+    omega (arith, s .pre .1 .0 .named (l .h) (c .before .before .loop-test .taken), l .inv .kept, l .inv .room)
+
+earlier-requires : tie.Need-earlier-requires Inv-loop μ-loop
+earlier-requires c κs =
+    let s = c .before .before .before .before .before .before .before .before .before .before .before in
+    let l = c .before .before .before .loop in
+    let b = c .before .before .loop-test .taken in
+    let m = s .args .m in
+    let v = getD (s .args .lead .now) (l .h) 0 in
+    let r = getD (l .out) v 0 in
+    let e = choose-cell (λ k. getD (s .args .lead .now) k 0) (earlierAt (s .args .points .now) (s .args .origins .now)) (s .args .m) (s .args .m) _ (l .inv) v (s .pre .1 .0 .named (l .h) b) in
+    (omega (arith, s .pre .1 .1 .0), s .pre .0 (l .h) b, λ f. s .pre .0 r (omega (arith, chosen-has (λ k. getD (s .args .lead .now) k 0) (earlierAt (s .args .points .now) (s .args .origins .now)) (l .h) v r e f .0)))
+
+mul-out : tie.Need-mul-out Inv-loop μ-loop
+mul-out c =
+    let s = c .before .before .before .before .before .before .before .before .before .before .before .before in
+    let l = c .before .before .before .before .loop in
+    omega (arith, s .pre .1 .0 .named (l .h) (c .before .before .before .loop-test .taken), l .inv .kept, l .inv .room)
+
+slice-write-out : tie.Need-slice-write-out Inv-loop μ-loop
+slice-write-out c =
+    let s = c .before .before .before .before .before .before .before .before .before .before .before .before in
+    let l = c .before .before .before .before .loop in
+    omega (arith, s .pre .1 .0 .named (l .h) (c .before .before .before .loop-test .taken), l .inv .kept, l .inv .room)
+
+add-h : tie.Need-add-h Inv-loop μ-loop
+add-h c = search needs
+
+loop-less : tie.Need-loop-less Inv-loop μ-loop
+loop-less c = search needs
+
+loop-again : tie.Need-loop-again Inv-loop μ-loop
+loop-again c =
+    let s = c .before .before .before .before .before .before .before .before .before .before .before .before in
+    let l = c .before .before .before .before .loop in
+    let b = c .before .before .before .loop-test .taken in
+    choose-turns (λ k. getD (s .args .lead .now) k 0) (earlierAt (s .args .points .now) (s .args .origins .now)) (s .args .m) (s .args .m) _ (l .inv) _ _ b (s .pre .1 .1 .0) refl (s .pre .1 .0 .named (l .h) b) (c .earlier .ensures)
+
+same-length : tie.Need-same-length Inv-loop μ-loop
+same-length c = search needs
+
+returns : tie.Need-returns Inv-loop μ-loop
+returns c =
+    let s = c .before .before .before .before .before .before .before .before .before in
+    choose-ends (λ k. getD (s .args .lead .now) k 0) (earlierAt (s .args .points .now) (s .args .origins .now)) (s .args .m) (s .args .m) _ (c .before .loop .inv) (omega arith) (s .args .out .now) (s .pre .1 .1 .1) (c .before .before .before .before .fill .ensures)
+
+pub lows-spec : {M : Type 1} → statement M
+lows-spec =
+    tie.close
+    (tie.spec
+    Inv-loop
+    μ-loop
+    fill-requires
+    loop-holds
+    mul-l
+    shared-slice-read-l
+    cast-l
+    mul-r
+    slice-read-r
+    earlier-requires
+    mul-out
+    slice-write-out
+    add-h
+    loop-less
+    loop-again
+    same-length
+    returns)

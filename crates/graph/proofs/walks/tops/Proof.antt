@@ -1,0 +1,134 @@
+-- `graph::walks::tops` meets its contract. Assumes nothing.
+use mathlib.Core.Path.{refl}
+use native.Mathlib.Omega.{arith}
+use borrow.Author.Needs.{needs}
+use Rattle.seq.specs.Seq.{getD, _-_}
+use Rattle.graph.specs.Filling.{Filling, fill-starts, fill-turns, fill-ends}
+use Rattle.graph.specs.Turns.{topAt}
+use Rattle.graph.proofs.walks.tops.Statement.{statement}
+use Rattle.graph.proofs.walks.tops.Tie as tie
+
+abbrev Inv-loop : tie.InvT-loop
+Inv-loop origins lead low greatest m top₀ h₀ top h = Filling (topAt origins lead low greatest) m top₀ top h
+
+abbrev μ-loop : tie.MeasureT-loop
+μ-loop origins lead low greatest m top₀ h₀ top h = m - h
+
+loop-holds : tie.Need-loop-holds Inv-loop μ-loop
+loop-holds c = fill-starts _ _ _ (c .pre .1 .1 .1 .1)
+
+mul-l : tie.Need-mul-l Inv-loop μ-loop
+mul-l c = search needs
+
+shared-slice-read-l : tie.Need-shared-slice-read-l Inv-loop μ-loop
+shared-slice-read-l c = search needs
+
+cast-l : tie.Need-cast-l Inv-loop μ-loop
+cast-l c =
+    let s = c .before .before .before in
+    let h = c .before .before .loop .h in
+    let b = c .before .loop-test .taken in
+    omega (arith, s .pre .0 .named h b)
+
+mul-x : tie.Need-mul-x Inv-loop μ-loop
+mul-x c =
+    let s = c .before .before .before in
+    let h = c .before .before .loop .h in
+    let b = c .before .loop-test .taken in
+    omega (arith, s .pre .0 .named h b)
+
+shared-slice-read-x : tie.Need-shared-slice-read-x Inv-loop μ-loop
+shared-slice-read-x c =
+    let s = c .before .before .before .before in
+    let h = c .before .before .before .loop .h in
+    let b = c .before .before .loop-test .taken in
+    omega (arith, s .pre .0 .named h b)
+
+cast-x : tie.Need-cast-x Inv-loop μ-loop
+cast-x c =
+    let s = c .before .before .before .before in
+    let h = c .before .before .before .loop .h in
+    let b = c .before .before .loop-test .taken in
+    omega (arith, s .pre .1 .1 .0 h b, s .pre .1 .1 .1 .0 .long)
+
+mul-v : tie.Need-mul-v Inv-loop μ-loop
+mul-v c =
+    let s = c .before .before .before .before in
+    let h = c .before .before .before .loop .h in
+    let b = c .before .before .loop-test .taken in
+    omega (arith, s .pre .1 .1 .0 h b, s .pre .1 .1 .1 .0 .long)
+
+shared-slice-read-v : tie.Need-shared-slice-read-v Inv-loop μ-loop
+shared-slice-read-v c =
+    let s = c .before .before .before .before .before in
+    let h = c .before .before .before .before .loop .h in
+    let b = c .before .before .before .loop-test .taken in
+    omega (arith, s .pre .1 .1 .0 h b, s .pre .1 .1 .1 .0 .long)
+
+cast-v : tie.Need-cast-v Inv-loop μ-loop
+cast-v c =
+    let s = c .before .before .before .before .before in
+    let h = c .before .before .before .before .loop .h in
+    let b = c .before .before .before .loop-test .taken in
+    omega (arith, s .pre .1 .1 .1 .0 .named (getD (s .args .low .now) (getD (s .args .lead .now) h 0) 0) (s .pre .1 .1 .0 h b))
+
+mul-top : tie.Need-mul-top Inv-loop μ-loop
+mul-top c =
+    let s = c .before .before .before .before .before in
+    let h = c .before .before .before .before .loop .h in
+    let b = c .before .before .before .loop-test .taken in
+    omega (arith, s .pre .1 .1 .1 .0 .named (getD (s .args .low .now) (getD (s .args .lead .now) h 0) 0) (s .pre .1 .1 .0 h b))
+
+shared-slice-read-top : tie.Need-shared-slice-read-top Inv-loop μ-loop
+shared-slice-read-top c =
+    let s = c .before .before .before .before .before .before in
+    let h = c .before .before .before .before .before .loop .h in
+    let b = c .before .before .before .before .loop-test .taken in
+    omega (arith, s .pre .1 .1 .1 .0 .named (getD (s .args .low .now) (getD (s .args .lead .now) h 0) 0) (s .pre .1 .1 .0 h b))
+
+mul-top-2 : tie.Need-mul-top-2 Inv-loop μ-loop
+mul-top-2 c = search needs
+
+slice-write-top : tie.Need-slice-write-top Inv-loop μ-loop
+slice-write-top c = search needs
+
+add-h : tie.Need-add-h Inv-loop μ-loop
+add-h c = search needs
+
+loop-less : tie.Need-loop-less Inv-loop μ-loop
+loop-less c = search needs
+
+loop-again : tie.Need-loop-again Inv-loop μ-loop
+loop-again c = fill-turns _ (c .before .before .before .before .before .loop .inv) _ (c .before .before .before .before .loop-test .taken) refl
+
+same-length : tie.Need-same-length Inv-loop μ-loop
+same-length c = search needs
+
+returns : tie.Need-returns Inv-loop μ-loop
+returns c = fill-ends _ (c .before .loop .inv) (search needs)
+
+pub tops-spec : {M : Type 1} → statement M
+tops-spec =
+    tie.close
+    (tie.spec
+    Inv-loop
+    μ-loop
+    loop-holds
+    mul-l
+    shared-slice-read-l
+    cast-l
+    mul-x
+    shared-slice-read-x
+    cast-x
+    mul-v
+    shared-slice-read-v
+    cast-v
+    mul-top
+    shared-slice-read-top
+    mul-top-2
+    slice-write-top
+    add-h
+    loop-less
+    loop-again
+    same-length
+    returns)

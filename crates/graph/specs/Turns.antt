@@ -1,0 +1,27 @@
+-- The half-edge of greatest angle out of each vertex, a half-edge out of each walk's smallest vertex, and from both the half-edge of greatest angle out of the
+-- smallest vertex of each half-edge's walk: what the code computes, over tables. Assumes nothing.
+use Rattle.seq.specs.Seq.{Bool, List, ℕ, getD, ℤ}
+use Rattle.paper.specs.Plane.{lessAngle, before}
+use Rattle.graph.specs.Flat.{originAt, startAt}
+use Rattle.graph.specs.Heading.{vecAt}
+use Rattle.graph.specs.Chosen.{chosen}
+
+-- the angle of h is greater than that of r
+abbrev pub greaterAt : List ℤ → ℕ → ℕ → Bool
+greaterAt hs h r = lessAngle (vecAt hs r) (vecAt hs h)
+
+-- "the half-edge of greatest angle out of" the vertex v, among m half-edges
+abbrev pub greatestAt : List ℕ → List ℤ → ℕ → ℕ → ℕ
+greatestAt os hs m v = chosen (λ h. originAt os h) (greaterAt hs) m v
+
+-- h starts before r
+abbrev pub earlierAt : List ℤ → List ℕ → ℕ → ℕ → Bool
+earlierAt ps os h r = before (startAt ps os h) (startAt ps os r)
+
+-- a half-edge of the walk that l leads, out of its smallest vertex
+abbrev pub lowAt : List ℤ → List ℕ → List ℕ → ℕ → ℕ → ℕ
+lowAt ps os ls m l = chosen (λ h. getD ls h 0) (earlierAt ps os) m l
+
+-- from the leaders ls, the low half-edges lo and the greatest gs
+abbrev pub topAt : List ℕ → List ℕ → List ℕ → List ℕ → ℕ → ℕ
+topAt os ls lo gs h = getD gs (originAt os (getD lo (getD ls h 0) 0)) 0
