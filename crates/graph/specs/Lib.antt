@@ -7,7 +7,3 @@ pub mod Heading
 pub mod Pick
 pub mod Follow
 pub mod Look
-pub mod Lead
-pub mod Chosen
-pub mod Turns
-pub mod Walked

@@ -1,6 +1,5 @@
-// Followers, walks, looks and faces of a graph in flat tables.
+// Followers and looks of a graph in flat tables.
 pub mod places; // the first place of each number in a table
 pub mod heading; // which way a half-edge goes
 pub mod follow; // the follower of every half-edge
 pub mod look; // looking west
-pub mod walks; // the least half-edge of each walk, its smallest vertex, hole walk or outer walk

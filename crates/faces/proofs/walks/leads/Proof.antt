@@ -1,4 +1,4 @@
--- `graph::walks::leads` meets its contract. Assumes nothing.
+-- `faces::walks::leads` meets its contract. Assumes nothing.
 use mathlib.Core.Logic.{⊎-elim}
 use mathlib.Core.Path.{_≡_, sym, _∙_, ap}
 use Prim.Native.Nat.{_≤_, _<_}
@@ -6,9 +6,9 @@ use native.Mathlib.Omega.{arith}
 use borrow.Author.Needs.{needs}
 use Rattle.seq.specs.Seq.{getD, walk, leader, _+_, List, ℕ, length, take, filled, _-_}
 use Rattle.paper.specs.Limits.{absent}
-use Rattle.graph.specs.Lead.{marks, Leading, Permutes, length-front, lead-starts, lead-skips, lead-marks, lead-ends}
-use Rattle.graph.proofs.walks.leads.Statement.{statement}
-use Rattle.graph.proofs.walks.leads.Tie as tie
+use Rattle.faces.specs.Lead.{marks, Leading, Permutes, length-front, lead-starts, lead-skips, lead-marks, lead-ends}
+use Rattle.faces.proofs.walks.leads.Statement.{statement}
+use Rattle.faces.proofs.walks.leads.Tie as tie
 
 -- the loop over the first m cells of t, from the table o with d made of it
 module _ (t : List ℕ) (m : ℕ) (P : Permutes t m) (small : m ≤ absent) (o d : List ℕ) (room : m ≤ length o) (is : d ≡ filled m (λ x. absent) o) where

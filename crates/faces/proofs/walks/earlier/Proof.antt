@@ -1,12 +1,12 @@
--- `graph::walks::earlier` meets its contract. Assumes nothing.
+-- `faces::walks::earlier` meets its contract. Assumes nothing.
 use mathlib.Core.Path.{sym, _∙_}
 use borrow.Author.Needs.{needs}
 use Rattle.paper.specs.Limits.{absent}
 use Rattle.paper.specs.Plane.{before}
 use Rattle.graph.specs.Pick.{better-none, better-by}
-use Rattle.graph.specs.Turns.{earlierAt}
-use Rattle.graph.proofs.walks.earlier.Statement.{statement}
-use Rattle.graph.proofs.walks.earlier.Tie as tie
+use Rattle.faces.specs.Turns.{earlierAt}
+use Rattle.faces.proofs.walks.earlier.Statement.{statement}
+use Rattle.faces.proofs.walks.earlier.Tie as tie
 
 cast-result : tie.Need-cast-result
 cast-result c = search needs

@@ -2,9 +2,9 @@
 -- smallest vertex of each half-edge's walk: what the code computes, over tables. Assumes nothing.
 use Rattle.seq.specs.Seq.{Bool, List, ℕ, getD, ℤ}
 use Rattle.paper.specs.Plane.{lessAngle, before}
 use Rattle.graph.specs.Flat.{originAt, startAt}
 use Rattle.graph.specs.Heading.{vecAt}
-use Rattle.graph.specs.Chosen.{chosen}
+use Rattle.faces.specs.Chosen.{chosen}
 
 -- the angle of h is greater than that of r
 abbrev pub greaterAt : List ℤ → ℕ → ℕ → Bool

@@ -1,14 +1,14 @@
--- `graph::walks::greatest` meets its contract. Assumes nothing.
+-- `faces::walks::greatest` meets its contract. Assumes nothing.
 use mathlib.Core.Path.{refl}
 use native.Mathlib.Omega.{arith}
 use borrow.Author.Needs.{needs}
 use Rattle.seq.specs.Seq.{getD, _-_}
-use Rattle.graph.specs.Chosen.{Choosing, chosen-has, choose-starts, choose-cell, choose-turns, choose-ends}
+use Rattle.faces.specs.Chosen.{Choosing, chosen-has, choose-starts, choose-cell, choose-turns, choose-ends}
 use Rattle.graph.specs.Flat.{originAt}
 use Rattle.graph.specs.Follow.{headed}
-use Rattle.graph.specs.Turns.{greaterAt}
-use Rattle.graph.proofs.walks.greatest.Statement.{statement}
-use Rattle.graph.proofs.walks.greatest.Tie as tie
+use Rattle.faces.specs.Turns.{greaterAt}
+use Rattle.faces.proofs.walks.greatest.Statement.{statement}
+use Rattle.faces.proofs.walks.greatest.Tie as tie
 
 abbrev Inv-loop : tie.InvT-loop
 Inv-loop origins headings m out₀ n h₀ out h = Choosing (λ k. originAt origins k) (greaterAt headings) m n out₀ out h

@@ -1,12 +1,12 @@
--- `graph::walks::lows` meets its contract. Assumes nothing.
+-- `faces::walks::lows` meets its contract. Assumes nothing.
 use mathlib.Core.Path.{refl}
 use native.Mathlib.Omega.{arith}
 use borrow.Author.Needs.{needs}
 use Rattle.seq.specs.Seq.{getD, _-_}
-use Rattle.graph.specs.Chosen.{Choosing, chosen-has, choose-starts, choose-cell, choose-turns, choose-ends}
-use Rattle.graph.specs.Turns.{earlierAt}
-use Rattle.graph.proofs.walks.lows.Statement.{statement}
-use Rattle.graph.proofs.walks.lows.Tie as tie
+use Rattle.faces.specs.Chosen.{Choosing, chosen-has, choose-starts, choose-cell, choose-turns, choose-ends}
+use Rattle.faces.specs.Turns.{earlierAt}
+use Rattle.faces.proofs.walks.lows.Statement.{statement}
+use Rattle.faces.proofs.walks.lows.Tie as tie
 
 abbrev Inv-loop : tie.InvT-loop
 Inv-loop points origins lead m out₀ h₀ out h = Choosing (λ k. getD lead k 0) (earlierAt points origins) m m out₀ out h

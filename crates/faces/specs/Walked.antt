@@ -23,15 +23,15 @@ use Rattle.graphlaws.specs.Plane.{Plane, real-at}
 use Rattle.graphlaws.specs.Follow.{followers-inject, followers-length, lesser, greatest-is}
 use Rattle.graphlaws.specs.Walks.{Along, lead-is, lead-below, lead-same, lead-one, lead-along, along-walk, walk-along, along-below, along-sym, along-trans, hole-is}
 use Rattle.graphlaws.specs.Holes.{smallest-start, smallest-first, smallest-is, smallest-below, smallest-same}
 use Rattle.graph.specs.Flat.{originAt, startAt, flatGraph, Flat}
 use Rattle.graph.specs.Decode.{flat-points, flat-halves, flat-origin, flat-start}
 use Rattle.graph.specs.Filling.{Holds, front-table}
 use Rattle.graph.specs.Heading.{vecAt}
 use Rattle.graph.specs.Pick.{pick, pick-some}
 use Rattle.graph.specs.Follow.{Heads}
-use Rattle.graph.specs.Lead.{Permutes}
-use Rattle.graph.specs.Chosen.{hasKey, chosen}
-use Rattle.graph.specs.Turns.{greaterAt, greatestAt, earlierAt, lowAt, topAt}
+use Rattle.faces.specs.Lead.{Permutes}
+use Rattle.faces.specs.Chosen.{hasKey, chosen}
+use Rattle.faces.specs.Turns.{greaterAt, greatestAt, earlierAt, lowAt, topAt}
 
 -- the half-edge of greatest angle out of the smallest vertex of h's walk
 abbrev pub topOf : Graph → ℕ → ℕ

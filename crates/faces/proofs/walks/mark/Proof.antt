@@ -1,13 +1,13 @@
--- `graph::walks::mark` meets its contract. Assumes nothing.
+-- `faces::walks::mark` meets its contract. Assumes nothing.
 use mathlib.Core.Path.{sym}
 use Prim.Native.Nat.{_<_}
 use native.Mathlib.Omega.{arith}
 use lib.ListN.{length-set}
 use borrow.Author.Needs.{needs}
 use Rattle.seq.specs.Seq.{List, ℕ, take}
-use Rattle.graph.specs.Lead.{Marking, mark-starts, mark-turns, mark-back, mark-ends, length-front, front-at, front-below, Permutes}
-use Rattle.graph.proofs.walks.mark.Statement.{statement}
-use Rattle.graph.proofs.walks.mark.Tie as tie
+use Rattle.faces.specs.Lead.{Marking, mark-starts, mark-turns, mark-back, mark-ends, length-front, front-at, front-below, Permutes}
+use Rattle.faces.proofs.walks.mark.Statement.{statement}
+use Rattle.faces.proofs.walks.mark.Tie as tie
 
 -- the half-edge that the loop is at is one of the m
 under : (t : List ℕ) (m h x left : ℕ) (d l : List ℕ) → Permutes t m → Marking (take m t) h d l x left → x < m

@@ -1,8 +1,8 @@
 // Walks: the least half-edge of each, its smallest vertex, hole walk or outer walk.
-use super::follow::heading_at;
-use super::heading::start;
-use super::places::ABSENT;
-use super::places::fill;
+use graph::follow::heading_at;
+use graph::heading::start;
+use graph::places::ABSENT;
+use graph::places::fill;
 use plane::angle::less_angle;
 use plane::order::before;
 ghost use mathlib.Core.Path.{_≡_};
@@ -10,11 +10,11 @@ ghost use Prim.Native.Nat.{ℕ, _≤_, _<_};
 ghost use lib.ListN.{length, getD, take};
 ghost use Rattle.seq.specs.Seq.{walk, leader, filled};
 ghost use Rattle.paper.specs.Limits.{absent};
 ghost use Rattle.graph.specs.Flat.{Numbers, Starts};
 ghost use Rattle.graph.specs.Pick.{better};
 ghost use Rattle.graph.specs.Follow.{Headed, Headings};
-ghost use Rattle.graph.specs.Lead.{marks, Permutes};
-ghost use Rattle.graph.specs.Turns.{greaterAt, greatestAt, earlierAt, lowAt, topAt};
+ghost use Rattle.faces.specs.Lead.{marks, Permutes};
+ghost use Rattle.faces.specs.Turns.{greaterAt, greatestAt, earlierAt, lowAt, topAt};
 
 // Stores h at each half-edge of its walk.
 fn mark(next: &[u16], m: usize, h: usize, lead: &mut [u16])

@@ -1,12 +1,12 @@
--- `graph::walks::tops` meets its contract. Assumes nothing.
+-- `faces::walks::tops` meets its contract. Assumes nothing.
 use mathlib.Core.Path.{refl}
 use native.Mathlib.Omega.{arith}
 use borrow.Author.Needs.{needs}
 use Rattle.seq.specs.Seq.{getD, _-_}
 use Rattle.graph.specs.Filling.{Filling, fill-starts, fill-turns, fill-ends}
-use Rattle.graph.specs.Turns.{topAt}
-use Rattle.graph.proofs.walks.tops.Statement.{statement}
-use Rattle.graph.proofs.walks.tops.Tie as tie
+use Rattle.faces.specs.Turns.{topAt}
+use Rattle.faces.proofs.walks.tops.Statement.{statement}
+use Rattle.faces.proofs.walks.tops.Tie as tie
 
 abbrev Inv-loop : tie.InvT-loop
 Inv-loop origins lead low greatest m top₀ h₀ top h = Filling (topAt origins lead low greatest) m top₀ top h

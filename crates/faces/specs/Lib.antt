@@ -1,0 +1,4 @@
+pub mod Lead
+pub mod Chosen
+pub mod Turns
+pub mod Walked

@@ -1,0 +1,2 @@
+// Walks and faces of a graph in flat tables.
+pub mod walks; // the least half-edge of each walk, its smallest vertex, hole walk or outer walk
