@@ -1,0 +1,45 @@
+-- `tables::halves::store_halves` meets its contract. Assumes nothing.
+use mathlib.Core.Path.{refl}
+use Prim.Native.Nat.{_*_}
+use denote.Ref.{now}
+use borrow.Author.Needs.{needs}
+use Rattle.tables.specs.Rows.{halfOf}
+use Rattle.tables.proofs.RowLaws.{laid-wiped}
+use Rattle.tables.proofs.halves.store_halves.Statement.{statement}
+use Rattle.tables.proofs.halves.store_halves.Tie as tie
+
+lay-requires : tie.Need-lay-requires
+lay-requires c κs = search needs
+
+cast-m : tie.Need-cast-m
+cast-m c = search needs
+
+mul-m : tie.Need-mul-m
+mul-m c = search needs
+
+mul-wipe-from-u16 : tie.Need-mul-wipe-from-u16
+mul-wipe-from-u16 c = search needs
+
+wipe-from-u16-requires : tie.Need-wipe-from-u16-requires
+wipe-from-u16-requires c κs = search needs
+
+same-length : tie.Need-same-length
+same-length c = search needs
+
+returns : tie.Need-returns
+returns c =
+    let s = c .before .before .before .before .before .before .before .before .before .before in
+    let t = s .args .t in
+    laid-wiped 0 5 (2 * t .edges) (halfOf t) (now (s .args .halves)) (λ k. refl) (s .pre .1) (c .before .before .before .before .before .before .before .lay .ensures) (c .before .before .wipe-from-u16 .ensures)
+
+pub store-halves-spec : {M : Type 1} → statement M
+store-halves-spec =
+    tie.close
+    (tie.spec
+    lay-requires
+    cast-m
+    mul-m
+    mul-wipe-from-u16
+    wipe-from-u16-requires
+    same-length
+    returns)

@@ -1,0 +1,8 @@
+// "The answer is either the three counts or a refusal with number, map and place."
+use crate::room::Counts;
+use mapfile::refusal::Refusal;
+
+pub enum Answer {
+    Done(Counts),
+    Refused(Refusal),
+}
