@@ -1,7 +1,9 @@
 pub mod Net
 pub mod Rows
 pub mod Labels
+pub mod Held
 pub mod Walking
 pub mod Seen
 pub mod Makers
 pub mod Disagree
+pub mod LinkedLaws

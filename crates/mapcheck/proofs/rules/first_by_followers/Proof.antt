@@ -1,0 +1,55 @@
+-- `mapcheck::rules::first_by_followers` meets its contract. Assumes nothing.
+use Rattle.mapcheck.specs.LinkedLaws.{made-headings, made-linked, found-disagrees}
+use native.Mathlib.Omega.{arith}
+use borrow.Author.Needs.{needs}
+use Rattle.mapcheck.proofs.rules.first_by_followers.Statement.{statement}
+use Rattle.mapcheck.proofs.rules.first_by_followers.Tie as tie
+
+slice-aggregate-headings : tie.Need-slice-aggregate-headings
+slice-aggregate-headings c = search needs
+
+headings-requires : tie.Need-headings-requires
+headings-requires c κs = search needs
+
+slice-aggregate-follow : tie.Need-slice-aggregate-follow
+slice-aggregate-follow c = search needs
+
+slice-aggregate-follow-2 : tie.Need-slice-aggregate-follow-2
+slice-aggregate-follow-2 c = search needs
+
+follow-requires : tie.Need-follow-requires
+follow-requires c κs =
+    let p = c .before .before .before .before .before .before .before .pre in
+    (p .0 .origins .long, (omega (arith, p .1 .0), (made-headings (p .0) (p .1 .0) _ _ (omega (arith, p .1 .0)) (c .before .before .before .headings .ensures), omega (arith, p .1 .0))))
+
+slice-aggregate-first-disagreeing : tie.Need-slice-aggregate-first-disagreeing
+slice-aggregate-first-disagreeing c = search needs
+
+slice-aggregate-first-disagreeing-2 : tie.Need-slice-aggregate-first-disagreeing-2
+slice-aggregate-first-disagreeing-2 c = search needs
+
+first-disagreeing-requires : tie.Need-first-disagreeing-requires
+first-disagreeing-requires c κs =
+    let s = c .before .before .before .before .before .before .before .before .before .before .before in
+    let p = s .pre in
+    made-linked (p .0) (p .1 .0) _ _ (omega (arith, p .1 .0)) (c .before .before .before .before .before .before .before .headings .ensures) _ _ (omega (arith, p .1 .0)) (c .before .before .before .follow .ensures) (s .args .labels .now) (p .1 .1 .0)
+
+returns : tie.Need-returns
+returns c =
+    let s = c .before .before .before .before .before .before .before .before .before .before .before .before in
+    let p = s .pre in
+    found-disagrees (p .0) (p .1 .0) _ _ (omega (arith, p .1 .0)) (c .before .before .before .before .before .before .before .before .headings .ensures) _ _ (omega (arith, p .1 .0)) (c .before .before .before .before .follow .ensures) (p .1 .1 .1) (s .args .labels .now) _ (c .first-disagreeing .ensures)
+
+pub first-by-followers-spec : {M : Type 1} → statement M
+first-by-followers-spec =
+    tie.close
+    (tie.spec
+    slice-aggregate-headings
+    headings-requires
+    slice-aggregate-follow
+    slice-aggregate-follow-2
+    follow-requires
+    slice-aggregate-first-disagreeing
+    slice-aggregate-first-disagreeing-2
+    first-disagreeing-requires
+    returns)

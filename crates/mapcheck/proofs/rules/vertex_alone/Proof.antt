@@ -1,0 +1,81 @@
+-- `mapcheck::rules::vertex_alone` meets its contract. Assumes nothing.
+use mathlib.Core.Path.{sym, _∙_}
+use denote.Ref.{now}
+use Rattle.seq.specs.Least.{least-le}
+use Rattle.seq.specs.Seq.{length}
+use Rattle.paper.specs.Map.{mapOf, lonely}
+use Rattle.mapfile.proofs.KeptLaws.{kept}
+use Rattle.mapfile.proofs.MapLaws.{points-count}
+use Rattle.mapfile.proofs.VerdictLaws.{at-least}
+use Rattle.mapcheck.proofs.FoundLaws.{lonely-found}
+use native.Mathlib.Omega.{arith}
+use borrow.Author.Needs.{needs}
+use Rattle.mapcheck.proofs.rules.vertex_alone.Statement.{statement}
+use Rattle.mapcheck.proofs.rules.vertex_alone.Tie as tie
+
+slice-aggregate-load-origins : tie.Need-slice-aggregate-load-origins
+slice-aggregate-load-origins c = search needs
+
+load-origins-requires : tie.Need-load-origins-requires
+load-origins-requires c κs = let s = c .before .before in let k = kept (now (s .args .file)) (s .pre) in omega (arith, k .few-edges)
+
+vertex-count-requires : tie.Need-vertex-count-requires
+vertex-count-requires c κs = search needs
+
+cast-n : tie.Need-cast-n
+cast-n c = search needs
+
+slice-aggregate-first-lonely : tie.Need-slice-aggregate-first-lonely
+slice-aggregate-first-lonely c = search needs
+
+edge-count-requires : tie.Need-edge-count-requires
+edge-count-requires c κs = search needs
+
+cast-first-lonely : tie.Need-cast-first-lonely
+cast-first-lonely c = search needs
+
+mul-first-lonely : tie.Need-mul-first-lonely
+mul-first-lonely c = search needs
+
+first-lonely-requires : tie.Need-first-lonely-requires
+first-lonely-requires c κs =
+    let s = c .before .before .before .before .before .before .before in
+    let k = kept (now (s .args .file)) (s .pre) in
+    omega (arith, k .few-edges, c .edge-count .ensures, c .before .before .before .before .load-origins .kept)
+
+cast-given : tie.Need-cast-given
+cast-given c =
+    let s = c .before .before .before .before .before .before .before .before in
+    let f = now (s .args .file) in
+    let k = kept f (s .pre) in
+    let found = lonely-found f _ _ (omega (arith, k .few-edges)) (c .before .before .before .before .before .load-origins .ensures) (c .before .edge-count .ensures) (c .before .before .before .vertex-count .ensures) (c .first-lonely .ensures) in
+    omega (arith, found, least-le (lonely (mapOf f .graph)) (length (mapOf f .graph .points)), points-count f, k .few-vertices)
+
+given-requires : tie.Need-given-requires
+given-requires c κs = search needs
+
+returns : tie.Need-returns
+returns c =
+    let s = c .before .before .before .before .before .before .before .before .before in
+    let f = now (s .args .file) in
+    let k = kept f (s .pre) in
+    let vertices = c .before .before .before .before .vertex-count .ensures in
+    let found = lonely-found f _ _ (omega (arith, k .few-edges)) (c .before .before .before .before .before .before .load-origins .ensures) (c .before .before .edge-count .ensures) vertices (c .before .first-lonely .ensures) in
+    at-least 9 (lonely (mapOf f .graph)) (length (mapOf f .graph .points)) _ _ _ (c .given .ensures) found (vertices ∙ sym (points-count f))
+
+pub vertex-alone-spec : {M : Type 1} → statement M
+vertex-alone-spec =
+    tie.close
+    (tie.spec
+    slice-aggregate-load-origins
+    load-origins-requires
+    vertex-count-requires
+    cast-n
+    slice-aggregate-first-lonely
+    edge-count-requires
+    cast-first-lonely
+    mul-first-lonely
+    first-lonely-requires
+    cast-given
+    given-requires
+    returns)

@@ -1,0 +1,90 @@
+// Rules 8 to 10 of a file that passes rules 1 to 7, each from tables of its own: a table holds as many vertices or edges as a map has at most.
+use super::labels::first_disagreeing;
+use super::net::first_clashing;
+use super::net::first_lonely;
+use graph::follow::follow;
+use graph::heading::headings;
+use mapfile::fields::edge_count;
+use mapfile::fields::vertex_count;
+use mapfile::load::load_carriers;
+use mapfile::load::load_labels;
+use mapfile::load::load_origins;
+use mapfile::load::load_points;
+use mapfile::refusal::Check;
+use mapfile::refusal::given;
+ghost use mathlib.Core.Path.{_≡_};
+ghost use mathlib.Core.List.{_++_};
+ghost use mathlib.Core.Option.{none};
+ghost use Prim.Native.Nat.{_*_, _≤_, _<_};
+ghost use lib.ListN.{length};
+ghost use Rattle.seq.specs.Seq.{least};
+ghost use Rattle.paper.specs.Limits.{mapEdges};
+ghost use Rattle.paper.specs.Graph.{edgeCount, halfCount, followers};
+ghost use Rattle.paper.specs.Refusal.{atLeast, firstOf};
+ghost use Rattle.paper.specs.Map.{mapOf, formFaults, partFaults, clashing, lonely, disagrees};
+ghost use Rattle.graphlaws.specs.Plane.{Plane};
+ghost use Rattle.graph.specs.Flat.{flatGraph, Flat};
+ghost use Rattle.mapfile.specs.Verdict.{verdict};
+ghost use Rattle.mapcheck.specs.Held.{heldMap};
+
+// 8 "an edge shares with another any point that is not an end of both"
+pub fn edges_clash(file: &[u8]) -> Check
+    requires { ⌜ firstOf (formFaults (now file) ++ partFaults (mapOf (now file) .graph)) ≡ none ⌝ }
+    ensures { λ r. ⌜ verdict r ≡ atLeast 8 (clashing (mapOf (now (file .entry)) .graph)) (edgeCount (mapOf (now (file .entry)) .graph)) ⌝ }
+{
+    let mut carriers = [0i64; 1200];
+    load_carriers(file, &mut carriers);
+    let e = edge_count(file) as usize;
+    let k = first_clashing(&carriers, e);
+    given(8, k as u16, k < e)
+}
+
+// 9 "a vertex has no edge"
+pub fn vertex_alone(file: &[u8]) -> Check
+    requires { ⌜ firstOf (formFaults (now file) ++ partFaults (mapOf (now file) .graph)) ≡ none ⌝ }
+    ensures { λ r. ⌜ verdict r ≡ atLeast 9 (lonely (mapOf (now (file .entry)) .graph)) (length (mapOf (now (file .entry)) .graph .points)) ⌝ }
+{
+    let mut origins = [0u16; 600];
+    load_origins(file, &mut origins);
+    let n = vertex_count(file) as usize;
+    let v = first_lonely(&origins, 2 * edge_count(file) as usize, n);
+    given(9, v as u16, v < n)
+}
+
+// The least half-edge of a map in tables at which labels disagree, or the number of half-edges: first the headings, then the followers.
+pub fn first_by_followers(
+    points: &[i64],
+    origins: &[u16],
+    carriers: &[i64],
+    labels: &[u16],
+    n: usize,
+    e: usize,
+) -> usize
+    requires { ⌜ Flat (now points) (now origins) (now carriers) n e ⌝ ∗ ⌜ e ≤ mapEdges ⌝ ∗ ⌜ 2 * e ≤ length (now labels) ⌝ ∗ ⌜ Plane (flatGraph (now points) (now origins) (now carriers) n e) ⌝ }
+    ensures { λ r. ⌜ r ≡ least (disagrees (heldMap (now (points .entry)) (now (origins .entry)) (now (carriers .entry)) (now (labels .entry)) n e) (followers (flatGraph (now (points .entry)) (now (origins .entry)) (now (carriers .entry)) n e))) (2 * e) ⌝ }
+{
+    let mut ways = [0i64; 1200];
+    headings(points, origins, carriers, n, e, &mut ways);
+    let mut next = [0u16; 600];
+    follow(origins, &ways, e, &mut next);
+    first_disagreeing(points, origins, carriers, labels, &ways, &next, n, e)
+}
+
+// 10 "labels disagree at a half-edge", where rule 8 finds nothing either.
+pub fn labels_disagree(file: &[u8]) -> Check
+    requires { ⌜ firstOf (formFaults (now file) ++ partFaults (mapOf (now file) .graph)) ≡ none ⌝ ∗ ⌜ atLeast 8 (clashing (mapOf (now file) .graph)) (edgeCount (mapOf (now file) .graph)) ≡ none ⌝ }
+    ensures { λ r. ⌜ verdict r ≡ atLeast 10 (disagrees (mapOf (now (file .entry))) (followers (mapOf (now (file .entry)) .graph))) (halfCount (mapOf (now (file .entry)) .graph)) ⌝ }
+{
+    let mut points = [0i64; 800];
+    load_points(file, &mut points);
+    let mut origins = [0u16; 600];
+    load_origins(file, &mut origins);
+    let mut carriers = [0i64; 1200];
+    load_carriers(file, &mut carriers);
+    let mut labels = [0u16; 600];
+    load_labels(file, &mut labels);
+    let n = vertex_count(file) as usize;
+    let e = edge_count(file) as usize;
+    let h = first_by_followers(&points, &origins, &carriers, &labels, n, e);
+    given(10, h as u16, h < 2 * e)
+}
