@@ -2,3 +2,4 @@
 pub mod LoadedLaws
 pub mod LabelledLaws
 pub mod FoundLaws
+pub mod ChainLaws

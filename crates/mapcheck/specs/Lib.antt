@@ -7,3 +7,5 @@ pub mod Seen
 pub mod Makers
 pub mod Disagree
 pub mod LinkedLaws
+pub mod Answer
+pub mod Unique

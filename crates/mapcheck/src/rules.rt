@@ -6,11 +6,13 @@ use graph::follow::follow;
 use graph::heading::headings;
 use mapfile::fields::edge_count;
 use mapfile::fields::vertex_count;
+use mapfile::form_and_parts;
 use mapfile::load::load_carriers;
 use mapfile::load::load_labels;
 use mapfile::load::load_origins;
 use mapfile::load::load_points;
 use mapfile::refusal::Check;
+use mapfile::refusal::first;
 use mapfile::refusal::given;
 ghost use mathlib.Core.Path.{_≡_};
 ghost use mathlib.Core.List.{_++_};
@@ -21,7 +23,7 @@ ghost use Rattle.seq.specs.Seq.{least};
 ghost use Rattle.paper.specs.Limits.{mapEdges};
 ghost use Rattle.paper.specs.Graph.{edgeCount, halfCount, followers};
 ghost use Rattle.paper.specs.Refusal.{atLeast, firstOf};
-ghost use Rattle.paper.specs.Map.{mapOf, formFaults, partFaults, clashing, lonely, disagrees};
+ghost use Rattle.paper.specs.Map.{mapOf, formFaults, partFaults, clashing, lonely, disagrees, netFaults, fault};
 ghost use Rattle.graphlaws.specs.Plane.{Plane};
 ghost use Rattle.graph.specs.Flat.{flatGraph, Flat};
 ghost use Rattle.mapfile.specs.Verdict.{verdict};
@@ -87,4 +89,29 @@ pub fn labels_disagree(file: &[u8]) -> Check
     let e = edge_count(file) as usize;
     let h = first_by_followers(&points, &origins, &carriers, &labels, n, e);
     given(10, h as u16, h < 2 * e)
+}
+
+// The first of rules 8 to 10 that the map breaks. Followers are made only where rules 8 and 9 find nothing.
+pub fn net(file: &[u8]) -> Check
+    requires { ⌜ firstOf (formFaults (now file) ++ partFaults (mapOf (now file) .graph)) ≡ none ⌝ }
+    ensures { λ r. ⌜ verdict r ≡ firstOf (netFaults (mapOf (now (file .entry)))) ⌝ }
+{
+    let eight = edges_clash(file);
+    let nine = vertex_alone(file);
+    let c = first(eight, nine);
+    match c {
+        Check::Bad(_) => c,
+        Check::Fine => labels_disagree(file),
+    }
+}
+
+// The first of rules 1 to 10 that the file breaks.
+pub fn fault(file: &[u8]) -> Check
+    ensures { λ r. ⌜ verdict r ≡ fault (now (file .entry)) ⌝ }
+{
+    let c = form_and_parts(file);
+    match c {
+        Check::Bad(_) => c,
+        Check::Fine => net(file),
+    }
 }

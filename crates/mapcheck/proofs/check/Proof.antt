@@ -1,0 +1,48 @@
+-- `mapcheck::check` meets its contract. Assumes nothing.
+use mathlib.Core.Path.{_≡_, sym, ap, _∙_}
+use denote.Ref.{now}
+use Rattle.seq.specs.Seq.{ℕ}
+use Rattle.paper.specs.Refusal.{answer, done}
+use Rattle.paper.specs.Map.{vertexCount, edgesIn}
+use Rattle.mapfile.specs.Verdict.{verdict}
+use borrow.Author.Needs.{needs}
+use Rattle.mapcheck.proofs.check.Statement.{statement}
+use Rattle.mapcheck.proofs.check.Tie as tie
+
+fault-requires : tie.Need-fault-requires
+fault-requires c κs = search needs
+
+enum-known-c : tie.Need-enum-known-c
+enum-known-c c = search needs
+
+enum-told : tie.Need-enum-told
+enum-told c = search needs
+
+vertex-count-requires : tie.Need-vertex-count-requires
+vertex-count-requires c κs = search needs
+
+edge-count-requires : tie.Need-edge-count-requires
+edge-count-requires c κs = search needs
+
+returns : tie.Need-returns
+returns c =
+    let f = now (c .before .before .before .before .before .args .file) in
+    sym (ap (answer (vertexCount f, edgesIn f)) (sym (c .before .before .before .fault .ensures) ∙ ap verdict (c .before .c .given .1)))
+
+returns-2 : tie.Need-returns-2
+returns-2 c =
+    let f = now (c .before .before .before .before .before .before .args .file) in
+    (λ i. done (c .before .vertex-count .ensures i, c .edge-count .ensures i))
+    ∙ sym (ap (answer (vertexCount f, edgesIn f)) (sym (c .before .before .before .before .fault .ensures) ∙ ap verdict (c .before .before .enum-told .given .1)))
+
+pub check-spec : {M : Type 1} → statement M
+check-spec =
+    tie.close
+    (tie.spec
+    fault-requires
+    enum-known-c
+    enum-told
+    vertex-count-requires
+    edge-count-requires
+    returns
+    returns-2)

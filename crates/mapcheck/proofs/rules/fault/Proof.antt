@@ -1,0 +1,34 @@
+-- `mapcheck::rules::fault` meets its contract: rules 8 to 10 follow where rules 1 to 7 give nothing. Assumes nothing.
+use mathlib.Core.Path.{sym, ap, _∙_}
+use denote.Ref.{now}
+use Rattle.mapfile.specs.Verdict.{verdict}
+use Rattle.mapcheck.proofs.ChainLaws.{fault-some, fault-none}
+use borrow.Author.Needs.{needs}
+use Rattle.mapcheck.proofs.rules.fault.Statement.{statement}
+use Rattle.mapcheck.proofs.rules.fault.Tie as tie
+
+form-and-parts-requires : tie.Need-form-and-parts-requires
+form-and-parts-requires c κs = search needs
+
+enum-told : tie.Need-enum-told
+enum-told c = search needs
+
+enum-told-2 : tie.Need-enum-told-2
+enum-told-2 c = search needs
+
+net-requires : tie.Need-net-requires
+net-requires c κs = sym (c .before .before .form-and-parts .ensures) ∙ ap verdict (c .enum-told2 .given .1)
+
+returns : tie.Need-returns
+returns c =
+    let told = ap verdict (c .enum-told .given .1) in
+    told ∙ sym (fault-some (now (c .before .before .before .before .args .file)) (sym (c .before .before .form-and-parts .ensures) ∙ told))
+
+returns-2 : tie.Need-returns-2
+returns-2 c =
+    c .net .ensures ∙ sym (fault-none (now (c .before .before .before .before .before .args .file)) (sym (c .before .before .before .form-and-parts .ensures) ∙ ap verdict (c .before .enum-told2 .given .1)))
+
+pub fault-spec : {M : Type 1} → statement M
+fault-spec =
+    tie.close
+    (tie.spec form-and-parts-requires enum-told enum-told-2 net-requires returns returns-2)

@@ -1,0 +1,55 @@
+-- `mapcheck::rules::net` meets its contract: rule 10 follows where rules 8 and 9 give nothing. Assumes nothing.
+use mathlib.Core.Path.{sym, ap, _∙_}
+use denote.Ref.{now}
+use Rattle.paper.specs.Map.{mapOf}
+use Rattle.mapfile.specs.Verdict.{verdict}
+use Rattle.mapcheck.proofs.ChainLaws.{eight-nine, eight-none, net-some, net-none}
+use borrow.Author.Needs.{needs}
+use Rattle.mapcheck.proofs.rules.net.Statement.{statement}
+use Rattle.mapcheck.proofs.rules.net.Tie as tie
+
+edges-clash-requires : tie.Need-edges-clash-requires
+edges-clash-requires c κs = search needs
+
+vertex-alone-requires : tie.Need-vertex-alone-requires
+vertex-alone-requires c κs = search needs
+
+first-requires : tie.Need-first-requires
+first-requires c κs = search needs
+
+enum-told : tie.Need-enum-told
+enum-told c = search needs
+
+enum-told-2 : tie.Need-enum-told-2
+enum-told-2 c = search needs
+
+labels-disagree-requires : tie.Need-labels-disagree-requires
+labels-disagree-requires c κs =
+    let s = c .before .before .before .before .before .before in
+    let m = mapOf (now (s .args .file)) in
+    (s .pre, eight-none m (eight-nine m (c .before .before .first .ensures) (c .before .before .before .before .edges-clash .ensures) (c .before .before .before .vertex-alone .ensures) ∙ ap verdict (c .enum-told2 .given .1)))
+
+returns : tie.Need-returns
+returns c =
+    let m = mapOf (now (c .before .before .before .before .before .before .args .file)) in
+    let told = ap verdict (c .enum-told .given .1) in
+    told ∙ sym (net-some m (eight-nine m (c .before .before .first .ensures) (c .before .before .before .before .edges-clash .ensures) (c .before .before .before .vertex-alone .ensures) ∙ told))
+
+returns-2 : tie.Need-returns-2
+returns-2 c =
+    let m = mapOf (now (c .before .before .before .before .before .before .before .args .file)) in
+    let told = ap verdict (c .before .enum-told2 .given .1) in
+    c .labels-disagree .ensures ∙ sym (net-none m (eight-nine m (c .before .before .before .first .ensures) (c .before .before .before .before .before .edges-clash .ensures) (c .before .before .before .before .vertex-alone .ensures) ∙ told))
+
+pub net-spec : {M : Type 1} → statement M
+net-spec =
+    tie.close
+    (tie.spec
+    edges-clash-requires
+    vertex-alone-requires
+    first-requires
+    enum-told
+    enum-told-2
+    labels-disagree-requires
+    returns
+    returns-2)
