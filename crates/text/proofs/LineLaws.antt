@@ -1,0 +1,95 @@
+-- Text put into a line: byte by byte, and text behind text. Assumes nothing.
+use mathlib.Core.Path.{_≡_, refl, sym, _∙_, ap}
+use mathlib.Core.List.{append-assoc}
+use Prim.Native.Nat.{_≤_, _<_}
+use native.Mathlib.Nat.{zero-add, add-zero, add-suc, suc-add}
+use native.Mathlib.Numerals.{add-one}
+use native.Mathlib.Omega.{arith}
+use lib.ListN.{set, length-append, length-take}
+use lib.Seq.{length-sets, take-suc, take-all, sets-eq, take-at}
+use Rattle.io.specs.Counts.{Counts}
+use borrow.Author.Tests.{eq-eqb, ne-eqb}
+use Rattle.seq.specs.Seq.{Bool, cond, List, [], _∷_, _++_, ℕ, suc, _+_, _*_, eqb, length, getD, take, drop, sets}
+use Rattle.paper.specs.Bytes.{ascii}
+use Rattle.paper.specs.Listing.{decimal}
+use Rattle.text.specs.Line.{Put}
+use Rattle.text.specs.Lines.{Line, leastText, labelsText, faceText}
+
+-- what is stored behind something stored is stored with it
+stored-behind : (d : List ℕ) (at : ℕ) (xs ys : List ℕ) → sets (sets d at xs) (at + length xs) ys ≡ sets d at (xs ++ ys)
+stored-behind d at [] ys = ap (λ (k : ℕ). sets d k ys) (add-zero at)
+stored-behind d at (x ∷ xs) ys =
+    ap (λ (k : ℕ). sets (sets (set d at x) (suc at) xs) k ys) (add-suc at (length xs) ∙ sym (suc-add at (length xs)))
+    ∙ stored-behind (set d at x) (suc at) xs ys
+
+-- ── byte by byte ──
+
+-- t is what the loop that puts a text from a place on has made of d before turn i
+pub record Putting (text d : List ℕ) (at : ℕ) (t : List ℕ) (i : ℕ) : Type 0 where
+  pub within : i ≤ length text
+  pub kept : length t ≡ length d
+  pub is : t ≡ sets d at (take i text)
+
+pub putting-starts : (text d : List ℕ) (at : ℕ) → Putting text d at d 0
+putting-starts text d at = record { within = omega arith; kept = refl; is = refl }
+
+pub putting-turns : {text d t : List ℕ} {at i : ℕ} → Putting text d at t i → i < length text → Putting text d at (set t (at + i) (getD text i 0)) (i + 1)
+putting-turns {text} {d} {t} {at} {i} r h =
+    let x = getD text i 0 in
+    let e : length (take i text) ≡ i = length-take i text ∙ omega arith in
+    let s : set t (at + i) x ≡ sets d at (take (i + 1) text) =
+    ap (λ (u : List ℕ). set u (at + i) x) (r .is) ∙ ap (λ (k : ℕ). set (sets d at (take i text)) (at + k) x) (sym e)
+    ∙ stored-behind d at (take i text) (x ∷ []) ∙ ap (sets d at) (sym (take-suc text i 0 h)) ∙ ap (λ (k : ℕ). sets d at (take k text)) (sym (add-one i)) in
+    record { within = omega arith; kept = ap length s ∙ length-sets d at (take (i + 1) text); is = s }
+
+pub putting-ends : {text d t : List ℕ} {at i : ℕ} → Putting text d at t i → length text ≤ i → Put text (length text) d at t (at + length text)
+putting-ends {text} {d} {t} {at} {i} r h =
+    record { is = r .is ∙ ap (sets d at) (take-all i text h); end = refl; kept = r .kept; within = omega arith }
+
+-- ── text behind text ──
+
+pub put-behind : {xs ys d t u : List ℕ} {m n at k r : ℕ} → Put xs m d at t k → Put ys n t k u r → Put (xs ++ ys) (m + n) d at u r
+put-behind {xs} {ys} {d} {t} {u} {m} {n} {at} {k} {r} p q =
+    record {
+      is = q .is ∙ ap (λ (s : List ℕ). sets s k ys) (p .is) ∙ ap (λ (j : ℕ). sets (sets d at xs) j ys) (p .end) ∙ stored-behind d at xs ys;
+      end = omega (arith, p .end, q .end, length-append xs ys);
+      kept = q .kept ∙ p .kept;
+      within = omega (arith, p .within, q .within);
+    }
+
+-- the same text, said otherwise
+pub put-as : {xs ys d t : List ℕ} {m n at r : ℕ} → Put xs m d at t r → xs ≡ ys → m ≤ n → Put ys n d at t r
+put-as {xs} {ys} {d} {t} {m} {n} {at} {r} p e h =
+    record { is = p .is ∙ ap (sets d at) e; end = p .end ∙ ap (λ (s : List ℕ). at + length s) e; kept = p .kept; within = omega (arith, p .within) }
+
+-- a field behind text
+pub put-field : (ys zs : List ℕ) {xs d t u : List ℕ} {m n at k r : ℕ} → Put xs m d at t k → Put (ys ++ zs) n t k u r → Put (xs ++ ys ++ zs) (m + n) d at u r
+put-field ys zs {xs} p q = put-as (put-behind p q) (sym (append-assoc xs ys zs)) (omega arith)
+
+-- a text put at the start of a line that is long enough
+pub put-line : {text d t : List ℕ} {m r : ℕ} → Put text m d 0 t r → m ≤ length d → Line text t r
+put-line {text} {d} {t} {m} {r} p h =
+    let e : r ≡ length text = p .end ∙ zero-add (length text) in
+    let s : take r t ≡ text = ap (take r) (p .is ∙ sets-eq text d 0 (omega (arith, p .within, e))) ∙ take-at text (drop (0 + length text) d) r (sym e) in
+    record { is = s; end = e; counts = (omega (arith, p .within, p .kept), e ∙ sym (ap length s)) }
+
+-- ── "least outer half-edge (`-` for face 0)" ──
+
+pub least-none : (f h : ℕ) → f ≡ 0 → ascii " -" ≡ leastText f h
+least-none f h e = sym (ap (λ (b : Bool). ascii " " ++ cond b (ascii "-") (decimal h)) (eq-eqb f 0 e))
+
+pub least-some : (f h : ℕ) → (f ≡ 0 → ⊥) → ascii " " ++ decimal h ≡ leastText f h
+least-some f h e = sym (ap (λ (b : Bool). ascii " " ++ cond b (ascii "-") (decimal h)) (ne-eqb f 0 e))
+
+-- ── a face's line ──
+
+abbrev faceFields : ℕ → ℕ → ℕ → ℕ → ℕ → List ℕ
+faceFields f a b h o = labelsText f a b ++ ascii " " ++ cond (eqb f 0) (ascii "-") (decimal h) ++ ascii " " ++ decimal o ++ ascii "\n"
+
+pub face-fields : (fs : List ℕ) (f : ℕ) {a b h o : ℕ}
+    → a ≡ getD fs (4 * f + 0) 0 → b ≡ getD fs (4 * f + 1) 0 → h ≡ getD fs (4 * f + 2) 0 → o ≡ getD fs (4 * f + 3) 0
+    → faceFields f a b h o ≡ faceText fs f
+face-fields fs f {a} {b} {h} {o} ea eb eh eo =
+    ap (λ (x : ℕ). faceFields f x b h o) ea ∙ ap (λ (x : ℕ). faceFields f (getD fs (4 * f + 0) 0) x h o) eb
+    ∙ ap (λ (x : ℕ). faceFields f (getD fs (4 * f + 0) 0) (getD fs (4 * f + 1) 0) x o) eh
+    ∙ ap (faceFields f (getD fs (4 * f + 0) 0) (getD fs (4 * f + 1) 0) (getD fs (4 * f + 2) 0)) eo

@@ -1,0 +1,17 @@
+-- `text::cells::counted` meets its contract. Assumes nothing.
+use borrow.Author.Needs.{needs}
+use Rattle.text.proofs.GapsLaws.{counted-gap, counted-other}
+use Rattle.text.proofs.cells.counted.Statement.{statement}
+use Rattle.text.proofs.cells.counted.Tie as tie
+
+add-result : tie.Need-add-result
+add-result c = search needs
+
+returns : tie.Need-returns
+returns c = counted-gap _ (c .if1 .taken)
+
+returns-2 : tie.Need-returns-2
+returns-2 c = counted-other _ (c .if1 .left)
+
+pub counted-spec : {M : Type 1} → statement M
+counted-spec = tie.close (tie.spec add-result returns returns-2)

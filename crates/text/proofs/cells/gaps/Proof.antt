@@ -1,0 +1,48 @@
+-- `text::cells::gaps` meets its contract. Assumes nothing.
+use borrow.Author.Needs.{needs}
+use mathlib.Core.Path.{_∙_, ap}
+use Rattle.seq.specs.Seq.{ℕ, _+_, _-_, cond, eqb}
+use Rattle.text.proofs.GapsLaws.{Counting, counting-starts, counting-turns, counting-ends}
+use Rattle.text.proofs.cells.gaps.Statement.{statement}
+use Rattle.text.proofs.cells.gaps.Tie as tie
+
+abbrev Inv-loop : tie.InvT-loop
+Inv-loop faces count found₀ f₀ found f = Counting faces count found f
+
+abbrev μ-loop : tie.MeasureT-loop
+μ-loop faces count found₀ f₀ found f = count - f
+
+loop-holds : tie.Need-loop-holds Inv-loop μ-loop
+loop-holds c = counting-starts _ _
+
+cell-requires : tie.Need-cell-requires Inv-loop μ-loop
+cell-requires c κs = search needs
+
+counted-requires : tie.Need-counted-requires Inv-loop μ-loop
+counted-requires c κs = search needs
+
+add-f : tie.Need-add-f Inv-loop μ-loop
+add-f c = search needs
+
+loop-less : tie.Need-loop-less Inv-loop μ-loop
+loop-less c = search needs
+
+loop-again : tie.Need-loop-again Inv-loop μ-loop
+loop-again c = counting-turns (c .before .before .before .loop .inv) (c .before .before .loop-test .taken) (c .counted .ensures ∙ ap (λ (x : ℕ). c .before .before .before .loop .found + cond (eqb x 0) 1 0) (c .before .cell .ensures))
+
+returns : tie.Need-returns Inv-loop μ-loop
+returns c = counting-ends (c .before .loop .inv) (c .loop-test .left)
+
+pub gaps-spec : {M : Type 1} → statement M
+gaps-spec =
+    tie.close
+    (tie.spec
+    Inv-loop
+    μ-loop
+    loop-holds
+    cell-requires
+    counted-requires
+    add-f
+    loop-less
+    loop-again
+    returns)

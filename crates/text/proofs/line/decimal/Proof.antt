@@ -1,0 +1,45 @@
+-- `text::line::decimal` meets its contract: the digits that `io` writes are the decimal text. Assumes nothing.
+use borrow.Author.Needs.{needs}
+use native.Mathlib.Omega.{arith}
+use mathlib.Core.Path.{_∙_}
+use Rattle.text.proofs.LineLaws.{put-as}
+use Rattle.text.proofs.DigitsLaws.{fewest-decimal, fewest-five}
+use Rattle.text.proofs.line.decimal.Statement.{statement}
+use Rattle.text.proofs.line.decimal.Tie as tie
+
+decimal-requires : tie.Need-decimal-requires
+decimal-requires c κs = search needs
+
+array-share-prefix-digits : tie.Need-array-share-prefix-digits
+array-share-prefix-digits c = search needs
+
+slice-aggregate-words : tie.Need-slice-aggregate-words
+slice-aggregate-words c = search needs
+
+words-requires : tie.Need-words-requires
+words-requires c κs =
+    let d = c .before .before .decimal in
+    omega (arith, fewest-five (c .before .before .before .before .before .args .n) (d .result) (omega arith) (d .ensures .1 .0), d .ensures .0 .1)
+
+same-length : tie.Need-same-length
+same-length c = search needs
+
+returns : tie.Need-returns
+returns c =
+    let d = c .before .before .before .before .before .decimal in
+    let n = c .before .before .before .before .before .before .before .before .args .n in
+    put-as
+    (c .before .before .words .ensures)
+    (d .ensures .1 .1 ∙ fewest-decimal n (d .result) (d .ensures .1 .0))
+    (omega (arith, fewest-five n (d .result) (omega arith) (d .ensures .1 .0), d .ensures .0 .1))
+
+pub decimal-spec : {M : Type 1} → statement M
+decimal-spec =
+    tie.close
+    (tie.spec
+    decimal-requires
+    array-share-prefix-digits
+    slice-aggregate-words
+    words-requires
+    same-length
+    returns)

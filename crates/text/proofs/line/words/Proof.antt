@@ -1,0 +1,60 @@
+-- `text::line::words` meets its contract: before turn i the first i bytes stand. Assumes nothing.
+use borrow.Author.Needs.{needs}
+use native.Mathlib.Omega.{arith}
+use Rattle.seq.specs.Seq.{_-_, length}
+use Rattle.text.proofs.LineLaws.{Putting, putting-starts, putting-turns, putting-ends}
+use Rattle.text.proofs.line.words.Statement.{statement}
+use Rattle.text.proofs.line.words.Tie as tie
+
+abbrev Inv-loop : tie.InvT-loop
+Inv-loop line₀ at text i₀ line i = Putting text line₀ at line i
+
+abbrev μ-loop : tie.MeasureT-loop
+μ-loop line₀ at text i₀ line i = length text - i
+
+loop-holds : tie.Need-loop-holds Inv-loop μ-loop
+loop-holds c = putting-starts _ _ _
+
+shared-slice-read-line : tie.Need-shared-slice-read-line Inv-loop μ-loop
+shared-slice-read-line c = search needs
+
+add-line : tie.Need-add-line Inv-loop μ-loop
+add-line c = search needs
+
+slice-write-line : tie.Need-slice-write-line Inv-loop μ-loop
+slice-write-line c = search needs
+
+add-i : tie.Need-add-i Inv-loop μ-loop
+add-i c = search needs
+
+loop-less : tie.Need-loop-less Inv-loop μ-loop
+loop-less c = search needs
+
+loop-again : tie.Need-loop-again Inv-loop μ-loop
+loop-again c = putting-turns (c .before .before .loop .inv) (c .before .loop-test .taken)
+
+add-result : tie.Need-add-result Inv-loop μ-loop
+add-result c = search needs
+
+same-length : tie.Need-same-length Inv-loop μ-loop
+same-length c = search needs
+
+returns : tie.Need-returns Inv-loop μ-loop
+returns c = putting-ends (c .before .loop .inv) (c .loop-test .left)
+
+pub words-spec : {M : Type 1} → statement M
+words-spec =
+    tie.close
+    (tie.spec
+    Inv-loop
+    μ-loop
+    loop-holds
+    shared-slice-read-line
+    add-line
+    slice-write-line
+    add-i
+    loop-less
+    loop-again
+    add-result
+    same-length
+    returns)

@@ -1,0 +1,33 @@
+-- The listing's lines over the face table alone, and a line that stands at the start of a lent one. Assumes nothing.
+use mathlib.Core.Path.{_≡_}
+use Rattle.io.specs.Counts.{Counts}
+use Rattle.seq.specs.Seq.{List, [], _++_, cond, ℕ, eqb, length, take}
+use Rattle.paper.specs.Bytes.{ascii}
+use Rattle.paper.specs.Limits.{maps}
+use Rattle.paper.specs.Tables.{Tables}
+use Rattle.paper.specs.Listing.{decimal, faceLine, gaps}
+
+-- tables of which only the faces are looked at
+abbrev pub facesOnly : List ℕ → Tables
+facesOnly fs = record { vertices = []; halves = []; sources = []; faces = fs }
+
+abbrev pub faceText : List ℕ → ℕ → List ℕ
+faceText fs f = faceLine maps (facesOnly fs) f
+
+abbrev pub gapsIn : List ℕ → ℕ → ℕ
+gapsIn fs n = gaps maps (facesOnly fs) n
+
+abbrev pub leastText : ℕ → ℕ → List ℕ
+leastText f h = ascii " " ++ cond (eqb f 0) (ascii "-") (decimal h)
+
+abbrev pub labelsText : ℕ → ℕ → ℕ → List ℕ
+labelsText f a b = ascii "face " ++ decimal f ++ ascii " " ++ decimal a ++ ascii " " ++ decimal b
+
+abbrev pub gapsText : ℕ → List ℕ
+gapsText n = ascii "gaps " ++ decimal n ++ ascii "\n"
+
+-- the text stands at the start of t, and r is its length
+pub record Line (text t : List ℕ) (r : ℕ) : Type 0 where
+  pub is : take r t ≡ text
+  pub end : r ≡ length text
+  pub counts : Counts r t

@@ -1,0 +1,13 @@
+// The lines of the listing (01, "Worked sheets") as text, for programs to print.
+mod cells; // the face table
+mod line; // words and numbers, one behind the other
+mod lines; // the lines
+
+pub use cells::gaps;
+pub use line::decimal;
+pub use line::field;
+pub use line::words;
+pub use lines::counts_line;
+pub use lines::face_line;
+pub use lines::gaps_line;
+pub use lines::refused_line;
