@@ -113,6 +113,10 @@ module _ {A : Type 0} (same : A → A → Bool) where
     collectIn-++ l [] ys = refl
     collectIn-++ l (x ∷ xs) ys = collectIn-++ (capped cap (λ t. fresh same t x) l) xs ys
 
+    pub collectIn-le : (l xs : List A) → length l ≤ cap → length (collectIn l xs) ≤ cap
+    collectIn-le l [] h = h
+    collectIn-le l (x ∷ xs) h = collectIn-le (capped cap (λ t. fresh same t x) l) xs (capped-le cap (λ t. fresh same t x) (fresh-slow x) l h)
+
     pub collectIn-cap : (t l xs : List A) → Cap cap t l → Cap cap (collectIn t xs) (collect same l xs)
     collectIn-cap t l [] c = c
     collectIn-cap t l (x ∷ xs) c = collectIn-cap (capped cap (λ u. fresh same u x) t) (fresh same l x) xs (capped-step cap (λ u. fresh same u x) (fresh-slow x) t l c)

@@ -13,3 +13,5 @@ pub mod Compared
 pub mod PutTable
 pub mod Cutting
 pub mod Cuts
+pub mod Collecting
+pub mod Crossed

@@ -4,7 +4,7 @@ use mathlib.Core.Path.{_≡_, refl, sym, _∙_, ap, subst}
 use Prim.Native.Nat.{_≤_, _<_}
 use native.Mathlib.Omega.{arith}
 use lib.IntN.{ℤ, pos}
-use Rattle.exact.specs.Tests.{eqZ, eq-t, t-eq, clash, and-parts}
+use Rattle.exact.specs.Tests.{eqZ, eq-t, t-eq, not-true, clash, and-parts}
 use Rattle.exact.specs.Lowest.{Pt, pt, Lowest}
 use Rattle.seq.specs.Seq.{Bool, true, false, not, _&&_, List, [], _∷_, ℕ, _+_, _*_, length, rowStored, table}
 use Rattle.seq.specs.Terms.{Every, Distinct, Transitive, Asymmetric}
@@ -58,10 +58,10 @@ pub record Settled (s t : List ℤ) (i : ℕ) : Type 0 where
   pub past : (k : ℕ) → i < k → pointAt t k ≡ pointAt s k
 
 -- what is read of a row of four numbers
-abbrev readPoint : (ℕ → ℤ) → Pt
+abbrev pub readPoint : (ℕ → ℤ) → Pt
 readPoint f = pt (f 0) (f 1) (f 2)
 
-read-ext : (f g : ℕ → ℤ) → ((j : ℕ) → j < 4 → f j ≡ g j) → readPoint f ≡ readPoint g
+pub read-ext : (f g : ℕ → ℤ) → ((j : ℕ) → j < 4 → f j ≡ g j) → readPoint f ≡ readPoint g
 read-ext f g h = λ i. pt (h 0 (omega arith) i) (h 1 (omega arith) i) (h 2 (omega arith) i)
 
 pub place-within : (s : List ℤ) (p : Pt) (i : ℕ) → placeBy before p (pointAt s) i ≤ i
@@ -87,6 +87,17 @@ module _ (s : List ℤ) (i : ℕ) (p : Pt) (room : 4 * i + 4 ≤ length s) (e : 
   settles t u r q f g h k =
       let m : rowStored 4 t r (pointRow q) ≡ rowInserted 4 s i r (pointRow p) = λ j. rowStored 4 (h j) r (pointRow (f j)) in
       subst (λ (v : List ℤ). Settled s v i) (sym (k ∙ m ∙ ap (λ (n : ℕ). rowInserted 4 s i n (pointRow p)) g)) settled
+
+-- number by number, as the code compares them
+module _ (p q : Pt) where
+  pub equal-third : p .X ≡ q .X → p .Y ≡ q .Y → eqZ (p .D) (q .D) ≡ equal p q
+  equal-third e f = let x : eqZ (p .X) (q .X) ≡ true = t-eq e in let y : eqZ (p .Y) (q .Y) ≡ true = t-eq f in sym (rw (x, y))
+
+  pub equal-second : p .X ≡ q .X → (p .Y ≡ q .Y → ⊥) → false ≡ equal p q
+  equal-second e f = let x : eqZ (p .X) (q .X) ≡ true = t-eq e in let y = not-true (eqZ (p .Y) (q .Y)) (λ g. f (eq-t (p .Y) (q .Y) g)) in sym (rw (x, y))
+
+  pub equal-first : (p .X ≡ q .X → ⊥) → false ≡ equal p q
+  equal-first e = let x = not-true (eqZ (p .X) (q .X)) (λ g. e (eq-t (p .X) (q .X) g)) in sym (rw x)
 
 -- points in lowest terms, each once
 pub record Once (l : List Pt) : Type 0 where

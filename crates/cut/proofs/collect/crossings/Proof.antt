@@ -1,0 +1,84 @@
+-- `cut::collect::crossings` meets its contract. Assumes nothing.
+use mathlib.Core.Path.{_≡_, refl, _∙_}
+use Prim.Native.Nat.{_-_, _≤_}
+use lib.ListN.{length}
+use Rattle.paper.specs.Limits.{maps}
+use Rattle.cut.specs.Rooms.{vertexRows}
+use Rattle.cut.specs.Points.{pointsOf}
+use Rattle.cut.specs.Cuts.{part-carried}
+use Rattle.cut.specs.Crossed.{crossPart}
+use Rattle.cut.specs.Collecting.{Gathering, gather-starts, gather-turns, gather-ends}
+use borrow.Author.Needs.{needs}
+use native.Mathlib.Omega.{arith}
+use Rattle.cut.proofs.collect.crossings.Statement.{statement}
+use Rattle.cut.proofs.collect.crossings.Tie as tie
+
+abbrev Inv-loop : tie.InvT-loop
+Inv-loop carriers starts points₀ n total₀ m₀ points total m = (m ≤ maps) × (length points ≡ length points₀) × Gathering vertexRows (crossPart carriers starts) (pointsOf points₀ n) points total m
+
+abbrev μ-loop : tie.MeasureT-loop
+μ-loop carriers starts points₀ n total₀ m₀ points total m = maps - m
+
+loop-holds : tie.Need-loop-holds Inv-loop μ-loop
+loop-holds c = (search needs, refl, gather-starts vertexRows _ _ _ (search needs))
+
+mul-from : tie.Need-mul-from Inv-loop μ-loop
+mul-from c = search needs
+
+shared-slice-read-from : tie.Need-shared-slice-read-from Inv-loop μ-loop
+shared-slice-read-from c = search needs
+
+add-e : tie.Need-add-e Inv-loop μ-loop
+add-e c = search needs
+
+mul-e : tie.Need-mul-e Inv-loop μ-loop
+mul-e c = search needs
+
+shared-slice-read-e : tie.Need-shared-slice-read-e Inv-loop μ-loop
+shared-slice-read-e c = search needs
+
+sub-e : tie.Need-sub-e Inv-loop μ-loop
+sub-e c = omega (arith, c .before .before .before .before .before .pre .1 .rises (c .before .before .before .loop .m) (omega arith))
+
+cross-map-requires : tie.Need-cross-map-requires Inv-loop μ-loop
+cross-map-requires c κs =
+    let l = c .before .before .before .before .loop in
+    (record { long = omega (arith, l .inv .1); within = l .inv .2 .within }, part-carried (c .before .before .before .before .before .before .pre .1) (l .m) (omega arith))
+
+add-m : tie.Need-add-m Inv-loop μ-loop
+add-m c = search needs
+
+loop-less : tie.Need-loop-less Inv-loop μ-loop
+loop-less c = search needs
+
+loop-again : tie.Need-loop-again Inv-loop μ-loop
+loop-again c =
+    let l = c .before .before .before .before .before .before .loop in
+    let r = c .before .cross-map in
+    (search needs, r .kept .1 .1 .1 .0 ∙ l .inv .1, gather-turns vertexRows _ (l .inv .2) (r .last .1 .1 .1 .0) (r .result) (r .ensures))
+
+same-length : tie.Need-same-length Inv-loop μ-loop
+same-length c = search needs
+
+returns : tie.Need-returns Inv-loop μ-loop
+returns c = gather-ends vertexRows _ (c .before .loop .inv .2) maps (omega arith)
+
+pub crossings-spec : {M : Type 1} → statement M
+crossings-spec =
+    tie.close
+    (tie.spec
+    Inv-loop
+    μ-loop
+    loop-holds
+    mul-from
+    shared-slice-read-from
+    add-e
+    mul-e
+    shared-slice-read-e
+    sub-e
+    cross-map-requires
+    add-m
+    loop-less
+    loop-again
+    same-length
+    returns)
