@@ -3,3 +3,4 @@ pub mod BytesLaws
 pub mod StoringLaws
 pub mod SoundLaws
 pub mod SearchLaws
+pub mod HeadLaws

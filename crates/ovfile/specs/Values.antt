@@ -2,6 +2,8 @@
 use Rattle.seq.specs.Seq.{List, [], ℕ, ℤ}
 use Rattle.paper.specs.Tables as paper
 use Rattle.paper.specs.Lent.{Lengths}
+use Rattle.paper.specs.Limits.{coordinateBytes, maps}
+use Rattle.paper.specs.Ovfile.{Layout}
 use Rattle.ovfile.specs.declared.room.Counts.{Counts}
 
 -- "the three counts"
@@ -17,3 +19,7 @@ tablesBy vs hs ss fs = record { vertices = vs; halves = hs; sources = ss; faces 
 -- the tables of the edges alone: soundness asks no other
 abbrev pub edgeTables : List ℕ → List ℕ → paper.Tables
 edgeTables hs ss = tablesBy [] hs ss []
+
+-- the newest layout, which the writer writes
+abbrev pub layout : Layout
+layout = record { coordinate = coordinateBytes; maps = maps }

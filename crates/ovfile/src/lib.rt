@@ -4,5 +4,7 @@ mod bytes; // numbers in bytes, low byte first, over the width
 mod room; // the three counts, and room for them
 mod cells; // the cells of flat tables
 mod sound; // sound edge records
+mod stored; // the stored fields of a file
+mod head; // rules 1 to 4
 
 pub use room::Counts;
