@@ -4,3 +4,4 @@ pub mod StoringLaws
 pub mod SoundLaws
 pub mod SearchLaws
 pub mod HeadLaws
+pub mod FillLaws

@@ -8,10 +8,11 @@ use native.Mathlib.Omega.{arith}
 use borrow.Author.Tests.{ltb-true, lt-ltb, eq-eqb, ne-eqb}
 use lib.ListN.{set, length-set}
 use lib.Seq.{set-out}
-use Rattle.seq.specs.Seq.{Bool, true, false, cond, not, _&&_, _||_, List, ℕ, suc, _-_, ltb, eqb, length, getD, least, someBelow, firstOr, firsts}
+use Rattle.seq.specs.Seq.{Bool, true, false, cond, not, _&&_, _||_, List, ℕ, suc, _+_, _-_, ltb, eqb, length, getD, least, someBelow, firstOr, firsts}
 use Rattle.seq.specs.Least.{least-at-most, least-holds, least-min, some-has, no-some}
 use Rattle.seq.specs.Table.{table-ext}
 use Rattle.seq.specs.Firsts.{length-firsts, firsts-none, firsts-more, firsts-all}
+use Rattle.paper.specs.Graph.{even, twin}
 use Rattle.ovfile.specs.Firsts.{column, firstFollowed, FirstPlaces, Followed}
 
 -- ── the loop from the last place down ──
@@ -60,8 +61,8 @@ module _ (key : ℕ → ℕ) where
       r .is ∙ ap (λ (j : ℕ). firsts key j (m - j) d) z ∙ ap (λ (j : ℕ). firsts key 0 j d) w
 
 -- where there is one, the table has it
-pub followed-by : {hs : List ℕ} {n : ℕ} {d t : List ℕ} → FirstPlaces hs 2 n d t → n ≤ length t → Followed hs n t
-followed-by {hs} {n} {d} {t} r h = record {
+pub followed-by : (hs : List ℕ) {n : ℕ} {d t : List ℕ} → FirstPlaces (column hs 2) n d t → n ≤ length t → Followed hs n t
+followed-by hs {n} {d} {t} r h = record {
   at = λ x l b. ap (λ (y : List ℕ). getD y x 0) (r .is) ∙ firsts-all (column hs 2) n x d (omega (arith, ap length (r .is) ∙ length-firsts (column hs 2) 0 n d))
       ∙ ap (λ (c : Bool). cond c (firstFollowed hs n x) (getD d x 0)) (lt-ltb (firstFollowed hs n x) n b);
 }
@@ -90,6 +91,15 @@ follower-test hs t n h starts l r =
     and-same (ltb f n) starts (eqb (getD t f 0) h) (not (someBelow (λ j. eqb (column hs 2 j) f) h))
     (λ b. ap (λ (x : ℕ). eqb x h) (r .at f (ltb-true f n b) (omega (arith, least-at-most (λ j. eqb (column hs 2 j) f) n h own)))
     ∙ first-or-not (λ j. eqb (column hs 2 j) f) n h l own)
+
+-- ── twins ──
+
+pub twin-le : (h : ℕ) → twin h ≤ h + 1
+twin-le h = by (even h)
+  where
+    by : (c : Bool) → cond c (h + 1) (h - 1) ≤ h + 1
+    by true = omega arith
+    by false = omega arith
 
 -- ── two sources ──
 

@@ -9,9 +9,9 @@ use Rattle.paper.specs.Tables.{halfWidth}
 abbrev pub column : List ℕ → ℕ → ℕ → ℕ
 column hs j h = cell 0 halfWidth hs h j
 
--- t is d with the first of n half-edges that has x as cell j stored in each cell x
-pub record FirstPlaces (hs : List ℕ) (j n : ℕ) (d t : List ℕ) : Type 0 where
-  pub is : t ≡ firsts (column hs j) 0 n d
+-- t is d with the first of n half-edges of key x stored in each cell x
+pub record FirstPlaces (key : ℕ → ℕ) (n : ℕ) (d t : List ℕ) : Type 0 where
+  pub is : t ≡ firsts key 0 n d
 
 -- the first of n half-edges with follower x, or n
 abbrev pub firstFollowed : List ℕ → ℕ → ℕ → ℕ

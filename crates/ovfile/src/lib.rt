@@ -6,5 +6,6 @@ mod cells; // the cells of flat tables
 mod sound; // sound edge records
 mod stored; // the stored fields of a file
 mod head; // rules 1 to 4
+mod fill; // the tables that a file holds
 
 pub use room::Counts;

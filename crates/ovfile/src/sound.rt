@@ -14,7 +14,7 @@ ghost use Rattle.paper.specs.Limits.{maps, overlayEdges};
 ghost use Rattle.paper.specs.Graph.{twin};
 ghost use Rattle.paper.specs.Ovfile.{soundFollower, hasSource, soundEdge};
 ghost use Rattle.ovfile.specs.Values.{countsOf, edgeTables};
-ghost use Rattle.ovfile.specs.Firsts.{FirstPlaces, Followed};
+ghost use Rattle.ovfile.specs.Firsts.{column, FirstPlaces, Followed};
 
 // "Half-edge 2k goes from lower to upper, 2k+1 back"
 pub fn twin(h: u32) -> u32
@@ -24,7 +24,7 @@ pub fn twin(h: u32) -> u32
 }
 
 // Stores a number in a cell, if there is the cell.
-fn store(t: &mut [u16], i: usize, n: u16)
+pub fn store(t: &mut [u16], i: usize, n: u16)
     ensures { λ _. ⌜ now (t .exit) ≡ set (now (t .entry)) i n ⌝ }
 {
     if i < t.len() {
@@ -36,7 +36,7 @@ fn store(t: &mut [u16], i: usize, n: u16)
 // the first is stored last.
 pub fn first_places(halves: &[u16], j: u16, n: u32, out: &mut [u16])
     requires { ⌜ n ≤ 65536 ⌝ }
-    ensures { λ _. ⌜ FirstPlaces (now (halves .entry)) j n (now (out .entry)) (now (out .exit)) ⌝ }
+    ensures { λ _. ⌜ FirstPlaces (column (now (halves .entry)) j) n (now (out .entry)) (now (out .exit)) ⌝ }
 {
     let mut h = n;
     while 0 < h {

@@ -53,14 +53,20 @@ pub fn file_length(c: Counts) -> usize
 pub fn edge_field(file: &[u8], k: u32, j: u32) -> u16
     ensures { λ r. ⌜ r ≡ edgeField layout (now (file .entry)) k j ⌝ }
 {
-    u16_at(file, edges_at(counts(file)) + EDGE_SIZE * k as usize + 2 * j as usize)
+    u16_at(
+        file,
+        edges_at(counts(file)) + EDGE_SIZE * k as usize + 2 * j as usize,
+    )
 }
 
 // The 16-bit number j of face f.
 pub fn face_field(file: &[u8], f: u32, j: u32) -> u16
     ensures { λ r. ⌜ r ≡ faceField layout (now (file .entry)) f j ⌝ }
 {
-    u16_at(file, faces_at(counts(file)) + FACE_SIZE * f as usize + 2 * j as usize)
+    u16_at(
+        file,
+        faces_at(counts(file)) + FACE_SIZE * f as usize + 2 * j as usize,
+    )
 }
 
 pub fn origin(file: &[u8], h: u32) -> u16

@@ -59,9 +59,9 @@ returns c =
     let mark = e .before .before .given .ensures ∙ ap (given 1 0) (e .before .before .before .bad-mark .ensures) in
     let version = e .given2 .ensures ∙ ap (given 2 0) (e .before .bad-version .ensures) in
     let limits = d .before .before .given3 .ensures
-        ∙ ap (given 3 0) (d .before .before .before .over .ensures ∙ (λ i. over (d .before .before .before .before .numbers .ensures i) (counted i))) in
+    ∙ ap (given 3 0) (d .before .before .before .over .ensures ∙ (λ i. over (d .before .before .before .before .numbers .ensures i) (counted i))) in
     let whole = d .given4 .ensures
-        ∙ ap (λ (n : ℕ). given 4 0 (not (eqb (length s) n))) (d .before .file-length .ensures ∙ ap (fileLength layout) counted) in
+    ∙ ap (λ (n : ℕ). given 4 0 (not (eqb (length s) n))) (d .before .file-length .ensures ∙ ap (fileLength layout) counted) in
     before (c .first3 .ensures) mark (before (c .before .first2 .ensures) version (before (c .before .before .first .ensures) limits (last whole))) .is
     ∙ head-is s
 

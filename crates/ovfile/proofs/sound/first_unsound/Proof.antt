@@ -1,6 +1,7 @@
 -- `ovfile::sound::first_unsound` meets its contract. Assumes nothing.
 use native.Mathlib.Omega.{arith}
 use Rattle.ovfile.proofs.SoundLaws.{followed-by}
+use denote.Ref.{now}
 use borrow.Author.Needs.{needs}
 use Rattle.ovfile.proofs.sound.first_unsound.Statement.{statement}
 use Rattle.ovfile.proofs.sound.first_unsound.Tie as tie
@@ -22,7 +23,7 @@ slice-aggregate-first-unsound-by c = search needs
 
 first-unsound-by-requires : tie.Need-first-unsound-by-requires
 first-unsound-by-requires c κs =
-    followed-by (c .before .before .first-places .ensures) (omega (arith, c .before .before .first-places .kept .1 .1 .1 .0))
+    followed-by (now (c .before .before .before .before .before .before .before .args .halves)) (c .before .before .first-places .ensures) (omega (arith, c .before .before .first-places .kept .1 .1 .1 .0))
 
 returns : tie.Need-returns
 returns c = search needs
