@@ -1,2 +1,4 @@
 pub mod Bytes
 pub mod Stands
+pub mod Refusals
+pub mod Agree

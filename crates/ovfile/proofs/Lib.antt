@@ -5,3 +5,4 @@ pub mod SoundLaws
 pub mod SearchLaws
 pub mod HeadLaws
 pub mod FillLaws
+pub mod ReadLaws

@@ -6,6 +6,7 @@ use Rattle.seq.specs.Seq.{List, [], _∷_, ℕ, _+_, _*_, _/_, _%_, eqb, length
 use Rattle.paper.specs.Limits.{overlayVertices, overlayEdges, overlayFaces, overlayHead, denominatorBytes}
 use Rattle.paper.specs.Bytes.{number, signedAt}
 use Rattle.paper.specs.Tables.{leastHalf, Counts}
+use Rattle.paper.specs.Lent.{Lengths}
 use Rattle.paper.specs.Ovfile.{vertexSize}
 use Rattle.paper.specs.Reader.{countsIn, edgeField, storedOrigin, storedFollower}
 use Rattle.ovfile.specs.Values.{layout}
@@ -31,6 +32,13 @@ pub record Within (c : Counts) : Type 0 where
   pub vertices : c .vertices ≤ overlayVertices
   pub edges : c .edges ≤ overlayEdges
   pub faces : c .faces ≤ overlayFaces
+
+-- the tables have a row for each count
+pub record Roomy (c : Counts) (ls : Lengths) : Type 0 where
+  pub vertices : 4 * c .vertices ≤ ls .vertices
+  pub halves : 5 * (2 * c .edges) ≤ ls .halves
+  pub sources : 2 * c .edges ≤ ls .sources
+  pub faces : 4 * c .faces ≤ ls .faces
 
 -- t has in cell h the predecessor of h
 pub record Predecessors (s t : List ℕ) : Type 0 where

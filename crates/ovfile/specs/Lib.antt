@@ -1,3 +1,4 @@
 pub mod Values
 pub mod Firsts
 pub mod Filled
+pub mod Answers
