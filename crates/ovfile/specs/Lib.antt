@@ -1,4 +1,2 @@
 pub mod Values
 pub mod Firsts
-pub mod Filled
-pub mod Answers

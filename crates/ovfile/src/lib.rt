@@ -1,16 +1,7 @@
-// The overlay file (01, "Overlay file"): its writer and its reader, for any counts, tables and bytes.
-mod limits; // the numbers of 01
-mod bytes; // numbers in bytes, low byte first, over the width
-mod answer; // the answers
-mod room; // the three counts, and room for them
-mod cells; // the cells of flat tables
-mod sound; // sound edge records
-mod stored; // the stored fields of a file
-mod head; // rules 1 to 4
-mod fill; // the tables that a file holds
-mod reader; // the reader
-
-pub use answer::Answer;
-pub use answer::Written;
-pub use reader::read;
-pub use room::Counts;
+// What the overlay file's reader and writer have in common (01, "Overlay file"): numbers in bytes, counts and room, cells of tables, sound edge records.
+pub mod limits; // the numbers of 01
+pub mod bytes; // numbers in bytes, low byte first, over the width
+pub mod room; // the three counts, and room for them
+pub mod places; // where vertices, edges and faces stand in a file
+pub mod cells; // the cells of flat tables
+pub mod sound; // sound edge records

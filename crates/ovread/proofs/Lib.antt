@@ -1,0 +1,4 @@
+-- Laws that the proofs of the functions cite.
+pub mod HeadLaws
+pub mod FillLaws
+pub mod ReadLaws

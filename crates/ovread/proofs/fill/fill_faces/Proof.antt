@@ -1,0 +1,58 @@
+-- `ovread::fill::fill_faces` meets its contract. Assumes nothing.
+use mathlib.Core.Path.{_≡_, refl, ap}
+use native.Mathlib.Omega.{arith}
+use denote.Ref.{now}
+use Rattle.seq.specs.Seq.{ℕ, _*_}
+use Rattle.paper.specs.Limits.{maps}
+use Rattle.paper.specs.Tables.{Counts}
+use Rattle.paper.specs.Reader.{countsIn, faceRead, tablesIn}
+use Rattle.ovfile.specs.Values.{layout}
+use Rattle.ovfile.proofs.StoringLaws.{laid-wiped}
+use borrow.Author.Needs.{needs}
+use Rattle.ovread.proofs.fill.fill_faces.Statement.{statement}
+use Rattle.ovread.proofs.fill.fill_faces.Tie as tie
+
+lay-faces-requires : tie.Need-lay-faces-requires
+lay-faces-requires c κs = search needs
+
+counts-requires : tie.Need-counts-requires
+counts-requires c κs = search needs
+
+cast-wipe-from-u16 : tie.Need-cast-wipe-from-u16
+cast-wipe-from-u16 c = search needs
+
+mul-wipe-from-u16 : tie.Need-mul-wipe-from-u16
+mul-wipe-from-u16 c = search needs
+
+counted : (c : tie.After-counts) → c .counts .result .faces ≡ countsIn (now (c .before .before .before .before .before .before .before .args .file)) .faces
+counted c = ap (λ (n : Counts). n .faces) (c .counts .ensures)
+
+wipe-from-u16-requires : tie.Need-wipe-from-u16-requires
+wipe-from-u16-requires c κs =
+    let l = c .before .before .before .before .before in
+    omega (arith, counted (c .before .before), l .lay-faces .kept .1 .0, l .before .before .before .before .pre)
+
+same-length : tie.Need-same-length
+same-length c = search needs
+
+returns : tie.Need-returns
+unfolding tablesIn
+returns c =
+    let d = c .before .before in
+    let l = d .before .before .before .before .before .before in
+    let a = l .before .before .before .before .args in
+    let s = now (a .file) in
+    laid-wiped 4 (faceRead maps layout (now (a .file))) (λ k. refl) 0 (countsIn s .faces) _ (now (a .faces)) _ _ (omega (arith, l .before .before .before .before .pre))
+    (l .lay-faces .ensures) (d .wipe-from-u16 .ensures) (ap (λ (n : ℕ). 4 * n) (counted (d .before .before .before)))
+
+pub fill-faces-spec : {M : Type 1} → statement M
+fill-faces-spec =
+    tie.close
+    (tie.spec
+    lay-faces-requires
+    counts-requires
+    cast-wipe-from-u16
+    mul-wipe-from-u16
+    wipe-from-u16-requires
+    same-length
+    returns)

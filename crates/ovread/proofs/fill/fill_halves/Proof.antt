@@ -1,0 +1,67 @@
+-- `ovread::fill::fill_halves` meets its contract. Assumes nothing.
+use mathlib.Core.Path.{_≡_, refl, ap}
+use native.Mathlib.Omega.{arith}
+use denote.Ref.{now}
+use Rattle.seq.specs.Seq.{_*_}
+use Rattle.paper.specs.Tables.{Counts}
+use Rattle.paper.specs.Reader.{countsIn, halfRead, tablesIn}
+use Rattle.ovfile.specs.Values.{layout}
+use Rattle.ovread.specs.Filled.{followersIn}
+use Rattle.ovfile.proofs.StoringLaws.{laid-wiped}
+use borrow.Author.Needs.{needs}
+use Rattle.ovread.proofs.fill.fill_halves.Statement.{statement}
+use Rattle.ovread.proofs.fill.fill_halves.Tie as tie
+
+predecessors-requires : tie.Need-predecessors-requires
+predecessors-requires c κs = search needs
+
+slice-aggregate-lay-halves : tie.Need-slice-aggregate-lay-halves
+slice-aggregate-lay-halves c = search needs
+
+lay-halves-requires : tie.Need-lay-halves-requires
+lay-halves-requires c κs = search needs
+
+counts-requires : tie.Need-counts-requires
+counts-requires c κs = search needs
+
+cast-wipe-from-u16 : tie.Need-cast-wipe-from-u16
+cast-wipe-from-u16 c = search needs
+
+mul-wipe-from-u16 : tie.Need-mul-wipe-from-u16
+mul-wipe-from-u16 c = search needs
+
+counted : (c : tie.After-counts) → c .counts .result .edges ≡ countsIn (now (c .before .before .before .before .before .before .before .before .before .args .file)) .edges
+counted c = ap (λ (n : Counts). n .edges) (c .counts .ensures)
+
+wipe-from-u16-requires : tie.Need-wipe-from-u16-requires
+wipe-from-u16-requires c κs =
+    let l = c .before .before .before .before .before in
+    omega (arith, counted (c .before .before), l .lay-halves .kept .1 .1 .0, l .before .before .before .before .before .before .pre .1)
+
+same-length : tie.Need-same-length
+same-length c = search needs
+
+returns : tie.Need-returns
+unfolding tablesIn
+returns c =
+    let d = c .before .before in
+    let l = d .before .before .before .before .before .before in
+    let start = l .before .before .before .before .before .before in
+    let s = now (start .args .file) in
+    let k : 10 * d .before .before .before .counts .result .edges ≡ 5 * (2 * countsIn s .edges) = omega (arith, counted (d .before .before .before)) in
+    laid-wiped 5 (halfRead layout s (followersIn s)) (λ k. refl) 0 (2 * countsIn s .edges) _ (now (start .args .halves)) _ _ (start .pre .1)
+    (l .lay-halves .ensures) (d .wipe-from-u16 .ensures) k
+
+pub fill-halves-spec : {M : Type 1} → statement M
+fill-halves-spec =
+    tie.close
+    (tie.spec
+    predecessors-requires
+    slice-aggregate-lay-halves
+    lay-halves-requires
+    counts-requires
+    cast-wipe-from-u16
+    mul-wipe-from-u16
+    wipe-from-u16-requires
+    same-length
+    returns)

@@ -1,0 +1,68 @@
+-- `ovread::fill::fill_vertices` meets its contract. Assumes nothing.
+use mathlib.Core.Path.{_≡_, refl, ap, _∙_}
+use native.Mathlib.Omega.{arith}
+use denote.Ref.{now}
+use Rattle.seq.specs.Seq.{ℕ, pos, _*_, sets}
+use Rattle.paper.specs.Tables.{Counts}
+use Rattle.paper.specs.Reader.{countsIn, vertexRead, tablesIn}
+use Rattle.ovfile.specs.Values.{layout}
+use Rattle.ovread.specs.Filled.{startsIn}
+use Rattle.ovfile.proofs.StoringLaws.{laid-wiped}
+use Rattle.ovread.proofs.FillLaws.{vertices-are}
+use borrow.Author.Needs.{needs}
+use Rattle.ovread.proofs.fill.fill_vertices.Statement.{statement}
+use Rattle.ovread.proofs.fill.fill_vertices.Tie as tie
+
+least-starts-requires : tie.Need-least-starts-requires
+least-starts-requires c κs = search needs
+
+slice-aggregate-lay-vertices : tie.Need-slice-aggregate-lay-vertices
+slice-aggregate-lay-vertices c = search needs
+
+lay-vertices-requires : tie.Need-lay-vertices-requires
+lay-vertices-requires c κs = search needs
+
+counts-requires : tie.Need-counts-requires
+counts-requires c κs = search needs
+
+cast-wipe-from-i64 : tie.Need-cast-wipe-from-i64
+cast-wipe-from-i64 c = search needs
+
+mul-wipe-from-i64 : tie.Need-mul-wipe-from-i64
+mul-wipe-from-i64 c = search needs
+
+counted : (c : tie.After-counts) → c .counts .result .vertices ≡ countsIn (now (c .before .before .before .before .before .before .before .args .file)) .vertices
+counted c = ap (λ (n : Counts). n .vertices) (c .counts .ensures)
+
+wipe-from-i64-requires : tie.Need-wipe-from-i64-requires
+wipe-from-i64-requires c κs =
+    let l = c .before .before .before .before in
+    omega (arith, counted (c .before .before), l .lay-vertices .kept .1 .1 .0, l .before .before .before .before .before .pre .1)
+
+same-length : tie.Need-same-length
+same-length c = search needs
+
+returns : tie.Need-returns
+unfolding tablesIn
+returns c =
+    let d = c .before in
+    let l = d .before .before .before .before .before in
+    let start = l .before .before .before .before .before in
+    let s = now (start .args .file) in
+    laid-wiped 4 (vertexRead layout s (startsIn s)) (λ k. refl) (pos 0) (countsIn s .vertices) _ (now (start .args .vertices)) _ _ (start .pre .1)
+    (l .lay-vertices .ensures ∙ ap (sets (now (start .args .vertices)) 0) (vertices-are s (l .before .before .before .least-starts .ensures)))
+    (d .wipe-from-i64 .ensures) (ap (λ (n : ℕ). 4 * n) (counted (d .before .before .before)))
+
+pub fill-vertices-spec : {M : Type 1} → statement M
+fill-vertices-spec =
+    tie.close
+    (tie.spec
+    least-starts-requires
+    slice-aggregate-lay-vertices
+    lay-vertices-requires
+    counts-requires
+    cast-wipe-from-i64
+    mul-wipe-from-i64
+    wipe-from-i64-requires
+    same-length
+    returns)

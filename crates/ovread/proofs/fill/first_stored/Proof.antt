@@ -1,0 +1,72 @@
+-- `ovread::fill::first_stored` meets its contract. Assumes nothing.
+use mathlib.Core.Path.{ap, _∙_}
+use native.Mathlib.Omega.{arith}
+use denote.Ref.{now}
+use lib.ListN.{set}
+use Rattle.seq.specs.Seq.{ℕ, _-_}
+use Rattle.ovread.specs.Filled.{storedField}
+use Rattle.ovfile.proofs.SoundLaws.{Placing, places-start, places-turn, places-end}
+use borrow.Author.Needs.{needs}
+use Rattle.ovread.proofs.fill.first_stored.Statement.{statement}
+use Rattle.ovread.proofs.fill.first_stored.Tie as tie
+
+abbrev Inv-loop : tie.InvT-loop
+Inv-loop file j n out₀ h₀ out h = Placing (storedField file j) n out₀ out h
+
+abbrev μ-loop : tie.MeasureT-loop
+μ-loop file j n out₀ h₀ out h = h
+
+loop-holds : tie.Need-loop-holds Inv-loop μ-loop
+loop-holds c = let a = c .before .before .args in places-start (storedField (now (a .file)) (a .j)) _ _
+
+sub-h : tie.Need-sub-h Inv-loop μ-loop
+sub-h c = search needs
+
+add-edge-field : tie.Need-add-edge-field Inv-loop μ-loop
+add-edge-field c = search needs
+
+edge-field-requires : tie.Need-edge-field-requires Inv-loop μ-loop
+edge-field-requires c κs = search needs
+
+cast-store : tie.Need-cast-store Inv-loop μ-loop
+cast-store c = search needs
+
+cast-store-2 : tie.Need-cast-store-2 Inv-loop μ-loop
+cast-store-2 c = omega (arith, c .before .before .before .loop .inv .within)
+
+store-requires : tie.Need-store-requires Inv-loop μ-loop
+store-requires c κs = search needs
+
+loop-less : tie.Need-loop-less Inv-loop μ-loop
+loop-less c = search needs
+
+loop-again : tie.Need-loop-again Inv-loop μ-loop
+loop-again c =
+    let at = c .before .before .before .before .before .before in
+    let a = at .before .before .before .args in
+    places-turn (storedField (now (a .file)) (a .j)) (at .loop .inv) _ (c .before .before .before .before .before .loop-test .taken)
+    (c .before .before .store .ensures ∙ ap (λ (x : ℕ). set (at .loop .out) x (at .loop .h - 1)) (c .before .before .before .edge-field .ensures))
+
+same-length : tie.Need-same-length Inv-loop μ-loop
+same-length c = c .before .loop .inv .kept
+
+returns : tie.Need-returns Inv-loop μ-loop
+returns c = let a = c .before .before .before .before .args in record { is = places-end (storedField (now (a .file)) (a .j)) (c .before .loop .inv) (c .loop-test .left) }
+
+pub first-stored-spec : {M : Type 1} → statement M
+first-stored-spec =
+    tie.close
+    (tie.spec
+    Inv-loop
+    μ-loop
+    loop-holds
+    sub-h
+    add-edge-field
+    edge-field-requires
+    cast-store
+    cast-store-2
+    store-requires
+    loop-less
+    loop-again
+    same-length
+    returns)

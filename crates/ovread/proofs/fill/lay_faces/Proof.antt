@@ -1,0 +1,99 @@
+-- `ovread::fill::lay_faces` meets its contract. Assumes nothing.
+use mathlib.Core.Path.{_≡_, refl, ap, _∙_}
+use native.Mathlib.Omega.{arith}
+use denote.Ref.{now}
+use Rattle.seq.specs.Seq.{[], _∷_, ℕ, _-_, rows, sets}
+use Rattle.paper.specs.Limits.{maps}
+use Rattle.paper.specs.Tables.{Counts}
+use Rattle.paper.specs.Reader.{countsIn, faceRead}
+use Rattle.ovfile.specs.Values.{layout}
+use Rattle.ovfile.proofs.StoringLaws.{Storing, laying-starts, laying-turns, storing-ends}
+use borrow.Author.Needs.{needs}
+use Rattle.ovread.proofs.fill.lay_faces.Statement.{statement}
+use Rattle.ovread.proofs.fill.lay_faces.Tie as tie
+
+abbrev Inv-loop : tie.InvT-loop
+Inv-loop file faces₀ n f₀ faces f = Storing 4 (faceRead maps layout file) 0 n faces₀ faces f
+
+abbrev μ-loop : tie.MeasureT-loop
+μ-loop file faces₀ n f₀ faces f = n - f
+
+counts-requires : tie.Need-counts-requires Inv-loop μ-loop
+counts-requires c κs = search needs
+
+cast-n : tie.Need-cast-n Inv-loop μ-loop
+cast-n c = search needs
+
+counted : (c : tie.After-counts Inv-loop μ-loop) → c .counts .result .faces ≡ countsIn (now (c .before .before .before .args .file)) .faces
+counted c = ap (λ (n : Counts). n .faces) (c .counts .ensures)
+
+loop-holds : tie.Need-loop-holds Inv-loop μ-loop
+loop-holds c =
+    let a = c .before .before .before .before .args in
+    laying-starts 4 (faceRead maps layout (now (a .file))) (λ k. refl) _ _ (omega (arith, counted (c .before)))
+
+cast-store4-u16 : tie.Need-cast-store4-u16 Inv-loop μ-loop
+cast-store4-u16 c = search needs
+
+face-field-requires : tie.Need-face-field-requires Inv-loop μ-loop
+face-field-requires c κs = search needs
+
+face-field-requires-2 : tie.Need-face-field-requires-2 Inv-loop μ-loop
+face-field-requires-2 c κs = search needs
+
+face-field-requires-3 : tie.Need-face-field-requires-3 Inv-loop μ-loop
+face-field-requires-3 c κs = search needs
+
+face-field-requires-4 : tie.Need-face-field-requires-4 Inv-loop μ-loop
+face-field-requires-4 c κs = search needs
+
+store4-u16-requires : tie.Need-store4-u16-requires Inv-loop μ-loop
+store4-u16-requires c κs =
+    let at = c .before .before .before .before .before .before in
+    omega (arith, at .loop .inv .room, at .loop .inv .kept)
+
+add-f : tie.Need-add-f Inv-loop μ-loop
+add-f c = search needs
+
+loop-less : tie.Need-loop-less Inv-loop μ-loop
+loop-less c = search needs
+
+loop-again : tie.Need-loop-again Inv-loop μ-loop
+loop-again c =
+    let s = c .before .before .before in
+    let at = s .before .before .before .before .before .before in
+    let file = now (at .before .before .before .before .before .args .file) in
+    laying-turns 4 (faceRead maps layout file) (λ k. refl) (at .loop .inv) _ _ (s .before .before .before .before .before .loop-test .taken)
+    (c .before .before .store4-u16 .ensures)
+    (λ i. s .before .before .before .face-field .ensures i ∷ s .before .before .face-field2 .ensures i ∷ s .before .face-field3 .ensures i ∷ s .face-field4 .ensures i ∷ [])
+
+same-length : tie.Need-same-length Inv-loop μ-loop
+same-length c = c .before .loop .inv .kept
+
+returns : tie.Need-returns Inv-loop μ-loop
+returns c =
+    let a = c .before .before .before .before .before .before .args in
+    let f = faceRead maps layout (now (a .file)) in
+    storing-ends 4 f (λ k. refl) (c .before .loop .inv) (c .loop-test .left)
+    ∙ ap (λ (n : ℕ). sets (now (a .faces)) 0 (rows f n)) (counted (c .before .before .before))
+
+pub lay-faces-spec : {M : Type 1} → statement M
+lay-faces-spec =
+    tie.close
+    (tie.spec
+    Inv-loop
+    μ-loop
+    counts-requires
+    cast-n
+    loop-holds
+    cast-store4-u16
+    face-field-requires
+    face-field-requires-2
+    face-field-requires-3
+    face-field-requires-4
+    store4-u16-requires
+    add-f
+    loop-less
+    loop-again
+    same-length
+    returns)

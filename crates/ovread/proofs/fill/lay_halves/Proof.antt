@@ -1,0 +1,131 @@
+-- `ovread::fill::lay_halves` meets its contract. Assumes nothing.
+use mathlib.Core.Path.{_≡_, refl, sym, ap, _∙_}
+use Prim.Native.Nat.{_<_}
+use native.Mathlib.Omega.{arith}
+use denote.Ref.{now}
+use Rattle.seq.specs.Seq.{List, [], _∷_, ℕ, _*_, _-_, rows, sets}
+use Rattle.seq.specs.Table.{table-at}
+use Rattle.paper.specs.Tables.{Counts}
+use Rattle.paper.specs.Reader.{countsIn, storedFollower, halfRead}
+use Rattle.ovfile.specs.Values.{layout}
+use Rattle.ovread.specs.Filled.{followersIn}
+use Rattle.ovfile.proofs.StoringLaws.{Storing, laying-starts, laying-turns, storing-ends}
+use Rattle.ovfile.proofs.SoundLaws.{twin-le}
+use borrow.Author.Needs.{needs}
+use Rattle.ovread.proofs.fill.lay_halves.Statement.{statement}
+use Rattle.ovread.proofs.fill.lay_halves.Tie as tie
+
+abbrev row : List ℕ → ℕ → List ℕ
+row s = halfRead layout s (followersIn s)
+
+abbrev Inv-loop : tie.InvT-loop
+Inv-loop file first halves₀ n h₀ halves h = Storing 5 (row file) 0 n halves₀ halves h
+
+abbrev μ-loop : tie.MeasureT-loop
+μ-loop file first halves₀ n h₀ halves h = n - h
+
+counts-requires : tie.Need-counts-requires Inv-loop μ-loop
+counts-requires c κs = search needs
+
+cast-n : tie.Need-cast-n Inv-loop μ-loop
+cast-n c = search needs
+
+mul-n : tie.Need-mul-n Inv-loop μ-loop
+mul-n c = search needs
+
+counted : (c : tie.After-counts Inv-loop μ-loop) → c .counts .result .edges ≡ countsIn (now (c .before .before .before .before .args .file)) .edges
+counted c = ap (λ (n : Counts). n .edges) (c .counts .ensures)
+
+loop-holds : tie.Need-loop-holds Inv-loop μ-loop
+loop-holds c =
+    let a = c .before .before .before .before .before .args in
+    laying-starts 5 (row (now (a .file))) (λ k. refl) _ _ (omega (arith, counted (c .before), c .before .before .before .before .before .pre .2))
+
+cast-store5-u16 : tie.Need-cast-store5-u16 Inv-loop μ-loop
+cast-store5-u16 c = search needs
+
+origin-requires : tie.Need-origin-requires Inv-loop μ-loop
+origin-requires c κs = search needs
+
+twin-requires : tie.Need-twin-requires Inv-loop μ-loop
+twin-requires c κs = search needs
+
+cast-store5-u16-2 : tie.Need-cast-store5-u16-2 Inv-loop μ-loop
+cast-store5-u16-2 c =
+    let at = c .before .before .before .before in
+    omega (arith, c .twin .ensures, twin-le (at .loop .h), c .before .before .before .loop-test .taken, counted (at .before .before), at .before .before .before .before .before .before .pre .0 .edges)
+
+follower-requires : tie.Need-follower-requires Inv-loop μ-loop
+follower-requires c κs = search needs
+
+cast-u16-at : tie.Need-cast-u16-at Inv-loop μ-loop
+cast-u16-at c = search needs
+
+u16-at-requires : tie.Need-u16-at-requires Inv-loop μ-loop
+u16-at-requires c κs = search needs
+
+face-requires : tie.Need-face-requires Inv-loop μ-loop
+face-requires c κs = search needs
+
+store5-u16-requires : tie.Need-store5-u16-requires Inv-loop μ-loop
+store5-u16-requires c κs =
+    let at = c .before .before .before .before .before .before .before in
+    omega (arith, at .loop .inv .room, at .loop .inv .kept, c .before .before .before .before .before .before .loop-test .taken)
+
+add-h : tie.Need-add-h Inv-loop μ-loop
+add-h c = search needs
+
+loop-less : tie.Need-loop-less Inv-loop μ-loop
+loop-less c = search needs
+
+loop-again : tie.Need-loop-again Inv-loop μ-loop
+loop-again c =
+    let s = c .before .before .before in
+    let at = s .before .before .before .before .before .before .before in
+    let start = at .before .before .before .before .before .before in
+    let file = now (start .args .file) in
+    let l = s .before .before .before .before .before .before .loop-test .taken in
+    let below : at .loop .h < 2 * countsIn file .edges = omega (arith, l, counted (at .before .before)) in
+    laying-turns 5 (row file) (λ k. refl) (at .loop .inv) _ _ l (c .before .before .store5-u16 .ensures)
+    (λ i.
+    s .before .before .before .before .origin .ensures i
+    ∷ s .before .before .before .twin .ensures i
+    ∷ (s .before .before .follower .ensures ∙ sym (table-at (storedFollower layout file) (2 * countsIn file .edges) (at .loop .h) 0 below)) i
+    ∷ (s .before .u16-at .ensures ∙ start .pre .1 .at (at .loop .h) below) i
+    ∷ s .face .ensures i
+    ∷ [])
+
+same-length : tie.Need-same-length Inv-loop μ-loop
+same-length c = c .before .loop .inv .kept
+
+returns : tie.Need-returns Inv-loop μ-loop
+returns c =
+    let a = c .before .before .before .before .before .before .before .args in
+    let f = row (now (a .file)) in
+    storing-ends 5 f (λ k. refl) (c .before .loop .inv) (c .loop-test .left)
+    ∙ ap (λ (n : ℕ). sets (now (a .halves)) 0 (rows f (2 * n))) (counted (c .before .before .before))
+
+pub lay-halves-spec : {M : Type 1} → statement M
+lay-halves-spec =
+    tie.close
+    (tie.spec
+    Inv-loop
+    μ-loop
+    counts-requires
+    cast-n
+    mul-n
+    loop-holds
+    cast-store5-u16
+    origin-requires
+    twin-requires
+    cast-store5-u16-2
+    follower-requires
+    cast-u16-at
+    u16-at-requires
+    face-requires
+    store5-u16-requires
+    add-h
+    loop-less
+    loop-again
+    same-length
+    returns)

@@ -1,0 +1,136 @@
+-- `ovread::fill::lay_vertices` meets its contract. Assumes nothing.
+use mathlib.Core.Path.{_≡_, refl, ap, _∙_}
+use native.Mathlib.Omega.{arith}
+use denote.Ref.{now}
+use mir.Syntax.{w64}
+use mir.ValLaws.{toZ-ofZ}
+use Rattle.seq.specs.Seq.{[], _∷_, ℕ, pos, _+_, _-_, rows, sets}
+use Rattle.paper.specs.Bytes.{signedAt, number}
+use Rattle.paper.specs.Tables.{Counts}
+use Rattle.paper.specs.Reader.{countsIn}
+use Rattle.filelaws.specs.Bytes.{number-below}
+use Rattle.ovread.specs.Filled.{vertexBy}
+use Rattle.ovfile.proofs.StoringLaws.{Storing, laying-starts, laying-turns, storing-ends}
+use borrow.Author.Needs.{needs}
+use Rattle.ovread.proofs.fill.lay_vertices.Statement.{statement}
+use Rattle.ovread.proofs.fill.lay_vertices.Tie as tie
+
+abbrev Inv-loop : tie.InvT-loop
+Inv-loop file least vertices₀ n v₀ vertices v = Storing 4 (vertexBy file least) 0 n vertices₀ vertices v
+
+abbrev μ-loop : tie.MeasureT-loop
+μ-loop file least vertices₀ n v₀ vertices v = n - v
+
+counts-requires : tie.Need-counts-requires Inv-loop μ-loop
+counts-requires c κs = search needs
+
+counted : (c : tie.After-counts Inv-loop μ-loop) → c .counts .result .vertices ≡ countsIn (now (c .before .before .before .args .file)) .vertices
+counted c = ap (λ (n : Counts). n .vertices) (c .counts .ensures)
+
+loop-holds : tie.Need-loop-holds Inv-loop μ-loop
+loop-holds c =
+    let a = c .before .before .before .args in
+    laying-starts 4 (vertexBy (now (a .file)) (now (a .least))) (λ k. refl) _ _ (omega (arith, counted c))
+
+vertex-place-requires : tie.Need-vertex-place-requires Inv-loop μ-loop
+vertex-place-requires c κs = search needs
+
+signed-at-requires : tie.Need-signed-at-requires Inv-loop μ-loop
+signed-at-requires c κs = search needs
+
+add-signed-at : tie.Need-add-signed-at Inv-loop μ-loop
+add-signed-at c = search needs
+
+signed-at-requires-2 : tie.Need-signed-at-requires-2 Inv-loop μ-loop
+signed-at-requires-2 c κs = search needs
+
+mul-number-at : tie.Need-mul-number-at Inv-loop μ-loop
+mul-number-at c = search needs
+
+add-number-at : tie.Need-add-number-at Inv-loop μ-loop
+add-number-at c = search needs
+
+number-at-requires : tie.Need-number-at-requires Inv-loop μ-loop
+number-at-requires c κs = search needs
+
+of-u64-requires : tie.Need-of-u64-requires Inv-loop μ-loop
+of-u64-requires c κs =
+    let p = c .before .before .before in
+    let start = p .before .before .before in
+    omega (arith, c .number-at .ensures, number-below 4 (now (start .before .before .before .args .file)) (p .vertex-place .result + 10) (λ i. start .before .before .shared-slice-known .given i .fits))
+
+cast-store4-i64 : tie.Need-cast-store4-i64 Inv-loop μ-loop
+cast-store4-i64 c = search needs
+
+cast-u16-at : tie.Need-cast-u16-at Inv-loop μ-loop
+cast-u16-at c = search needs
+
+u16-at-requires : tie.Need-u16-at-requires Inv-loop μ-loop
+u16-at-requires c κs = search needs
+
+of-u16-requires : tie.Need-of-u16-requires Inv-loop μ-loop
+of-u16-requires c κs = search needs
+
+store4-i64-requires : tie.Need-store4-i64-requires Inv-loop μ-loop
+store4-i64-requires c κs =
+    let at = c .before .before .before .before .before .before .before .before .before in
+    omega (arith, at .loop .inv .room, at .loop .inv .kept, c .before .before .before .before .before .before .before .before .loop-test .taken)
+
+add-v : tie.Need-add-v Inv-loop μ-loop
+add-v c = search needs
+
+loop-less : tie.Need-loop-less Inv-loop μ-loop
+loop-less c = search needs
+
+loop-again : tie.Need-loop-again Inv-loop μ-loop
+loop-again c =
+    let d = c .before .before .before .before .before in
+    let p = d .before .before .before .before in
+    let at = p .before .before in
+    let a = at .before .before .before .before .args in
+    let s = now (a .file) in
+    let place = p .vertex-place .ensures in
+    let x = toZ-ofZ w64 _ (record { sfits = d .before .before .before .signed-at .ok }) ∙ d .before .before .before .signed-at .ensures ∙ ap (signedAt 5 s) place in
+    let y = toZ-ofZ w64 _ (record { sfits = d .before .before .signed-at2 .ok }) ∙ d .before .before .signed-at2 .ensures ∙ ap (λ (q : ℕ). signedAt 5 s (q + 5)) place in
+    let denominator = toZ-ofZ w64 _ (record { sfits = d .of-u64 .ok }) ∙ d .of-u64 .ensures ∙ ap pos (d .before .number-at .ensures ∙ ap (λ (q : ℕ). number 4 s (q + 10)) place) in
+    let out = toZ-ofZ w64 _ (record { sfits = c .before .before .of-u16 .ok }) ∙ c .before .before .of-u16 .ensures ∙ ap pos (c .before .before .before .u16-at .ensures) in
+    laying-turns 4 (vertexBy s (now (a .least))) (λ k. refl) (at .loop .inv) _ _ (p .before .loop-test .taken)
+    (c .before .store4-i64 .ensures)
+    (λ i. x i ∷ y i ∷ denominator i ∷ out i ∷ [])
+
+same-length : tie.Need-same-length Inv-loop μ-loop
+same-length c = c .before .loop .inv .kept
+
+returns : tie.Need-returns Inv-loop μ-loop
+returns c =
+    let a = c .before .before .before .before .before .args in
+    let f = vertexBy (now (a .file)) (now (a .least)) in
+    storing-ends 4 f (λ k. refl) (c .before .loop .inv) (c .loop-test .left)
+    ∙ ap (λ (n : ℕ). sets (now (a .vertices)) 0 (rows f n)) (counted (c .before .before))
+
+pub lay-vertices-spec : {M : Type 1} → statement M
+lay-vertices-spec =
+    tie.close
+    (tie.spec
+    Inv-loop
+    μ-loop
+    counts-requires
+    loop-holds
+    vertex-place-requires
+    signed-at-requires
+    add-signed-at
+    signed-at-requires-2
+    mul-number-at
+    add-number-at
+    number-at-requires
+    of-u64-requires
+    cast-store4-i64
+    cast-u16-at
+    u16-at-requires
+    of-u16-requires
+    store4-i64-requires
+    add-v
+    loop-less
+    loop-again
+    same-length
+    returns)

@@ -1,0 +1,49 @@
+-- `ovread::fill::least_starts` meets its contract. Assumes nothing.
+use mathlib.Core.Path.{_≡_, ap}
+use native.Mathlib.Omega.{arith}
+use denote.Ref.{now}
+use lib.ListN.{getD-replicate}
+use Rattle.seq.specs.Seq.{ℕ, _*_}
+use Rattle.paper.specs.Limits.{absent}
+use Rattle.paper.specs.Tables.{Counts}
+use Rattle.paper.specs.Reader.{countsIn}
+use Rattle.ovread.proofs.FillLaws.{starts-by}
+use borrow.Author.Needs.{needs}
+use Rattle.ovread.proofs.fill.least_starts.Statement.{statement}
+use Rattle.ovread.proofs.fill.least_starts.Tie as tie
+
+counts-requires : tie.Need-counts-requires
+counts-requires c κs = search needs
+
+cast-first-stored : tie.Need-cast-first-stored
+cast-first-stored c = search needs
+
+mul-first-stored : tie.Need-mul-first-stored
+mul-first-stored c = search needs
+
+slice-aggregate-first-stored : tie.Need-slice-aggregate-first-stored
+slice-aggregate-first-stored c = search needs
+
+counted : (c : tie.After-counts) → c .counts .result .edges ≡ countsIn (now (c .before .before .args .file)) .edges
+counted c = ap (λ (n : Counts). n .edges) (c .counts .ensures)
+
+first-stored-requires : tie.Need-first-stored-requires
+first-stored-requires c κs = omega (arith, counted (c .before .before), c .before .before .before .before .pre .edges)
+
+returns : tie.Need-returns
+returns c =
+    let start = c .before .before .before .before .before .before in
+    let e = ap (λ (k : ℕ). 2 * k) (counted (c .before .before .before .before)) in
+    starts-by (now (start .args .file)) (c .before .first-stored .ensures) e (omega (arith, c .before .first-stored .kept .1 .1 .1 .0, start .pre .vertices))
+    (λ v l. getD-replicate 1000 v absent 0 (omega (arith, start .pre .vertices)))
+
+pub least-starts-spec : {M : Type 1} → statement M
+least-starts-spec =
+    tie.close
+    (tie.spec
+    counts-requires
+    cast-first-stored
+    mul-first-stored
+    slice-aggregate-first-stored
+    first-stored-requires
+    returns)

@@ -1,0 +1,53 @@
+-- `ovread::fill::predecessors` meets its contract. Assumes nothing.
+use mathlib.Core.Path.{_≡_, ap}
+use native.Mathlib.Omega.{arith}
+use denote.Ref.{now}
+use lib.ListN.{getD-replicate}
+use Rattle.seq.specs.Seq.{ℕ, _*_}
+use Rattle.paper.specs.Tables.{Counts}
+use Rattle.paper.specs.Reader.{countsIn}
+use Rattle.ovread.proofs.FillLaws.{predecessors-by}
+use borrow.Author.Needs.{needs}
+use Rattle.ovread.proofs.fill.predecessors.Statement.{statement}
+use Rattle.ovread.proofs.fill.predecessors.Tie as tie
+
+counts-requires : tie.Need-counts-requires
+counts-requires c κs = search needs
+
+cast-n : tie.Need-cast-n
+cast-n c = search needs
+
+mul-n : tie.Need-mul-n
+mul-n c = search needs
+
+counted : (c : tie.After-counts) → c .counts .result .edges ≡ countsIn (now (c .before .before .args .file)) .edges
+counted c = ap (λ (n : Counts). n .edges) (c .counts .ensures)
+
+cast-first : tie.Need-cast-first
+cast-first c = omega (arith, counted (c .before), c .before .before .before .pre .edges)
+
+slice-aggregate-first-stored : tie.Need-slice-aggregate-first-stored
+slice-aggregate-first-stored c = search needs
+
+first-stored-requires : tie.Need-first-stored-requires
+first-stored-requires c κs = omega (arith, counted (c .before .before), c .before .before .before .before .pre .edges)
+
+returns : tie.Need-returns
+returns c =
+    let start = c .before .before .before .before .before .before in
+    let n = c .before .before .before .before .counts .result .edges in
+    let e = ap (λ (k : ℕ). 2 * k) (counted (c .before .before .before .before)) in
+    predecessors-by (now (start .args .file)) (c .before .first-stored .ensures) e (omega (arith, c .before .first-stored .kept .1 .1 .1 .0, start .pre .edges))
+    (λ h l. getD-replicate 4000 h (2 * n) 0 (omega (arith, e, start .pre .edges)))
+
+pub predecessors-spec : {M : Type 1} → statement M
+predecessors-spec =
+    tie.close
+    (tie.spec
+    counts-requires
+    cast-n
+    mul-n
+    cast-first
+    slice-aggregate-first-stored
+    first-stored-requires
+    returns)

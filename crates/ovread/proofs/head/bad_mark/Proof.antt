@@ -1,0 +1,27 @@
+-- `ovread::head::bad_mark` meets its contract. Assumes nothing.
+use mathlib.Core.Path.{ap, _∙_}
+use denote.Ref.{now}
+use Rattle.seq.specs.Seq.{Bool, not, _&&_, _||_, ltb, eqb, length}
+use Rattle.paper.specs.Limits.{overlayHead}
+use Rattle.ovread.proofs.HeadLaws.{mark-is}
+use borrow.Author.Needs.{needs}
+use Rattle.ovread.proofs.head.bad_mark.Statement.{statement}
+use Rattle.ovread.proofs.head.bad_mark.Tie as tie
+
+byte-at-requires : tie.Need-byte-at-requires
+byte-at-requires c κs = search needs
+
+byte-at-requires-2 : tie.Need-byte-at-requires-2
+byte-at-requires-2 c κs = search needs
+
+byte-at-requires-3 : tie.Need-byte-at-requires-3
+byte-at-requires-3 c κs = search needs
+
+returns : tie.Need-returns
+returns c =
+    let s = now (c .before .before .before .before .args .file) in
+    (λ i. ltb (length s) overlayHead || not (eqb (c .before .before .byte-at .ensures i) 90 && (eqb (c .before .byte-at2 .ensures i) 79 && eqb (c .byte-at3 .ensures i) 86)))
+    ∙ ap (λ (b : Bool). ltb (length s) overlayHead || not b) (mark-is s)
+
+pub bad-mark-spec : {M : Type 1} → statement M
+bad-mark-spec = tie.close (tie.spec byte-at-requires byte-at-requires-2 byte-at-requires-3 returns)

@@ -1,0 +1,72 @@
+-- `ovread::reader::body` meets its contract. Assumes nothing.
+use mathlib.Core.Path.{ap, _∙_}
+use denote.Ref.{now}
+use Rattle.seq.specs.Seq.{ltb}
+use Rattle.paper.specs.Refusal.{given}
+use Rattle.paper.specs.Tables.{Counts}
+use Rattle.paper.specs.Reader.{countsIn}
+use Rattle.mapfile.proofs.VerdictLaws.{last, before, at-least}
+use Rattle.ovfile.specs.Values.{layout}
+use Rattle.ovread.proofs.ReadLaws.{unsoundIn}
+use borrow.Author.Needs.{needs}
+use Rattle.ovread.proofs.reader.body.Statement.{statement}
+use Rattle.ovread.proofs.reader.body.Tie as tie
+
+counts-requires : tie.Need-counts-requires
+counts-requires c κs = search needs
+
+room-in-requires : tie.Need-room-in-requires
+room-in-requires c κs = search needs
+
+unsound-requires : tie.Need-unsound-requires
+unsound-requires c κs = search needs
+
+given-requires : tie.Need-given-requires
+given-requires c κs = search needs
+
+given-requires-2 : tie.Need-given-requires-2
+given-requires-2 c κs = search needs
+
+given-requires-3 : tie.Need-given-requires-3
+given-requires-3 c κs = search needs
+
+given-requires-4 : tie.Need-given-requires-4
+given-requires-4 c κs = search needs
+
+first-requires : tie.Need-first-requires
+first-requires c κs = search needs
+
+first-requires-2 : tie.Need-first-requires-2
+first-requires-2 c κs = search needs
+
+first-requires-3 : tie.Need-first-requires-3
+first-requires-3 c κs = search needs
+
+returns : tie.Need-returns
+returns c =
+    let e = c .before .before .before .before .before .before .before .before .before .before .before .before .before .before in
+    let a = e .before .before .before .before .args in
+    let s = now (a .file) in
+    let counted = e .before .before .counts .ensures in
+    let roomed = e .before .room-in .ensures in
+    let k = at-least 21 (unsoundIn layout s) (countsIn s .edges) _ _ _ (c .before .before .before .before .before .before .before .before .before .before .before .before .given .ensures) (e .unsound .ensures) (ap (λ (n : Counts). n .edges) counted) in
+    let place1 = c .before .before .before .before .before .before .before .before .before .given2 .ensures ∙ (λ i. given 11 1 (ltb (roomed i .vertices) (counted i .vertices))) in
+    let place2 = c .before .before .before .before .before .before .given3 .ensures ∙ (λ i. given 11 2 (ltb (roomed i .edges) (counted i .edges))) in
+    let place3 = c .before .before .before .given4 .ensures ∙ (λ i. given 11 3 (ltb (roomed i .faces) (counted i .faces))) in
+    before (c .first3 .ensures) k (before (c .before .first2 .ensures) place1 (before (c .before .before .first .ensures) place2 (last place3))) .is
+
+pub body-spec : {M : Type 1} → statement M
+body-spec =
+    tie.close
+    (tie.spec
+    counts-requires
+    room-in-requires
+    unsound-requires
+    given-requires
+    given-requires-2
+    given-requires-3
+    given-requires-4
+    first-requires
+    first-requires-2
+    first-requires-3
+    returns)

@@ -1,0 +1,53 @@
+-- `ovread::reader::unsound_by` meets its contract. Assumes nothing.
+use mathlib.Core.Path.{_≡_, ap, _∙_}
+use native.Mathlib.Omega.{arith}
+use denote.Ref.{now}
+use Rattle.seq.specs.Seq.{length}
+use Rattle.paper.specs.Tables.{Counts}
+use Rattle.paper.specs.Reader.{countsIn}
+use Rattle.mapfile.proofs.VerdictLaws.{before}
+use Rattle.ovfile.specs.Values.{lengthsBy}
+use Rattle.ovread.proofs.ReadLaws.{least-padded}
+use borrow.Author.Needs.{needs}
+use Rattle.ovread.proofs.reader.unsound_by.Statement.{statement}
+use Rattle.ovread.proofs.reader.unsound_by.Tie as tie
+
+fill-halves-requires : tie.Need-fill-halves-requires
+fill-halves-requires c κs = search needs
+
+fill-sources-requires : tie.Need-fill-sources-requires
+fill-sources-requires c κs = search needs
+
+counts-requires : tie.Need-counts-requires
+counts-requires c κs = search needs
+
+counted : (c : tie.After-counts) → c .counts .result .edges ≡ countsIn (now (c .before .before .before .before .before .before .before .before .before .before .before .before .args .file)) .edges
+counted c = ap (λ (n : Counts). n .edges) (c .counts .ensures)
+
+first-unsound-requires : tie.Need-first-unsound-requires
+first-unsound-requires c κs = omega (arith, counted (c .before .before), c .before .before .before .before .before .before .before .before .before .before .before .before .before .before .pre .0 .edges)
+
+same-length : tie.Need-same-length
+same-length c = search needs
+
+same-length-2 : tie.Need-same-length-2
+same-length-2 c = search needs
+
+returns : tie.Need-returns
+returns c =
+    let a = c .before .before .before .before .before .before .before .before .before .before .before .before .before .before .before .args in
+    c .first-unsound .ensures
+    ∙ least-padded (now (a .file)) _ _ _ (lengthsBy 0 (length (now (a .halves))) (length (now (a .sources))) 0)
+    (c .before .before .before .before .before .before .before .before .before .before .fill-halves .ensures) (c .before .before .before .before .before .before .fill-sources .ensures) (c .before .before .before .counts .ensures)
+
+pub unsound-by-spec : {M : Type 1} → statement M
+unsound-by-spec =
+    tie.close
+    (tie.spec
+    fill-halves-requires
+    fill-sources-requires
+    counts-requires
+    first-unsound-requires
+    same-length
+    same-length-2
+    returns)

@@ -1,0 +1,49 @@
+-- What the functions that fill the reader's tables ask and promise of each other: counts within 01's numbers, and the tables of least half-edges and of
+-- predecessors that they hand on. Assumes nothing.
+use mathlib.Core.Path.{_≡_}
+use Prim.Native.Nat.{_<_, _≤_}
+use Rattle.seq.specs.Seq.{List, [], _∷_, ℕ, _+_, _*_, _/_, _%_, eqb, length, getD, ℤ, pos, table, position}
+use Rattle.paper.specs.Limits.{overlayVertices, overlayEdges, overlayFaces, overlayHead, denominatorBytes}
+use Rattle.paper.specs.Bytes.{number, signedAt}
+use Rattle.paper.specs.Tables.{leastHalf, Counts}
+use Rattle.paper.specs.Lent.{Lengths}
+use Rattle.paper.specs.Ovfile.{vertexSize}
+use Rattle.paper.specs.Reader.{countsIn, edgeField, storedOrigin, storedFollower}
+use Rattle.ovfile.specs.Values.{layout}
+
+-- field j of the edge of half-edge 2k, and the one after it of 2k + 1
+abbrev pub storedField : List ℕ → ℕ → ℕ → ℕ
+storedField s j h = edgeField layout s (h / 2) (j + h % 2)
+
+-- the origins and the followers of a file
+abbrev pub startsIn : List ℕ → List ℕ
+startsIn s = table (storedOrigin layout s) (2 * countsIn s .edges)
+
+abbrev pub followersIn : List ℕ → List ℕ
+followersIn s = table (storedFollower layout s) (2 * countsIn s .edges)
+
+-- a vertex's row, with the least outgoing half-edge by a table
+abbrev pub vertexBy : List ℕ → List ℕ → ℕ → List ℤ
+vertexBy s least v = let w = layout .coordinate in let b = overlayHead + vertexSize layout * v in
+    signedAt w s b ∷ signedAt w s (b + w) ∷ pos (number denominatorBytes s (b + 2 * w)) ∷ pos (getD least v 0) ∷ []
+
+-- no count is over its number
+pub record Within (c : Counts) : Type 0 where
+  pub vertices : c .vertices ≤ overlayVertices
+  pub edges : c .edges ≤ overlayEdges
+  pub faces : c .faces ≤ overlayFaces
+
+-- the tables have a row for each count
+pub record Roomy (c : Counts) (ls : Lengths) : Type 0 where
+  pub vertices : 4 * c .vertices ≤ ls .vertices
+  pub halves : 5 * (2 * c .edges) ≤ ls .halves
+  pub sources : 2 * c .edges ≤ ls .sources
+  pub faces : 4 * c .faces ≤ ls .faces
+
+-- t has in cell h the predecessor of h
+pub record Predecessors (s t : List ℕ) : Type 0 where
+  pub at : (h : ℕ) → h < 2 * countsIn s .edges → getD t h 0 ≡ position h (followersIn s)
+
+-- t has in cell v the least outgoing half-edge of v
+pub record LeastStarts (s t : List ℕ) : Type 0 where
+  pub at : (v : ℕ) → v < countsIn s .vertices → getD t v 0 ≡ leastHalf (λ h. eqb (getD (startsIn s) h 0) v) (length (startsIn s))
