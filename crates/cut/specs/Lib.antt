@@ -15,3 +15,7 @@ pub mod Cutting
 pub mod Cuts
 pub mod Collecting
 pub mod Crossed
+pub mod Holds
+pub mod CrossedAre
+pub mod VerticesAre
+pub mod EdgesAre

@@ -104,11 +104,14 @@ pub record Once (l : List Pt) : Type 0 where
   pub lowest : Every Lowest l
   pub once : Distinct equal l
 
-asym : Asymmetric before
+pub asym : Asymmetric before
 asym p q e f = clash f (before-asym p q e)
 
-trans : Transitive before Lowest
+pub trans : Transitive before Lowest
 trans p q r a b c e f = before-trans p q r (a .positive) (b .positive) (c .positive) e f
+
+pub one-point : (p q : Pt) → Lowest p → Lowest q → before p q ≡ false → before q p ≡ false → p ≡ q
+one-point p q a b e f = same-point p q a b e f
 
 once-clear : (l : List Pt) → Every Lowest l → Distinct equal l → Clear before l
 once-clear [] h k = tt
@@ -120,7 +123,4 @@ once-clear (p ∷ ps) h k = (λ z i e. go z (every-in Lowest ps (h .1) z i) (k .
 
 -- points put one after the other in their places are in point order
 pub sorted-once : (l : List Pt) → Once l → sorting before noPoint [] l ≡ inOrder l
-sorted-once l o = sorting-is before asym (λ p q. q) (λ p q. refl) noPoint Lowest same-point′ trans l (o .lowest) (once-clear l (o .lowest) (o .once))
-  where
-    same-point′ : (p q : Pt) → Lowest p → Lowest q → before p q ≡ false → before q p ≡ false → p ≡ q
-    same-point′ p q a b e f = same-point p q a b e f
+sorted-once l o = sorting-is before asym (λ p q. q) (λ p q. refl) noPoint Lowest one-point trans l (o .lowest) (once-clear l (o .lowest) (o .once))
