@@ -3,9 +3,9 @@ use mathlib.Core.Path.{refl}
 use native.Mathlib.Omega.{arith}
 use borrow.Author.Needs.{needs}
 use Rattle.seq.specs.Seq.{getD, _-_}
-use Rattle.faces.specs.Chosen.{Choosing, chosen-has, choose-starts, choose-cell, choose-turns, choose-ends}
 use Rattle.graph.specs.Flat.{originAt}
 use Rattle.graph.specs.Follow.{headed}
+use Rattle.faces.specs.Chosen.{Choosing, chosen-has, choose-starts, choose-cell, choose-turns, choose-ends}
 use Rattle.faces.specs.Turns.{greaterAt}
 use Rattle.faces.proofs.walks.greatest.Statement.{statement}
 use Rattle.faces.proofs.walks.greatest.Tie as tie
