@@ -4,3 +4,6 @@ pub mod Turns
 pub mod Walked
 pub mod Linked
 pub mod Linking
+pub mod Kinds
+pub mod Selecting
+pub mod Numbered

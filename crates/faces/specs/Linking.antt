@@ -5,9 +5,9 @@ use native.Mathlib.Omega.{arith}
 use lib.ListN.{length-replicate}
 use Rattle.seq.specs.Seq.{List, Option·getD, ℕ, _*_, length, getD, take, replicate, table, leader, filled, laid, padded, ℤ, pos}
 use Rattle.seq.specs.Table.{table-ext}
-use Rattle.seq.specs.Filled.{filled-ext}
+use Rattle.seq.specs.Filled.{length-filled, filled-ext}
 use Rattle.seq.specs.Wiped.{over-zeros}
-use Rattle.paper.specs.Limits.{absent}
+use Rattle.paper.specs.Limits.{overlayEdges, absent}
 use Rattle.paper.specs.Graph.{Graph, halfCount, follower, followers, heading, greatestOut}
 use Rattle.paper.specs.Faces.{walksOf, leadAt}
 use Rattle.graphlaws.specs.Plane.{Plane}
@@ -19,6 +19,7 @@ use Rattle.graph.specs.Heading.{row}
 use Rattle.graph.specs.Follow.{Headings, Heads, followerAt, heads-laid, headings-laid, followers-flat}
 use Rattle.faces.specs.Lead.{Permutes}
 use Rattle.faces.specs.Turns.{greatestAt, lowAt, topAt}
+use Rattle.faces.specs.Linked.{halfRows, Linked}
 use Rattle.faces.specs.Walked.{topOf, front-followers, next-permutes, front-leader, flat-greatest, flat-top, low-cell}
 
 module _ (ps : List ℤ) (os : List ℕ) (cs : List ℤ) (n e : ℕ) (F : Flat ps os cs n e) (P : Plane (flatGraph ps os cs n e)) where
@@ -45,7 +46,7 @@ module _ (ps : List ℤ) (os : List ℕ) (cs : List ℤ) (n e : ℕ) (F : Flat p
     ways-near = headings-laid ps os cs n e ways (replicate k (pos 0)) wide is F
 
   -- what a loop over m cells fills holds
-  made : (f : ℕ → ℕ) (m k : ℕ) (t : List ℕ) → m ≤ k → t ≡ filled m f (replicate k 0) → Holds f t m
+  pub made : (f : ℕ → ℕ) (m k : ℕ) (t : List ℕ) → m ≤ k → t ≡ filled m f (replicate k 0) → Holds f t m
   made f m k t room is = filled-holds f t (replicate k 0) m (rw (length-replicate {A = ℕ} k 0) room) is
 
   -- ── followers ──
@@ -101,3 +102,31 @@ module _ (ps : List ℤ) (os : List ℕ) (cs : List ℤ) (n e : ℕ) (F : Flat p
 
   pub leads-table : table (leadAt (walksOf g)) (halfCount g) ≡ walksOf g .lead
   leads-table = table-ext (leadAt (walksOf g)) (leader (followers g)) (halfCount g) (lead-is g P)
+
+  -- ── the tables that are handed on ──
+
+  module _ (next lead top : List ℕ) (A : Linked g next lead top) (small : e ≤ overlayEdges) where
+    -- a table over zeros, by the count that the code has
+    at-count : (f : ℕ → ℕ) (t : List ℕ) → t ≡ padded 0 halfRows (table f (halfCount g)) → t ≡ filled (2 * e) f (replicate halfRows 0)
+    at-count f t is = is ∙ ap (λ (j : ℕ). padded 0 halfRows (table f j)) (sym halves) ∙ sym (over-zeros 0 halfRows (table f (2 * e)))
+
+    lead-at : lead ≡ filled (2 * e) (leadAt (walksOf g)) (replicate halfRows 0)
+    lead-at = at-count (leadAt (walksOf g)) lead (A .lead-is ∙ ap (padded 0 halfRows) (sym leads-table))
+
+    top-at : top ≡ filled (2 * e) (topOf g) (replicate halfRows 0)
+    top-at = at-count (topOf g) top (A .top-is)
+
+    room : 2 * e ≤ length (replicate {A = ℕ} halfRows 0)
+    room = rw (length-replicate {A = ℕ} halfRows 0) (omega arith)
+
+    pub linked-lead : Holds (leadAt (walksOf g)) lead (2 * e)
+    linked-lead = filled-holds (leadAt (walksOf g)) lead (replicate halfRows 0) (2 * e) room lead-at
+
+    pub linked-top : Holds (topOf g) top (2 * e)
+    linked-top = filled-holds (topOf g) top (replicate halfRows 0) (2 * e) room top-at
+
+    pub length-lead : length lead ≡ halfRows
+    length-lead = ap length lead-at ∙ length-filled (leadAt (walksOf g)) (2 * e) (replicate halfRows 0) room ∙ length-replicate {A = ℕ} halfRows 0
+
+    pub length-top : length top ≡ halfRows
+    length-top = ap length top-at ∙ length-filled (topOf g) (2 * e) (replicate halfRows 0) room ∙ length-replicate {A = ℕ} halfRows 0

@@ -2,3 +2,4 @@
 pub mod limits; // the numbers of 01
 pub mod walks; // the least half-edge of each walk, its smallest vertex, hole walk or outer walk
 pub mod link; // all of it at once
+pub mod faces; // faces and their hole walks

@@ -6,3 +6,5 @@ pub const VERTICES: usize = 1000;
 pub const HALVES: usize = 4000;
 // a heading is two numbers
 pub const HEADINGS: usize = 8000;
+// a face for each half-edge and face 0: as many as could be numbered
+pub const FACES: usize = 4001;

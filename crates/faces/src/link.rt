@@ -1,4 +1,10 @@
-// The walks of a graph in flat tables, all at once: followers, least half-edges, and the half-edges of greatest angle out of smallest vertices.
+// The walks and the faces of a graph in flat tables, all at once.
+use super::faces::faces;
+use super::faces::holes;
+use super::faces::number;
+use super::faces::outers;
+use super::faces::sees;
+use super::limits::FACES;
 use super::limits::HALVES;
 use super::limits::HEADINGS;
 use super::limits::VERTICES;
@@ -13,8 +19,9 @@ ghost use Prim.Native.Nat.{_*_, _≤_};
 ghost use Rattle.paper.specs.Limits.{overlayVertices, overlayEdges};
 ghost use Rattle.graphlaws.specs.Plane.{Plane};
 ghost use Rattle.graph.specs.Flat.{flatGraph, Flat};
-ghost use Rattle.faces.specs.Linked.{Linked};
+ghost use Rattle.faces.specs.Linked.{Linked, Numbered};
 
+// Of each half-edge its follower, the least half-edge of its walk, and the half-edge of greatest angle out of the smallest vertex of its walk.
 pub struct Walks {
     pub next: [u16; HALVES],
     pub lead: [u16; HALVES],
@@ -40,4 +47,45 @@ pub fn link(points: &[i64], origins: &[u16], carriers: &[i64], n: usize, e: usiz
     let mut top = [0u16; HALVES];
     tops(origins, &lead, &low, &out, m, &mut top);
     Walks { next, lead, top }
+}
+
+// Of each half-edge its face; the least half-edge of each outer walk, and how many there are; of each face its hole walks.
+pub struct Faces {
+    pub face: [u16; HALVES],
+    pub outers: [u16; HALVES],
+    pub holes: [u16; FACES],
+    pub count: usize,
+}
+
+// "Each outer walk makes one face"; a hole "belongs to the face of the half-edge seen, or to face 0".
+pub fn enclose(
+    points: &[i64],
+    origins: &[u16],
+    carriers: &[i64],
+    n: usize,
+    e: usize,
+    walks: Walks,
+) -> Faces
+    requires { ⌜ Flat (now points) (now origins) (now carriers) n e ⌝ ∗ ⌜ e ≤ overlayEdges ⌝ ∗ ⌜ Plane (flatGraph (now points) (now origins) (now carriers) n e) ⌝ ∗ ⌜ Linked (flatGraph (now points) (now origins) (now carriers) n e) (walks .next) (walks .lead) (walks .top) ⌝ }
+    ensures { λ r. ⌜ Numbered (flatGraph (now (points .entry)) (now (origins .entry)) (now (carriers .entry)) n e) (r .face) (r .outers) (r .holes) (r .count) ⌝ }
+{
+    let m = 2 * e;
+    let lead = walks.lead;
+    let top = walks.top;
+    let mut numbers = [0u16; HALVES];
+    let count = number(&lead, &top, m, &mut numbers);
+    let mut leaders = [0u16; HALVES];
+    outers(&lead, &top, m, &mut leaders);
+    let mut seen = [0u16; HALVES];
+    sees(points, origins, carriers, n, e, &lead, &top, &mut seen);
+    let mut face = [0u16; HALVES];
+    faces(&lead, &top, &seen, &numbers, n, m, &mut face);
+    let mut inside = [0u16; FACES];
+    holes(&lead, &top, &face, m, &mut inside, count + 1);
+    Faces {
+        face,
+        outers: leaders,
+        holes: inside,
+        count,
+    }
 }

@@ -1,0 +1,56 @@
+-- `faces::faces::faces` meets its contract. Assumes nothing.
+use borrow.Author.Needs.{needs}
+use Rattle.seq.specs.Seq.{_-_}
+use Rattle.graph.specs.Filling.{Filling, fill-starts, fill-turns, fill-ends}
+use Rattle.faces.specs.Kinds.{faceFrom}
+use Rattle.faces.proofs.faces.faces.Statement.{statement}
+use Rattle.faces.proofs.faces.faces.Tie as tie
+
+abbrev Inv-loop : tie.InvT-loop
+Inv-loop lead top seen numbers n m out₀ h₀ out h = Filling (faceFrom lead top seen numbers n) m out₀ out h
+
+abbrev μ-loop : tie.MeasureT-loop
+μ-loop lead top seen numbers n m out₀ h₀ out h = m - h
+
+loop-holds : tie.Need-loop-holds Inv-loop μ-loop
+loop-holds c = let s = c .before .before .before .before .before in fill-starts (faceFrom (s .args .lead .now) (s .args .top .now) (s .args .seen .now) (s .args .numbers .now) (s .args .n)) _ _ (s .pre .1)
+
+face-requires : tie.Need-face-requires Inv-loop μ-loop
+face-requires c κs = (c .before .before .before .before .before .before .before .pre .0, c .loop-test .taken)
+
+mul-out : tie.Need-mul-out Inv-loop μ-loop
+mul-out c = search needs
+
+slice-write-out : tie.Need-slice-write-out Inv-loop μ-loop
+slice-write-out c = search needs
+
+add-h : tie.Need-add-h Inv-loop μ-loop
+add-h c = search needs
+
+loop-less : tie.Need-loop-less Inv-loop μ-loop
+loop-less c = search needs
+
+loop-again : tie.Need-loop-again Inv-loop μ-loop
+loop-again c = let s = c .before .before .before .before .before .before .before .before in fill-turns (faceFrom (s .args .lead .now) (s .args .top .now) (s .args .seen .now) (s .args .numbers .now) (s .args .n)) (c .before .before .loop .inv) _ (c .before .loop-test .taken) (c .face .ensures)
+
+same-length : tie.Need-same-length Inv-loop μ-loop
+same-length c = search needs
+
+returns : tie.Need-returns Inv-loop μ-loop
+returns c = let s = c .before .before .before .before .before .before .before in fill-ends (faceFrom (s .args .lead .now) (s .args .top .now) (s .args .seen .now) (s .args .numbers .now) (s .args .n)) (c .before .loop .inv) (search needs)
+
+pub faces-spec : {M : Type 1} → statement M
+faces-spec =
+    tie.close
+    (tie.spec
+    Inv-loop
+    μ-loop
+    loop-holds
+    face-requires
+    mul-out
+    slice-write-out
+    add-h
+    loop-less
+    loop-again
+    same-length
+    returns)

@@ -1,0 +1,35 @@
+-- `faces::faces::leads_hole` meets its contract. Assumes nothing.
+use mathlib.Core.Path.{sym, _∙_, ap}
+use native.Mathlib.Omega.{arith}
+use borrow.Author.Needs.{needs}
+use borrow.Author.Tests.{eq-eqb, ne-eqb}
+use Rattle.seq.specs.Seq.{Bool, _&&_, getD}
+use Rattle.faces.specs.Kinds.{holeOf}
+use Rattle.faces.proofs.faces.leads_hole.Statement.{statement}
+use Rattle.faces.proofs.faces.leads_hole.Tie as tie
+
+mul-if1 : tie.Need-mul-if1
+mul-if1 c = search needs
+
+shared-slice-read-if1 : tie.Need-shared-slice-read-if1
+shared-slice-read-if1 c = search needs
+
+cast-if1 : tie.Need-cast-if1
+cast-if1 c = omega (arith, c .shared-slice-known3 .given (c .before .before .before .args .h))
+
+is-hole-requires : tie.Need-is-hole-requires
+is-hole-requires c κs = search needs
+
+returns : tie.Need-returns
+returns c =
+    let a = c .before .before .before .before .before .args in
+    c .is-hole .ensures ∙ ap (λ (b : Bool). b && (holeOf (a .lead .now) (a .top .now) (a .h))) (sym (eq-eqb (getD (a .lead .now) (a .h) 0) (a .h) (c .before .if1 .taken)))
+
+returns-2 : tie.Need-returns-2
+returns-2 c =
+    let a = c .before .before .before .before .args in
+    ap (λ (b : Bool). b && (holeOf (a .lead .now) (a .top .now) (a .h))) (sym (ne-eqb (getD (a .lead .now) (a .h) 0) (a .h) (c .if1 .left)))
+
+pub leads-hole-spec : {M : Type 1} → statement M
+leads-hole-spec =
+    tie.close (tie.spec mul-if1 shared-slice-read-if1 cast-if1 is-hole-requires returns returns-2)
