@@ -19,3 +19,7 @@ pub mod Holds
 pub mod CrossedAre
 pub mod VerticesAre
 pub mod EdgesAre
+pub mod Net
+pub mod NetLaws
+pub mod NetAre
+pub mod NetBounds

@@ -5,3 +5,4 @@ pub mod collect; // corners and crossings, each point once
 pub mod order; // points put in order
 pub mod put; // a piece put in order
 pub mod pieces; // the edges cut into pieces
+pub mod net; // the overlay's graph in tables
