@@ -1,0 +1,13 @@
+// What the programs share: files by name, and lines on standard output. No contract can say what is read or written; the texts and answers come from
+// proved functions on slices.
+mod files; // files by name
+mod lines; // printing
+
+pub use files::load;
+pub use files::load_arg;
+pub use files::save_arg;
+pub use files::within;
+pub use lines::say;
+pub use lines::say_listing;
+pub use lines::say_number;
+pub use lines::say_refused;
