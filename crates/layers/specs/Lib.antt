@@ -1,0 +1,4 @@
+pub mod Label
+pub mod Standing
+pub mod Layers
+pub mod Held

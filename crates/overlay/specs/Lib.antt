@@ -1,4 +1,0 @@
-pub mod Label
-pub mod Standing
-pub mod Layers
-pub mod Net
