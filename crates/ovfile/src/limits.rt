@@ -1,11 +1,5 @@
 // The numbers of 01 that the code compares with or counts from, each once. The proofs hold them to the definitions.
 
-// "The overlay has at most 1,000 vertices, 2,000 edges (4,000 half-edges) and 1,334 faces"
-pub const OVERLAY_VERTICES: u16 = 1000;
-
-pub const OVERLAY_EDGES: u16 = 2000;
-
-pub const OVERLAY_FACES: u16 = 1334;
 // the newest version of the file
 pub const VERSION: u16 = 1;
 // mark, version and the three counts

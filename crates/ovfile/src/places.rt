@@ -3,12 +3,13 @@ use crate::limits::EDGE_SIZE;
 use crate::limits::FACE_SIZE;
 use crate::limits::OVERLAY_HEAD;
 use crate::limits::VERTEX_SIZE;
-use crate::room::Counts;
+use tables::room::Counts;
 ghost use mathlib.Core.Path.{_≡_};
 ghost use Prim.Native.Nat.{_+_, _*_};
 ghost use Rattle.paper.specs.Limits.{overlayHead};
 ghost use Rattle.paper.specs.Ovfile.{vertexSize, edgesAt, facesAt, fileLength};
-ghost use Rattle.ovfile.specs.Values.{countsOf, layout};
+ghost use Rattle.tables.specs.Values.{countsOf};
+ghost use Rattle.ovfile.specs.Values.{layout};
 
 // Where vertex v starts.
 pub fn vertex_place(v: u16) -> usize

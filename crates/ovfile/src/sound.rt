@@ -3,7 +3,7 @@
 use crate::cells::half_cell;
 use crate::cells::source_cell;
 use crate::cells::u16_at;
-use crate::room::Counts;
+use tables::room::Counts;
 ghost use mathlib.Core.Path.{_≡_};
 ghost use mathlib.Core.Bool.{not};
 ghost use mathlib.Core.List.{[]};
@@ -13,7 +13,8 @@ ghost use Rattle.seq.specs.Seq.{least};
 ghost use Rattle.paper.specs.Limits.{maps, overlayEdges};
 ghost use Rattle.paper.specs.Graph.{twin};
 ghost use Rattle.paper.specs.Ovfile.{soundFollower, hasSource, soundEdge};
-ghost use Rattle.ovfile.specs.Values.{countsOf, edgeTables};
+ghost use Rattle.tables.specs.Values.{countsOf};
+ghost use Rattle.ovfile.specs.Values.{edgeTables};
 ghost use Rattle.ovfile.specs.Firsts.{column, FirstPlaces, Followed};
 
 // "Half-edge 2k goes from lower to upper, 2k+1 back"

@@ -1,9 +1,7 @@
 // The overlay file's reader (01, "Overlay file"), for arbitrary bytes and tables of any lengths.
-mod answer; // the answer
 mod stored; // the stored fields of a file
 mod head; // rules 1 to 4
 mod fill; // the tables that a file holds
 mod reader; // the reader
 
-pub use answer::Answer;
 pub use reader::read;

@@ -1,6 +1,5 @@
 // The overlay file's reader: "1 (under 11 bytes or wrong mark), 2 (version), 3 (a count over its number above), 4 (length), 21 or 11 (places 1 to 3), in that
 // order". It judges first, with no lent table in sight, and then fills the tables or wipes them.
-use crate::answer::Answer;
 use crate::fill::fill_faces;
 use crate::fill::fill_halves;
 use crate::fill::fill_sources;
@@ -10,11 +9,10 @@ use crate::stored::counts;
 use mapfile::refusal::Check;
 use mapfile::refusal::first;
 use mapfile::refusal::given;
-use ovfile::room::room_in;
 use ovfile::sound::first_unsound;
-use seq::wipe_i64;
-use seq::wipe_u16;
-use seq::wipe_u32;
+use tables::answer::Answer;
+use tables::room::room_in;
+use tables::wipe::wipe_all;
 ghost use mathlib.Core.Path.{_≡_};
 ghost use mathlib.Core.Bool.{not};
 ghost use mathlib.Core.List.{_∷_};
@@ -24,13 +22,13 @@ ghost use Rattle.seq.specs.Seq.{least};
 ghost use Rattle.paper.specs.Limits.{maps};
 ghost use Rattle.paper.specs.Bytes.{u16};
 ghost use Rattle.paper.specs.Refusal.{atLeast, firstOf};
-ghost use Rattle.paper.specs.Lent.{roomIn, roomFaults, paddedTables, zeroTables};
+ghost use Rattle.paper.specs.Lent.{roomIn, roomFaults, paddedTables};
 ghost use Rattle.paper.specs.Ovfile.{layouts, soundEdge};
 ghost use Rattle.paper.specs.Reader.{countsIn, tablesIn, readFault, layoutOf, read};
 ghost use Rattle.mapfile.specs.Verdict.{verdict};
-ghost use Rattle.ovfile.specs.Values.{lengthsBy, tablesBy, layout};
+ghost use Rattle.tables.specs.Values.{lengthsBy, tablesBy, outcomeOf};
+ghost use Rattle.ovfile.specs.Values.{layout};
 ghost use Rattle.ovread.specs.Filled.{Within, Roomy};
-ghost use Rattle.ovread.specs.Answers.{answerOf};
 
 // The least edge record that is not sound, or the number of edges, by tables that the file's edges are read into.
 fn unsound_by(file: &[u8], halves: &mut [u16], sources: &mut [u32]) -> u16
@@ -94,16 +92,6 @@ fn fill(
     fill_faces(file, faces);
 }
 
-// "Refused: all lent tables are zero"
-fn wipe(vertices: &mut [i64], halves: &mut [u16], sources: &mut [u32], faces: &mut [u16])
-    ensures { λ _. ⌜ tablesBy (now (vertices .exit)) (now (halves .exit)) (now (sources .exit)) (now (faces .exit)) ≡ zeroTables (lengthsBy (length (now (vertices .entry))) (length (now (halves .entry))) (length (now (sources .entry))) (length (now (faces .entry)))) ⌝ }
-{
-    wipe_i64(vertices);
-    wipe_u16(halves);
-    wipe_u32(sources);
-    wipe_u16(faces);
-}
-
 // Reads an overlay file into the lent tables.
 pub fn read(
     file: &[u8],
@@ -112,7 +100,7 @@ pub fn read(
     sources: &mut [u32],
     faces: &mut [u16],
 ) -> Answer
-    ensures { λ r. ⌜ record { answer = answerOf r; tables = tablesBy (now (vertices .exit)) (now (halves .exit)) (now (sources .exit)) (now (faces .exit)) } ≡ read (lengthsBy (length (now (vertices .entry))) (length (now (halves .entry))) (length (now (sources .entry))) (length (now (faces .entry)))) (now (file .entry)) ⌝ }
+    ensures { λ r. ⌜ outcomeOf r (tablesBy (now (vertices .exit)) (now (halves .exit)) (now (sources .exit)) (now (faces .exit))) ≡ read (lengthsBy (length (now (vertices .entry))) (length (now (halves .entry))) (length (now (sources .entry))) (length (now (faces .entry)))) (now (file .entry)) ⌝ }
 {
     let check = judge(
         file,
@@ -123,7 +111,7 @@ pub fn read(
     );
     match check {
         Check::Bad(r) => {
-            wipe(vertices, halves, sources, faces);
+            wipe_all(vertices, halves, sources, faces);
             Answer::Refused(r)
         }
         Check::Fine => {

@@ -4,10 +4,11 @@ use ovfile::limits::EDGE_SIZE;
 use ovfile::limits::FACE_SIZE;
 use ovfile::places::edges_at;
 use ovfile::places::faces_at;
-use ovfile::room::Counts;
+use tables::room::Counts;
 ghost use mathlib.Core.Path.{_≡_};
 ghost use Rattle.paper.specs.Reader.{countsIn, edgeField, faceField, storedOrigin, storedFollower, storedFace};
-ghost use Rattle.ovfile.specs.Values.{countsOf, layout};
+ghost use Rattle.tables.specs.Values.{countsOf};
+ghost use Rattle.ovfile.specs.Values.{layout};
 
 pub fn counts(file: &[u8]) -> Counts
     ensures { λ r. ⌜ countsOf r ≡ countsIn (now (file .entry)) ⌝ }

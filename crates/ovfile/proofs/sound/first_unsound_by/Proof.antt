@@ -5,8 +5,9 @@ use denote.Ref.{now}
 use Rattle.seq.specs.Seq.{Bool, not, List, ℕ, _-_}
 use Rattle.paper.specs.Limits.{maps}
 use Rattle.paper.specs.Ovfile.{soundEdge}
-use Rattle.ovfile.specs.Values.{countsOf, edgeTables}
-use Rattle.ovfile.specs.declared.room.Counts.{Counts}
+use Rattle.tables.specs.Values.{countsOf}
+use Rattle.tables.specs.declared.room.Counts.{Counts}
+use Rattle.ovfile.specs.Values.{edgeTables}
 use Rattle.ovfile.proofs.SearchLaws.{Searching, search-starts, search-turns, search-finds, search-ends}
 use Rattle.ovfile.proofs.sound.first_unsound_by.Statement.{statement}
 use Rattle.ovfile.proofs.sound.first_unsound_by.Tie as tie

@@ -7,7 +7,7 @@ use Rattle.paper.specs.Ovfile.{layouts, Layout}
 use Rattle.paper.specs.Reader.{headFaults}
 use Rattle.mapfile.specs.Verdict.{verdict}
 use Rattle.mapfile.proofs.VerdictLaws.{before, first-none, first-some}
-use Rattle.ovfile.specs.Values.{lengthsBy}
+use Rattle.tables.specs.Values.{lengthsBy}
 use Rattle.ovread.proofs.ReadLaws.{layoutIn, bodyIn, right-layout, right-counts}
 use borrow.Author.Needs.{needs}
 use Rattle.ovread.proofs.reader.judge.Statement.{statement}

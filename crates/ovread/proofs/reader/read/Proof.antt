@@ -5,7 +5,7 @@ use Rattle.seq.specs.Seq.{length}
 use Rattle.paper.specs.Refusal.{given, done, refused}
 use Rattle.mapfile.specs.Verdict.{verdict, refusalOf}
 use Rattle.mapfile.proofs.VerdictLaws.{before}
-use Rattle.ovfile.specs.Values.{lengthsBy}
+use Rattle.tables.specs.Values.{lengthsBy}
 use Rattle.ovread.proofs.ReadLaws.{right-counts, form-right, room-enough, read-done, read-refused}
 use borrow.Author.Needs.{needs}
 use Rattle.ovread.proofs.reader.read.Statement.{statement}
@@ -17,8 +17,8 @@ judge-requires c κs = search needs
 enum-known-check : tie.Need-enum-known-check
 enum-known-check c = search needs
 
-wipe-requires : tie.Need-wipe-requires
-wipe-requires c κs = search needs
+wipe-all-requires : tie.Need-wipe-all-requires
+wipe-all-requires c κs = search needs
 
 enum-told : tie.Need-enum-told
 enum-told c = search needs
@@ -50,7 +50,7 @@ returns c =
     let a = c .before .before .before .before .before .before .before .before .before .before .before .before .before .before .before .before .before .before .before .before .args in
     let s = now (a .file) in
     let told = c .before .before .before .before .before .before .before .before .before .before .before .before .before .check .given in
-    (λ i. record { answer = refused (refusalOf (told .0 .0)); tables = c .before .before .before .before .before .before .before .wipe .ensures i })
+    (λ i. record { answer = refused (refusalOf (told .0 .0)); tables = c .before .before .before .before .before .before .before .wipe-all .ensures i })
     ∙ read-refused s _ _ (sym (c .before .before .before .before .before .before .before .before .before .before .before .before .before .before .before .judge .ensures) ∙ ap verdict (told .1))
 
 same-length-5 : tie.Need-same-length-5
@@ -79,7 +79,7 @@ read-spec =
     (tie.spec
     judge-requires
     enum-known-check
-    wipe-requires
+    wipe-all-requires
     enum-told
     fill-requires
     counts-requires

@@ -6,7 +6,7 @@ use Rattle.seq.specs.Seq.{length}
 use Rattle.paper.specs.Tables.{Counts}
 use Rattle.paper.specs.Reader.{countsIn}
 use Rattle.mapfile.proofs.VerdictLaws.{before}
-use Rattle.ovfile.specs.Values.{lengthsBy}
+use Rattle.tables.specs.Values.{lengthsBy}
 use Rattle.ovread.proofs.ReadLaws.{least-padded}
 use borrow.Author.Needs.{needs}
 use Rattle.ovread.proofs.reader.unsound_by.Statement.{statement}
