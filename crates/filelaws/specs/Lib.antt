@@ -2,3 +2,6 @@ pub mod Bytes
 pub mod Stands
 pub mod Refusals
 pub mod Agree
+pub mod Placed
+pub mod EdgeFields
+pub mod Fields
