@@ -7,13 +7,14 @@ use native.Mathlib.Numerals.{add-one}
 use native.Mathlib.Omega.{arith}
 use lib.ListN.{set, length-append, length-take}
 use lib.Seq.{length-sets, take-suc, take-all, sets-eq, take-at}
-use Rattle.io.specs.Counts.{Counts}
 use borrow.Author.Tests.{eq-eqb, ne-eqb}
-use Rattle.seq.specs.Seq.{Bool, cond, List, [], _∷_, _++_, ℕ, suc, _+_, _*_, eqb, length, getD, take, drop, sets}
+use Rattle.seq.specs.Seq.{Bool, cond, List, [], _∷_, _++_, ℕ, suc, _+_, _*_, eqb, length, getD, take, drop, sets, rows}
+use Rattle.seq.specs.Rows.{rows-more}
 use Rattle.paper.specs.Bytes.{ascii}
-use Rattle.paper.specs.Listing.{decimal}
+use Rattle.paper.specs.Tables.{Counts}
+use Rattle.paper.specs.Listing.{decimal, countsLine}
 use Rattle.text.specs.Line.{Put}
-use Rattle.text.specs.Lines.{Line, leastText, labelsText, faceText}
+use Rattle.text.specs.Lines.{Line, leastText, labelsText, faceText, gapsIn, gapsText, listingText}
 
 -- what is stored behind something stored is stored with it
 stored-behind : (d : List ℕ) (at : ℕ) (xs ys : List ℕ) → sets (sets d at xs) (at + length xs) ys ≡ sets d at (xs ++ ys)
@@ -67,11 +68,11 @@ pub put-field : (ys zs : List ℕ) {xs d t u : List ℕ} {m n at k r : ℕ} → 
 put-field ys zs {xs} p q = put-as (put-behind p q) (sym (append-assoc xs ys zs)) (omega arith)
 
 -- a text put at the start of a line that is long enough
-pub put-line : {text d t : List ℕ} {m r : ℕ} → Put text m d 0 t r → m ≤ length d → Line text t r
-put-line {text} {d} {t} {m} {r} p h =
+pub put-line : {text d t : List ℕ} {m most r : ℕ} → Put text m d 0 t r → m ≤ most → most ≤ length d → Line most text t r
+put-line {text} {d} {t} {m} {most} {r} p h l =
     let e : r ≡ length text = p .end ∙ zero-add (length text) in
     let s : take r t ≡ text = ap (take r) (p .is ∙ sets-eq text d 0 (omega (arith, p .within, e))) ∙ take-at text (drop (0 + length text) d) r (sym e) in
-    record { is = s; end = e; counts = (omega (arith, p .within, p .kept), e ∙ sym (ap length s)) }
+    record { is = s; end = e; within = omega (arith, p .within); counts = (omega (arith, p .within, p .kept), e ∙ sym (ap length s)) }
 
 -- ── "least outer half-edge (`-` for face 0)" ──
 
@@ -93,3 +94,28 @@ face-fields fs f {a} {b} {h} {o} ea eb eh eo =
     ap (λ (x : ℕ). faceFields f x b h o) ea ∙ ap (λ (x : ℕ). faceFields f (getD fs (4 * f + 0) 0) x h o) eb
     ∙ ap (λ (x : ℕ). faceFields f (getD fs (4 * f + 0) 0) (getD fs (4 * f + 1) 0) x o) eh
     ∙ ap (faceFields f (getD fs (4 * f + 0) 0) (getD fs (4 * f + 1) 0) (getD fs (4 * f + 2) 0)) eo
+
+-- ── lines one behind the other ──
+
+pub put-none : (d : List ℕ) (at : ℕ) → Put [] 0 d at d at
+put-none d at = record { is = refl; end = omega arith; kept = refl; within = omega arith }
+
+-- a line of at most 64 bytes, put somewhere
+pub put-lined : {text line d t : List ℕ} {n at r : ℕ} → Line 64 text line n → Put (take n line) (length (take n line)) d at t r → Put text 64 d at t r
+put-lined l p = put-as p (l .is) (omega (arith, l .within, l .counts .1))
+
+-- one face's line more
+pub put-face-more : (fs : List ℕ) (f : ℕ) {d t u : List ℕ} {at k r : ℕ}
+    → Put (rows (faceText fs) f) (64 * f) d at t k → Put (faceText fs f) 64 t k u r → Put (rows (faceText fs) (f + 1)) (64 * (f + 1)) d at u r
+put-face-more fs f p q = put-as (put-behind p q) (sym (rows-more (faceText fs) f)) (omega arith)
+
+pub put-faces-all : (fs : List ℕ) {f n : ℕ} {d t : List ℕ} {at k : ℕ}
+    → Put (rows (faceText fs) f) (64 * f) d at t k → f ≤ n → n ≤ f → Put (rows (faceText fs) n) (64 * n) d at t k
+put-faces-all fs {f} {n} p l h = let e : f ≡ n = omega arith in put-as p (ap (rows (faceText fs)) e) (omega arith)
+
+-- the counts, the faces and the gaps are the listing
+pub listing-parts : (c : Counts) (fs : List ℕ) → countsLine c ++ rows (faceText fs) (c .faces) ++ gapsText (gapsIn fs (c .faces)) ≡ listingText c fs
+listing-parts c fs =
+    let head = countsLine c ++ rows (faceText fs) (c .faces) in
+    let number = decimal (gapsIn fs (c .faces)) in
+    sym (append-assoc head (ascii "gaps " ++ number) (ascii "\n")) ∙ ap (λ (s : List ℕ). s ++ ascii "\n") (sym (append-assoc head (ascii "gaps ") number))

@@ -1,11 +1,13 @@
 -- The listing's lines over the face table alone, and a line that stands at the start of a lent one. Assumes nothing.
 use mathlib.Core.Path.{_≡_}
-use Rattle.io.specs.Counts.{Counts}
+use Prim.Native.Nat.{_≤_}
+use Rattle.io.specs.Counts as io
 use Rattle.seq.specs.Seq.{List, [], _++_, cond, ℕ, eqb, length, take}
 use Rattle.paper.specs.Bytes.{ascii}
 use Rattle.paper.specs.Limits.{maps}
-use Rattle.paper.specs.Tables.{Tables}
-use Rattle.paper.specs.Listing.{decimal, faceLine, gaps}
+use Rattle.paper.specs.Refusal.{done}
+use Rattle.paper.specs.Tables.{Counts, Tables}
+use Rattle.paper.specs.Listing.{decimal, faceLine, gaps, listingBy}
 
 -- tables of which only the faces are looked at
 abbrev pub facesOnly : List ℕ → Tables
@@ -26,8 +28,13 @@ labelsText f a b = ascii "face " ++ decimal f ++ ascii " " ++ decimal a ++ ascii
 abbrev pub gapsText : ℕ → List ℕ
 gapsText n = ascii "gaps " ++ decimal n ++ ascii "\n"
 
--- the text stands at the start of t, and r is its length
-pub record Line (text t : List ℕ) (r : ℕ) : Type 0 where
+-- the whole listing
+abbrev pub listingText : Counts → List ℕ → List ℕ
+listingText c fs = listingBy maps (facesOnly fs) (done c)
+
+-- the text, of at most `most` bytes, stands at the start of t, and r is its length
+pub record Line (most : ℕ) (text t : List ℕ) (r : ℕ) : Type 0 where
   pub is : take r t ≡ text
   pub end : r ≡ length text
-  pub counts : Counts r t
+  pub within : r ≤ most
+  pub counts : io.Counts r t

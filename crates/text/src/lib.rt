@@ -2,6 +2,7 @@
 mod cells; // the face table
 mod line; // words and numbers, one behind the other
 mod lines; // the lines
+mod whole; // the whole listing
 
 pub use cells::gaps;
 pub use line::decimal;
@@ -11,3 +12,5 @@ pub use lines::counts_line;
 pub use lines::face_line;
 pub use lines::gaps_line;
 pub use lines::refused_line;
+pub use whole::listing;
+pub use whole::refused_listing;

@@ -39,7 +39,7 @@ returns c =
     let a = first .before .before .before .args in
     let two = put-field (ascii " edges ") (decimal (a .edges)) (first .field .ensures) (second .field2 .ensures) in
     let three = put-field (ascii " faces ") (decimal (a .faces)) two (third .field3 .ensures) in
-    put-line (put-behind three (c .words .ensures)) (omega arith)
+    put-line (put-behind three (c .words .ensures)) (omega arith) (omega arith)
 
 pub counts-line-spec : {M : Type 1} → statement M
 counts-line-spec =

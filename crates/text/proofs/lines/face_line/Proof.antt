@@ -53,7 +53,7 @@ returns c =
     let two = put-field (ascii " ") dash (labels .labels-field .ensures) (least .least-field .ensures) in
     let three = put-field (ascii " ") (decimal (o .result)) two (holes .field .ensures) in
     let text = face-fields (now (a .faces)) (a .face) (labels .before .before .cell .ensures) (labels .before .cell2 .ensures) (h .ensures) (o .ensures) in
-    put-line {m = 64} (put-as (put-behind three (c .words .ensures)) text (omega arith)) long
+    put-line {m = 64} (put-as (put-behind three (c .words .ensures)) text (omega arith)) (omega arith) long
 
 pub face-line-spec : {M : Type 1} → statement M
 face-line-spec =

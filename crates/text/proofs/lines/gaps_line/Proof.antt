@@ -18,7 +18,7 @@ words-requires : tie.Need-words-requires
 words-requires c κs = search needs
 
 returns : tie.Need-returns
-returns c = put-line (put-behind (c .before .before .before .field .ensures) (c .words .ensures)) (omega arith)
+returns c = put-line (put-behind (c .before .before .before .field .ensures) (c .words .ensures)) (omega arith) (omega arith)
 
 pub gaps-line-spec : {M : Type 1} → statement M
 gaps-line-spec =

@@ -39,7 +39,7 @@ returns c =
     let a = first .before .before .before .args in
     let two = put-field (ascii " map ") (decimal (a .map)) (first .field .ensures) (second .field2 .ensures) in
     let three = put-field (ascii " place ") (decimal (a .place)) two (third .field3 .ensures) in
-    put-line (put-behind three (c .words .ensures)) (omega arith)
+    put-line (put-behind three (c .words .ensures)) (omega arith) (omega arith)
 
 pub refused-line-spec : {M : Type 1} → statement M
 refused-line-spec =

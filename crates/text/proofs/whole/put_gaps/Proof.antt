@@ -1,0 +1,45 @@
+-- `text::whole::put_gaps` meets its contract. Assumes nothing.
+use mathlib.Core.Path.{ap}
+use native.Mathlib.Omega.{arith}
+use borrow.Author.Needs.{needs}
+use Rattle.text.specs.Lines.{gapsText}
+use Rattle.text.proofs.LineLaws.{put-as, put-lined}
+use Rattle.text.proofs.whole.put_gaps.Statement.{statement}
+use Rattle.text.proofs.whole.put_gaps.Tie as tie
+
+gaps-requires : tie.Need-gaps-requires
+gaps-requires c κs = search needs
+
+gaps-line-requires : tie.Need-gaps-line-requires
+gaps-line-requires c κs = search needs
+
+array-share-prefix-line : tie.Need-array-share-prefix-line
+array-share-prefix-line c = search needs
+
+slice-aggregate-words : tie.Need-slice-aggregate-words
+slice-aggregate-words c = search needs
+
+words-requires : tie.Need-words-requires
+words-requires c κs = omega (arith, c .before .before .gaps-line .ensures .within, c .before .before .gaps-line .ensures .counts .1)
+
+same-length : tie.Need-same-length
+same-length c = search needs
+
+returns : tie.Need-returns
+returns c =
+    put-as
+    (put-lined (c .before .before .before .before .before .gaps-line .ensures) (c .before .before .words .ensures))
+    (ap gapsText (c .before .before .before .before .before .before .before .gaps .ensures))
+    (omega arith)
+
+pub put-gaps-spec : {M : Type 1} → statement M
+put-gaps-spec =
+    tie.close
+    (tie.spec
+    gaps-requires
+    gaps-line-requires
+    array-share-prefix-line
+    slice-aggregate-words
+    words-requires
+    same-length
+    returns)
