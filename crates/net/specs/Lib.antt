@@ -1,3 +1,4 @@
 pub mod Standing
 pub mod Cut
+pub mod CutLaws
 pub mod Traced

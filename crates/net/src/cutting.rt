@@ -1,4 +1,12 @@
 // Vertices and edges: "Vertices stand in point order", edges are "the pieces of input edges between neighbouring overlay vertices on them".
+use cut::collect::collect;
+use cut::limits::MAPS;
+use cut::limits::VERTEX_ROWS;
+use cut::order::order;
+use cut::pieces::pieces;
+use layers::layers::Layers;
+ghost use Rattle.layers.specs.Held.{heldMaps, Held};
+ghost use Rattle.net.specs.Cut.{CutOf};
 
 // The vertices, rows of X, Y, D and a spare cell; the edges, rows of lower, upper, and for each map the source + 1 or 0. There is one row more than the overlay
 // may have, so that a count says whether there are more.
@@ -7,4 +15,34 @@ pub struct Cut {
     pub points: [i64; 4004],
     pub edges: usize,
     pub pieces: [u16; 8004],
+}
+
+// The vertices and edges of the overlay of the maps that the layers hold; where there are too many vertices, no edges.
+pub fn cut_layers(l: Layers) -> Cut
+    requires { ⌜ Held l ⌝ }
+    ensures { λ r. ⌜ CutOf (heldMaps l) r ⌝ }
+{
+    let corners = l.corners;
+    let carriers = l.carriers;
+    let starts = l.edges;
+    let c = l.vertices[MAPS];
+    let mut points = [0i64; 4004];
+    let mut rows = [0u16; 8004];
+    let vertices = collect(&corners, c, &carriers, &starts, &mut points);
+    if VERTEX_ROWS <= vertices {
+        return Cut {
+            vertices,
+            points,
+            edges: 0,
+            pieces: rows,
+        };
+    }
+    order(&mut points, vertices);
+    let edges = pieces(&points, vertices, &carriers, &starts, &mut rows);
+    Cut {
+        vertices,
+        points,
+        edges,
+        pieces: rows,
+    }
 }
