@@ -1,0 +1,95 @@
+-- What is stored is the overlay's tables: `stored-is`. In order: the counts; rows of vertices, half-edges and sources. Assumes nothing.
+use mathlib.Core.Path.{_≡_, refl, sym, _∙_, ap}
+use Prim.Native.Nat.{_≤_, _<_}
+use native.Mathlib.Numerals.{add-one}
+use Rattle.seq.specs.Seq.{List, [], _∷_, map, ℕ, zero, suc, _+_, _*_, length, getD, pos, cell, padded, rows}
+use Rattle.seq.specs.Table.{table-at}
+use Rattle.seq.specs.Rows.{rows-ext}
+use Rattle.paper.specs.Limits.{overlayVertices, overlayEdges}
+use Rattle.paper.specs.Graph.{Graph, edgeCount, point, origin, twin}
+use Rattle.paper.specs.Map.{Map}
+use Rattle.paper.specs.Pieces.{Piece}
+use Rattle.paper.specs.Faces.{Overlay, net, overlayOf}
+use Rattle.paper.specs.Tables.{plusOne, vertexRow, halfRow, sourceRow, faceRow, countsOf, tablesOf}
+use Rattle.filelaws.specs.Agree.{padded-cell}
+use Rattle.graph.specs.Flat.{pointAt, flatGraph}
+use Rattle.graph.specs.Decode.{flat-points, flat-edges, flat-point, flat-origin}
+use Rattle.cut.specs.PieceRows.{minusOne, pieceAt, piecesIn}
+use Rattle.tables.specs.Rows.{vertexOf, halfOf, sourceOf, faceBy}
+use Rattle.tables.specs.declared.faces.FaceRows.{FaceRows}
+use Rattle.net.specs.Cut.{CutOf}
+use Rattle.net.specs.Traced.{TracedOf}
+use Rattle.net.specs.declared.cutting.Cut.{Cut}
+use Rattle.net.specs.declared.tracing.Traced.{Traced}
+use Rattle.overlay.specs.Stored.{vertexRows, halfRows, sourceRows, stored, storedCounts}
+
+stored-source : (n : ℕ) → plusOne (minusOne n) ≡ n
+stored-source zero = refl
+stored-source (suc k) = refl
+
+module _ (ms : List Map) (c : Cut) (C : CutOf ms c) (few : c .vertices ≤ overlayVertices) (short : c .edges ≤ overlayEdges) where
+  abbrev o : Overlay
+  o = overlayOf ms
+
+  -- ── the pieces ──
+
+  pieces-are : piecesIn (c .pieces) (c .edges) ≡ overlayOf ms .pieces
+  unfolding overlayOf
+  pieces-are = C .edges-are few short
+
+  source-row : (k : ℕ) → k < c .edges → sourceOf (sourceRows c) k ≡ sourceRow o k
+  source-row k l =
+      let at : getD (o .pieces) k (record { lo = 0; hi = 0; sources = [] }) ≡ pieceAt (c .pieces) k =
+      ap (λ (ps : List Piece). getD ps k (record { lo = 0; hi = 0; sources = [] })) (sym pieces-are) ∙ table-at (pieceAt (c .pieces)) (c .edges) k (record { lo = 0; hi = 0; sources = [] }) l in
+      (λ i. sym (stored-source (cell 0 4 (c .pieces) k 2)) i ∷ sym (stored-source (cell 0 4 (c .pieces) k 3)) i ∷ [])
+      ∙ ap (λ (p : Piece). map plusOne (p .sources)) (sym at)
+
+  module _ (t : Traced) (T : TracedOf ms c t) where
+    abbrev flat : Graph
+    flat = flatGraph (c .points) (t .origins) (t .carriers) (c .vertices) (c .edges)
+
+    -- ── the counts ──
+
+    vertices-count : c .vertices ≡ length (net o .points)
+    vertices-count = sym (flat-points (c .points) (t .origins) (t .carriers) (c .vertices) (c .edges)) ∙ ap (λ (g : Graph). length (g .points)) (T .net-is)
+
+    edges-count : c .edges ≡ edgeCount (net o)
+    edges-count = sym (flat-edges (c .points) (t .origins) (t .carriers) (c .vertices) (c .edges)) ∙ ap edgeCount (T .net-is)
+
+    -- ── rows ──
+
+    point-is : (v : ℕ) → v < c .vertices → pointAt (c .points) v ≡ point (net o) v
+    point-is v l = sym (flat-point (c .points) (t .origins) (t .carriers) (c .vertices) (c .edges) v l) ∙ ap (λ (g : Graph). point g v) (T .net-is)
+
+    vertex-row : (v : ℕ) → v < c .vertices → vertexOf (vertexRows c t) v ≡ vertexRow (net o) v
+    vertex-row v l = λ i. point-is v l i .X ∷ point-is v l i .Y ∷ point-is v l i .D ∷ pos (T .least-is v l i) ∷ []
+
+    origin-is : (h : ℕ) → h < 2 * c .edges → getD (t .origins) h 0 ≡ origin (net o) h
+    origin-is h l = sym (flat-origin (c .points) (t .origins) (t .carriers) (c .vertices) (c .edges) h l) ∙ ap (λ (g : Graph). origin g h) (T .net-is)
+
+    cell-is : (xs ys : List ℕ) (n h : ℕ) → xs ≡ padded 0 n ys → getD xs h 0 ≡ getD ys h 0
+    cell-is xs ys n h e = ap (λ (l : List ℕ). getD l h 0) e ∙ padded-cell 0 n ys h
+
+    half-row : (h : ℕ) → h < 2 * c .edges → halfOf (halfRows c t) h ≡ halfRow o h
+    half-row h l =
+        let next = cell-is (t .next) (o .walks .next) _ h (T .next-is) in
+        let face = cell-is (t .face) (o .face) _ h (T .face-is) in
+        λ i. origin-is h l i ∷ twin h ∷ next i ∷ T .prev-is h l i ∷ face i ∷ []
+
+    -- ── the tables ──
+
+    module _ (f : FaceRows) (count : f .count ≡ t .count + 1) (faces : rows (faceBy f) (f .count) ≡ rows (faceRow ms o) (t .count + 1)) where
+      faces-count : t .count + 1 ≡ suc (length (o .outers))
+      faces-count = add-one (t .count) ∙ ap suc (T .count-is)
+
+      pub counts-are : storedCounts c f ≡ countsOf o
+      counts-are = λ i. record { vertices = vertices-count i; edges = edges-count i; faces = (count ∙ faces-count) i }
+
+      pub stored-is : stored c t f ≡ tablesOf ms o
+      unfolding tablesOf
+      stored-is =
+          let vs = rows-ext (vertexOf (vertexRows c t)) (vertexRow (net o)) (c .vertices) vertex-row ∙ ap (rows (vertexRow (net o))) vertices-count in
+          let hs = rows-ext (halfOf (halfRows c t)) (halfRow o) (2 * c .edges) half-row ∙ ap (λ (n : ℕ). rows (halfRow o) (2 * n)) edges-count in
+          let ss = rows-ext (sourceOf (sourceRows c)) (sourceRow o) (c .edges) source-row ∙ ap (rows (sourceRow o)) edges-count in
+          let fs = faces ∙ ap (rows (faceRow ms o)) faces-count in
+          λ i. record { vertices = vs i; halves = hs i; sources = ss i; faces = fs i }

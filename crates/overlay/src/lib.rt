@@ -1,0 +1,2 @@
+// The overlay of two map files: "Out come three tables (vertices, half-edges, faces)".
+pub mod store; // the lent tables filled
