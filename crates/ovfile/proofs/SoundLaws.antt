@@ -60,11 +60,17 @@ module _ (key : ℕ → ℕ) where
       let w : m - 0 ≡ m = omega arith in
       r .is ∙ ap (λ (j : ℕ). firsts key j (m - j) d) z ∙ ap (λ (j : ℕ). firsts key 0 j d) w
 
+-- a cell of a table of first places
+pub first-at : (key : ℕ → ℕ) {n : ℕ} {d t : List ℕ} → FirstPlaces key n d t → (v none : ℕ) → v < length t → getD d v 0 ≡ none
+    → getD t v 0 ≡ (let h = least (λ k. eqb (key k) v) n in cond (ltb h n) h none)
+first-at key {n} {d} {t} r v none l e =
+    ap (λ (y : List ℕ). getD y v 0) (r .is) ∙ firsts-all key n v d (omega (arith, ap length (r .is) ∙ length-firsts key 0 n d))
+    ∙ ap (λ (z : ℕ). let h = least (λ k. eqb (key k) v) n in cond (ltb h n) h z) e
+
 -- where there is one, the table has it
 pub followed-by : (hs : List ℕ) {n : ℕ} {d t : List ℕ} → FirstPlaces (column hs 2) n d t → n ≤ length t → Followed hs n t
 followed-by hs {n} {d} {t} r h = record {
-  at = λ x l b. ap (λ (y : List ℕ). getD y x 0) (r .is) ∙ firsts-all (column hs 2) n x d (omega (arith, ap length (r .is) ∙ length-firsts (column hs 2) 0 n d))
-      ∙ ap (λ (c : Bool). cond c (firstFollowed hs n x) (getD d x 0)) (lt-ltb (firstFollowed hs n x) n b);
+  at = λ x l b. first-at (column hs 2) r x (getD d x 0) (omega arith) refl ∙ ap (λ (c : Bool). cond c (firstFollowed hs n x) (getD d x 0)) (lt-ltb (firstFollowed hs n x) n b);
 }
 
 -- ── one test in place of a search ──

@@ -23,6 +23,11 @@ module _ {A : Type 0} where
   unfolding over
   stored-first d xs h = sets-eq xs d 0 (omega arith) ∙ ap (λ (k : ℕ). xs ++ drop k d) (zero-add (length xs))
 
+  -- and wiped past it, it is what was stored and zeros
+  pub stored-wiped : (z : A) (d xs t u : List A) (k : ℕ) → length xs ≤ length d → t ≡ sets d 0 xs → u ≡ wiped z k t → k ≡ length xs → u ≡ padded z (length d) xs
+  stored-wiped z d xs t u k h e g q =
+      g ∙ ap (λ (j : ℕ). wiped z j t) q ∙ ap (wiped z (length xs)) (e ∙ stored-first d xs h) ∙ wiped-over z xs d h
+
 -- t is what the loop that stores the rows f 0, f 1, .. of w cells from a place on has made of d before turn i
 pub record Storing {A : Type 0} (w : ℕ) (f : ℕ → List A) (at n : ℕ) (d t : List A) (i : ℕ) : Type 0 where
   pub room : at + w * n ≤ length d
@@ -61,7 +66,7 @@ module _ {A : Type 0} (w : ℕ) (f : ℕ → List A) (each : (k : ℕ) → lengt
   pub laid-wiped : (z : A) (n k : ℕ) (d t u : List A) → w * n ≤ length d → t ≡ sets d 0 (rows f n) → u ≡ wiped z k t → k ≡ w * n → u ≡ padded z (length d) (rows f n)
   laid-wiped z n k d t u h e g q =
       let long : length (rows f n) ≡ w * n = length-rows w f n (λ j m. each j) in
-      g ∙ ap (λ (j : ℕ). wiped z j t) (q ∙ sym long) ∙ ap (wiped z (length (rows f n))) (e ∙ stored-first d (rows f n) (rw long h)) ∙ wiped-over z (rows f n) d (rw long h)
+      stored-wiped z d (rows f n) t u k (rw long h) e g (q ∙ sym long)
 
 -- the fields of a record are rows
 pub gather-rows : (g : ℕ → List ℕ) (xs : List ℕ) → rows (λ i. g (getD xs i 0)) (length xs) ≡ gather g xs

@@ -11,7 +11,6 @@ use Rattle.seq.specs.Tests.{bool-ext}
 use Rattle.seq.specs.Least.{least-le, least-ext}
 use Rattle.seq.specs.Table.{length-table, table-at}
 use Rattle.seq.specs.Rows.{rows-ext}
-use Rattle.seq.specs.Firsts.{length-firsts, firsts-all}
 use Rattle.seq.specs.Position.{position-least}
 use Rattle.paper.specs.Limits.{absent, overlayHead, denominatorBytes}
 use Rattle.paper.specs.Bytes.{signedAt, number}
@@ -19,14 +18,8 @@ use Rattle.paper.specs.Tables.{leastHalf}
 use Rattle.paper.specs.Reader.{countsIn, edgeField, storedOrigin, storedFollower, vertexRead}
 use Rattle.ovfile.specs.Values.{layout}
 use Rattle.ovfile.specs.Firsts.{FirstPlaces}
+use Rattle.ovfile.proofs.SoundLaws.{first-at}
 use Rattle.ovread.specs.Filled.{storedField, startsIn, followersIn, vertexBy, Predecessors, LeastStarts}
-
--- a cell of a table of first places
-pub first-at : (key : ℕ → ℕ) {n : ℕ} {d t : List ℕ} → FirstPlaces key n d t → (v none : ℕ) → v < length t → getD d v 0 ≡ none
-    → getD t v 0 ≡ (let h = least (λ k. eqb (key k) v) n in cond (ltb h n) h none)
-first-at key {n} {d} {t} r v none l e =
-    ap (λ (y : List ℕ). getD y v 0) (r .is) ∙ firsts-all key n v d (omega (arith, ap length (r .is) ∙ length-firsts key 0 n d))
-    ∙ ap (λ (z : ℕ). let h = least (λ k. eqb (key k) v) n in cond (ltb h n) h z) e
 
 same-count : (key : ℕ → ℕ) {m n : ℕ} {d t : List ℕ} → m ≡ n → FirstPlaces key m d t → FirstPlaces key n d t
 same-count key {d = d} e r = record { is = r .is ∙ ap (λ (k : ℕ). firsts key 0 k d) e }
