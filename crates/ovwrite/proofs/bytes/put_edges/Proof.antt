@@ -1,0 +1,79 @@
+-- `ovwrite::bytes::put_edges` meets its contract. Assumes nothing.
+use mathlib.Core.Path.{ap, _∙_}
+use denote.Ref.{now}
+use Rattle.seq.specs.Seq.{ℕ, _-_, sets, rows}
+use Rattle.ovfile.specs.Values.{edgeTables}
+use Rattle.ovfile.proofs.StoringLaws.{Storing, storing-starts, storing-turns, storing-ends}
+use Rattle.ovwrite.proofs.PutLaws.{edgeBytes, edge-long}
+use native.Mathlib.Omega.{arith}
+use borrow.Author.Needs.{needs}
+use Rattle.ovwrite.proofs.bytes.put_edges.Statement.{statement}
+use Rattle.ovwrite.proofs.bytes.put_edges.Tie as tie
+
+abbrev Inv-loop : tie.InvT-loop
+Inv-loop halves sources buffer₀ n start k₀ buffer k = Storing 16 (edgeBytes (edgeTables halves sources)) start n buffer₀ buffer k
+
+abbrev μ-loop : tie.MeasureT-loop
+μ-loop halves sources buffer₀ n start k₀ buffer k = n - k
+
+edges-at-requires : tie.Need-edges-at-requires Inv-loop μ-loop
+edges-at-requires c κs = search needs
+
+loop-holds : tie.Need-loop-holds Inv-loop μ-loop
+loop-holds c =
+    let s = c .before .before .before .before in
+    let t = edgeTables (now (s .args .halves)) (now (s .args .sources)) in
+    storing-starts 16 (edgeBytes t) (edge-long t) (c .edges-at .result) (s .args .c .edges) (now (s .args .buffer)) (omega (arith, c .edges-at .ensures, s .pre))
+
+cast-put-edge : tie.Need-cast-put-edge Inv-loop μ-loop
+cast-put-edge c = search needs
+
+mul-put-edge : tie.Need-mul-put-edge Inv-loop μ-loop
+mul-put-edge c = search needs
+
+add-put-edge : tie.Need-add-put-edge Inv-loop μ-loop
+add-put-edge c = search needs
+
+put-edge-requires : tie.Need-put-edge-requires Inv-loop μ-loop
+put-edge-requires c κs = let at = c .before .before in omega (arith, at .loop .inv .room, at .loop .inv .kept, c .before .loop-test .taken)
+
+add-k : tie.Need-add-k Inv-loop μ-loop
+add-k c = search needs
+
+loop-less : tie.Need-loop-less Inv-loop μ-loop
+loop-less c = search needs
+
+loop-again : tie.Need-loop-again Inv-loop μ-loop
+loop-again c =
+    let at = c .before .before .before .before .before in
+    let a = at .before .before .before .before .before .args in
+    let t = edgeTables (now (a .halves)) (now (a .sources)) in
+    storing-turns 16 (edgeBytes t) (edge-long t) (at .loop .inv) _ (c .before .before .before .before .loop-test .taken) (c .before .before .put-edge .ensures)
+
+same-length : tie.Need-same-length Inv-loop μ-loop
+same-length c = c .before .loop .inv .kept
+
+returns : tie.Need-returns Inv-loop μ-loop
+returns c =
+    let a = c .before .before .before .before .before .before .args in
+    let t = edgeTables (now (a .halves)) (now (a .sources)) in
+    storing-ends 16 (edgeBytes t) (edge-long t) (c .before .loop .inv) (c .loop-test .left)
+    ∙ ap (λ (p : ℕ). sets (now (a .buffer)) p (rows (edgeBytes t) (a .c .edges))) (c .before .before .edges-at .ensures)
+
+pub put-edges-spec : {M : Type 1} → statement M
+put-edges-spec =
+    tie.close
+    (tie.spec
+    Inv-loop
+    μ-loop
+    edges-at-requires
+    loop-holds
+    cast-put-edge
+    mul-put-edge
+    add-put-edge
+    put-edge-requires
+    add-k
+    loop-less
+    loop-again
+    same-length
+    returns)

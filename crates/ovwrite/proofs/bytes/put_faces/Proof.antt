@@ -1,0 +1,78 @@
+-- `ovwrite::bytes::put_faces` meets its contract. Assumes nothing.
+use mathlib.Core.Path.{ap, _∙_}
+use denote.Ref.{now}
+use Rattle.seq.specs.Seq.{[], ℕ, _-_, sets, rows}
+use Rattle.tables.specs.Values.{tablesBy}
+use Rattle.ovfile.proofs.StoringLaws.{Storing, storing-starts, storing-turns, storing-ends}
+use Rattle.ovwrite.proofs.PutLaws.{faceBytes, face-long}
+use native.Mathlib.Omega.{arith}
+use borrow.Author.Needs.{needs}
+use Rattle.ovwrite.proofs.bytes.put_faces.Statement.{statement}
+use Rattle.ovwrite.proofs.bytes.put_faces.Tie as tie
+
+abbrev Inv-loop : tie.InvT-loop
+Inv-loop faces buffer₀ n start f₀ buffer f = Storing 8 (faceBytes (tablesBy [] [] [] faces)) start n buffer₀ buffer f
+
+abbrev μ-loop : tie.MeasureT-loop
+μ-loop faces buffer₀ n start f₀ buffer f = n - f
+
+faces-at-requires : tie.Need-faces-at-requires Inv-loop μ-loop
+faces-at-requires c κs = search needs
+
+loop-holds : tie.Need-loop-holds Inv-loop μ-loop
+loop-holds c =
+    let s = c .before .before .before in
+    let t = tablesBy [] [] [] (now (s .args .faces)) in
+    storing-starts 8 (faceBytes t) (face-long t) (c .faces-at .result) (s .args .c .faces) (now (s .args .buffer)) (omega (arith, c .faces-at .ensures, s .pre))
+
+cast-put-face : tie.Need-cast-put-face Inv-loop μ-loop
+cast-put-face c = search needs
+
+mul-put-face : tie.Need-mul-put-face Inv-loop μ-loop
+mul-put-face c = search needs
+
+add-put-face : tie.Need-add-put-face Inv-loop μ-loop
+add-put-face c = search needs
+
+put-face-requires : tie.Need-put-face-requires Inv-loop μ-loop
+put-face-requires c κs = let at = c .before .before in omega (arith, at .loop .inv .room, at .loop .inv .kept, c .before .loop-test .taken)
+
+add-f : tie.Need-add-f Inv-loop μ-loop
+add-f c = search needs
+
+loop-less : tie.Need-loop-less Inv-loop μ-loop
+loop-less c = search needs
+
+loop-again : tie.Need-loop-again Inv-loop μ-loop
+loop-again c =
+    let at = c .before .before .before .before .before in
+    let t = tablesBy [] [] [] (now (at .before .before .before .before .args .faces)) in
+    storing-turns 8 (faceBytes t) (face-long t) (at .loop .inv) _ (c .before .before .before .before .loop-test .taken) (c .before .before .put-face .ensures)
+
+same-length : tie.Need-same-length Inv-loop μ-loop
+same-length c = c .before .loop .inv .kept
+
+returns : tie.Need-returns Inv-loop μ-loop
+returns c =
+    let a = c .before .before .before .before .before .args in
+    let t = tablesBy [] [] [] (now (a .faces)) in
+    storing-ends 8 (faceBytes t) (face-long t) (c .before .loop .inv) (c .loop-test .left)
+    ∙ ap (λ (p : ℕ). sets (now (a .buffer)) p (rows (faceBytes t) (a .c .faces))) (c .before .before .faces-at .ensures)
+
+pub put-faces-spec : {M : Type 1} → statement M
+put-faces-spec =
+    tie.close
+    (tie.spec
+    Inv-loop
+    μ-loop
+    faces-at-requires
+    loop-holds
+    cast-put-face
+    mul-put-face
+    add-put-face
+    put-face-requires
+    add-f
+    loop-less
+    loop-again
+    same-length
+    returns)

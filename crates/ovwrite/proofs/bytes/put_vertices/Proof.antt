@@ -1,0 +1,67 @@
+-- `ovwrite::bytes::put_vertices` meets its contract. Assumes nothing.
+use mathlib.Core.Path.{ap, _∙_}
+use denote.Ref.{now}
+use Rattle.seq.specs.Seq.{[], List, ℕ, ℤ, _-_, sets}
+use Rattle.paper.specs.Ovfile.{vertexBytes}
+use Rattle.tables.specs.Values.{tablesBy}
+use Rattle.ovfile.specs.Values.{layout}
+use Rattle.ovfile.proofs.StoringLaws.{Storing, storing-starts, storing-turns, storing-ends}
+use Rattle.ovwrite.proofs.PutLaws.{vertex-long}
+use native.Mathlib.Omega.{arith}
+use borrow.Author.Needs.{needs}
+use Rattle.ovwrite.proofs.bytes.put_vertices.Statement.{statement}
+use Rattle.ovwrite.proofs.bytes.put_vertices.Tie as tie
+
+abbrev bytes : List ℤ → ℕ → List ℕ
+bytes vs = vertexBytes layout (tablesBy vs [] [] [])
+
+abbrev Inv-loop : tie.InvT-loop
+Inv-loop n vertices buffer₀ v₀ buffer v = Storing 14 (bytes vertices) 11 n buffer₀ buffer v
+
+abbrev μ-loop : tie.MeasureT-loop
+μ-loop n vertices buffer₀ v₀ buffer v = n - v
+
+loop-holds : tie.Need-loop-holds Inv-loop μ-loop
+loop-holds c = let s = c .before in let vs = now (s .args .vertices) in storing-starts 14 (bytes vs) (vertex-long (tablesBy vs [] [] [])) 11 (s .args .n) (now (s .args .buffer)) (s .pre .1)
+
+vertex-place-requires : tie.Need-vertex-place-requires Inv-loop μ-loop
+vertex-place-requires c κs = search needs
+
+put-vertex-requires : tie.Need-put-vertex-requires Inv-loop μ-loop
+put-vertex-requires c κs =
+    let at = c .before .before .before in
+    (at .before .before .pre .0 .at (at .loop .v) (c .before .before .loop-test .taken), omega (arith, c .vertex-place .ensures, at .loop .inv .room, at .loop .inv .kept, c .before .before .loop-test .taken))
+
+add-v : tie.Need-add-v Inv-loop μ-loop
+add-v c = search needs
+
+loop-less : tie.Need-loop-less Inv-loop μ-loop
+loop-less c = search needs
+
+loop-again : tie.Need-loop-again Inv-loop μ-loop
+loop-again c =
+    let at = c .before .before .before .before .before .before in
+    let vs = now (at .before .before .args .vertices) in
+    storing-turns 14 (bytes vs) (vertex-long (tablesBy vs [] [] [])) (at .loop .inv) _ (c .before .before .before .before .before .loop-test .taken)
+    (c .before .before .put-vertex .ensures ∙ ap (λ (p : ℕ). sets (at .loop .buffer) p (bytes vs (at .loop .v))) (c .before .before .before .vertex-place .ensures))
+
+same-length : tie.Need-same-length Inv-loop μ-loop
+same-length c = c .before .loop .inv .kept
+
+returns : tie.Need-returns Inv-loop μ-loop
+returns c = let vs = now (c .before .before .before .args .vertices) in storing-ends 14 (bytes vs) (vertex-long (tablesBy vs [] [] [])) (c .before .loop .inv) (c .loop-test .left)
+
+pub put-vertices-spec : {M : Type 1} → statement M
+put-vertices-spec =
+    tie.close
+    (tie.spec
+    Inv-loop
+    μ-loop
+    loop-holds
+    vertex-place-requires
+    put-vertex-requires
+    add-v
+    loop-less
+    loop-again
+    same-length
+    returns)

@@ -1,0 +1,64 @@
+-- `ovwrite::edges::first_bad_edge_by` meets its contract: nothing below the counter has been found. Assumes nothing.
+use mathlib.Core.Path.{sym, _∙_}
+use denote.Ref.{now}
+use Rattle.seq.specs.Seq.{Bool, List, ℕ, _-_}
+use Rattle.paper.specs.Limits.{maps}
+use Rattle.paper.specs.Ovfile.{badEdge}
+use Rattle.tables.specs.Values.{countsOf}
+use Rattle.tables.specs.declared.room.Counts.{Counts}
+use Rattle.ovfile.specs.Values.{edgeTables}
+use Rattle.ovfile.proofs.SearchLaws.{Searching, search-starts, search-turns, search-finds, search-ends}
+use borrow.Author.Needs.{needs}
+use Rattle.ovwrite.proofs.edges.first_bad_edge_by.Statement.{statement}
+use Rattle.ovwrite.proofs.edges.first_bad_edge_by.Tie as tie
+
+abbrev bad : Counts → List ℕ → List ℕ → ℕ → Bool
+bad c hs ss = badEdge maps (countsOf c) (edgeTables hs ss)
+
+abbrev Inv-loop : tie.InvT-loop
+Inv-loop c halves sources first n k₀ k = Searching (bad c halves sources) n k
+
+abbrev μ-loop : tie.MeasureT-loop
+μ-loop c halves sources first n k₀ k = n - k
+
+abbrev test : (c : tie.At-loop Inv-loop μ-loop) → ℕ → Bool
+test c = let a = c .before .before .before .before .args in bad (a .c) (now (a .halves)) (now (a .sources))
+
+loop-holds : tie.Need-loop-holds Inv-loop μ-loop
+loop-holds c = let a = c .before .before .before .args in search-starts (bad (a .c) (now (a .halves)) (now (a .sources))) (a .c .edges)
+
+bad-edge-requires : tie.Need-bad-edge-requires Inv-loop μ-loop
+bad-edge-requires c κs = search needs
+
+returns : tie.Need-returns Inv-loop μ-loop
+returns c =
+    let at = c .before .before .before in
+    search-finds (test at) (at .loop .inv) (c .before .before .loop-test .taken) (sym (c .before .bad-edge .ensures) ∙ c .if1 .taken)
+
+add-k : tie.Need-add-k Inv-loop μ-loop
+add-k c = search needs
+
+loop-less : tie.Need-loop-less Inv-loop μ-loop
+loop-less c = search needs
+
+loop-again : tie.Need-loop-again Inv-loop μ-loop
+loop-again c =
+    let at = c .before .before .before in
+    search-turns (test at) (at .loop .inv) (c .before .before .loop-test .taken) (sym (c .before .bad-edge .ensures) ∙ c .if1 .left)
+
+returns-2 : tie.Need-returns-2 Inv-loop μ-loop
+returns-2 c = let at = c .before in search-ends (test at) (at .loop .inv) (c .loop-test .left)
+
+pub first-bad-edge-by-spec : {M : Type 1} → statement M
+first-bad-edge-by-spec =
+    tie.close
+    (tie.spec
+    Inv-loop
+    μ-loop
+    loop-holds
+    bad-edge-requires
+    returns
+    add-k
+    loop-less
+    loop-again
+    returns-2)

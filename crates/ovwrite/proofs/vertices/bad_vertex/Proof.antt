@@ -1,0 +1,63 @@
+-- `ovwrite::vertices::bad_vertex` meets its contract. Assumes nothing.
+use mathlib.Core.Path.{ap, _∙_}
+use mir.Syntax.{w64}
+use mir.ValLaws.{toZ-ofZ}
+use Rattle.seq.specs.Seq.{not, _&&_, pos}
+use Rattle.paper.specs.Bytes.{fitsSigned, fitsUnsigned}
+use Rattle.ovwrite.proofs.JudgeLaws.{same-number}
+use borrow.Author.Needs.{needs}
+use Rattle.ovwrite.proofs.vertices.bad_vertex.Statement.{statement}
+use Rattle.ovwrite.proofs.vertices.bad_vertex.Tie as tie
+
+vertex-cell-requires : tie.Need-vertex-cell-requires
+vertex-cell-requires c κs = search needs
+
+fits-signed-requires : tie.Need-fits-signed-requires
+fits-signed-requires c κs = search needs
+
+vertex-cell-requires-2 : tie.Need-vertex-cell-requires-2
+vertex-cell-requires-2 c κs = search needs
+
+fits-signed-requires-2 : tie.Need-fits-signed-requires-2
+fits-signed-requires-2 c κs = search needs
+
+vertex-cell-requires-3 : tie.Need-vertex-cell-requires-3
+vertex-cell-requires-3 c κs = search needs
+
+fits-unsigned-requires : tie.Need-fits-unsigned-requires
+fits-unsigned-requires c κs = search needs
+
+vertex-cell-requires-4 : tie.Need-vertex-cell-requires-4
+vertex-cell-requires-4 c κs = search needs
+
+u16-at-requires : tie.Need-u16-at-requires
+u16-at-requires c κs = search needs
+
+of-u16-requires : tie.Need-of-u16-requires
+of-u16-requires c κs = search needs
+
+returns : tie.Need-returns
+returns c =
+    let x = c .before .before .before .before .before .before .before in
+    let y = c .before .before .before .before .before in
+    let d = c .before .before .before in
+    let outgoing = c .before .before in
+    (λ i. not ((x .fits-signed .ensures ∙ ap (fitsSigned 5) (toZ-ofZ w64 _ (record { sfits = x .before .vertex-cell .ok }) ∙ x .before .vertex-cell .ensures)) i
+    && ((y .fits-signed2 .ensures ∙ ap (fitsSigned 5) (toZ-ofZ w64 _ (record { sfits = y .before .vertex-cell2 .ok }) ∙ y .before .vertex-cell2 .ensures)) i
+    && ((d .fits-unsigned .ensures ∙ ap (fitsUnsigned 4) (toZ-ofZ w64 _ (record { sfits = d .before .vertex-cell3 .ok }) ∙ d .before .vertex-cell3 .ensures)) i
+    && same-number _ _ (record { sfits = outgoing .vertex-cell4 .ok }) (record { sfits = c .of-u16 .ok }) (outgoing .vertex-cell4 .ensures) (c .of-u16 .ensures ∙ ap pos (c .before .u16-at .ensures)) i))))
+
+pub bad-vertex-spec : {M : Type 1} → statement M
+bad-vertex-spec =
+    tie.close
+    (tie.spec
+    vertex-cell-requires
+    fits-signed-requires
+    vertex-cell-requires-2
+    fits-signed-requires-2
+    vertex-cell-requires-3
+    fits-unsigned-requires
+    vertex-cell-requires-4
+    u16-at-requires
+    of-u16-requires
+    returns)

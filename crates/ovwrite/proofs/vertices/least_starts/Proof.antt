@@ -1,0 +1,28 @@
+-- `ovwrite::vertices::least_starts` meets its contract. Assumes nothing.
+use denote.Ref.{now}
+use lib.ListN.{getD-replicate}
+use Rattle.paper.specs.Limits.{absent}
+use Rattle.ovwrite.proofs.JudgeLaws.{starts-by}
+use native.Mathlib.Omega.{arith}
+use borrow.Author.Needs.{needs}
+use Rattle.ovwrite.proofs.vertices.least_starts.Statement.{statement}
+use Rattle.ovwrite.proofs.vertices.least_starts.Tie as tie
+
+mul-first-places : tie.Need-mul-first-places
+mul-first-places c = search needs
+
+slice-aggregate-first-places : tie.Need-slice-aggregate-first-places
+slice-aggregate-first-places c = search needs
+
+first-places-requires : tie.Need-first-places-requires
+first-places-requires c κs = search needs
+
+returns : tie.Need-returns
+returns c =
+    starts-by (now (c .before .before .before .before .args .halves)) (c .before .first-places .ensures) (omega (arith, c .before .first-places .kept .1 .1 .1 .0))
+    (λ v l. getD-replicate 1000 v absent 0 (omega arith))
+
+pub least-starts-spec : {M : Type 1} → statement M
+least-starts-spec =
+    tie.close
+    (tie.spec mul-first-places slice-aggregate-first-places first-places-requires returns)

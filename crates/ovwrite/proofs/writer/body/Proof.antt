@@ -1,0 +1,60 @@
+-- `ovwrite::writer::body` meets its contract. Assumes nothing.
+use mathlib.Core.Path.{refl, ap, _∙_}
+use denote.Ref.{now}
+use Rattle.seq.specs.Seq.{[], ℕ, ltb}
+use Rattle.paper.specs.Limits.{maps}
+use Rattle.paper.specs.Refusal.{given}
+use Rattle.paper.specs.Ovfile.{badVertex, badEdge}
+use Rattle.mapfile.proofs.VerdictLaws.{last, before, at-least}
+use Rattle.tables.specs.Values.{countsOf, tablesBy}
+use Rattle.ovfile.specs.Values.{edgeTables, layout}
+use borrow.Author.Needs.{needs}
+use Rattle.ovwrite.proofs.writer.body.Statement.{statement}
+use Rattle.ovwrite.proofs.writer.body.Tie as tie
+
+first-bad-vertex-requires : tie.Need-first-bad-vertex-requires
+first-bad-vertex-requires c κs = search needs
+
+first-bad-edge-requires : tie.Need-first-bad-edge-requires
+first-bad-edge-requires c κs = search needs
+
+given-requires : tie.Need-given-requires
+given-requires c κs = search needs
+
+given-requires-2 : tie.Need-given-requires-2
+given-requires-2 c κs = search needs
+
+file-length-requires : tie.Need-file-length-requires
+file-length-requires c κs = search needs
+
+given-requires-3 : tie.Need-given-requires-3
+given-requires-3 c κs = search needs
+
+first-requires : tie.Need-first-requires
+first-requires c κs = search needs
+
+first-requires-2 : tie.Need-first-requires-2
+first-requires-2 c κs = search needs
+
+returns : tie.Need-returns
+returns c =
+    let a = c .before .before .before .before .before .before .before .before .before .before .before .before .args in
+    let hs = now (a .halves) in
+    let vertex = at-least 5 (badVertex layout (countsOf (a .c)) (tablesBy (now (a .vertices)) hs [] [])) (a .c .vertices) _ _ _ (c .before .before .before .before .before .before .given .ensures) (c .before .before .before .before .before .before .before .before .before .first-bad-vertex .ensures) refl in
+    let edge = at-least 21 (badEdge maps (countsOf (a .c)) (edgeTables hs (now (a .sources)))) (a .c .edges) _ _ _ (c .before .before .before .before .given2 .ensures) (c .before .before .before .before .before .before .before .before .first-bad-edge .ensures) refl in
+    let short = c .before .before .given3 .ensures ∙ ap (λ (k : ℕ). given 11 4 (ltb (a .n) k)) (c .before .before .before .file-length .ensures) in
+    before (c .first2 .ensures) vertex (before (c .before .first .ensures) edge (last short)) .is
+
+pub body-spec : {M : Type 1} → statement M
+body-spec =
+    tie.close
+    (tie.spec
+    first-bad-vertex-requires
+    first-bad-edge-requires
+    given-requires
+    given-requires-2
+    file-length-requires
+    given-requires-3
+    first-requires
+    first-requires-2
+    returns)
