@@ -1,0 +1,37 @@
+-- `listed::answer::put` meets its contract. Assumes nothing.
+use mathlib.Core.Path.{sym, ap}
+use borrow.Author.Needs.{needs}
+use denote.Ref.{now}
+use Rattle.tables.specs.Values.{answerOf}
+use Rattle.listed.specs.Room.{line-as, roomy-as}
+use Rattle.listed.proofs.answer.put.Statement.{statement}
+use Rattle.listed.proofs.answer.put.Tie as tie
+
+enum-known-answer : tie.Need-enum-known-answer
+enum-known-answer c = search needs
+
+listing-requires : tie.Need-listing-requires
+listing-requires c κs = roomy-as (sym (ap answerOf (c .before .before .answer .given .1))) (c .before .before .before .before .before .pre)
+
+enum-known-answer-2 : tie.Need-enum-known-answer-2
+enum-known-answer-2 c = search needs
+
+refused-listing-requires : tie.Need-refused-listing-requires
+refused-listing-requires c κs = search needs
+
+returns : tie.Need-returns
+returns c = line-as (now (c .before .before .before .before .before .before .args .faces)) (ap answerOf (c .before .before .before .answer .given .1)) (c .listing .ensures)
+
+returns-2 : tie.Need-returns-2
+returns-2 c = line-as (now (c .before .before .before .before .before .before .args .faces)) (ap answerOf (c .before .before .before .answer2 .given .1)) (c .refused-listing .ensures)
+
+pub put-spec : {M : Type 1} → statement M
+put-spec =
+    tie.close
+    (tie.spec
+    enum-known-answer
+    listing-requires
+    enum-known-answer-2
+    refused-listing-requires
+    returns
+    returns-2)
