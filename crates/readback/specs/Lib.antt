@@ -1,0 +1,6 @@
+pub mod Sound
+pub mod Accepts
+pub mod ReadCells
+pub mod Halves
+pub mod Counted
+pub mod ReadWritten

@@ -1,0 +1,1 @@
+// The overlay file both ways: everything is in specs/. No code.
