@@ -1,0 +1,1 @@
+// The overlay and its file: everything is in specs/. No code.
