@@ -1,0 +1,159 @@
+-- Refusals in the order in which the code finds them: the maps, then vertices and edges over the room, then faces. Assumes nothing.
+use mathlib.Core.Path.{_≡_, refl, sym, _∙_, ap}
+use Prim.Native.Nat.{_≤_, _<_}
+use native.Mathlib.Decide.{decLt}
+use native.Mathlib.Numerals.{add-one}
+use native.Mathlib.Omega.{arith}
+use borrow.Author.Tests.{ltb-false, lt-ltb, le-ltb}
+use Rattle.seq.specs.Seq.{Bool, true, false, List, [], _∷_, map, Option, none, some, ℕ, suc, _+_, ltb, length}
+use lib.ListN.{length-map}
+use Rattle.seq.specs.Table.{length-table}
+use Rattle.paper.specs.Limits.{maps, overlayVertices, overlayEdges}
+use Rattle.paper.specs.Refusal.{Refusal, given, firstOf, ofMap}
+use Rattle.paper.specs.Graph.{edgeCount}
+use Rattle.paper.specs.Map.{Map, mapOf, fault}
+use Rattle.paper.specs.Pieces.{verticesOf, edgesOf, edgeOf}
+use Rattle.paper.specs.Faces.{Overlay, net, overlayOf}
+use Rattle.paper.specs.Tables.{Counts, countsOf, tablesOf}
+use Rattle.paper.specs.Lent.{Lengths, roomIn, roomFaults, mapFaults, outcome, overlay}
+use Rattle.filelaws.specs.Refusals.{nothing, given-none, none-given}
+use Rattle.graph.specs.Flat.{pointAt}
+use Rattle.cut.specs.PieceRows.{pieceAt}
+use Rattle.mapfile.proofs.VerdictLaws.{first-none, first-some, first-one}
+use Rattle.net.specs.Cut.{CutOf}
+use Rattle.net.specs.Traced.{TracedOf}
+use Rattle.net.specs.declared.cutting.Cut.{Cut}
+use Rattle.net.specs.declared.tracing.Traced.{Traced}
+use Rattle.overlay.specs.Judged.{overlaid, doneWith, refusedWith, Within}
+
+-- ── the maps ──
+
+not-refused : (m : ℕ) (x : Option Refusal) → ofMap m x ≡ none → x ≡ none
+not-refused m none e = refl
+not-refused m (some r) e = absurd (let z : _≡_ {A = ℕ} 0 1 = cc in omega arith)
+
+module _ (a b : List ℕ) where
+  abbrev found : Option Refusal
+  found = firstOf (mapFaults (a ∷ b ∷ []))
+
+  abbrev maps-in : List Map
+  maps-in = mapOf a ∷ mapOf b ∷ []
+
+  -- the first map, and where nothing is found in it the second
+  pub zones-refused : {r : Refusal} → ofMap 1 (fault a) ≡ some r → found ≡ some r
+  zones-refused e = ap (λ (x : Option Refusal). firstOf (x ∷ ofMap 2 (fault b) ∷ [])) e
+
+  pub zones-pass : ofMap 1 (fault a) ≡ none → found ≡ ofMap 2 (fault b)
+  zones-pass e = ap (λ (x : Option Refusal). firstOf (x ∷ ofMap 2 (fault b) ∷ [])) e ∙ first-one (ofMap 2 (fault b))
+
+  pub first-passes : found ≡ none → fault a ≡ none
+  first-passes e = not-refused 1 (fault a) (nothing (mapFaults (a ∷ b ∷ [])) e .0)
+
+  pub second-passes : found ≡ none → fault b ≡ none
+  second-passes e = not-refused 2 (fault b) (nothing (mapFaults (a ∷ b ∷ [])) e .1 .0)
+
+  module _ (l : Lengths) where
+    abbrev counts : Counts
+    counts = countsOf (overlayOf maps-in)
+
+    pub maps-refused : (r : Refusal) → found ≡ some r → refusedWith l r ≡ overlay l a b
+    maps-refused r e =
+        sym (ap (outcome l counts (tablesOf maps-in (overlayOf maps-in))) (first-some (mapFaults (a ∷ b ∷ [])) (roomFaults (roomIn maps l) counts) e))
+
+    pub maps-pass : found ≡ none → overlaid maps-in l ≡ overlay l a b
+    maps-pass e =
+        sym (ap (outcome l counts (tablesOf maps-in (overlayOf maps-in))) (first-none (mapFaults (a ∷ b ∷ [])) (roomFaults (roomIn maps l) counts) e))
+
+-- ── counts ──
+
+-- a number that is exact up to the limit is over a room within the limit exactly if what it counts is
+over-same : (room n m limit : ℕ) → room ≤ limit → (n ≤ limit → n ≡ m) → (limit < n → limit < m) → ltb room n ≡ ltb room m
+over-same room n m limit h exact more =
+    elim (decLt limit n) [
+      | yes q ↦ let k = more q in lt-ltb room n (omega arith) ∙ sym (lt-ltb room m (omega arith))
+      | no q ↦ ap (ltb room) (exact (omega arith))
+    ]
+
+-- vertices, then edges: the second is asked for only where the first is not over
+two-places : (v e w d : Bool) (rest : List (Option Refusal)) → v ≡ w → (v ≡ false → e ≡ d) →
+    firstOf (given 11 1 w ∷ given 11 2 d ∷ rest) ≡ firstOf (firstOf (given 11 1 v ∷ given 11 2 e ∷ []) ∷ rest)
+two-places true e w d rest p q = sym (ap (λ (b : Bool). firstOf (given 11 1 b ∷ given 11 2 d ∷ rest)) p)
+two-places false e w d rest p q = sym (λ i. firstOf (given 11 1 (p i) ∷ given 11 2 (q refl i) ∷ rest)) ∙ one e
+  where
+    one : (e : Bool) → firstOf (given 11 1 false ∷ given 11 2 e ∷ rest) ≡ firstOf (firstOf (given 11 1 false ∷ given 11 2 e ∷ []) ∷ rest)
+    one true = refl
+    one false = refl
+
+module _ (ms : List Map) (c : Cut) (C : CutOf ms c) where
+  abbrev o : Overlay
+  o = overlayOf ms
+
+  vertices-in : length (net (overlayOf ms) .points) ≡ length (verticesOf ms)
+  unfolding overlayOf
+  vertices-in = refl
+
+  edges-in : edgeCount (net (overlayOf ms)) ≡ length (edgesOf ms (verticesOf ms))
+  unfolding overlayOf
+  edges-in = length-map (edgesOf ms (verticesOf ms)) (edgeOf ms)
+
+  vertices-over : (room : ℕ) → room ≤ overlayVertices → ltb room (c .vertices) ≡ ltb room (countsOf o .vertices)
+  vertices-over room h =
+      over-same room (c .vertices) (countsOf o .vertices) overlayVertices h
+      (λ q. sym (length-table (pointAt (c .points)) (c .vertices)) ∙ ap length (C .vertices-are q) ∙ sym vertices-in)
+      (λ q. omega (arith, C .vertices-over q, vertices-in))
+
+  edges-over : c .vertices ≤ overlayVertices → (room : ℕ) → room ≤ overlayEdges → ltb room (c .edges) ≡ ltb room (countsOf o .edges)
+  edges-over few room h =
+      over-same room (c .edges) (countsOf o .edges) overlayEdges h
+      (λ q. sym (length-table (pieceAt (c .pieces)) (c .edges)) ∙ ap length (C .edges-are few q) ∙ sym edges-in)
+      (λ q. omega (arith, C .edges-over few q, edges-in))
+
+  module _ (l : Lengths) where
+    abbrev room : Counts
+    room = roomIn maps l
+
+    abbrev judged : Option Refusal
+    judged = firstOf (given 11 1 (ltb (room .vertices) (c .vertices)) ∷ given 11 2 (ltb (room .edges) (c .edges)) ∷ [])
+
+    -- vertices and edges, then faces
+    judged-first : firstOf (roomFaults room (countsOf o)) ≡ firstOf (judged ∷ given 11 3 (ltb (room .faces) (countsOf o .faces)) ∷ [])
+    judged-first =
+        two-places (ltb (room .vertices) (c .vertices)) (ltb (room .edges) (c .edges)) (ltb (room .vertices) (countsOf o .vertices)) (ltb (room .edges) (countsOf o .edges))
+        (given 11 3 (ltb (room .faces) (countsOf o .faces)) ∷ [])
+        (vertices-over (room .vertices) (omega arith))
+        (λ e. edges-over (omega (arith, ltb-false (room .vertices) (c .vertices) e)) (room .edges) (omega arith))
+
+    pub cut-refused : (r : Refusal) → judged ≡ some r → refusedWith l r ≡ overlaid ms l
+    cut-refused r e =
+        sym (ap (outcome l (countsOf o) (tablesOf ms o)) (judged-first ∙ ap (λ (x : Option Refusal). firstOf (x ∷ given 11 3 (ltb (room .faces) (countsOf o .faces)) ∷ [])) e))
+
+    pub cut-within : judged ≡ none → Within c l
+    cut-within e =
+        let n = nothing (given 11 1 (ltb (room .vertices) (c .vertices)) ∷ given 11 2 (ltb (room .edges) (c .edges)) ∷ []) e in
+        record {
+          vertices = ltb-false (room .vertices) (c .vertices) (given-none 11 1 (ltb (room .vertices) (c .vertices)) (n .0));
+          edges = ltb-false (room .edges) (c .edges) (given-none 11 2 (ltb (room .edges) (c .edges)) (n .1 .0));
+        }
+
+    module _ (w : Within c l) (t : Traced) (T : TracedOf ms c t) where
+      nothing-yet : judged ≡ none
+      nothing-yet =
+          let p = none-given 11 1 (ltb (room .vertices) (c .vertices)) (le-ltb (room .vertices) (c .vertices) (w .vertices)) in
+          let q = none-given 11 2 (ltb (room .edges) (c .edges)) (le-ltb (room .edges) (c .edges) (w .edges)) in
+          λ i. firstOf (p i ∷ q i ∷ [])
+
+      faces-are : countsOf o .faces ≡ t .count + 1
+      faces-are = ap suc (sym (T .count-is)) ∙ sym (add-one (t .count))
+
+      faces-last : firstOf (roomFaults room (countsOf o)) ≡ given 11 3 (ltb (room .faces) (t .count + 1))
+      faces-last =
+          judged-first ∙ ap (λ (x : Option Refusal). firstOf (x ∷ given 11 3 (ltb (room .faces) (countsOf o .faces)) ∷ [])) nothing-yet
+          ∙ first-one (given 11 3 (ltb (room .faces) (countsOf o .faces))) ∙ ap (λ (n : ℕ). given 11 3 (ltb (room .faces) n)) faces-are
+
+      pub faces-refused : room .faces < t .count + 1 → refusedWith l (record { number = 11; map = 0; place = 3 }) ≡ overlaid ms l
+      faces-refused h =
+          sym (ap (outcome l (countsOf o) (tablesOf ms o)) (faces-last ∙ ap (given 11 3) (lt-ltb (room .faces) (t .count + 1) h)))
+
+      pub all-within : t .count + 1 ≤ room .faces → doneWith l (countsOf o) (tablesOf ms o) ≡ overlaid ms l
+      all-within h =
+          sym (ap (outcome l (countsOf o) (tablesOf ms o)) (faces-last ∙ ap (given 11 3) (le-ltb (room .faces) (t .count + 1) h)))

@@ -1,0 +1,26 @@
+-- What comes out of maps that pass: "room comes last". Assumes nothing.
+use Prim.Native.Nat.{_≤_}
+use Rattle.seq.specs.Seq.{List}
+use Rattle.paper.specs.Limits.{maps}
+use Rattle.paper.specs.Refusal.{Refusal, firstOf, done, refused}
+use Rattle.paper.specs.Map.{Map}
+use Rattle.paper.specs.Faces.{overlayOf}
+use Rattle.paper.specs.Tables.{Counts, countsOf, Tables, tablesOf}
+use Rattle.paper.specs.Lent.{Lengths, roomIn, roomFaults, paddedTables, zeroTables, outcome, Outcome}
+use Rattle.net.specs.declared.cutting.Cut.{Cut}
+
+-- of the maps ms, in tables of these lengths
+abbrev pub overlaid : List Map → Lengths → Outcome
+overlaid ms l = let o = overlayOf ms in let c = countsOf o in outcome l c (tablesOf ms o) (firstOf (roomFaults (roomIn maps l) c))
+
+-- "Done: places past the counts are zero. Refused: all lent tables are zero"
+abbrev pub doneWith : Lengths → Counts → Tables → Outcome
+doneWith l c t = record { answer = done c; tables = paddedTables l t }
+
+abbrev pub refusedWith : Lengths → Refusal → Outcome
+refusedWith l r = record { answer = refused r; tables = zeroTables l }
+
+-- the vertices and edges in c are within the room
+pub record Within (c : Cut) (l : Lengths) : Type 0 where
+  pub vertices : c .vertices ≤ roomIn maps l .vertices
+  pub edges : c .edges ≤ roomIn maps l .edges
