@@ -1,0 +1,1 @@
+// What the overlay's promise says of the lent tables: everything is in specs/. No code.
