@@ -1,0 +1,59 @@
+-- `pairs::label::face_labels` meets its contract: before turn f the labels of the first f faces stand. Assumes nothing.
+use Prim.Native.Nat.{_-_}
+use native.Mathlib.Omega.{arith}
+use borrow.Author.Needs.{needs}
+use Rattle.graph.specs.Filling.{Filling, fill-starts, fill-turns, fill-ends}
+use Rattle.layers.specs.Standing.{standing}
+use Rattle.pairs.specs.Labels.{faceLabel}
+use Rattle.pairs.proofs.label.face_labels.Statement.{statement}
+use Rattle.pairs.proofs.label.face_labels.Tie as tie
+
+abbrev Inv-loop : tie.InvT-loop
+Inv-loop corners origins carriers labels v w a b points ends lines pieces m outers n out₀ f₀ out f =
+    Filling (faceLabel (standing corners origins carriers labels v w a b) points ends lines pieces m outers) n out₀ out f
+
+abbrev μ-loop : tie.MeasureT-loop
+μ-loop corners origins carriers labels v w a b points ends lines pieces m outers n out₀ f₀ out f = n - f
+
+loop-holds : tie.Need-loop-holds Inv-loop μ-loop
+loop-holds c = fill-starts _ _ _ (c .before .before .before .before .before .before .pre .1 .1 .1)
+
+face-label-requires : tie.Need-face-label-requires Inv-loop μ-loop
+face-label-requires c κs = let s = c .before .before .before .before .before .before .before .before in (s .pre .0, s .pre .1 .0 (c .before .loop .f) (c .loop-test .taken))
+
+mul-out : tie.Need-mul-out Inv-loop μ-loop
+mul-out c = omega (arith, c .before .loop-test .taken, c .before .before .before .before .before .before .before .before .before .pre .1 .1 .0)
+
+slice-write-out : tie.Need-slice-write-out Inv-loop μ-loop
+slice-write-out c = search needs
+
+add-f : tie.Need-add-f Inv-loop μ-loop
+add-f c = search needs
+
+loop-less : tie.Need-loop-less Inv-loop μ-loop
+loop-less c = search needs
+
+loop-again : tie.Need-loop-again Inv-loop μ-loop
+loop-again c = fill-turns _ (c .before .before .loop .inv) _ (c .before .loop-test .taken) (c .face-label .ensures)
+
+same-length : tie.Need-same-length Inv-loop μ-loop
+same-length c = search needs
+
+returns : tie.Need-returns Inv-loop μ-loop
+returns c = fill-ends _ (c .before .loop .inv) (search needs)
+
+pub face-labels-spec : {M : Type 1} → statement M
+face-labels-spec =
+    tie.close
+    (tie.spec
+    Inv-loop
+    μ-loop
+    loop-holds
+    face-label-requires
+    mul-out
+    slice-write-out
+    add-f
+    loop-less
+    loop-again
+    same-length
+    returns)

@@ -1,0 +1,90 @@
+-- `pairs::rows::face_rows` meets its contract. Assumes nothing.
+use mathlib.Core.Path.{_≡_, refl, sym}
+use Prim.Native.Nat.{ℕ}
+use native.Mathlib.Omega.{arith}
+use lib.ListN.{length, replicate}
+use borrow.Author.Needs.{needs, length-unmapped}
+use Rattle.pairs.specs.Pairs.{Whole, rows-are}
+use Rattle.pairs.proofs.rows.face_rows.Statement.{statement}
+use Rattle.pairs.proofs.rows.face_rows.Tie as tie
+
+-- what is asked, as one record
+whole : (s : tie.Start) → Whole (s .args .l) (s .args .c) (s .args .t)
+whole s = record {
+  held = s .pre .0;
+  cut = s .pre .1 .0;
+  few-vertices = s .pre .1 .1 .0 .0;
+  few-edges = s .pre .1 .1 .0 .1;
+  traced = s .pre .1 .1 .1 .0;
+  few-faces = s .pre .1 .1 .1 .1;
+}
+
+-- the lengths of the arrays
+outers-long : (s : tie.Start) → length (s .args .t .outers) ≡ 4000
+outers-long s = length-unmapped ℕ (s .args .t .outers) 4000 (s .good .1 .1 .0 .1 .1 .1 .1 .1 .1 .1 .1 .0 .1 .0 .1)
+
+holes-long : (s : tie.Start) → length (s .args .t .holes) ≡ 4001
+holes-long s = length-unmapped ℕ (s .args .t .holes) 4001 (s .good .1 .1 .0 .1 .1 .1 .1 .1 .1 .1 .1 .1 .0 .1 .0 .1)
+
+slice-aggregate-lay-labels : tie.Need-slice-aggregate-lay-labels
+slice-aggregate-lay-labels c = search needs
+
+lay-labels-requires : tie.Need-lay-labels-requires
+lay-labels-requires c κs = (whole (c .before), (omega arith, whole (c .before) .few-faces))
+
+slice-aggregate-lay-labels-2 : tie.Need-slice-aggregate-lay-labels-2
+slice-aggregate-lay-labels-2 c = search needs
+
+lay-labels-requires-2 : tie.Need-lay-labels-requires-2
+lay-labels-requires-2 c κs = let s = c .before .before .before .before in (whole s, (omega arith, whole s .few-faces))
+
+add-n : tie.Need-add-n
+add-n c = search needs
+
+slice-aggregate-lay-outers : tie.Need-slice-aggregate-lay-outers
+slice-aggregate-lay-outers c = sym (outers-long (c .before .before .before .before .before .before .before .before .before))
+
+slice-aggregate-lay-outers-2 : tie.Need-slice-aggregate-lay-outers-2
+slice-aggregate-lay-outers-2 c = search needs
+
+lay-outers-requires : tie.Need-lay-outers-requires
+lay-outers-requires c κs = let s = c .before .before .before .before .before .before .before .before .before .before in (omega (arith, outers-long s, whole s .few-faces), whole s .few-faces)
+
+slice-aggregate-lay-holes : tie.Need-slice-aggregate-lay-holes
+slice-aggregate-lay-holes c = sym (holes-long (c .before .before .before .before .before .before .before .before .before .before .before .before .before .before))
+
+slice-aggregate-lay-holes-2 : tie.Need-slice-aggregate-lay-holes-2
+slice-aggregate-lay-holes-2 c = search needs
+
+lay-holes-requires : tie.Need-lay-holes-requires
+lay-holes-requires c κs = let s = c .before .before .before .before .before .before .before .before .before .before .before .before .before .before .before in (omega (arith, holes-long s, whole s .few-faces), whole s .few-faces)
+
+cast-t24 : tie.Need-cast-t24
+cast-t24 c = search needs
+
+returns : tie.Need-returns
+returns c =
+    let s = c .before .before .before .before .before .before .before .before .before .before .before .before .before .before .before .before .before in
+    let first = c .before .before .before .before .before .before .before .before .before .before .before .before .before .before .before .lay-labels in
+    let second = c .before .before .before .before .before .before .before .before .before .before .before .before .lay-labels2 in
+    let outer = c .before .before .before .before .before .before .lay-outers in
+    let holes = c .before .lay-holes in
+    (refl, rows-are (s .args .l) (s .args .c) (s .args .t) (whole s) _ _ _ _ (replicate 1334 0) (first .ensures) (second .ensures) (outer .ensures) (holes .ensures))
+
+pub face-rows-spec : {M : Type 1} → statement M
+face-rows-spec =
+    tie.close
+    (tie.spec
+    slice-aggregate-lay-labels
+    lay-labels-requires
+    slice-aggregate-lay-labels-2
+    lay-labels-requires-2
+    add-n
+    slice-aggregate-lay-outers
+    slice-aggregate-lay-outers-2
+    lay-outers-requires
+    slice-aggregate-lay-holes
+    slice-aggregate-lay-holes-2
+    lay-holes-requires
+    cast-t24
+    returns)
