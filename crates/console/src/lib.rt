@@ -2,12 +2,13 @@
 // proved functions on slices.
 mod files; // files by name
 mod lines; // printing
+mod sentence; // a refusal in a sentence
 
 pub use files::load;
 pub use files::load_arg;
 pub use files::save_arg;
 pub use files::within;
 pub use lines::say;
-pub use lines::say_listing;
 pub use lines::say_number;
 pub use lines::say_refused;
+pub use sentence::say_sentence;

@@ -1,0 +1,15 @@
+// The listing program (01, "Worked sheets"): reads `zones.zmp` and `blocks.zmp` in the folder that it is started in, and prints the listing of their overlay, or
+// what is refused.
+use console::load;
+use console::say;
+
+fn main() {
+    let mut zones = io::buffer();
+    let n = load(b"zones.zmp", &mut zones);
+    let mut blocks = io::buffer();
+    let m = load(b"blocks.zmp", &mut blocks);
+    let mut out = [0u8; 85504];
+    let listed = sheet::list(&zones[..n], &blocks[..m], &mut out);
+    let length = listed.length;
+    say(&out[..length]);
+}

@@ -1,0 +1,57 @@
+// Two map files laid over each other: the listing of their overlay, and its overlay file.
+use listed::answer::Listed;
+use listed::answer::put;
+use ovwrite::WriteAnswer;
+use seq::wipe_u8;
+use tables::answer::Answer;
+ghost use mathlib.Core.Path.{_≡_};
+ghost use lib.ListN.{length};
+ghost use Rattle.paper.specs.Lent.{overlay};
+ghost use Rattle.listed.specs.Listed.{ListedOf, fullTables};
+ghost use Rattle.ovwrite.specs.Answers.{writtenOf};
+ghost use Rattle.sheet.specs.Filed.{filed};
+
+// The listing of the overlay of two map files of any bytes, or the line of what is refused.
+pub fn list(zones: &[u8], blocks: &[u8], out: &mut [u8; 85504]) -> Listed
+    ensures { λ r. ⌜ ListedOf (overlay fullTables (now (zones .entry)) (now (blocks .entry))) (now (out .exit)) r ⌝ }
+{
+    let mut vertices = [0i64; 4000];
+    let mut halves = [0u16; 20000];
+    let mut sources = [0u32; 4000];
+    let mut faces = [0u16; 5336];
+    let answer = overlay::overlay(
+        zones,
+        blocks,
+        &mut vertices,
+        &mut halves,
+        &mut sources,
+        &mut faces,
+    );
+    let length = put(answer, &faces, out);
+    Listed { length, answer }
+}
+
+// The overlay file of the overlay of two map files of any bytes, into a buffer of any length: its length, or what is refused.
+pub fn file(zones: &[u8], blocks: &[u8], buffer: &mut [u8]) -> WriteAnswer
+    ensures { λ r. ⌜ writtenOf r (now (buffer .exit)) ≡ filed (length (now (buffer .entry))) (overlay fullTables (now (zones .entry)) (now (blocks .entry))) ⌝ }
+{
+    let mut vertices = [0i64; 4000];
+    let mut halves = [0u16; 20000];
+    let mut sources = [0u32; 4000];
+    let mut faces = [0u16; 5336];
+    let answer = overlay::overlay(
+        zones,
+        blocks,
+        &mut vertices,
+        &mut halves,
+        &mut sources,
+        &mut faces,
+    );
+    match answer {
+        Answer::Done(c) => ovwrite::write(c, &vertices, &halves, &sources, &faces, buffer),
+        Answer::Refused(r) => {
+            wipe_u8(buffer);
+            WriteAnswer::Refused(r)
+        }
+    }
+}
