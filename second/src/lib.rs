@@ -12,6 +12,7 @@ pub mod make;
 pub mod map;
 pub mod overlay;
 pub mod ovfile;
+pub mod pack;
 pub mod point;
 pub mod random;
 pub mod segment;

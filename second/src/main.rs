@@ -5,6 +5,7 @@ use second::make;
 use second::map::decode;
 use second::overlay::{overlay_files, Room};
 use second::ovfile::{file_of, read};
+use second::pack;
 use second::random::Random;
 use second::text;
 use std::io::Write;
@@ -22,6 +23,9 @@ second make KIND SEED OUT.zmp             make a map file
 second pair KIND SEED DIR                 make DIR/zones.zmp and DIR/blocks.zmp
 second set SEED N DIR                     make N pairs of all kinds in turn, in folders of DIR
 second digests DIR                        the digest of the pair in each folder of DIR
+second pack SEED N FILE                   N pairs of all kinds in one file, with tables to lend
+second answers FILE                       the answer and digest of each pair of a pack
+second unpack FILE I DIR                  make the maps of pair I of a pack in DIR, and say its ROOM
 second damage-overlay SEED FILE OUT       damage an overlay file
 second text FILE.txt OUT.zmp              make a map file from text, and check it
 second untext FILE.zmp                    the text of a map file
@@ -67,6 +71,12 @@ fn run(args: &[&str]) -> Outcome {
         }
         ["set", seed, n, dir] => set(number(seed)?, number(n)?, dir),
         ["digests", dir] => digests(dir),
+        ["pack", seed, n, out] => {
+            let pairs = pack::make(number(seed)?, number(n)?);
+            save(out, &pack::bytes(&pairs)).map(|()| String::new())
+        }
+        ["answers", file] => answers(file),
+        ["unpack", file, i, dir] => unpack(file, number(i)?, dir),
         ["damage-overlay", seed, file, out] => damage_overlay(number(seed)?, file, out),
         ["text", file, out] => from_text(file, out),
         ["untext", file] => to_text(file),
@@ -164,10 +174,13 @@ fn kinds() -> String {
 }
 
 fn pair(kind: &str, seed: u64, dir: &str) -> Outcome {
-    let [zones, blocks] = make::pairs::pair_files(kind, seed).ok_or("no such kind of pair")?;
+    save_pair(&make::pairs::pair_files(kind, seed).ok_or("no such kind of pair")?, dir)
+}
+
+fn save_pair([zones, blocks]: &[Vec<u8>; 2], dir: &str) -> Outcome {
     std::fs::create_dir_all(dir).map_err(|why| format!("{dir}: {why}"))?;
-    save(&format!("{dir}/zones.zmp"), &zones)?;
-    save(&format!("{dir}/blocks.zmp"), &blocks).map(|()| String::new())
+    save(&format!("{dir}/zones.zmp"), zones)?;
+    save(&format!("{dir}/blocks.zmp"), blocks).map(|()| String::new())
 }
 
 /// Pair i is in the folder `NNNN-KIND` and has the seed SEED + i.
@@ -193,6 +206,23 @@ fn digests(dir: &str) -> Outcome {
         format!("{} {answer}", entry.file_name().to_string_lossy())
     };
     Ok(folders.iter().map(line).collect())
+}
+
+fn packed(file: &str) -> Result<Vec<pack::Pair>, String> {
+    pack::parse(&bytes(file)).ok_or(format!("{file}: not a pack of pairs"))
+}
+
+/// `I ANSWER` for each pair of a pack.
+fn answers(file: &str) -> Outcome {
+    let pairs = packed(file)?;
+    Ok(pairs.iter().enumerate().map(|(i, pair)| format!("{i} {}\n", pair.answer())).collect())
+}
+
+fn unpack(file: &str, i: usize, dir: &str) -> Outcome {
+    let pairs = packed(file)?;
+    let pair = pairs.get(i).ok_or("no such pair")?;
+    let [v, h, s, f] = pair.rows;
+    save_pair(&pair.files, dir).map(|_| format!("--tables {v} {h} {s} {f}\n"))
 }
 
 fn damage_overlay(seed: u64, file: &str, out: &str) -> Outcome {

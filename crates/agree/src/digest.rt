@@ -1,0 +1,81 @@
+// The digest of an overlay's tables, as the second program reckons it (second/README.md): FNV-1a of 64 bits.
+use exact::cast::magnitude;
+use ovfile::cells::i64_at;
+use ovfile::cells::u16_at;
+use ovfile::cells::u32_at;
+use std::num::wrapping_add_u64;
+use std::num::wrapping_sub_u64;
+use tables::room::Counts;
+
+const START: u64 = 14695981039346656037;
+
+// x times 2^40 + 435, in 64 bits.
+fn times(x: u64) -> u64 {
+    let low = x % 4294967296 * 435;
+    let high = x / 4294967296 * 435 % 4294967296 * 4294967296;
+    let shifted = x % 16777216 * 1099511627776;
+    wrapping_add_u64(wrapping_add_u64(low, high), shifted)
+}
+
+// A number's bytes, low byte first.
+fn add(digest: u64, number: u64, bytes: u8) -> u64 {
+    let mut sum = digest;
+    let mut rest = number;
+    let mut k: u8 = 0;
+    while k < bytes {
+        sum = times(sum ^ (rest % 256));
+        rest /= 256;
+        k += 1;
+    }
+    sum
+}
+
+// A signed number's 64 bits.
+fn bits(x: i64) -> u64 {
+    if x < 0 {
+        wrapping_sub_u64(0, magnitude(x))
+    } else {
+        magnitude(x)
+    }
+}
+
+fn add_i64s(digest: u64, t: &[i64], count: usize) -> u64 {
+    let mut sum = digest;
+    let mut i = 0;
+    while i < count {
+        sum = add(sum, bits(i64_at(t, i)), 8);
+        i += 1;
+    }
+    sum
+}
+
+fn add_u16s(digest: u64, t: &[u16], count: usize) -> u64 {
+    let mut sum = digest;
+    let mut i = 0;
+    while i < count {
+        sum = add(sum, u16_at(t, i) as u64, 2);
+        i += 1;
+    }
+    sum
+}
+
+fn add_u32s(digest: u64, t: &[u32], count: usize) -> u64 {
+    let mut sum = digest;
+    let mut i = 0;
+    while i < count {
+        sum = add(sum, u32_at(t, i) as u64, 4);
+        i += 1;
+    }
+    sum
+}
+
+// The counts, and the rows that they count.
+pub fn of(c: Counts, vertices: &[i64], halves: &[u16], sources: &[u32], faces: &[u16]) -> u64 {
+    let sum = add(START, c.vertices as u64, 2);
+    let sum = add(sum, c.edges as u64, 2);
+    let sum = add(sum, c.faces as u64, 2);
+    let sum = add_i64s(sum, vertices, 4 * c.vertices as usize);
+    let sum = add_u16s(sum, halves, 10 * c.edges as usize);
+    let sum = add_u32s(sum, sources, 2 * c.edges as usize);
+    add_u16s(sum, faces, 4 * c.faces as usize)
+}
