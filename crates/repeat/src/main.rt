@@ -1,0 +1,73 @@
+// repeat ZONES BLOCKS N: runs the overlay of two map files N times (at most 1,000,000), and prints the seconds that one run takes, then the answer.
+mod time; // seconds
+mod words; // the number of runs
+
+use console::load_arg;
+use console::say;
+use console::say_number;
+use tables::answer::Answer;
+ghost use Prim.Native.Nat.{_≤_};
+
+fn say_answer(answer: Answer) {
+    match answer {
+        Answer::Done(c) => {
+            say(b"done ");
+            say_number(c.vertices as u64);
+            say(b" ");
+            say_number(c.edges as u64);
+            say(b" ");
+            say_number(c.faces as u64);
+            say(b"\n");
+        }
+        Answer::Refused(r) => console::say_refused(r.number, r.map, r.place),
+    }
+}
+
+// One run, in tables of its own.
+fn run(zones: &[u8], blocks: &[u8]) -> Answer {
+    let mut vertices = [0i64; 4000];
+    let mut halves = [0u16; 20000];
+    let mut sources = [0u32; 4000];
+    let mut faces = [0u16; 5336];
+    overlay::overlay(
+        zones,
+        blocks,
+        &mut vertices,
+        &mut halves,
+        &mut sources,
+        &mut faces,
+    )
+}
+
+// So many runs, and the answer of one more.
+fn runs(zones: &[u8], blocks: &[u8], n: u32) -> Answer {
+    let mut i: u32 = 0;
+    while i < n {
+        run(zones, blocks);
+        i += 1;
+    }
+    run(zones, blocks)
+}
+
+fn measure(n: u32)
+    requires { ⌜ n ≤ 1000000 ⌝ }
+{
+    let mut zones = io::buffer();
+    let z = load_arg(1, &mut zones);
+    let mut blocks = io::buffer();
+    let b = load_arg(2, &mut blocks);
+    let start = libc::clock();
+    let answer = runs(&zones[..z], &blocks[..b], n);
+    let end = libc::clock();
+    time::say_seconds(start, end, n + 1);
+    say_answer(answer);
+}
+
+fn main() {
+    let n = words::count_arg(3);
+    if n == 0 {
+        say(b"repeat ZONES BLOCKS N   the seconds of one overlay of two map files, by N runs\n");
+        return;
+    }
+    measure(n - 1);
+}

@@ -1,0 +1,34 @@
+// zov, the overlay for daily use:
+//   zov ZONES BLOCKS [OUT]    lists the overlay of two map files, and writes its overlay file to OUT
+//   zov --list FILE           lists an overlay file
+//   zov --check FILE...       checks map files
+// A refusal is the line of 01, and then a sentence.
+mod words; // the program's arguments
+mod maps; // map files
+mod overlays; // overlay files
+
+use words::Task;
+
+// How to use it.
+fn usage() {
+    console::say(
+        b"zov ZONES BLOCKS [OUT.zov]   list the overlay of two map files; write its overlay file\n",
+    );
+    console::say(b"zov --list FILE.zov          list an overlay file\n");
+    console::say(b"zov --check FILE...          check map files, a line for each\n");
+}
+
+fn main() {
+    let n = os::arg_count();
+    let task = words::asked(n);
+    match task {
+        Task::Usage => usage(),
+        Task::List => overlays::list_arg(2),
+        Task::Check => maps::check_args(2, n),
+        Task::Overlay => overlays::lay(),
+        Task::Write => {
+            overlays::lay();
+            overlays::save();
+        }
+    }
+}

@@ -1,0 +1,56 @@
+// Overlays, listed and written.
+use console::load_arg;
+use console::say;
+use ovwrite::WriteAnswer;
+use tables::answer::Answer;
+
+// A refusal in a sentence, under its line.
+fn explain(answer: Answer) {
+    match answer {
+        Answer::Done(_) => {}
+        Answer::Refused(r) => console::say_sentence(r.number, r.map, r.place),
+    }
+}
+
+// The overlay file that an argument names.
+pub fn list_arg(i: usize) {
+    let mut file = io::large_buffer();
+    let n = load_arg(i, &mut file);
+    let mut out = [0u8; 85504];
+    let listed = listed::file::list(&file[..n], &mut out);
+    let length = listed.length;
+    say(&out[..length]);
+    let answer = listed.answer;
+    explain(answer);
+}
+
+// The overlay of the two map files that the first two arguments name.
+pub fn lay() {
+    let mut zones = io::buffer();
+    let n = load_arg(1, &mut zones);
+    let mut blocks = io::buffer();
+    let m = load_arg(2, &mut blocks);
+    let mut out = [0u8; 85504];
+    let listed = sheet::list(&zones[..n], &blocks[..m], &mut out);
+    let length = listed.length;
+    say(&out[..length]);
+    let answer = listed.answer;
+    explain(answer);
+}
+
+// Its overlay file, to the file that the third argument names; nothing is written where the overlay is refused.
+pub fn save() {
+    let mut zones = io::buffer();
+    let n = load_arg(1, &mut zones);
+    let mut blocks = io::buffer();
+    let m = load_arg(2, &mut blocks);
+    let mut file = io::large_buffer();
+    let answer = sheet::file(&zones[..n], &blocks[..m], &mut file);
+    match answer {
+        WriteAnswer::Done(length) => {
+            let k = console::within(length, &file);
+            console::save_arg(3, &file[..k]);
+        }
+        WriteAnswer::Refused(_) => {}
+    }
+}
