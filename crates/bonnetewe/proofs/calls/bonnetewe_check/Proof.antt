@@ -1,0 +1,19 @@
+-- `bonnetewe::calls::bonnetewe_check` meets its contract. Assumes nothing.
+use native.Mathlib.Omega.{arith}
+use borrow.Author.Needs.{needs}
+use mathlib.Core.Path.{_∙_, ap}
+use Rattle.bonnetewe.specs.Told.{toldMap}
+use Rattle.bonnetewe.proofs.calls.bonnetewe_check.Statement.{statement}
+use Rattle.bonnetewe.proofs.calls.bonnetewe_check.Tie as tie
+
+check-requires : tie.Need-check-requires
+check-requires c κs = search needs
+
+of-checked-requires : tie.Need-of-checked-requires
+of-checked-requires c κs = search needs
+
+returns : tie.Need-returns
+returns c = c .of-checked .ensures ∙ ap toldMap (c .before .check .ensures)
+
+pub bonnetewe-check-spec : {M : Type 1} → statement M
+bonnetewe-check-spec = tie.close (tie.spec check-requires of-checked-requires returns)

@@ -1,0 +1,49 @@
+-- `bonnetewe::calls::bonnetewe_read` meets its contract. Assumes nothing.
+use native.Mathlib.Omega.{arith}
+use borrow.Author.Needs.{needs}
+use denote.Ref.{now}
+use Rattle.seq.specs.Seq.{length}
+use Rattle.paper.specs.Reader.{read}
+use Rattle.tables.specs.Values.{lengthsBy}
+use Rattle.bonnetewe.specs.Told.{told-by}
+use Rattle.bonnetewe.proofs.calls.bonnetewe_read.Statement.{statement}
+use Rattle.bonnetewe.proofs.calls.bonnetewe_read.Tie as tie
+
+read-requires : tie.Need-read-requires
+read-requires c κs = search needs
+
+of-answer-requires : tie.Need-of-answer-requires
+of-answer-requires c κs = search needs
+
+same-length : tie.Need-same-length
+same-length c = search needs
+
+same-length-2 : tie.Need-same-length-2
+same-length-2 c = search needs
+
+same-length-3 : tie.Need-same-length-3
+same-length-3 c = search needs
+
+same-length-4 : tie.Need-same-length-4
+same-length-4 c = search needs
+
+returns : tie.Need-returns
+returns c =
+    let r = c .before .before .before .before .before .before .before .before in
+    let a = r .before .before .before .before .before .before .before .before .before .args in
+    told-by
+    (read (lengthsBy (length (now (a .vertices))) (length (now (a .halves))) (length (now (a .sources))) (length (now (a .faces)))) (now (a .file)))
+    (r .read .ensures)
+    (c .of-answer .ensures)
+
+pub bonnetewe-read-spec : {M : Type 1} → statement M
+bonnetewe-read-spec =
+    tie.close
+    (tie.spec
+    read-requires
+    of-answer-requires
+    same-length
+    same-length-2
+    same-length-3
+    same-length-4
+    returns)

@@ -1,0 +1,38 @@
+// "The answer is either the three counts or a refusal with number, map and place": four numbers of 16 bits in one of 64, the lowest first. The first is 0
+// where it is done, and the counts follow; otherwise it is the refusal's number, and map and place follow.
+use mapcheck::answer::Checked;
+use tables::answer::Answer;
+ghost use mathlib.Core.Path.{_≡_};
+ghost use Rattle.tables.specs.Values.{answerOf};
+ghost use Rattle.mapcheck.specs.Answer.{answerOf as checkedOf};
+ghost use Rattle.bonnetewe.specs.Told.{four, told, toldMap};
+
+fn wide(x: u16) -> u64
+    ensures { λ r. ⌜ r ≡ x ⌝ }
+{
+    x as u64
+}
+
+fn join(a: u16, b: u16, c: u16, d: u16) -> u64
+    ensures { λ r. ⌜ r ≡ four a b c d ⌝ }
+{
+    wide(a) + 65536 * (wide(b) + 65536 * (wide(c) + 65536 * wide(d)))
+}
+
+pub fn of_answer(answer: Answer) -> u64
+    ensures { λ r. ⌜ r ≡ told (answerOf answer) ⌝ }
+{
+    match answer {
+        Answer::Done(c) => join(0, c.vertices, c.edges, c.faces),
+        Answer::Refused(r) => join(r.number, r.map, r.place, 0),
+    }
+}
+
+pub fn of_checked(answer: Checked) -> u64
+    ensures { λ r. ⌜ r ≡ toldMap (checkedOf answer) ⌝ }
+{
+    match answer {
+        Checked::Good(c) => join(0, c.vertices, c.edges, 0),
+        Checked::Bad(r) => join(r.number, r.map, r.place, 0),
+    }
+}

@@ -1,0 +1,3 @@
+// The operations for C (include/bonnetewe.h): functions on numbers and slices. A slice is a pointer and then a length; an answer is one number of 64 bits.
+mod answer; // an answer as one number
+mod calls; // the operations
