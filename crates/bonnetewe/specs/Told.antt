@@ -1,9 +1,13 @@
 -- Answers as one number, for C: four numbers of 16 bits, the lowest first. Assumes nothing.
-use mathlib.Core.Path.{_≡_, _∙_, ap}
-use Rattle.seq.specs.Seq.{ℕ, _+_, _*_}
-use Rattle.paper.specs.Refusal.{Answer, done, refused}
+use mathlib.Core.Path.{_≡_, sym, _∙_, ap, subst}
+use Prim.Native.Nat.{_<_}
+use native.Mathlib.Omega.{arith}
+use Rattle.seq.specs.Seq.{List, Option, none, some, ℕ, _+_, _*_, _^_, length}
+use Rattle.paper.specs.Refusal.{Answer, done, refused, answer, Refusal}
 use Rattle.paper.specs.Tables.{Counts, Tables}
-use Rattle.paper.specs.Lent.{Outcome}
+use Rattle.paper.specs.Lent.{Outcome, lengthsOf}
+use Rattle.paper.specs.Ovfile.{Written, layouts, fileLength, writeFault}
+use Rattle.paper.specs.Reader.{layoutOf, write}
 
 abbrev pub four : ℕ → ℕ → ℕ → ℕ → ℕ
 four a b c d = a + 65536 * (b + 65536 * (c + 65536 * d))
@@ -18,10 +22,44 @@ abbrev pub toldMap : Answer (ℕ × ℕ) → ℕ
 toldMap (done c) = four 0 (c .0) (c .1) 0
 toldMap (refused r) = four (r .number) (r .map) (r .place) 0
 
+-- the same of a file: 0, and the file's length above it
+abbrev pub toldLength : Answer ℕ → ℕ
+toldLength (done n) = 65536 * n
+toldLength (refused r) = four (r .number) (r .map) (r .place) 0
+
+-- a length of at most 32 bits
+abbrev pub Short : Answer ℕ → Type 0
+Short (done n) = n < 2 ^ 32
+Short (refused r) = Unit {0}
+
+abbrev pub counts : ℕ → ℕ → ℕ → Counts
+counts v e f = record { vertices = v; edges = e; faces = f }
+
 -- r tells an outcome's answer, and t are its tables
 pub record Told (o : Outcome) (t : Tables) (r : ℕ) : Type 0 where
   pub answer : r ≡ told (o .answer)
   pub tables : t ≡ o .tables
+
+-- r tells what is written, and b is the buffer
+pub record ToldFile (w : Written) (b : List ℕ) (r : ℕ) : Type 0 where
+  pub answer : r ≡ toldLength (w .answer)
+  pub buffer : b ≡ w .buffer
+
+pub told-file : (w : Written) {a : Answer ℕ} {b : List ℕ} {r : ℕ} → _≡_ {A = Written} (record { answer = a; buffer = b }) w → r ≡ toldLength a → ToldFile w b r
+told-file w {a} {b} {r} e h = record { answer = h ∙ ap (λ (x : Written). toldLength (x .answer)) e; buffer = ap (λ (x : Written). x .buffer) e }
+
+short-by : (n : ℕ) (f : Option Refusal) → n < 2 ^ 32 → Short (answer n f)
+short-by n none h = h
+short-by n (some r) h = tt
+
+-- counts of 16 bits have a file of less than 4 GB
+pub write-short : (n v e f : ℕ) (t : Tables) {a : Answer ℕ} {b : List ℕ} → v < 65536 → e < 65536 → f < 65536
+    → _≡_ {A = Written} (record { answer = a; buffer = b }) (write n (counts v e f) t) → Short a
+write-short n v e f t {a} {b} hv he hf g =
+    let l = layoutOf layouts (length layouts) in
+    let c = counts v e f in
+    let h : fileLength l c < 2 ^ 32 = omega arith in
+    subst Short (sym (ap (λ (x : Written). x .answer) g)) (short-by (fileLength l c) (writeFault l n (lengthsOf t) c t) h)
 
 pub told-by : (o : Outcome) {a : Answer Counts} {t : Tables} {r : ℕ} → _≡_ {A = Outcome} (record { answer = a; tables = t }) o → r ≡ told a → Told o t r
 told-by o {a} {t} {r} e h = record { answer = h ∙ ap (λ (x : Outcome). told (x .answer)) e; tables = ap (λ (x : Outcome). x .tables) e }

@@ -1,11 +1,13 @@
 // "The answer is either the three counts or a refusal with number, map and place": four numbers of 16 bits in one of 64, the lowest first. The first is 0
 // where it is done, and the counts follow; otherwise it is the refusal's number, and map and place follow.
 use mapcheck::answer::Checked;
+use ovwrite::WriteAnswer;
 use tables::answer::Answer;
 ghost use mathlib.Core.Path.{_≡_};
 ghost use Rattle.tables.specs.Values.{answerOf};
 ghost use Rattle.mapcheck.specs.Answer.{answerOf as checkedOf};
-ghost use Rattle.bonnetewe.specs.Told.{four, told, toldMap};
+ghost use Rattle.ovwrite.specs.Answers.{answerOf as writtenAnswer};
+ghost use Rattle.bonnetewe.specs.Told.{four, told, toldMap, toldLength, Short};
 
 fn wide(x: u16) -> u64
     ensures { λ r. ⌜ r ≡ x ⌝ }
@@ -25,6 +27,17 @@ pub fn of_answer(answer: Answer) -> u64
     match answer {
         Answer::Done(c) => join(0, c.vertices, c.edges, c.faces),
         Answer::Refused(r) => join(r.number, r.map, r.place, 0),
+    }
+}
+
+// A length of at most 32 bits stands above the first number.
+pub fn of_written(answer: WriteAnswer) -> u64
+    requires { ⌜ Short (writtenAnswer answer) ⌝ }
+    ensures { λ r. ⌜ r ≡ toldLength (writtenAnswer answer) ⌝ }
+{
+    match answer {
+        WriteAnswer::Done(n) => 65536 * n as u64,
+        WriteAnswer::Refused(r) => join(r.number, r.map, r.place, 0),
     }
 }
 

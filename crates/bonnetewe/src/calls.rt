@@ -1,12 +1,15 @@
 // The operations, as C calls them.
 use crate::answer::of_answer;
 use crate::answer::of_checked;
+use crate::answer::of_written;
+use tables::room::Counts;
 ghost use mathlib.Core.Path.{_≡_};
 ghost use lib.ListN.{length};
 ghost use Rattle.paper.specs.Map.{check};
-ghost use Rattle.paper.specs.Reader.{read};
+ghost use Rattle.paper.specs.Lent.{lengthsOf, overlay};
+ghost use Rattle.paper.specs.Reader.{read, write};
 ghost use Rattle.tables.specs.Values.{lengthsBy, tablesBy};
-ghost use Rattle.bonnetewe.specs.Told.{toldMap, Told};
+ghost use Rattle.bonnetewe.specs.Told.{toldMap, Told, ToldFile, counts};
 
 // The check of one map file of any bytes: done with its counts of vertices and edges, or refused.
 #[no_mangle]
@@ -15,6 +18,22 @@ pub extern "C" fn bonnetewe_check(file: &[u8]) -> u64
 {
     let answer = mapcheck::check(file);
     of_checked(answer)
+}
+
+// The overlay of two map files of any bytes in the lent tables.
+#[no_mangle]
+pub extern "C" fn bonnetewe_overlay(
+    zones: &[u8],
+    blocks: &[u8],
+    vertices: &mut [i64],
+    halves: &mut [u16],
+    sources: &mut [u32],
+    faces: &mut [u16],
+) -> u64
+    ensures { λ r. ⌜ Told (overlay (lengthsOf (tablesBy (now (vertices .entry)) (now (halves .entry)) (now (sources .entry)) (now (faces .entry)))) (now (zones .entry)) (now (blocks .entry))) (tablesBy (now (vertices .exit)) (now (halves .exit)) (now (sources .exit)) (now (faces .exit))) r ⌝ }
+{
+    let answer = overlay::overlay(zones, blocks, vertices, halves, sources, faces);
+    of_answer(answer)
 }
 
 // Reads an overlay file of any bytes into the lent tables.
@@ -30,4 +49,27 @@ pub extern "C" fn bonnetewe_read(
 {
     let answer = ovread::read(file, vertices, halves, sources, faces);
     of_answer(answer)
+}
+
+// Writes the overlay file of counts and tables into the buffer.
+#[no_mangle]
+pub extern "C" fn bonnetewe_write(
+    v: u16,
+    e: u16,
+    f: u16,
+    vertices: &[i64],
+    halves: &[u16],
+    sources: &[u32],
+    faces: &[u16],
+    buffer: &mut [u8],
+) -> u64
+    ensures { λ r. ⌜ ToldFile (write (length (now (buffer .entry))) (counts v e f) (tablesBy (now (vertices .entry)) (now (halves .entry)) (now (sources .entry)) (now (faces .entry)))) (now (buffer .exit)) r ⌝ }
+{
+    let c = Counts {
+        vertices: v,
+        edges: e,
+        faces: f,
+    };
+    let answer = ovwrite::write(c, vertices, halves, sources, faces, buffer);
+    of_written(answer)
 }

@@ -1,0 +1,32 @@
+-- `bonnetewe::answer::of_written` meets its contract. Assumes nothing.
+use native.Mathlib.Omega.{arith}
+use borrow.Author.Needs.{needs}
+use mathlib.Core.Path.{sym, _∙_, ap, subst}
+use Rattle.ovwrite.specs.declared.answer.WriteAnswer.{WriteAnswer}
+use Rattle.ovwrite.specs.Answers.{answerOf}
+use Rattle.bonnetewe.specs.Told.{toldLength, Short}
+use Rattle.bonnetewe.proofs.answer.of_written.Statement.{statement}
+use Rattle.bonnetewe.proofs.answer.of_written.Tie as tie
+
+enum-known-answer : tie.Need-enum-known-answer
+enum-known-answer c = search needs
+
+mul-result : tie.Need-mul-result
+mul-result c = omega (arith, subst Short (ap answerOf (c .before .answer .given .1)) (c .before .before .before .pre))
+
+enum-known-answer-2 : tie.Need-enum-known-answer-2
+enum-known-answer-2 c = search needs
+
+join-requires : tie.Need-join-requires
+join-requires c κs = search needs
+
+returns : tie.Need-returns
+returns c = sym (ap (λ (a : WriteAnswer). toldLength (answerOf a)) (c .before .answer .given .1))
+
+returns-2 : tie.Need-returns-2
+returns-2 c = c .join .ensures ∙ sym (ap (λ (a : WriteAnswer). toldLength (answerOf a)) (c .before .before .answer2 .given .1))
+
+pub of-written-spec : {M : Type 1} → statement M
+of-written-spec =
+    tie.close
+    (tie.spec enum-known-answer mul-result enum-known-answer-2 join-requires returns returns-2)
