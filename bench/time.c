@@ -1,0 +1,76 @@
+/* time FOLDER...: for each sheet the seconds of one overlay by the plain C and by the proved library, and their ratio. Both fill the same tables of full size;
+ * no table is cleared before. The two take turns, each for a tenth of a second at least, five times; the least time of each counts. */
+#include <stdio.h>
+#include <string.h>
+#include <time.h>
+
+#include "bonnetewe.h"
+#include "files.h"
+#include "plain/plain.h"
+
+static int64_t vertices[BONNETEWE_VERTEX_CELLS];
+static uint16_t halves[BONNETEWE_HALF_CELLS];
+static uint32_t sources[BONNETEWE_SOURCE_CELLS];
+static uint16_t faces[BONNETEWE_FACE_CELLS];
+static struct file zones, blocks;
+static unsigned counted[3];
+
+static double now(void)
+{
+    struct timespec t;
+
+    clock_gettime(CLOCK_MONOTONIC, &t);
+    return t.tv_sec + t.tv_nsec * 1e-9;
+}
+
+static void plain(void)
+{
+    struct plain_tables tables = { vertices, halves, sources, faces, BONNETEWE_VERTEX_CELLS, BONNETEWE_HALF_CELLS,
+                                   BONNETEWE_SOURCE_CELLS, BONNETEWE_FACE_CELLS };
+    struct plain_answer a = plain_overlay(zones.bytes, zones.length, blocks.bytes, blocks.length, &tables);
+
+    counted[0] = a.vertices, counted[1] = a.edges, counted[2] = a.faces;
+}
+
+static void proved(void)
+{
+    bonnetewe_answer a = bonnetewe_overlay(zones.bytes, zones.length, blocks.bytes, blocks.length, vertices,
+                                           BONNETEWE_VERTEX_CELLS, halves, BONNETEWE_HALF_CELLS, sources,
+                                           BONNETEWE_SOURCE_CELLS, faces, BONNETEWE_FACE_CELLS);
+
+    counted[0] = bonnetewe_vertices(a), counted[1] = bonnetewe_edges(a), counted[2] = bonnetewe_faces(a);
+}
+
+/* The seconds of one run. */
+static double once(void (*run)(void))
+{
+    double start = now(), end;
+    long runs = 0;
+
+    do {
+        run();
+        runs++;
+        end = now();
+    } while (end - start < 0.1);
+    return (end - start) / runs;
+}
+
+int main(int count, char **words)
+{
+    printf("%-12s %8s %6s %6s %14s %14s %7s\n", "sheet", "vertices", "edges", "faces", "plain C", "proved", "ratio");
+    for (int i = 1; i < count; i++) {
+        double a = 1e9, b = 1e9;
+        char *name = strrchr(words[i], '/');
+
+        load_sheet(words[i], &zones, &blocks);
+        for (int turn = 0; turn < 5; turn++) {
+            double p = once(plain), q = once(proved);
+
+            a = p < a ? p : a;
+            b = q < b ? q : b;
+        }
+        printf("%-12s %8u %6u %6u %12.9f s %12.9f s %7.2f\n", name ? name + 1 : words[i], counted[0], counted[1], counted[2], a, b,
+               b / a);
+    }
+    return 0;
+}

@@ -1,0 +1,59 @@
+/* listing FOLDER: the listing of FOLDER/zones.zmp and FOLDER/blocks.zmp, by the proved library called from C. The overlay is also written as an overlay file
+ * and read back into the same tables, and only then listed. */
+#include <stdio.h>
+
+#include "../bench/files.h"
+#include "bonnetewe.h"
+
+static int64_t vertices[BONNETEWE_VERTEX_CELLS];
+static uint16_t halves[BONNETEWE_HALF_CELLS];
+static uint32_t sources[BONNETEWE_SOURCE_CELLS];
+static uint16_t faces[BONNETEWE_FACE_CELLS];
+static uint8_t buffer[BONNETEWE_FILE_BYTES];
+
+static int refused(bonnetewe_answer a)
+{
+    printf("refused %u map %u place %u\n", bonnetewe_number(a), bonnetewe_map(a), bonnetewe_place(a));
+    return 1;
+}
+
+static void list(bonnetewe_answer a)
+{
+    unsigned gaps = 0;
+
+    printf("vertices %u edges %u faces %u\n", bonnetewe_vertices(a), bonnetewe_edges(a), bonnetewe_faces(a));
+    for (unsigned f = 0; f < bonnetewe_faces(a); f++) {
+        uint16_t *row = faces + 4 * f;
+
+        printf("face %u %u %u ", f, row[0], row[1]);
+        if (f == 0)
+            printf("- %u\n", row[3]);
+        else
+            printf("%u %u\n", row[2], row[3]);
+        gaps += f > 0 && row[0] == 0;
+    }
+    printf("gaps %u\n", gaps);
+}
+
+int main(int count, char **words)
+{
+    static struct file zones, blocks;
+    bonnetewe_answer a, written;
+
+    load_sheet(count > 1 ? words[1] : ".", &zones, &blocks);
+    a = bonnetewe_overlay(zones.bytes, zones.length, blocks.bytes, blocks.length, vertices, BONNETEWE_VERTEX_CELLS, halves,
+                          BONNETEWE_HALF_CELLS, sources, BONNETEWE_SOURCE_CELLS, faces, BONNETEWE_FACE_CELLS);
+    if (!bonnetewe_done(a))
+        return refused(a);
+    written = bonnetewe_write(bonnetewe_vertices(a), bonnetewe_edges(a), bonnetewe_faces(a), vertices, BONNETEWE_VERTEX_CELLS,
+                              halves, BONNETEWE_HALF_CELLS, sources, BONNETEWE_SOURCE_CELLS, faces, BONNETEWE_FACE_CELLS,
+                              buffer, BONNETEWE_FILE_BYTES);
+    if (!bonnetewe_done(written))
+        return refused(written);
+    a = bonnetewe_read(buffer, bonnetewe_length(written), vertices, BONNETEWE_VERTEX_CELLS, halves, BONNETEWE_HALF_CELLS, sources,
+                       BONNETEWE_SOURCE_CELLS, faces, BONNETEWE_FACE_CELLS);
+    if (!bonnetewe_done(a))
+        return refused(a);
+    list(a);
+    return 0;
+}

@@ -1,0 +1,96 @@
+/* Bonnetewe: an exact, proved overlay of two maps, for C.
+ *
+ * `rt staticlib bonnetewe` proves the library and writes target/staticlib/libbonnetewe.a, for x86-64 Linux. It allocates nothing, keeps nothing between
+ * calls and calls nothing. Each function takes any bytes, any numbers and tables of any lengths; what it answers and what every lent table holds
+ * afterwards is fixed by the definitions in crates/paper/specs. crates/bonnetewe/src/calls.rt has the promises.
+ *
+ * What C has to see to: a pointer leads to as many cells as the length behind it says, none of a call's writable tables overlaps another of its tables or
+ * files, and nothing else writes them during the call. A length is in cells, not in rows or bytes. A call needs up to 1 MB of stack.
+ *
+ * The tables, one row behind the other:
+ *   vertices   4 cells to a row   X, Y, D, the least outgoing half-edge; the point is X/D, Y/D in lowest terms
+ *   halves     5 cells            origin, twin, follower, predecessor, face
+ *   sources    2 cells            of each overlay edge its edge number + 1 in the first and in the second map, 0 for none
+ *   faces      4 cells            label in the first and in the second map, least outer half-edge (65,535 for face 0), hole walks
+ * Half-edges 2k and 2k + 1 are overlay edge k from its lower to its upper vertex, and back. Where a call is done, cells past the counts are 0; where it
+ * is refused, all cells are 0.
+ */
+#ifndef BONNETEWE_H
+#define BONNETEWE_H
+
+#include <stddef.h>
+#include <stdint.h>
+
+/* Tables of these lengths hold every overlay, and a buffer of this length every overlay file. */
+#define BONNETEWE_VERTEX_CELLS (4 * 1000)
+#define BONNETEWE_HALF_CELLS (5 * 4000)
+#define BONNETEWE_SOURCE_CELLS (2 * 2000)
+#define BONNETEWE_FACE_CELLS (4 * 1334)
+#define BONNETEWE_FILE_BYTES (11 + 14 * 1000 + 16 * 2000 + 8 * 1334)
+
+/* An answer: four numbers of 16 bits, the lowest first. The first is 0 where the call is done, otherwise the number of the rule that is broken. */
+typedef uint64_t bonnetewe_answer;
+
+static inline int bonnetewe_done(bonnetewe_answer a)
+{
+    return (a & 65535) == 0;
+}
+
+/* Done: the counts. A map has no count of faces. */
+static inline unsigned bonnetewe_vertices(bonnetewe_answer a)
+{
+    return a >> 16 & 65535;
+}
+
+static inline unsigned bonnetewe_edges(bonnetewe_answer a)
+{
+    return a >> 32 & 65535;
+}
+
+static inline unsigned bonnetewe_faces(bonnetewe_answer a)
+{
+    return a >> 48 & 65535;
+}
+
+/* Done, from bonnetewe_write: the length of the file in bytes. */
+static inline size_t bonnetewe_length(bonnetewe_answer a)
+{
+    return a >> 16;
+}
+
+/* Refused: the rule's number, the map (1 or 2, 0 for neither) and the place. README.md says what each means. */
+static inline unsigned bonnetewe_number(bonnetewe_answer a)
+{
+    return a & 65535;
+}
+
+static inline unsigned bonnetewe_map(bonnetewe_answer a)
+{
+    return a >> 16 & 65535;
+}
+
+static inline unsigned bonnetewe_place(bonnetewe_answer a)
+{
+    return a >> 32 & 65535;
+}
+
+/* Checks one map file: done with its counts of vertices and edges, or refused with rules 1 to 10 and map 0. */
+bonnetewe_answer bonnetewe_check(const uint8_t *file, size_t file_length);
+
+/* Lays the second map file over the first, into the tables. */
+bonnetewe_answer bonnetewe_overlay(const uint8_t *zones, size_t zones_length, const uint8_t *blocks, size_t blocks_length,
+                                   int64_t *vertices, size_t vertex_cells, uint16_t *halves, size_t half_cells,
+                                   uint32_t *sources, size_t source_cells, uint16_t *faces, size_t face_cells);
+
+/* Reads an overlay file into the tables. */
+bonnetewe_answer bonnetewe_read(const uint8_t *file, size_t file_length, int64_t *vertices, size_t vertex_cells,
+                                uint16_t *halves, size_t half_cells, uint32_t *sources, size_t source_cells,
+                                uint16_t *faces, size_t face_cells);
+
+/* Writes the overlay file of counts and tables into the buffer; past the file the buffer is 0. */
+bonnetewe_answer bonnetewe_write(uint16_t vertex_count, uint16_t edge_count, uint16_t face_count,
+                                 const int64_t *vertices, size_t vertex_cells, const uint16_t *halves, size_t half_cells,
+                                 const uint32_t *sources, size_t source_cells, const uint16_t *faces, size_t face_cells,
+                                 uint8_t *buffer, size_t buffer_length);
+
+#endif
