@@ -63,3 +63,10 @@ write-short n v e f t {a} {b} hv he hf g =
 
 pub told-by : (o : Outcome) {a : Answer Counts} {t : Tables} {r : ℕ} → _≡_ {A = Outcome} (record { answer = a; tables = t }) o → r ≡ told a → Told o t r
 told-by o {a} {t} {r} e h = record { answer = h ∙ ap (λ (x : Outcome). told (x .answer)) e; tables = ap (λ (x : Outcome). x .tables) e }
+
+-- no second number and tables tell an outcome; nor a second number and buffer what is written
+pub told-once : {o : Outcome} {t u : Tables} {r q : ℕ} → Told o t r → Told o u q → (t ≡ u) × (r ≡ q)
+told-once a b = (a .tables ∙ sym (b .tables), a .answer ∙ sym (b .answer))
+
+pub told-file-once : {w : Written} {x y : List ℕ} {r q : ℕ} → ToldFile w x r → ToldFile w y q → (x ≡ y) × (r ≡ q)
+told-file-once a b = (a .buffer ∙ sym (b .buffer), a .answer ∙ sym (b .answer))

@@ -20,7 +20,7 @@ abbrev pub Roomy : Answer Counts → Type 0
 Roomy (done c) = c .faces ≤ overlayFaces
 Roomy (refused r) = Unit {0}
 
--- the listing of the outcome o stands at the start of t, and r tells its length and o's answer
-pub record ListedOf (o : Outcome) (t : List ℕ) (r : Listed) : Type 0 where
-  pub text : Line 85504 (listing maps o) t (r .length)
+-- the listing of the outcome o stands at the start of t, which behind it is what d was, and r tells its length and o's answer
+pub record ListedOf (o : Outcome) (d t : List ℕ) (r : Listed) : Type 0 where
+  pub text : Line 85504 (listing maps o) d t (r .length)
   pub answer : answerOf (r .answer) ≡ o .answer

@@ -14,9 +14,11 @@ use Rattle.paper.specs.Lent.{Lengths, Outcome, roomIn, roomFaults, outcome, map
 use Rattle.paper.specs.Ovfile.{layouts, soundEdge}
 use Rattle.paper.specs.Reader.{countsIn, tablesIn, headFaults, layoutOf, read}
 use Rattle.paper.specs.Listing.{listingBy, listing}
-use Rattle.text.specs.Lines.{Line, facesOnly}
+use Rattle.text.specs.Lines.{Line, facesOnly, line-once}
 use Rattle.tables.specs.declared.answer.Answer as code
 use Rattle.tables.specs.Values.{answerOf, outcomeOf}
+use Rattle.tables.specs.Unique.{answer-once}
+use Rattle.listed.specs.declared.answer.Listed.{Listed}
 use Rattle.listed.specs.Listed.{Roomy, ListedOf}
 
 -- a chain that gives nothing has no part that gives something
@@ -48,16 +50,16 @@ faces-alone t (done c) = refl
 faces-alone t (refused r) = refl
 
 -- the text of an answer and its face table is the listing of the whole outcome
-pub listed-of : (o : Outcome) (a : code.Answer) {t : Tables} {s : List ℕ} {n : ℕ}
-    → outcomeOf a t ≡ o → Line 85504 (listingBy maps (facesOnly (t .faces)) (answerOf a)) s n → ListedOf o s (record { length = n; answer = a })
-listed-of o a {t} {s} {n} e l = record {
-  text = subst (λ (u : List ℕ). Line 85504 u s n) (faces-alone t (answerOf a) ∙ ap (listing maps) e) l;
+pub listed-of : (o : Outcome) (a : code.Answer) {t : Tables} {d s : List ℕ} {n : ℕ}
+    → outcomeOf a t ≡ o → Line 85504 (listingBy maps (facesOnly (t .faces)) (answerOf a)) d s n → ListedOf o d s (record { length = n; answer = a })
+listed-of o a {t} {d} {s} {n} e l = record {
+  text = subst (λ (u : List ℕ). Line 85504 u d s n) (faces-alone t (answerOf a) ∙ ap (listing maps) e) l;
   answer = ap (λ (x : Outcome). x .answer) e;
 }
 
-pub line-as : (fs : List ℕ) {a b : Answer Counts} {s : List ℕ} {r : ℕ}
-    → b ≡ a → Line 85504 (listingBy maps (facesOnly fs) a) s r → Line 85504 (listingBy maps (facesOnly fs) b) s r
-line-as fs {a} {b} {s} {r} e l = subst (λ (x : Answer Counts). Line 85504 (listingBy maps (facesOnly fs) x) s r) (sym e) l
+pub line-as : (fs : List ℕ) {a b : Answer Counts} {d s : List ℕ} {r : ℕ}
+    → b ≡ a → Line 85504 (listingBy maps (facesOnly fs) a) d s r → Line 85504 (listingBy maps (facesOnly fs) b) d s r
+line-as fs {a} {b} {d} {s} {r} e l = subst (λ (x : Answer Counts). Line 85504 (listingBy maps (facesOnly fs) x) d s r) (sym e) l
 
 pub roomy-as : {a b : Answer Counts} → a ≡ b → Roomy b → Roomy a
 roomy-as e h = subst Roomy (sym e) h
@@ -76,3 +78,10 @@ overlay-roomy l a b = roomy (mapFaults (a ∷ b ∷ [])) l (countsOf (overlayOf 
 -- what an outcome that is a read one answers
 pub read-answered : (l : Lengths) (s : List ℕ) {a : Answer Counts} {t : Tables} → _≡_ {A = Outcome} (record { answer = a; tables = t }) (read l s) → Roomy a
 read-answered l s {a} {t} e = roomy-as (ap (λ (o : Outcome). o .answer) e) (read-roomy l s)
+
+-- no second text and answer are an outcome listed
+pub listed-once : {o : Outcome} {d t u : List ℕ} {r q : Listed} → ListedOf o d t r → ListedOf o d u q → (t ≡ u) × (r ≡ q)
+listed-once {o} {d} {t} {u} {r} {q} l k =
+    let same = line-once (l .text) (k .text) in
+    let a : r .answer ≡ q .answer = answer-once (r .answer) (q .answer) (l .answer ∙ sym (k .answer)) in
+    (same .0, λ i. record { length = same .1 i; answer = a i })

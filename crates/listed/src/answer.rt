@@ -15,7 +15,7 @@ pub struct Listed {
 // Puts the text of an answer at the start of a lent text, and answers its length.
 pub fn put(answer: Answer, faces: &[u16], out: &mut [u8; 85504]) -> usize
     requires { ⌜ Roomy (answerOf answer) ⌝ }
-    ensures { λ r. ⌜ Line 85504 (listingBy maps (facesOnly (now (faces .entry))) (answerOf answer)) (now (out .exit)) r ⌝ }
+    ensures { λ r. ⌜ Line 85504 (listingBy maps (facesOnly (now (faces .entry))) (answerOf answer)) (now (out .entry)) (now (out .exit)) r ⌝ }
 {
     match answer {
         Answer::Done(c) => text::listing(c.vertices, c.edges, c.faces, faces, out),

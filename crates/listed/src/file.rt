@@ -6,7 +6,7 @@ ghost use Rattle.listed.specs.Listed.{ListedOf, fullTables};
 
 // The listing of the overlay that arbitrary bytes hold as an overlay file, or the line of what they are refused for.
 pub fn list(file: &[u8], out: &mut [u8; 85504]) -> Listed
-    ensures { λ r. ⌜ ListedOf (read fullTables (now (file .entry))) (now (out .exit)) r ⌝ }
+    ensures { λ r. ⌜ ListedOf (read fullTables (now (file .entry))) (now (out .entry)) (now (out .exit)) r ⌝ }
 {
     let mut vertices = [0i64; 4000];
     let mut halves = [0u16; 20000];

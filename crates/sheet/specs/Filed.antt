@@ -6,6 +6,9 @@ use Rattle.paper.specs.Tables.{Counts, Tables}
 use Rattle.paper.specs.Lent.{Lengths, Outcome, overlay}
 use Rattle.paper.specs.Ovfile.{Written}
 use Rattle.paper.specs.Reader.{write}
+use Rattle.ovwrite.specs.declared.answer.WriteAnswer.{WriteAnswer}
+use Rattle.ovwrite.specs.Answers.{writtenOf}
+use Rattle.ovwrite.specs.Unique.{answer-once}
 use Rattle.listed.specs.Listed.{Roomy}
 use Rattle.listed.specs.Room.{roomy-as, overlay-roomy}
 
@@ -25,3 +28,9 @@ overlay-answered l x y {a} {t} e = roomy-as (ap (λ (o : Outcome). o .answer) e)
 pub filed-by : (n : ℕ) (o : Outcome) {a b : Answer Counts} {t : Tables} {w : Written}
     → _≡_ {A = Outcome} (record { answer = a; tables = t }) o → a ≡ b → w ≡ filedBy n t b → w ≡ filed n o
 filed-by n o {a} {b} {t} {w} e g h = h ∙ ap (filedBy n t) (sym g) ∙ ap (filed n) e
+
+-- no second answer and buffer are what is filed
+pub filed-once : {w : Written} (a b : WriteAnswer) (x y : List ℕ) → writtenOf a x ≡ w → writtenOf b y ≡ w → (a ≡ b) × (x ≡ y)
+filed-once a b x y e g =
+    let d = e ∙ sym g in
+    (answer-once a b (ap (λ (v : Written). v .answer) d), ap (λ (v : Written). v .buffer) d)

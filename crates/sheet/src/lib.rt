@@ -13,7 +13,7 @@ ghost use Rattle.sheet.specs.Filed.{filed};
 
 // The listing of the overlay of two map files of any bytes, or the line of what is refused.
 pub fn list(zones: &[u8], blocks: &[u8], out: &mut [u8; 85504]) -> Listed
-    ensures { λ r. ⌜ ListedOf (overlay fullTables (now (zones .entry)) (now (blocks .entry))) (now (out .exit)) r ⌝ }
+    ensures { λ r. ⌜ ListedOf (overlay fullTables (now (zones .entry)) (now (blocks .entry))) (now (out .entry)) (now (out .exit)) r ⌝ }
 {
     let mut vertices = [0i64; 4000];
     let mut halves = [0u16; 20000];

@@ -68,11 +68,11 @@ pub put-field : (ys zs : List ℕ) {xs d t u : List ℕ} {m n at k r : ℕ} → 
 put-field ys zs {xs} p q = put-as (put-behind p q) (sym (append-assoc xs ys zs)) (omega arith)
 
 -- a text put at the start of a line that is long enough
-pub put-line : {text d t : List ℕ} {m most r : ℕ} → Put text m d 0 t r → m ≤ most → most ≤ length d → Line most text t r
+pub put-line : {text d t : List ℕ} {m most r : ℕ} → Put text m d 0 t r → m ≤ most → most ≤ length d → Line most text d t r
 put-line {text} {d} {t} {m} {most} {r} p h l =
     let e : r ≡ length text = p .end ∙ zero-add (length text) in
     let s : take r t ≡ text = ap (take r) (p .is ∙ sets-eq text d 0 (omega (arith, p .within, e))) ∙ take-at text (drop (0 + length text) d) r (sym e) in
-    record { is = s; end = e; within = omega (arith, p .within); counts = (omega (arith, p .within, p .kept), e ∙ sym (ap length s)) }
+    record { all = p .is; is = s; end = e; within = omega (arith, p .within); counts = (omega (arith, p .within, p .kept), e ∙ sym (ap length s)) }
 
 -- ── "least outer half-edge (`-` for face 0)" ──
 
@@ -101,7 +101,7 @@ pub put-none : (d : List ℕ) (at : ℕ) → Put [] 0 d at d at
 put-none d at = record { is = refl; end = omega arith; kept = refl; within = omega arith }
 
 -- a line of at most 64 bytes, put somewhere
-pub put-lined : {text line d t : List ℕ} {n at r : ℕ} → Line 64 text line n → Put (take n line) (length (take n line)) d at t r → Put text 64 d at t r
+pub put-lined : {text blank line d t : List ℕ} {n at r : ℕ} → Line 64 text blank line n → Put (take n line) (length (take n line)) d at t r → Put text 64 d at t r
 put-lined l p = put-as p (l .is) (omega (arith, l .within, l .counts .1))
 
 -- one face's line more

@@ -1,8 +1,8 @@
 -- The listing's lines over the face table alone, and a line that stands at the start of a lent one. Assumes nothing.
-use mathlib.Core.Path.{_≡_}
+use mathlib.Core.Path.{_≡_, sym, _∙_}
 use Prim.Native.Nat.{_≤_}
 use Rattle.io.specs.Counts as io
-use Rattle.seq.specs.Seq.{List, [], _++_, cond, ℕ, eqb, length, take}
+use Rattle.seq.specs.Seq.{List, [], _++_, cond, ℕ, eqb, length, take, sets}
 use Rattle.paper.specs.Bytes.{ascii}
 use Rattle.paper.specs.Limits.{maps}
 use Rattle.paper.specs.Refusal.{done}
@@ -32,9 +32,14 @@ gapsText n = ascii "gaps " ++ decimal n ++ ascii "\n"
 abbrev pub listingText : Counts → List ℕ → List ℕ
 listingText c fs = listingBy maps (facesOnly fs) (done c)
 
--- the text, of at most `most` bytes, stands at the start of t, and r is its length
-pub record Line (most : ℕ) (text t : List ℕ) (r : ℕ) : Type 0 where
+-- the text, of at most `most` bytes, stands at the start of t, and r is its length; behind it t is what d was
+pub record Line (most : ℕ) (text d t : List ℕ) (r : ℕ) : Type 0 where
+  pub all : t ≡ sets d 0 text
   pub is : take r t ≡ text
   pub end : r ≡ length text
   pub within : r ≤ most
   pub counts : io.Counts r t
+
+-- no second text and length are a line
+pub line-once : {most : ℕ} {text d t u : List ℕ} {r q : ℕ} → Line most text d t r → Line most text d u q → (t ≡ u) × (r ≡ q)
+line-once l k = (l .all ∙ sym (k .all), l .end ∙ sym (k .end))

@@ -60,7 +60,7 @@ fn put_gaps(out: &mut [u8], at: usize, count: u16, faces: &[u16]) -> usize
 // The listing of an overlay with these counts and this face table.
 pub fn listing(vertices: u16, edges: u16, count: u16, faces: &[u16], out: &mut [u8; 85504]) -> usize
     requires { ⌜ count ≤ overlayFaces ⌝ }
-    ensures { λ r. ⌜ Line 85504 (listingText (record { vertices = vertices; edges = edges; faces = count }) (now (faces .entry))) (now (out .exit)) r ⌝ }
+    ensures { λ r. ⌜ Line 85504 (listingText (record { vertices = vertices; edges = edges; faces = count }) (now (faces .entry))) (now (out .entry)) (now (out .exit)) r ⌝ }
 {
     let at = put_counts(vertices, edges, count, out);
     let at = put_faces(out, at, count, faces);
@@ -69,7 +69,7 @@ pub fn listing(vertices: u16, edges: u16, count: u16, faces: &[u16], out: &mut [
 
 // "On refusal the only line is `refused N map M place P`"
 pub fn refused_listing(number: u16, map: u16, place: u16, out: &mut [u8; 85504]) -> usize
-    ensures { λ r. ⌜ Line 85504 (refusedLine (record { number = number; map = map; place = place })) (now (out .exit)) r ⌝ }
+    ensures { λ r. ⌜ Line 85504 (refusedLine (record { number = number; map = map; place = place })) (now (out .entry)) (now (out .exit)) r ⌝ }
 {
     let mut line = [0u8; 64];
     let n = refused_line(number, map, place, &mut line);
