@@ -37,7 +37,7 @@ pub fn link(points: &[i64], origins: &[u16], carriers: &[i64], n: usize, e: usiz
     let mut ways = [0i64; HEADINGS];
     headings(points, origins, carriers, n, e, &mut ways);
     let mut next = [0u16; HALVES];
-    follow(origins, &ways, e, &mut next);
+    follow(origins, &ways, n, e, &mut next);
     let mut lead = [0u16; HALVES];
     leads(&next, m, &mut lead);
     let mut out = [0u16; VERTICES];

@@ -2,7 +2,7 @@
 use mathlib.Core.Path.{_≡_, refl, sym, _∙_, ap, subst}
 use Prim.Native.Nat.{_≤_, _<_}
 use native.Mathlib.Omega.{arith}
-use borrow.Author.Tests.{eq-eqb, ne-eqb}
+use borrow.Author.Tests.{eq-eqb}
 use Rattle.seq.specs.Seq.{Bool, true, false, cond, not, _&&_, List, Option, Option·getD, ℕ, _+_, _*_, _/_, eqb, length, getD, ℤ, pos, best, cell, laid, filled}
 use Rattle.exact.specs.Mach.{tru, atmost}
 use Rattle.seq.specs.Tests.{clash, and-parts}
@@ -65,18 +65,12 @@ module _ (os : List ℕ) (hs : List ℤ) (t : ℕ) where
   abbrev pub firstFrom : ℕ → ℕ
   firstFrom n = pick (besides os t) (soonerAt hs t) t n
 
-  -- x leaves from where t does, and it does not
+  -- x leaves from where t does
   pub turn-out : (x r s : ℕ) → originAt os x ≡ originAt os t → r ≡ firstFrom x → s ≡ cond (eqb x t) r (better (soonerAt hs t) t x r) → s ≡ firstFrom (x + 1)
   turn-out x r s o e f =
       let b = soonerAt hs t in
       f ∙ ap (λ (y : ℕ). cond (eqb x t) y (better b t x y)) e ∙ sym (cond-not (eqb x t) (better b t x (firstFrom x)) (firstFrom x))
       ∙ ap (λ (c : Bool). cond (c && not (eqb x t)) (better b t x (firstFrom x)) (firstFrom x)) (sym (eq-eqb (originAt os x) (originAt os t) o))
-      ∙ sym (pick-turn (besides os t) b t x (besides-away os b t x))
-
-  pub turn-off : (x r s : ℕ) → (originAt os x ≡ originAt os t → ⊥) → r ≡ firstFrom x → s ≡ r → s ≡ firstFrom (x + 1)
-  turn-off x r s o e f =
-      let b = soonerAt hs t in
-      f ∙ e ∙ ap (λ (c : Bool). cond (c && not (eqb x t)) (better b t x (firstFrom x)) (firstFrom x)) (sym (ne-eqb (originAt os x) (originAt os t) o))
       ∙ sym (pick-turn (besides os t) b t x (besides-away os b t x))
 
 -- a follower is one of the half-edges

@@ -6,4 +6,5 @@ pub mod Firsts
 pub mod Heading
 pub mod Pick
 pub mod Follow
+pub mod Chains
 pub mod Look

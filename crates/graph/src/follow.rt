@@ -1,4 +1,5 @@
 // "The follower of a half-edge arriving at p is the first outgoing half-edge clockwise from its twin; with one edge at p it is the twin."
+use super::chains::chains;
 use super::heading::twin;
 use plane::angle::less_angle;
 use plane::point::Vector;
@@ -8,13 +9,20 @@ ghost use lib.ListN.{length};
 ghost use lib.Dec.{eqb};
 ghost use mathlib.Core.Bool.{cond};
 ghost use Rattle.seq.specs.Seq.{filled};
-ghost use Rattle.paper.specs.Limits.{absent};
+ghost use Rattle.paper.specs.Limits.{absent, overlayVertices, overlayEdges};
 ghost use Rattle.paper.specs.Graph.{twin};
 ghost use Rattle.plane.specs.Values.{vecOf};
 ghost use Rattle.plane.specs.Bounds.{Direction};
+ghost use Rattle.graph.specs.Flat.{Numbers};
 ghost use Rattle.graph.specs.Heading.{vecAt};
 ghost use Rattle.graph.specs.Pick.{better};
 ghost use Rattle.graph.specs.Follow.{soonerOf, soonerAt, followerAt, Headed, Headings};
+ghost use Rattle.graph.specs.Chains.{Chained};
+
+// "The overlay has at most 1,000 vertices, 2,000 edges (4,000 half-edges)"
+const VERTICES: usize = 1000;
+
+const HALVES: usize = 4000;
 
 // The heading in row h.
 pub fn heading_at(headings: &[i64], h: usize) -> Vector
@@ -69,33 +77,58 @@ fn first(headings: &[i64], t: usize, x: usize, r: usize) -> usize
     }
 }
 
-// The follower of half-edge h, of m half-edges.
-fn follower(origins: &[u16], headings: &[i64], m: usize, h: usize) -> usize
-    requires { ⌜ m ≤ length (now origins) ⌝ ∗ ⌜ m ≤ absent ⌝ ∗ ⌜ Headings (now headings) m ⌝ ∗ ⌜ h < m ⌝ ∗ ⌜ twin h < m ⌝ }
+// The follower of half-edge h, of m half-edges: of those in the chain out of the vertex that it arrives at.
+fn follower(
+    origins: &[u16],
+    headings: &[i64],
+    heads: &[u16],
+    chain: &[u16],
+    n: usize,
+    m: usize,
+    h: usize,
+) -> usize
+    requires { ⌜ Chained (now origins) m n (now heads) (now chain) ⌝ ∗ ⌜ m ≤ absent ⌝ ∗ ⌜ Headings (now headings) m ⌝ ∗ ⌜ h < m ⌝ ∗ ⌜ twin h < m ⌝ }
     ensures { λ r. ⌜ r ≡ followerAt (now (origins .entry)) (now (headings .entry)) m h ⌝ }
 {
     let t = twin(h);
-    let v = origins[t];
+    let v = origins[t] as usize;
     let mut r = t;
-    let mut x = 0;
+    let mut x = heads[v] as usize;
     while x < m {
-        if origins[x] == v {
-            r = first(headings, t, x, r);
-        }
-        x += 1;
+        r = first(headings, t, x, r);
+        x = chain[x] as usize;
     }
     r
 }
 
-// The follower of every half-edge of e edges.
-pub fn follow(origins: &[u16], headings: &[i64], e: usize, next: &mut [u16])
-    requires { ⌜ 2 * e ≤ length (now origins) ⌝ ∗ ⌜ 2 * e ≤ absent ⌝ ∗ ⌜ Headings (now headings) (2 * e) ⌝ ∗ ⌜ 2 * e ≤ length (now next) ⌝ }
+// The follower of every half-edge of e edges, by the chains.
+fn followers(
+    origins: &[u16],
+    headings: &[i64],
+    heads: &[u16],
+    chain: &[u16],
+    n: usize,
+    e: usize,
+    next: &mut [u16],
+)
+    requires { ⌜ Chained (now origins) (2 * e) n (now heads) (now chain) ⌝ ∗ ⌜ 2 * e ≤ absent ⌝ ∗ ⌜ Headings (now headings) (2 * e) ⌝ ∗ ⌜ 2 * e ≤ length (now next) ⌝ }
     ensures { λ _. ⌜ now (next .exit) ≡ filled (2 * e) (followerAt (now (origins .entry)) (now (headings .entry)) (2 * e)) (now (next .entry)) ⌝ }
 {
     let m = 2 * e;
     let mut h = 0;
     while h < m {
-        next[h] = follower(origins, headings, m, h) as u16;
+        next[h] = follower(origins, headings, heads, chain, n, m, h) as u16;
         h += 1;
     }
+}
+
+// The follower of every half-edge of e edges, of a graph of n vertices.
+pub fn follow(origins: &[u16], headings: &[i64], n: usize, e: usize, next: &mut [u16])
+    requires { ⌜ Numbers (now origins) (2 * e) n ⌝ ∗ ⌜ n ≤ overlayVertices ⌝ ∗ ⌜ e ≤ overlayEdges ⌝ ∗ ⌜ Headings (now headings) (2 * e) ⌝ ∗ ⌜ 2 * e ≤ length (now next) ⌝ }
+    ensures { λ _. ⌜ now (next .exit) ≡ filled (2 * e) (followerAt (now (origins .entry)) (now (headings .entry)) (2 * e)) (now (next .entry)) ⌝ }
+{
+    let mut heads = [0u16; VERTICES];
+    let mut chain = [0u16; HALVES];
+    chains(origins, 2 * e, n, &mut heads, &mut chain);
+    followers(origins, headings, &heads, &chain, n, e, next);
 }

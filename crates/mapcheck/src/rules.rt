@@ -20,7 +20,7 @@ ghost use mathlib.Core.Option.{none};
 ghost use Prim.Native.Nat.{_*_, _≤_, _<_};
 ghost use lib.ListN.{length};
 ghost use Rattle.seq.specs.Seq.{least};
-ghost use Rattle.paper.specs.Limits.{mapEdges};
+ghost use Rattle.paper.specs.Limits.{mapVertices, mapEdges};
 ghost use Rattle.paper.specs.Graph.{edgeCount, halfCount, followers};
 ghost use Rattle.paper.specs.Refusal.{atLeast, firstOf};
 ghost use Rattle.paper.specs.Map.{mapOf, formFaults, partFaults, clashing, lonely, disagrees, netFaults, fault};
@@ -62,13 +62,13 @@ pub fn first_by_followers(
     n: usize,
     e: usize,
 ) -> usize
-    requires { ⌜ Flat (now points) (now origins) (now carriers) n e ⌝ ∗ ⌜ e ≤ mapEdges ⌝ ∗ ⌜ 2 * e ≤ length (now labels) ⌝ ∗ ⌜ Plane (flatGraph (now points) (now origins) (now carriers) n e) ⌝ }
+    requires { ⌜ Flat (now points) (now origins) (now carriers) n e ⌝ ∗ ⌜ n ≤ mapVertices ⌝ ∗ ⌜ e ≤ mapEdges ⌝ ∗ ⌜ 2 * e ≤ length (now labels) ⌝ ∗ ⌜ Plane (flatGraph (now points) (now origins) (now carriers) n e) ⌝ }
     ensures { λ r. ⌜ r ≡ least (disagrees (heldMap (now (points .entry)) (now (origins .entry)) (now (carriers .entry)) (now (labels .entry)) n e) (followers (flatGraph (now (points .entry)) (now (origins .entry)) (now (carriers .entry)) n e))) (2 * e) ⌝ }
 {
     let mut ways = [0i64; 1200];
     headings(points, origins, carriers, n, e, &mut ways);
     let mut next = [0u16; 600];
-    follow(origins, &ways, e, &mut next);
+    follow(origins, &ways, n, e, &mut next);
     first_disagreeing(points, origins, carriers, labels, &ways, &next, n, e)
 }
 

@@ -38,7 +38,7 @@ follow-requires c κs =
     let Q = s .pre .1 .1 .1 in
     let small = s .pre .1 .1 .0 in
     let W = c .before .before .before .headings in
-    (omega (arith, F .origins .long), (omega (arith, small), (ways-near ps os cs (a .n) (a .e) F Q 8000 (omega (arith, small)) (W .last .1 .1 .1 .1 .1 .0) (W .ensures), omega (arith, small))))
+    (F .origins, (s .pre .1 .0, (small, (ways-near ps os cs (a .n) (a .e) F Q 8000 (omega (arith, small)) (W .last .1 .1 .1 .1 .1 .0) (W .ensures), omega (arith, small)))))
 
 slice-aggregate-leads : tie.Need-slice-aggregate-leads
 slice-aggregate-leads c = search needs
@@ -60,7 +60,7 @@ leads-requires c κs =
     let ways = W .last .1 .1 .1 .1 .1 .0 in
     let heads = ways-heads ps os cs (a .n) (a .e) F Q 8000 (omega (arith, small)) ways (W .ensures) in
     let N = c .before .before .before .follow in
-    let next = N .last .1 .1 .1 .0 in
+    let next = N .last .1 .1 .1 .1 .0 in
     let nexts = next-holds ps os cs (a .n) (a .e) F Q ways heads 4000 (omega (arith, small)) next (N .ensures) in
     (next-permuted ps os cs (a .n) (a .e) F Q next nexts, (omega (arith, small), omega (arith, small)))
 
@@ -103,7 +103,7 @@ lows-requires c κs =
     let ways = W .last .1 .1 .1 .1 .1 .0 in
     let heads = ways-heads ps os cs (a .n) (a .e) F Q 8000 (omega (arith, small)) ways (W .ensures) in
     let N = c .before .before .before .before .before .before .before .before .before .before .before .follow in
-    let next = N .last .1 .1 .1 .0 in
+    let next = N .last .1 .1 .1 .1 .0 in
     let nexts = next-holds ps os cs (a .n) (a .e) F Q ways heads 4000 (omega (arith, small)) next (N .ensures) in
     let L = c .before .before .before .before .before .before .before .leads in
     let lead = L .last .1 .1 .0 in
@@ -136,7 +136,7 @@ tops-requires c κs =
     let ways = W .last .1 .1 .1 .1 .1 .0 in
     let heads = ways-heads ps os cs (a .n) (a .e) F Q 8000 (omega (arith, small)) ways (W .ensures) in
     let N = c .before .before .before .before .before .before .before .before .before .before .before .before .before .before .before .before .before .follow in
-    let next = N .last .1 .1 .1 .0 in
+    let next = N .last .1 .1 .1 .1 .0 in
     let nexts = next-holds ps os cs (a .n) (a .e) F Q ways heads 4000 (omega (arith, small)) next (N .ensures) in
     let L = c .before .before .before .before .before .before .before .before .before .before .before .before .before .leads in
     let lead = L .last .1 .1 .0 in
@@ -163,7 +163,7 @@ returns c =
     let ways = W .last .1 .1 .1 .1 .1 .0 in
     let heads = ways-heads ps os cs (a .n) (a .e) F Q 8000 (omega (arith, small)) ways (W .ensures) in
     let N = c .before .before .before .before .before .before .before .before .before .before .before .before .before .before .before .before .before .before .before .follow in
-    let next = N .last .1 .1 .1 .0 in
+    let next = N .last .1 .1 .1 .1 .0 in
     let nexts = next-holds ps os cs (a .n) (a .e) F Q ways heads 4000 (omega (arith, small)) next (N .ensures) in
     let L = c .before .before .before .before .before .before .before .before .before .before .before .before .before .before .before .leads in
     let lead = L .last .1 .1 .0 in

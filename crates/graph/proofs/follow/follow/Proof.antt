@@ -1,70 +1,50 @@
 -- `graph::follow::follow` meets its contract. Assumes nothing.
 use native.Mathlib.Omega.{arith}
 use borrow.Author.Needs.{needs}
-use Rattle.seq.specs.Seq.{_*_, _-_}
-use Rattle.graph.specs.Filling.{Filling, fill-starts, fill-turns, fill-ends}
-use Rattle.graph.specs.Follow.{followerAt, follower-under}
-use Rattle.graph.specs.Heading.{twin-under}
+use Rattle.graph.specs.Chains.{chained}
 use Rattle.graph.proofs.follow.follow.Statement.{statement}
 use Rattle.graph.proofs.follow.follow.Tie as tie
 
-abbrev Inv-loop : tie.InvT-loop
-Inv-loop origins headings e next₀ m h₀ next h = Filling (followerAt origins headings (2 * e)) (2 * e) next₀ next h
+mul-chains : tie.Need-mul-chains
+mul-chains c = search needs
 
-abbrev μ-loop : tie.MeasureT-loop
-μ-loop origins headings e next₀ m h₀ next h = 2 * e - h
+slice-aggregate-chains : tie.Need-slice-aggregate-chains
+slice-aggregate-chains c = search needs
 
-mul-m : tie.Need-mul-m Inv-loop μ-loop
-mul-m c = search needs
+slice-aggregate-chains-2 : tie.Need-slice-aggregate-chains-2
+slice-aggregate-chains-2 c = search needs
 
-loop-holds : tie.Need-loop-holds Inv-loop μ-loop
-loop-holds c = fill-starts _ _ _ (search needs)
+chains-requires : tie.Need-chains-requires
+chains-requires c κs = search needs
 
-follower-requires : tie.Need-follower-requires Inv-loop μ-loop
-follower-requires c κs =
-    let s = c .before .before .before .before in
-    (s .pre .0, (s .pre .1 .0, (s .pre .1 .1 .0, (c .loop-test .taken, twin-under (s .args .e) (c .before .loop .h) (c .loop-test .taken)))))
+slice-aggregate-followers : tie.Need-slice-aggregate-followers
+slice-aggregate-followers c = search needs
 
-cast-next : tie.Need-cast-next Inv-loop μ-loop
-cast-next c =
-    let a = c .before .before .before .before .before .args in
-    omega (arith, c .follower .ensures, follower-under (a .origins .now) (a .headings .now) (a .e) (c .before .before .loop .h) (c .before .loop-test .taken))
+slice-aggregate-followers-2 : tie.Need-slice-aggregate-followers-2
+slice-aggregate-followers-2 c = search needs
 
-mul-next : tie.Need-mul-next Inv-loop μ-loop
-mul-next c = search needs
+followers-requires : tie.Need-followers-requires
+followers-requires c κs =
+    let p = c .before .before .before .before .before .before .before .before .before .before .pre in
+    let made = c .before .before .before .before .before .chains .ensures in
+    (chained _ _ _ _ _ _ _ (p .0) (p .1 .0) (omega (arith, p .1 .1 .0)) (made .0) (made .1), (omega (arith, p .1 .1 .0), (p .1 .1 .1 .0, p .1 .1 .1 .1)))
 
-slice-write-next : tie.Need-slice-write-next Inv-loop μ-loop
-slice-write-next c = search needs
-
-add-h : tie.Need-add-h Inv-loop μ-loop
-add-h c = search needs
-
-loop-less : tie.Need-loop-less Inv-loop μ-loop
-loop-less c = search needs
-
-loop-again : tie.Need-loop-again Inv-loop μ-loop
-loop-again c = fill-turns _ (c .before .before .loop .inv) _ (c .before .loop-test .taken) (c .follower .ensures)
-
-same-length : tie.Need-same-length Inv-loop μ-loop
+same-length : tie.Need-same-length
 same-length c = search needs
 
-returns : tie.Need-returns Inv-loop μ-loop
-returns c = fill-ends _ (c .before .loop .inv) (search needs)
+returns : tie.Need-returns
+returns c = search needs
 
 pub follow-spec : {M : Type 1} → statement M
 follow-spec =
     tie.close
     (tie.spec
-    Inv-loop
-    μ-loop
-    mul-m
-    loop-holds
-    follower-requires
-    cast-next
-    mul-next
-    slice-write-next
-    add-h
-    loop-less
-    loop-again
+    mul-chains
+    slice-aggregate-chains
+    slice-aggregate-chains-2
+    chains-requires
+    slice-aggregate-followers
+    slice-aggregate-followers-2
+    followers-requires
     same-length
     returns)

@@ -74,7 +74,7 @@ first-by-followers-requires c κs =
     let carriers = c .before .before .before .before .before .before .before .before .before .before .load-carriers .ensures in
     let flat = loaded-flat f _ _ _ _ _ _ (omega (arith, k .few-vertices)) points (omega (arith, k .few-edges)) origins (omega (arith, k .few-edges)) carriers vertices edges (s .pre .0) in
     let plane = loaded-plane f _ _ _ _ _ _ (omega (arith, k .few-vertices)) points (omega (arith, k .few-edges)) origins (omega (arith, k .few-edges)) carriers vertices edges (s .pre .0) (s .pre .1) in
-    (flat, (omega (arith, edges, k .few-edges), (omega (arith, edges, k .few-edges, c .before .before .before .before .before .before .before .load-labels .kept), plane)))
+    (flat, (omega (arith, vertices, k .few-vertices), (omega (arith, edges, k .few-edges), (omega (arith, edges, k .few-edges, c .before .before .before .before .before .before .before .load-labels .kept), plane))))
 
 cast-given : tie.Need-cast-given
 cast-given c =
