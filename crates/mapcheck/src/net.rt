@@ -1,14 +1,47 @@
 // Rules 8 and 9: edges that share more than ends, and vertices without an edge, each a search for its least place.
 use graph::heading::carrier_at;
 use plane::clash::clash;
+use plane::point::Seg;
 ghost use mathlib.Core.Path.{_≡_};
 ghost use Prim.Native.Nat.{_≤_, _<_};
 ghost use lib.ListN.{length};
 ghost use Rattle.seq.specs.Seq.{least};
+ghost use Rattle.plane.specs.Values.{segOf};
+ghost use Rattle.plane.specs.Bounds.{Edge};
 ghost use Rattle.graph.specs.Flat.{Carriers};
 ghost use Rattle.mapcheck.specs.Net.{clashAt, clashingAt, startsAt, lonelyAt};
+ghost use Rattle.mapcheck.specs.Heights.{lesser, parted};
 
-// Whether edges k and j are two that share a point that is not an end of both.
+// Whether a and b are both less than c and d.
+fn lesser(a: i64, b: i64, c: i64, d: i64) -> bool
+    ensures { λ r. ⌜ r ≡ lesser a b c d ⌝ }
+{
+    if a < c {
+        if a < d {
+            if b < c { b < d } else { false }
+        } else {
+            false
+        }
+    } else {
+        false
+    }
+}
+
+// Whether one of s and t lies wholly below the other.
+fn parted(s: Seg, t: Seg) -> bool
+    requires { ⌜ Edge (segOf s) × Edge (segOf t) ⌝ }
+    ensures { λ r. ⌜ r ≡ parted (segOf s) (segOf t) ⌝ }
+{
+    let top = s.y + s.v;
+    let end = t.y + t.v;
+    if lesser(s.y, top, t.y, end) {
+        true
+    } else {
+        lesser(t.y, end, s.y, top)
+    }
+}
+
+// Whether edges k and j are two that share a point that is not an end of both. No sides are reckoned of two of which one lies wholly below the other.
 fn clashes(carriers: &[i64], e: usize, k: usize, j: usize) -> bool
     requires { ⌜ Carriers (now carriers) e × (k < e) × (j < e) ⌝ }
     ensures { λ r. ⌜ r ≡ clashAt (now (carriers .entry)) k j ⌝ }
@@ -16,7 +49,12 @@ fn clashes(carriers: &[i64], e: usize, k: usize, j: usize) -> bool
     if k == j {
         return false;
     }
-    clash(carrier_at(carriers, k), carrier_at(carriers, j))
+    let s = carrier_at(carriers, k);
+    let t = carrier_at(carriers, j);
+    if parted(s, t) {
+        return false;
+    }
+    clash(s, t)
 }
 
 // The least edge that edge k clashes with, or e.
