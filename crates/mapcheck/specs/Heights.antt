@@ -14,10 +14,11 @@ use Rattle.exact.specs.Tests.{lt-t}
 use Rattle.seq.specs.Tests.{never, or-cases, and-parts}
 use Rattle.paper.specs.Plane.{Vec, Seg, head, whole, before, same, leftBy, opposed, apart, clash}
 use Rattle.planelaws.specs.Cone.{Up, above, level, UpV}
-use Rattle.planelaws.specs.Points.{before-up, same-sym}
+use Rattle.planelaws.specs.Points.{before-up}
 use Rattle.planelaws.specs.Ends.{corner-same}
 use Rattle.planelaws.specs.Edges.{Inside}
 use Rattle.planelaws.specs.Clash.{Clash, foot-in, head-in, in-foot, in-head, across, equal, clash-way}
+use Rattle.mapcheck.specs.Later.{way-swap}
 
 -- a and b are both less than c and d
 abbrev pub lesser : ℤ → ℤ → ℤ → ℤ → Bool
@@ -154,20 +155,12 @@ module _ (s t : Seg) where
   no-way U (across e f) = not-across U e f
   no-way U (equal e f) = less-self (t .foot .y) (subst (λ (p : Vec). p .y <ℤ t .foot .y) (corner-same (s .foot) (t .foot) e) (U .foot-foot))
 
-  swapped : Clash s t → Clash t s
-  swapped (foot-in i) = in-foot i
-  swapped (head-in i) = in-head i
-  swapped (in-foot i) = foot-in i
-  swapped (in-head i) = head-in i
-  swapped (across e f) = across f e
-  swapped (equal e f) = equal (same-sym (whole (s .foot)) (whole (t .foot)) e) (same-sym (whole (head s)) (whole (head t)) f)
-
 pub parted-clear : (s t : Seg) → parted s t ≡ true → clash s t ≡ false
 parted-clear s t e = go (clash s t) refl
   where
     no : (under s t ≡ true) ⊎ (under t s ≡ true) → Clash s t → ⊥
     no (inl f) w = no-way s t (under-is s t f) w
-    no (inr f) w = no-way t s (under-is t s f) (swapped s t w)
+    no (inr f) w = no-way t s (under-is t s f) (way-swap s t w)
 
     go : (c : Bool) → clash s t ≡ c → c ≡ false
     go false f = refl

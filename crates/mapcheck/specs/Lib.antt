@@ -1,4 +1,5 @@
 pub mod Net
+pub mod Later
 pub mod Heights
 pub mod Rows
 pub mod Labels

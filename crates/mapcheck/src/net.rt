@@ -6,10 +6,12 @@ ghost use mathlib.Core.Path.{_≡_};
 ghost use Prim.Native.Nat.{_≤_, _<_};
 ghost use lib.ListN.{length};
 ghost use Rattle.seq.specs.Seq.{least};
+ghost use Rattle.paper.specs.Plane.{clash};
 ghost use Rattle.plane.specs.Values.{segOf};
 ghost use Rattle.plane.specs.Bounds.{Edge};
-ghost use Rattle.graph.specs.Flat.{Carriers};
-ghost use Rattle.mapcheck.specs.Net.{clashAt, clashingAt, startsAt, lonelyAt};
+ghost use Rattle.graph.specs.Flat.{carrierAt, Carriers};
+ghost use Rattle.mapcheck.specs.Net.{clashingAt, startsAt, lonelyAt};
+ghost use Rattle.mapcheck.specs.Later.{laterAt};
 ghost use Rattle.mapcheck.specs.Heights.{lesser, parted};
 
 // Whether a and b are both less than c and d.
@@ -41,14 +43,11 @@ fn parted(s: Seg, t: Seg) -> bool
     }
 }
 
-// Whether edges k and j are two that share a point that is not an end of both. No sides are reckoned of two of which one lies wholly below the other.
+// Whether edges k and j share a point that is not an end of both. No sides are reckoned of two of which one lies wholly below the other.
 fn clashes(carriers: &[i64], e: usize, k: usize, j: usize) -> bool
     requires { ⌜ Carriers (now carriers) e × (k < e) × (j < e) ⌝ }
-    ensures { λ r. ⌜ r ≡ clashAt (now (carriers .entry)) k j ⌝ }
+    ensures { λ r. ⌜ r ≡ clash (carrierAt (now (carriers .entry)) k) (carrierAt (now (carriers .entry)) j) ⌝ }
 {
-    if k == j {
-        return false;
-    }
     let s = carrier_at(carriers, k);
     let t = carrier_at(carriers, j);
     if parted(s, t) {
@@ -57,12 +56,12 @@ fn clashes(carriers: &[i64], e: usize, k: usize, j: usize) -> bool
     clash(s, t)
 }
 
-// The least edge that edge k clashes with, or e.
+// The least edge after k that edge k clashes with, or e.
 fn first_clash(carriers: &[i64], e: usize, k: usize) -> usize
     requires { ⌜ Carriers (now carriers) e × (k < e) ⌝ }
-    ensures { λ r. ⌜ r ≡ least (clashAt (now (carriers .entry)) k) e ⌝ }
+    ensures { λ r. ⌜ r ≡ least (laterAt (now (carriers .entry)) k) e ⌝ }
 {
-    let mut j = 0;
+    let mut j = k + 1;
     while j < e {
         if clashes(carriers, e, k, j) {
             return j;
@@ -72,7 +71,7 @@ fn first_clash(carriers: &[i64], e: usize, k: usize) -> usize
     e
 }
 
-// 8 "an edge shares with another any point that is not an end of both": the least such edge, or e.
+// 8 "an edge shares with another any point that is not an end of both": the least such edge, or e. It clashes with a later one.
 pub fn first_clashing(carriers: &[i64], e: usize) -> usize
     requires { ⌜ Carriers (now carriers) e ⌝ }
     ensures { λ r. ⌜ r ≡ least (clashingAt (now (carriers .entry)) e) e ⌝ }

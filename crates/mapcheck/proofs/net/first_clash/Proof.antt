@@ -1,23 +1,26 @@
 -- `mapcheck::net::first_clash` meets its contract: nothing below the counter has been found. Assumes nothing.
-use mathlib.Core.Path.{_≡_, refl, sym, ap, _∙_}
-use Prim.Native.Nat.{_≤_}
+use mathlib.Core.Path.{_≡_, sym, ap, _∙_}
+use Prim.Native.Nat.{_≤_, _<_}
 use native.Mathlib.Omega.{arith}
 use borrow.Author.Needs.{needs}
 use denote.Ref.{now}
 use Rattle.seq.specs.Seq.{_-_, least}
 use Rattle.seq.specs.Least.{least-found, least-more}
-use Rattle.mapcheck.specs.Net.{clashAt}
+use Rattle.mapcheck.specs.Later.{laterAt, later-starts, later-is}
 use Rattle.mapcheck.proofs.net.first_clash.Statement.{statement}
 use Rattle.mapcheck.proofs.net.first_clash.Tie as tie
 
 abbrev Inv-loop : tie.InvT-loop
-Inv-loop carriers e k j₀ j = (j ≤ e) × (least (clashAt carriers k) j ≡ j)
+Inv-loop carriers e k j₀ j = (k < j) × (j ≤ e) × (least (laterAt carriers k) j ≡ j)
 
 abbrev μ-loop : tie.MeasureT-loop
 μ-loop carriers e k j₀ j = e - j
 
+add-j : tie.Need-add-j Inv-loop μ-loop
+add-j c = search needs
+
 loop-holds : tie.Need-loop-holds Inv-loop μ-loop
-loop-holds c = (search needs, refl)
+loop-holds c = (omega arith, search needs, later-starts (now (c .args .carriers)) (c .args .k))
 
 clashes-requires : tie.Need-clashes-requires Inv-loop μ-loop
 clashes-requires c κs = search needs
@@ -26,10 +29,10 @@ returns : tie.Need-returns Inv-loop μ-loop
 returns c =
     let at = c .before .before .before in
     let a = at .before .args in
-    sym (least-found (clashAt (now (a .carriers)) (a .k)) (a .e) (at .loop .j) (omega arith) (at .loop .inv .1) (sym (c .before .clashes .ensures) ∙ c .if1 .taken))
+    sym (least-found (laterAt (now (a .carriers)) (a .k)) (a .e) (at .loop .j) (omega arith) (at .loop .inv .2) (later-is (now (a .carriers)) (a .k) (at .loop .j) (at .loop .inv .0) ∙ sym (c .before .clashes .ensures) ∙ c .if1 .taken))
 
-add-j : tie.Need-add-j Inv-loop μ-loop
-add-j c = search needs
+add-j-2 : tie.Need-add-j-2 Inv-loop μ-loop
+add-j-2 c = search needs
 
 loop-less : tie.Need-loop-less Inv-loop μ-loop
 loop-less c = search needs
@@ -38,14 +41,14 @@ loop-again : tie.Need-loop-again Inv-loop μ-loop
 loop-again c =
     let at = c .before .before .before in
     let a = at .before .args in
-    (omega arith, least-more (clashAt (now (a .carriers)) (a .k)) (at .loop .j) (at .loop .inv .1) (sym (c .before .clashes .ensures) ∙ c .if1 .left))
+    (omega arith, omega arith, least-more (laterAt (now (a .carriers)) (a .k)) (at .loop .j) (at .loop .inv .2) (later-is (now (a .carriers)) (a .k) (at .loop .j) (at .loop .inv .0) ∙ sym (c .before .clashes .ensures) ∙ c .if1 .left))
 
 returns-2 : tie.Need-returns-2 Inv-loop μ-loop
 returns-2 c =
     let at = c .before in
     let a = at .before .args in
     let q : at .loop .j ≡ a .e = omega arith in
-    sym (ap (least (clashAt (now (a .carriers)) (a .k))) (sym q) ∙ at .loop .inv .1 ∙ q)
+    sym (ap (least (laterAt (now (a .carriers)) (a .k))) (sym q) ∙ at .loop .inv .2 ∙ q)
 
 pub first-clash-spec : {M : Type 1} → statement M
 first-clash-spec =
@@ -53,10 +56,11 @@ first-clash-spec =
     (tie.spec
     Inv-loop
     μ-loop
+    add-j
     loop-holds
     clashes-requires
     returns
-    add-j
+    add-j-2
     loop-less
     loop-again
     returns-2)

@@ -7,12 +7,12 @@ use borrow.Author.Tests.{lt-ltb, le-ltb}
 use denote.Ref.{now}
 use Rattle.seq.specs.Seq.{Bool, not, _-_, ltb, least}
 use Rattle.seq.specs.Least.{least-found, least-more, least-le}
-use Rattle.mapcheck.specs.Net.{clashAt, clashingAt}
+use Rattle.mapcheck.specs.Later.{laterAt, laterClashing, least-later}
 use Rattle.mapcheck.proofs.net.first_clashing.Statement.{statement}
 use Rattle.mapcheck.proofs.net.first_clashing.Tie as tie
 
 abbrev Inv-loop : tie.InvT-loop
-Inv-loop carriers e k₀ k = (k ≤ e) × (least (clashingAt carriers e) k ≡ k)
+Inv-loop carriers e k₀ k = (k ≤ e) × (least (laterClashing carriers e) k ≡ k)
 
 abbrev μ-loop : tie.MeasureT-loop
 μ-loop carriers e k₀ k = e - k
@@ -27,8 +27,9 @@ returns : tie.Need-returns Inv-loop μ-loop
 returns c =
     let at = c .before .before .before in
     let a = at .before .args in
-    sym (least-found (clashingAt (now (a .carriers)) (a .e)) (a .e) (at .loop .k) (omega arith) (at .loop .inv .1)
-    (lt-ltb (least (clashAt (now (a .carriers)) (at .loop .k)) (a .e)) (a .e) (omega (arith, c .before .first-clash .ensures, c .if1 .taken))))
+    sym (least-found (laterClashing (now (a .carriers)) (a .e)) (a .e) (at .loop .k) (omega arith) (at .loop .inv .1)
+    (lt-ltb (least (laterAt (now (a .carriers)) (at .loop .k)) (a .e)) (a .e) (omega (arith, c .before .first-clash .ensures, c .if1 .taken))))
+    ∙ least-later (now (a .carriers)) (a .e)
 
 add-k : tie.Need-add-k Inv-loop μ-loop
 add-k c = search needs
@@ -41,8 +42,8 @@ loop-again c =
     let at = c .before .before .before in
     let a = at .before .args in (
       omega arith,
-      least-more (clashingAt (now (a .carriers)) (a .e)) (at .loop .k) (at .loop .inv .1)
-          (le-ltb (least (clashAt (now (a .carriers)) (at .loop .k)) (a .e)) (a .e) (omega (arith, c .before .first-clash .ensures, c .if1 .left))),
+      least-more (laterClashing (now (a .carriers)) (a .e)) (at .loop .k) (at .loop .inv .1)
+          (le-ltb (least (laterAt (now (a .carriers)) (at .loop .k)) (a .e)) (a .e) (omega (arith, c .before .first-clash .ensures, c .if1 .left))),
     )
 
 returns-2 : tie.Need-returns-2 Inv-loop μ-loop
@@ -50,7 +51,8 @@ returns-2 c =
     let at = c .before in
     let a = at .before .args in
     let q : at .loop .k ≡ a .e = omega arith in
-    sym (ap (least (clashingAt (now (a .carriers)) (a .e))) (sym q) ∙ at .loop .inv .1 ∙ q)
+    sym (ap (least (laterClashing (now (a .carriers)) (a .e))) (sym q) ∙ at .loop .inv .1 ∙ q)
+    ∙ least-later (now (a .carriers)) (a .e)
 
 pub first-clashing-spec : {M : Type 1} → statement M
 first-clashing-spec =
