@@ -329,7 +329,7 @@ fn edges_2000(random: &mut Random) -> [Vec<u8>; 2] {
         let n = random.range(97, 99) as usize;
         let (first, second) = (thick(random, n), thick(random, n));
         let (vertices, edges) = size(&first, &second);
-        let spare = (MAP_EDGES - second.edges()).min(VERTICES - vertices - 1);
+        let spare = (MAP_EDGES - second.edges()).min(VERTICES.saturating_sub(vertices + 1));
         if edges < wanted && wanted - edges <= spare {
             break (first, second);
         }
