@@ -1,19 +1,107 @@
--- `faces::link::enclose` meets its contract. Assumes nothing.
-use mathlib.Core.Path.{sym, _∙_, ap, subst}
-use Prim.Native.Nat.{_≤_}
+-- `faces::link::enclose` meets its contract. First what is known from the start and of each table as it is made; then the needs, call by call. Assumes nothing.
+use mathlib.Core.Path.{_≡_, sym, _∙_, ap, subst}
+use Prim.Native.Nat.{_≤_, _<_}
 use native.Mathlib.Numerals.{add-one}
 use native.Mathlib.Omega.{arith}
 use borrow.Author.Needs.{needs}
 use Rattle.seq.specs.Count.{count-le}
-use Rattle.seq.specs.Seq.{ℕ, _+_, _*_, length}
-use Rattle.paper.specs.Faces.{walksOf, faceIn}
-use Rattle.paper.specs.Limits.{absent}
-use Rattle.graph.specs.Flat.{flatGraph, Numbers}
-use Rattle.faces.specs.Kinds.{outerLead, outerNumber, seenBy}
+use Rattle.seq.specs.Seq.{List, ℕ, suc, _+_, _*_, length, count, replicate, filled, ℤ}
+use Rattle.paper.specs.Limits.{overlayEdges, absent}
+use Rattle.paper.specs.Graph.{Graph}
+use Rattle.paper.specs.Faces.{walksOf, leadAt, faceIn}
+use Rattle.graphlaws.specs.Plane.{Plane}
+use Rattle.graph.specs.Flat.{flatGraph, Flat, Numbers}
+use Rattle.graph.specs.Filling.{Holds}
+use Rattle.faces.specs.Kinds.{Kinded, Faced, outerLead, outerNumber, seenBy, faceFrom}
+use Rattle.faces.specs.Linked.{halfRows, Linked}
 use Rattle.faces.specs.Linking.{made, over-zeros-is, lead-numbers, linked-lead, linked-top, length-lead, length-top}
 use Rattle.faces.specs.Numbered.{kinds, tops-numbers, faced, face-filled, faces-numbers, count-flat, outers-flat, holes-filled}
+use Rattle.faces.specs.Walked.{topOf}
 use Rattle.faces.proofs.link.enclose.Statement.{statement}
 use Rattle.faces.proofs.link.enclose.Tie as tie
+
+-- ── what is known ──
+
+module _ (s : tie.Start) where
+  abbrev ps : List ℤ
+  ps = s .args .points .now
+
+  abbrev os : List ℕ
+  os = s .args .origins .now
+
+  abbrev cs : List ℤ
+  cs = s .args .carriers .now
+
+  abbrev n : ℕ
+  n = s .args .n
+
+  abbrev e : ℕ
+  e = s .args .e
+
+  abbrev next : List ℕ
+  next = s .args .walks .next
+
+  abbrev lead : List ℕ
+  lead = s .args .walks .lead
+
+  abbrev top : List ℕ
+  top = s .args .walks .top
+
+  abbrev g : Graph
+  g = flatGraph ps os cs n e
+
+  abbrev F : Flat ps os cs n e
+  F = s .pre .0
+
+  small : e ≤ overlayEdges
+  small = s .pre .1 .0
+
+  abbrev P : Plane g
+  P = s .pre .1 .1 .0
+
+  abbrev A : Linked g next lead top
+  A = s .pre .1 .1 .1
+
+  big : 2 * e ≤ absent
+  big = omega (arith, small)
+
+  L : Holds (leadAt (walksOf g)) lead (2 * e)
+  L = linked-lead ps os cs n e F P next lead top A small
+
+  T : Holds (topOf g) top (2 * e)
+  T = linked-top ps os cs n e F P next lead top A small
+
+  lead-long : halfRows ≡ length lead
+  lead-long = sym (length-lead ps os cs n e F P next lead top A small)
+
+  top-long : halfRows ≡ length top
+  top-long = sym (length-top ps os cs n e F P next lead top A small)
+
+  kinded : (h : ℕ) → h < 2 * e → Kinded lead top h
+  kinded = kinds ps os cs n e F P big lead top L T
+
+  -- the numbers of the outer walks, what hole walks see, the face of every half-edge, as they are made
+  module _ (numbers seen : List ℕ) (N : numbers ≡ filled (2 * e) (outerNumber lead top) (replicate halfRows 0)) (S : seen ≡ filled (2 * e) (seenBy ps os cs n e lead top) (replicate halfRows 0)) where
+    numbered : Holds (outerNumber lead top) numbers (2 * e)
+    numbered = made ps os cs n e F P (outerNumber lead top) (2 * e) halfRows numbers (omega (arith, small)) N
+
+    sighted : Holds (seenBy ps os cs n e lead top) seen (2 * e)
+    sighted = made ps os cs n e F P (seenBy ps os cs n e lead top) (2 * e) halfRows seen (omega (arith, small)) S
+
+    all-faced : Faced lead top seen numbers (2 * e)
+    all-faced = faced ps os cs n e F P big lead top L T seen sighted numbers numbered (lead-numbers ps os cs n e F P lead L)
+
+    module _ (face : List ℕ) (E : face ≡ filled (2 * e) (faceFrom lead top seen numbers n) (replicate halfRows 0)) where
+      face-is : face ≡ filled (2 * e) (faceIn (walksOf g) (length (g .points))) (replicate halfRows 0)
+      face-is = face-filled ps os cs n e F P big lead top L T seen sighted numbers numbered halfRows face E
+
+      face-holds : Holds (faceIn (walksOf g) (length (g .points))) face (2 * e)
+      face-holds = made ps os cs n e F P (faceIn (walksOf g) (length (g .points))) (2 * e) halfRows face (omega (arith, small)) face-is
+
+      face-numbers : (r : ℕ) → r ≡ count (outerLead lead top) (2 * e) → Numbers face (2 * e) (r + 1)
+      face-numbers r q = subst (Numbers face (2 * e)) (sym (add-one _) ∙ ap (λ (k : ℕ). k + 1) (sym q)) (faces-numbers ps os cs n e F P big lead top L T face face-holds)
+
+-- ── the needs ──
 
 mul-m : tie.Need-mul-m
 mul-m c = search needs
@@ -30,21 +118,7 @@ slice-aggregate-number-3 c = search needs
 number-requires : tie.Need-number-requires
 number-requires c κs =
     let s = c .before .before .before .before .before .before in
-    let a = s .args in
-    let ps = a .points .now in
-    let os = a .origins .now in
-    let cs = a .carriers .now in
-    let F = s .pre .0 in
-    let Q = s .pre .1 .1 .0 in
-    let small = s .pre .1 .0 in
-    let next = a .walks .next in
-    let lead = a .walks .lead in
-    let top = a .walks .top in
-    let A = s .pre .1 .1 .1 in
-    let big : 2 * a .e ≤ absent = omega (arith, small) in
-    let L = linked-lead ps os cs (a .n) (a .e) F Q next lead top A small in
-    let T = linked-top ps os cs (a .n) (a .e) F Q next lead top A small in
-    (kinds ps os cs (a .n) (a .e) F Q big lead top L T, (big, omega (arith, small)))
+    (kinded s, (big s, omega (arith, small s)))
 
 slice-aggregate-outers : tie.Need-slice-aggregate-outers
 slice-aggregate-outers c = search needs
@@ -58,21 +132,7 @@ slice-aggregate-outers-3 c = search needs
 outers-requires : tie.Need-outers-requires
 outers-requires c κs =
     let s = c .before .before .before .before .before .before .before .before .before .before .before in
-    let a = s .args in
-    let ps = a .points .now in
-    let os = a .origins .now in
-    let cs = a .carriers .now in
-    let F = s .pre .0 in
-    let Q = s .pre .1 .1 .0 in
-    let small = s .pre .1 .0 in
-    let next = a .walks .next in
-    let lead = a .walks .lead in
-    let top = a .walks .top in
-    let A = s .pre .1 .1 .1 in
-    let big : 2 * a .e ≤ absent = omega (arith, small) in
-    let L = linked-lead ps os cs (a .n) (a .e) F Q next lead top A small in
-    let T = linked-top ps os cs (a .n) (a .e) F Q next lead top A small in
-    (kinds ps os cs (a .n) (a .e) F Q big lead top L T, (big, omega (arith, small)))
+    (kinded s, (big s, omega (arith, small s)))
 
 slice-aggregate-sees : tie.Need-slice-aggregate-sees
 slice-aggregate-sees c = search needs
@@ -86,55 +146,13 @@ slice-aggregate-sees-3 c = search needs
 sees-requires : tie.Need-sees-requires
 sees-requires c κs =
     let s = c .before .before .before .before .before .before .before .before .before .before .before .before .before .before .before .before in
-    let a = s .args in
-    let ps = a .points .now in
-    let os = a .origins .now in
-    let cs = a .carriers .now in
-    let F = s .pre .0 in
-    let Q = s .pre .1 .1 .0 in
-    let small = s .pre .1 .0 in
-    let next = a .walks .next in
-    let lead = a .walks .lead in
-    let top = a .walks .top in
-    let A = s .pre .1 .1 .1 in
-    let big : 2 * a .e ≤ absent = omega (arith, small) in
-    let L = linked-lead ps os cs (a .n) (a .e) F Q next lead top A small in
-    let T = linked-top ps os cs (a .n) (a .e) F Q next lead top A small in
-    (F, (big, (L .long, (tops-numbers ps os cs (a .n) (a .e) F Q big lead top L T, omega (arith, small)))))
+    (F s, (big s, (L s .long, (tops-numbers (ps s) (os s) (cs s) (n s) (e s) (F s) (P s) (big s) (lead s) (top s) (L s) (T s), omega (arith, small s)))))
 
 slice-aggregate-faces : tie.Need-slice-aggregate-faces
-slice-aggregate-faces c =
-    let s = c .before .before .before .before .before .before .before .before .before .before .before .before .before .before .before .before .before .before .before in
-    let a = s .args in
-    let ps = a .points .now in
-    let os = a .origins .now in
-    let cs = a .carriers .now in
-    let F = s .pre .0 in
-    let Q = s .pre .1 .1 .0 in
-    let small = s .pre .1 .0 in
-    let next = a .walks .next in
-    let lead = a .walks .lead in
-    let top = a .walks .top in
-    let A = s .pre .1 .1 .1 in
-    let big : 2 * a .e ≤ absent = omega (arith, small) in
-    sym (length-lead ps os cs (a .n) (a .e) F Q next lead top A small)
+slice-aggregate-faces c = lead-long (c .before .before .before .before .before .before .before .before .before .before .before .before .before .before .before .before .before .before .before)
 
 slice-aggregate-faces-2 : tie.Need-slice-aggregate-faces-2
-slice-aggregate-faces-2 c =
-    let s = c .before .before .before .before .before .before .before .before .before .before .before .before .before .before .before .before .before .before .before .before in
-    let a = s .args in
-    let ps = a .points .now in
-    let os = a .origins .now in
-    let cs = a .carriers .now in
-    let F = s .pre .0 in
-    let Q = s .pre .1 .1 .0 in
-    let small = s .pre .1 .0 in
-    let next = a .walks .next in
-    let lead = a .walks .lead in
-    let top = a .walks .top in
-    let A = s .pre .1 .1 .1 in
-    let big : 2 * a .e ≤ absent = omega (arith, small) in
-    sym (length-top ps os cs (a .n) (a .e) F Q next lead top A small)
+slice-aggregate-faces-2 c = top-long (c .before .before .before .before .before .before .before .before .before .before .before .before .before .before .before .before .before .before .before .before)
 
 slice-aggregate-faces-3 : tie.Need-slice-aggregate-faces-3
 slice-aggregate-faces-3 c = search needs
@@ -148,61 +166,15 @@ slice-aggregate-faces-5 c = search needs
 faces-requires : tie.Need-faces-requires
 faces-requires c κs =
     let s = c .before .before .before .before .before .before .before .before .before .before .before .before .before .before .before .before .before .before .before .before .before .before .before in
-    let a = s .args in
-    let ps = a .points .now in
-    let os = a .origins .now in
-    let cs = a .carriers .now in
-    let F = s .pre .0 in
-    let Q = s .pre .1 .1 .0 in
-    let small = s .pre .1 .0 in
-    let next = a .walks .next in
-    let lead = a .walks .lead in
-    let top = a .walks .top in
-    let A = s .pre .1 .1 .1 in
-    let big : 2 * a .e ≤ absent = omega (arith, small) in
-    let L = linked-lead ps os cs (a .n) (a .e) F Q next lead top A small in
-    let T = linked-top ps os cs (a .n) (a .e) F Q next lead top A small in
     let number = c .before .before .before .before .before .before .before .before .before .before .before .before .before .before .before .before .number in
-    let numbers = number .last .1 .1 .1 .0 in
-    let ns = made ps os cs (a .n) (a .e) F Q (outerNumber lead top) (2 * a .e) 4000 numbers (omega (arith, small)) (number .ensures .0) in
     let sees = c .before .before .before .before .before .before .sees in
-    let seen = sees .last .1 .1 .1 .1 .1 .1 .1 .0 in
-    let ss = made ps os cs (a .n) (a .e) F Q (seenBy ps os cs (a .n) (a .e) lead top) (2 * a .e) 4000 seen (omega (arith, small)) (sees .ensures) in
-    (faced ps os cs (a .n) (a .e) F Q big lead top L T seen ss numbers ns (lead-numbers ps os cs (a .n) (a .e) F Q lead L), omega (arith, small))
+    (all-faced s (number .last .1 .1 .1 .0) (sees .last .1 .1 .1 .1 .1 .1 .1 .0) (number .ensures .0) (sees .ensures), omega (arith, small s))
 
 slice-aggregate-holes : tie.Need-slice-aggregate-holes
-slice-aggregate-holes c =
-    let s = c .before .before .before .before .before .before .before .before .before .before .before .before .before .before .before .before .before .before .before .before .before .before .before .before .before .before in
-    let a = s .args in
-    let ps = a .points .now in
-    let os = a .origins .now in
-    let cs = a .carriers .now in
-    let F = s .pre .0 in
-    let Q = s .pre .1 .1 .0 in
-    let small = s .pre .1 .0 in
-    let next = a .walks .next in
-    let lead = a .walks .lead in
-    let top = a .walks .top in
-    let A = s .pre .1 .1 .1 in
-    let big : 2 * a .e ≤ absent = omega (arith, small) in
-    sym (length-lead ps os cs (a .n) (a .e) F Q next lead top A small)
+slice-aggregate-holes c = lead-long (c .before .before .before .before .before .before .before .before .before .before .before .before .before .before .before .before .before .before .before .before .before .before .before .before .before .before)
 
 slice-aggregate-holes-2 : tie.Need-slice-aggregate-holes-2
-slice-aggregate-holes-2 c =
-    let s = c .before .before .before .before .before .before .before .before .before .before .before .before .before .before .before .before .before .before .before .before .before .before .before .before .before .before .before in
-    let a = s .args in
-    let ps = a .points .now in
-    let os = a .origins .now in
-    let cs = a .carriers .now in
-    let F = s .pre .0 in
-    let Q = s .pre .1 .1 .0 in
-    let small = s .pre .1 .0 in
-    let next = a .walks .next in
-    let lead = a .walks .lead in
-    let top = a .walks .top in
-    let A = s .pre .1 .1 .1 in
-    let big : 2 * a .e ≤ absent = omega (arith, small) in
-    sym (length-top ps os cs (a .n) (a .e) F Q next lead top A small)
+slice-aggregate-holes-2 c = top-long (c .before .before .before .before .before .before .before .before .before .before .before .before .before .before .before .before .before .before .before .before .before .before .before .before .before .before .before)
 
 slice-aggregate-holes-3 : tie.Need-slice-aggregate-holes-3
 slice-aggregate-holes-3 c = search needs
@@ -213,88 +185,36 @@ slice-aggregate-holes-4 c = search needs
 add-holes : tie.Need-add-holes
 add-holes c =
     let s = c .before .before .before .before .before .before .before .before .before .before .before .before .before .before .before .before .before .before .before .before .before .before .before .before .before .before .before .before .before in
-    let a = s .args in
-    let ps = a .points .now in
-    let os = a .origins .now in
-    let cs = a .carriers .now in
-    let F = s .pre .0 in
-    let Q = s .pre .1 .1 .0 in
-    let small = s .pre .1 .0 in
-    let next = a .walks .next in
-    let lead = a .walks .lead in
-    let top = a .walks .top in
-    let A = s .pre .1 .1 .1 in
-    let big : 2 * a .e ≤ absent = omega (arith, small) in
-    omega (arith, c .before .before .before .before .before .before .before .before .before .before .before .before .before .before .before .before .before .before .before .before .before .before .number .ensures .1, count-le (outerLead lead top) (2 * a .e))
+    omega (arith, small s, c .before .before .before .before .before .before .before .before .before .before .before .before .before .before .before .before .before .before .before .before .before .before .number .ensures .1, count-le (outerLead (lead s) (top s)) (2 * e s))
 
 holes-requires : tie.Need-holes-requires
 holes-requires c κs =
     let s = c .before .before .before .before .before .before .before .before .before .before .before .before .before .before .before .before .before .before .before .before .before .before .before .before .before .before .before .before .before in
-    let a = s .args in
-    let ps = a .points .now in
-    let os = a .origins .now in
-    let cs = a .carriers .now in
-    let F = s .pre .0 in
-    let Q = s .pre .1 .1 .0 in
-    let small = s .pre .1 .0 in
-    let next = a .walks .next in
-    let lead = a .walks .lead in
-    let top = a .walks .top in
-    let A = s .pre .1 .1 .1 in
-    let big : 2 * a .e ≤ absent = omega (arith, small) in
-    let L = linked-lead ps os cs (a .n) (a .e) F Q next lead top A small in
-    let T = linked-top ps os cs (a .n) (a .e) F Q next lead top A small in
     let number = c .before .before .before .before .before .before .before .before .before .before .before .before .before .before .before .before .before .before .before .before .before .before .number in
-    let numbers = number .last .1 .1 .1 .0 in
-    let ns = made ps os cs (a .n) (a .e) F Q (outerNumber lead top) (2 * a .e) 4000 numbers (omega (arith, small)) (number .ensures .0) in
     let sees = c .before .before .before .before .before .before .before .before .before .before .before .before .sees in
-    let seen = sees .last .1 .1 .1 .1 .1 .1 .1 .0 in
-    let ss = made ps os cs (a .n) (a .e) F Q (seenBy ps os cs (a .n) (a .e) lead top) (2 * a .e) 4000 seen (omega (arith, small)) (sees .ensures) in
     let faces = c .before .before .before .before .before .faces in
-    let face = faces .last .1 .1 .1 .1 .1 .1 .0 in
-    let fs = face-filled ps os cs (a .n) (a .e) F Q big lead top L T seen ss numbers ns 4000 face (faces .ensures) in
-    let ks = made ps os cs (a .n) (a .e) F Q (faceIn (walksOf (flatGraph ps os cs (a .n) (a .e))) (length (flatGraph ps os cs (a .n) (a .e) .points))) (2 * a .e) 4000 face (omega (arith, small)) fs in
     let r = number .ensures .1 in
-    let b = faces-numbers ps os cs (a .n) (a .e) F Q big lead top L T face ks in
-    (kinds ps os cs (a .n) (a .e) F Q big lead top L T, (big, (subst (Numbers face (2 * a .e)) (sym (add-one _) ∙ ap (λ (k : ℕ). k + 1) (sym r)) b, omega (arith, r, count-le (outerLead lead top) (2 * a .e)))))
+    let b = face-numbers s (number .last .1 .1 .1 .0) (sees .last .1 .1 .1 .1 .1 .1 .1 .0) (number .ensures .0) (sees .ensures) (faces .last .1 .1 .1 .1 .1 .1 .0) (faces .ensures) (number .result) r in
+    (kinded s, (big s, (b, omega (arith, small s, r, count-le (outerLead (lead s) (top s)) (2 * e s)))))
 
 returns : tie.Need-returns
 returns c =
     let s = c .before .before .before .before .before .before .before .before .before .before .before .before .before .before .before .before .before .before .before .before .before .before .before .before .before .before .before .before .before .before .before in
-    let a = s .args in
-    let ps = a .points .now in
-    let os = a .origins .now in
-    let cs = a .carriers .now in
-    let F = s .pre .0 in
-    let Q = s .pre .1 .1 .0 in
-    let small = s .pre .1 .0 in
-    let next = a .walks .next in
-    let lead = a .walks .lead in
-    let top = a .walks .top in
-    let A = s .pre .1 .1 .1 in
-    let big : 2 * a .e ≤ absent = omega (arith, small) in
-    let L = linked-lead ps os cs (a .n) (a .e) F Q next lead top A small in
-    let T = linked-top ps os cs (a .n) (a .e) F Q next lead top A small in
     let number = c .before .before .before .before .before .before .before .before .before .before .before .before .before .before .before .before .before .before .before .before .before .before .before .before .number in
-    let numbers = number .last .1 .1 .1 .0 in
-    let ns = made ps os cs (a .n) (a .e) F Q (outerNumber lead top) (2 * a .e) 4000 numbers (omega (arith, small)) (number .ensures .0) in
     let sees = c .before .before .before .before .before .before .before .before .before .before .before .before .before .before .sees in
-    let seen = sees .last .1 .1 .1 .1 .1 .1 .1 .0 in
-    let ss = made ps os cs (a .n) (a .e) F Q (seenBy ps os cs (a .n) (a .e) lead top) (2 * a .e) 4000 seen (omega (arith, small)) (sees .ensures) in
     let faces = c .before .before .before .before .before .before .before .faces in
-    let face = faces .last .1 .1 .1 .1 .1 .1 .0 in
-    let fs = face-filled ps os cs (a .n) (a .e) F Q big lead top L T seen ss numbers ns 4000 face (faces .ensures) in
-    let ks = made ps os cs (a .n) (a .e) F Q (faceIn (walksOf (flatGraph ps os cs (a .n) (a .e))) (length (flatGraph ps os cs (a .n) (a .e) .points))) (2 * a .e) 4000 face (omega (arith, small)) fs in
     let outs = c .before .before .before .before .before .before .before .before .before .before .before .before .before .before .before .before .before .before .before .outers in
-    let leaders = outs .last .1 .1 .1 .0 in
     let hs = c .before .holes in
-    let inside = hs .last .1 .1 .1 .1 .0 in
-    let g = flatGraph ps os cs (a .n) (a .e) in
+    let numbers = number .last .1 .1 .1 .0 in
+    let seen = sees .last .1 .1 .1 .1 .1 .1 .1 .0 in
+    let face = faces .last .1 .1 .1 .1 .1 .1 .0 in
+    let is = face-is s numbers seen (number .ensures .0) (sees .ensures) face (faces .ensures) in
+    let holds = face-holds s numbers seen (number .ensures .0) (sees .ensures) face (faces .ensures) in
     record {
-      face-is = over-zeros-is ps os cs (a .n) (a .e) F Q (faceIn (walksOf g) (length (g .points))) 4000 face fs;
-      outers-is = outers-flat ps os cs (a .n) (a .e) F Q big lead top L T 4000 leaders (outs .ensures);
-      count-is = count-flat ps os cs (a .n) (a .e) F Q big lead top L T (number .result) (number .ensures .1);
-      holes-is = holes-filled ps os cs (a .n) (a .e) F Q big lead top L T face ks (number .result) 4001 inside (hs .ensures);
+      face-is = over-zeros-is (ps s) (os s) (cs s) (n s) (e s) (F s) (P s) (faceIn (walksOf (g s)) (length (g s .points))) halfRows face is;
+      outers-is = outers-flat (ps s) (os s) (cs s) (n s) (e s) (F s) (P s) (big s) (lead s) (top s) (L s) (T s) halfRows (outs .last .1 .1 .1 .0) (outs .ensures);
+      count-is = count-flat (ps s) (os s) (cs s) (n s) (e s) (F s) (P s) (big s) (lead s) (top s) (L s) (T s) (number .result) (number .ensures .1);
+      holes-is = holes-filled (ps s) (os s) (cs s) (n s) (e s) (F s) (P s) (big s) (lead s) (top s) (L s) (T s) face holds (number .result) (suc halfRows) (hs .last .1 .1 .1 .1 .0) (hs .ensures);
     }
 
 pub enclose-spec : {M : Type 1} → statement M
