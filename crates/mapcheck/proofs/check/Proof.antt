@@ -9,21 +9,6 @@ use borrow.Author.Needs.{needs}
 use Rattle.mapcheck.proofs.check.Statement.{statement}
 use Rattle.mapcheck.proofs.check.Tie as tie
 
-fault-requires : tie.Need-fault-requires
-fault-requires c κs = search needs
-
-enum-known-c : tie.Need-enum-known-c
-enum-known-c c = search needs
-
-enum-told : tie.Need-enum-told
-enum-told c = search needs
-
-vertex-count-requires : tie.Need-vertex-count-requires
-vertex-count-requires c κs = search needs
-
-edge-count-requires : tie.Need-edge-count-requires
-edge-count-requires c κs = search needs
-
 returns : tie.Need-returns
 returns c =
     let f = now (c .before .before .before .before .before .args .file) in
@@ -39,10 +24,10 @@ pub check-spec : {M : Type 1} → statement M
 check-spec =
     tie.close
     (tie.spec
-    fault-requires
-    enum-known-c
-    enum-told
-    vertex-count-requires
-    edge-count-requires
+    (λ c κs. search needs)
+    (λ c. search needs)
+    (λ c. search needs)
+    (λ c κs. search needs)
+    (λ c κs. search needs)
     returns
     returns-2)

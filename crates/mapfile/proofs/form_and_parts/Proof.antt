@@ -8,18 +8,6 @@ use Rattle.mapfile.proofs.VerdictLaws.{first-none, first-some}
 use Rattle.mapfile.proofs.form_and_parts.Statement.{statement}
 use Rattle.mapfile.proofs.form_and_parts.Tie as tie
 
-form-requires : tie.Need-form-requires
-form-requires c κs = search needs
-
-enum-told : tie.Need-enum-told
-enum-told c = search needs
-
-enum-told-2 : tie.Need-enum-told-2
-enum-told-2 c = search needs
-
-parts-requires : tie.Need-parts-requires
-parts-requires c κs = search needs
-
 returns : tie.Need-returns
 returns c =
     let s = now (c .before .before .before .before .args .file) in
@@ -33,4 +21,4 @@ returns-2 c =
 
 pub form-and-parts-spec : {M : Type 1} → statement M
 form-and-parts-spec =
-    tie.close (tie.spec form-requires enum-told enum-told-2 parts-requires returns returns-2)
+    tie.close (tie.spec (λ c κs. search needs) (λ c. search needs) (λ c. search needs) (λ c κs. search needs) returns returns-2)

@@ -8,18 +8,6 @@ use Rattle.bonnetewe.specs.Told.{told}
 use Rattle.bonnetewe.proofs.answer.of_answer.Statement.{statement}
 use Rattle.bonnetewe.proofs.answer.of_answer.Tie as tie
 
-enum-known-answer : tie.Need-enum-known-answer
-enum-known-answer c = search needs
-
-join-requires : tie.Need-join-requires
-join-requires c κs = search needs
-
-enum-known-answer-2 : tie.Need-enum-known-answer-2
-enum-known-answer-2 c = search needs
-
-join-requires-2 : tie.Need-join-requires-2
-join-requires-2 c κs = search needs
-
 returns : tie.Need-returns
 returns c = c .join .ensures ∙ sym (ap (λ (a : Answer). told (answerOf a)) (c .before .before .answer .given .1))
 
@@ -30,9 +18,9 @@ pub of-answer-spec : {M : Type 1} → statement M
 of-answer-spec =
     tie.close
     (tie.spec
-    enum-known-answer
-    join-requires
-    enum-known-answer-2
-    join-requires-2
+    (λ c. search needs)
+    (λ c κs. search needs)
+    (λ c. search needs)
+    (λ c κs. search needs)
     returns
     returns-2)

@@ -8,17 +8,8 @@ use Rattle.bonnetewe.specs.Told.{toldLength, Short}
 use Rattle.bonnetewe.proofs.answer.of_written.Statement.{statement}
 use Rattle.bonnetewe.proofs.answer.of_written.Tie as tie
 
-enum-known-answer : tie.Need-enum-known-answer
-enum-known-answer c = search needs
-
 mul-result : tie.Need-mul-result
 mul-result c = omega (arith, subst Short (ap answerOf (c .before .answer .given .1)) (c .before .before .before .pre))
-
-enum-known-answer-2 : tie.Need-enum-known-answer-2
-enum-known-answer-2 c = search needs
-
-join-requires : tie.Need-join-requires
-join-requires c κs = search needs
 
 returns : tie.Need-returns
 returns c = sym (ap (λ (a : WriteAnswer). toldLength (answerOf a)) (c .before .answer .given .1))
@@ -29,4 +20,4 @@ returns-2 c = c .join .ensures ∙ sym (ap (λ (a : WriteAnswer). toldLength (an
 pub of-written-spec : {M : Type 1} → statement M
 of-written-spec =
     tie.close
-    (tie.spec enum-known-answer mul-result enum-known-answer-2 join-requires returns returns-2)
+    (tie.spec (λ c. search needs) mul-result (λ c. search needs) (λ c κs. search needs) returns returns-2)

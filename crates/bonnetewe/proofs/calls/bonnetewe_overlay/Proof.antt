@@ -8,24 +8,6 @@ use Rattle.bonnetewe.specs.Told.{told-by}
 use Rattle.bonnetewe.proofs.calls.bonnetewe_overlay.Statement.{statement}
 use Rattle.bonnetewe.proofs.calls.bonnetewe_overlay.Tie as tie
 
-overlay-requires : tie.Need-overlay-requires
-overlay-requires c κs = search needs
-
-of-answer-requires : tie.Need-of-answer-requires
-of-answer-requires c κs = search needs
-
-same-length : tie.Need-same-length
-same-length c = search needs
-
-same-length-2 : tie.Need-same-length-2
-same-length-2 c = search needs
-
-same-length-3 : tie.Need-same-length-3
-same-length-3 c = search needs
-
-same-length-4 : tie.Need-same-length-4
-same-length-4 c = search needs
-
 returns : tie.Need-returns
 returns c =
     let o = c .before .before .before .before .before .before .before .before in
@@ -39,10 +21,10 @@ pub bonnetewe-overlay-spec : {M : Type 1} → statement M
 bonnetewe-overlay-spec =
     tie.close
     (tie.spec
-    overlay-requires
-    of-answer-requires
-    same-length
-    same-length-2
-    same-length-3
-    same-length-4
+    (λ c κs. search needs)
+    (λ c κs. search needs)
+    (λ c. search needs)
+    (λ c. search needs)
+    (λ c. search needs)
+    (λ c. search needs)
     returns)

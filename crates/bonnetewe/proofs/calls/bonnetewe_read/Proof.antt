@@ -9,24 +9,6 @@ use Rattle.bonnetewe.specs.Told.{told-by}
 use Rattle.bonnetewe.proofs.calls.bonnetewe_read.Statement.{statement}
 use Rattle.bonnetewe.proofs.calls.bonnetewe_read.Tie as tie
 
-read-requires : tie.Need-read-requires
-read-requires c κs = search needs
-
-of-answer-requires : tie.Need-of-answer-requires
-of-answer-requires c κs = search needs
-
-same-length : tie.Need-same-length
-same-length c = search needs
-
-same-length-2 : tie.Need-same-length-2
-same-length-2 c = search needs
-
-same-length-3 : tie.Need-same-length-3
-same-length-3 c = search needs
-
-same-length-4 : tie.Need-same-length-4
-same-length-4 c = search needs
-
 returns : tie.Need-returns
 returns c =
     let r = c .before .before .before .before .before .before .before .before in
@@ -40,10 +22,10 @@ pub bonnetewe-read-spec : {M : Type 1} → statement M
 bonnetewe-read-spec =
     tie.close
     (tie.spec
-    read-requires
-    of-answer-requires
-    same-length
-    same-length-2
-    same-length-3
-    same-length-4
+    (λ c κs. search needs)
+    (λ c κs. search needs)
+    (λ c. search needs)
+    (λ c. search needs)
+    (λ c. search needs)
+    (λ c. search needs)
     returns)

@@ -9,9 +9,6 @@ use Rattle.bonnetewe.specs.Told.{counts, told-file, write-short}
 use Rattle.bonnetewe.proofs.calls.bonnetewe_write.Statement.{statement}
 use Rattle.bonnetewe.proofs.calls.bonnetewe_write.Tie as tie
 
-write-requires : tie.Need-write-requires
-write-requires c κs = search needs
-
 of-written-requires : tie.Need-of-written-requires
 of-written-requires c κs =
     let w = c .before .before in
@@ -27,9 +24,6 @@ of-written-requires c κs =
     (omega arith)
     (w .write .ensures)
 
-same-length : tie.Need-same-length
-same-length c = search needs
-
 returns : tie.Need-returns
 returns c =
     let w = c .before .before .before in
@@ -40,4 +34,4 @@ returns c =
     (c .of-written .ensures)
 
 pub bonnetewe-write-spec : {M : Type 1} → statement M
-bonnetewe-write-spec = tie.close (tie.spec write-requires of-written-requires same-length returns)
+bonnetewe-write-spec = tie.close (tie.spec (λ c κs. search needs) of-written-requires (λ c. search needs) returns)

@@ -11,23 +11,8 @@ use Rattle.cut.proofs.collect.append_new.Tie as tie
 returns : tie.Need-returns
 returns c = let a = c .before .args in append-full vertexRows (a .points .now) (a .n) (ptOf (a .p)) (search needs)
 
-stands-requires : tie.Need-stands-requires
-stands-requires c κs = search needs
-
-same-length : tie.Need-same-length
-same-length c = search needs
-
 returns-2 : tie.Need-returns-2
 returns-2 c = let a = c .before .before .before .before .args in append-old vertexRows (a .points .now) (a .n) (ptOf (a .p)) _ (omega arith) (c .before .stands .ensures) (c .if2 .taken)
-
-store4-i64-requires : tie.Need-store4-i64-requires
-store4-i64-requires c κs = search needs
-
-add-result : tie.Need-add-result
-add-result c = search needs
-
-same-length-2 : tie.Need-same-length-2
-same-length-2 c = search needs
 
 returns-3 : tie.Need-returns-3
 returns-3 c =
@@ -41,10 +26,10 @@ append-new-spec =
     tie.close
     (tie.spec
     returns
-    stands-requires
-    same-length
+    (λ c κs. search needs)
+    (λ c. search needs)
     returns-2
-    store4-i64-requires
-    add-result
-    same-length-2
+    (λ c κs. search needs)
+    (λ c. search needs)
+    (λ c. search needs)
     returns-3)

@@ -12,9 +12,6 @@ use borrow.Author.Needs.{needs}
 use Rattle.cut.proofs.collect.collect.Statement.{statement}
 use Rattle.cut.proofs.collect.collect.Tie as tie
 
-corners-requires : tie.Need-corners-requires
-corners-requires c κs = search needs
-
 crossings-requires : tie.Need-crossings-requires
 crossings-requires c κs =
     let s = c .before .before .before .before .before in
@@ -26,9 +23,6 @@ crossings-requires c κs =
       s .pre .1 .1,
     )
 
-same-length : tie.Need-same-length
-same-length c = search needs
-
 returns : tie.Need-returns
 returns c =
     let a = c .before .before .before .before .before .before .before .args in
@@ -37,4 +31,4 @@ returns c =
     ∙ sym (collectIn-++ equal vertexRows [] (pointsOf (a .corner-rows .now) (a .c)) cs)
 
 pub collect-spec : {M : Type 1} → statement M
-collect-spec = tie.close (tie.spec corners-requires crossings-requires same-length returns)
+collect-spec = tie.close (tie.spec (λ c κs. search needs) crossings-requires (λ c. search needs) returns)

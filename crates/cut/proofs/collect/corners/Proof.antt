@@ -24,19 +24,10 @@ abbrev μ-loop : tie.MeasureT-loop
 loop-holds : tie.Need-loop-holds Inv-loop μ-loop
 loop-holds c = (search needs, refl, gather-starts vertexRows _ _ _ (search needs))
 
-point-at-requires : tie.Need-point-at-requires Inv-loop μ-loop
-point-at-requires c κs = search needs
-
 append-new-requires : tie.Need-append-new-requires Inv-loop μ-loop
 append-new-requires c κs =
     let l = c .before .before .before .loop in
     (record { long = omega (arith, l .inv .1); within = l .inv .2 .within }, subst Near (sym (c .before .point-at .ensures)) (c .before .before .before .before .pre .1 .near (l .v) (omega arith)))
-
-add-v : tie.Need-add-v Inv-loop μ-loop
-add-v c = search needs
-
-loop-less : tie.Need-loop-less Inv-loop μ-loop
-loop-less c = search needs
 
 loop-again : tie.Need-loop-again Inv-loop μ-loop
 loop-again c =
@@ -46,9 +37,6 @@ loop-again c =
       r .kept .0 ∙ l .inv .1,
       gather-turns vertexRows _ (l .inv .2) (r .last .0) (r .result) (r .ensures ∙ ap (λ (p : Pt). gathered vertexRows (pointsOf (l .points) (l .total)) (p ∷ [])) (c .before .before .before .point-at .ensures)),
     )
-
-same-length : tie.Need-same-length Inv-loop μ-loop
-same-length c = search needs
 
 returns : tie.Need-returns Inv-loop μ-loop
 returns c =
@@ -63,10 +51,10 @@ corners-spec =
     Inv-loop
     μ-loop
     loop-holds
-    point-at-requires
+    (λ c κs. search needs)
     append-new-requires
-    add-v
-    loop-less
+    (λ c. search needs)
+    (λ c. search needs)
     loop-again
-    same-length
+    (λ c. search needs)
     returns)

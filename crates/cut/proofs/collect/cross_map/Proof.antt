@@ -22,9 +22,6 @@ abbrev μ-loop : tie.MeasureT-loop
 loop-holds : tie.Need-loop-holds Inv-loop μ-loop
 loop-holds c = (search needs, refl, gather-starts vertexRows _ _ _ (search needs))
 
-add-carrier-at : tie.Need-add-carrier-at Inv-loop μ-loop
-add-carrier-at c = search needs
-
 carrier-at-requires : tie.Need-carrier-at-requires Inv-loop μ-loop
 carrier-at-requires c κs =
     let s = c .before .before in
@@ -35,12 +32,6 @@ cross-row-requires c κs =
     let l = c .before .before .before .loop in
     let s = c .before .before .before .before in
     (record { long = omega (arith, l .inv .1); within = l .inv .2 .within }, (carriers-fewer (s .args .carriers .now) (s .args .from + s .args .e) (s .args .from) (omega arith) (s .pre .1), c .before .carrier-at .ensures .1))
-
-add-k : tie.Need-add-k Inv-loop μ-loop
-add-k c = search needs
-
-loop-less : tie.Need-loop-less Inv-loop μ-loop
-loop-less c = search needs
 
 loop-again : tie.Need-loop-again Inv-loop μ-loop
 loop-again c =
@@ -53,9 +44,6 @@ loop-again c =
           (r .ensures ∙ ap (λ (s : Seg). gathered vertexRows (pointsOf (l .points) (l .total)) (crossRow (a .carriers .now) (a .from) s)) (c .before .before .before .carrier-at .ensures .0)),
     )
 
-same-length : tie.Need-same-length Inv-loop μ-loop
-same-length c = search needs
-
 returns : tie.Need-returns Inv-loop μ-loop
 returns c = gather-ends vertexRows _ (c .before .loop .inv .2) (c .before .before .args .e) (omega arith)
 
@@ -66,11 +54,11 @@ cross-map-spec =
     Inv-loop
     μ-loop
     loop-holds
-    add-carrier-at
+    (λ c. search needs)
     carrier-at-requires
     cross-row-requires
-    add-k
-    loop-less
+    (λ c. search needs)
+    (λ c. search needs)
     loop-again
-    same-length
+    (λ c. search needs)
     returns)

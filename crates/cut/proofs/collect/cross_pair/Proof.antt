@@ -12,15 +12,6 @@ use borrow.Author.Needs.{needs}
 use Rattle.cut.proofs.collect.cross_pair.Statement.{statement}
 use Rattle.cut.proofs.collect.cross_pair.Tie as tie
 
-crossing-requires : tie.Need-crossing-requires
-crossing-requires c κs = search needs
-
-enum-told : tie.Need-enum-told
-enum-told c = search needs
-
-enum-known-p : tie.Need-enum-known-p
-enum-known-p c = search needs
-
 append-new-requires : tie.Need-append-new-requires
 append-new-requires c κs = (c .before .before .before .before .before .pre .0, subst (λ (x : Cross). NearIf (crossOf x)) (c .before .before .p .given .1) (c .before .before .before .before .crossing .ensures .1))
 
@@ -28,9 +19,6 @@ returns : tie.Need-returns
 returns c =
     let a = c .before .before .before .args in
     ap (λ (o : Option Pt). gathered vertexRows (pointsOf (a .points .now) (a .n)) (optional o)) (sym (ap crossOf (c .enum-told .given .1)) ∙ c .before .before .crossing .ensures .0)
-
-same-length : tie.Need-same-length
-same-length c = search needs
 
 returns-2 : tie.Need-returns-2
 returns-2 c =
@@ -42,10 +30,10 @@ pub cross-pair-spec : {M : Type 1} → statement M
 cross-pair-spec =
     tie.close
     (tie.spec
-    crossing-requires
-    enum-told
-    enum-known-p
+    (λ c κs. search needs)
+    (λ c. search needs)
+    (λ c. search needs)
     append-new-requires
     returns
-    same-length
+    (λ c. search needs)
     returns-2)

@@ -31,12 +31,6 @@ cross-pair-requires c κs =
     let l = c .before .before .before .loop in
     (record { long = omega (arith, l .inv .1); within = l .inv .2 .within }, (c .before .carrier-at .ensures .1, c .before .before .before .before .pre .1 .1))
 
-add-j : tie.Need-add-j Inv-loop μ-loop
-add-j c = search needs
-
-loop-less : tie.Need-loop-less Inv-loop μ-loop
-loop-less c = search needs
-
 loop-again : tie.Need-loop-again Inv-loop μ-loop
 loop-again c =
     let l = c .before .before .before .before .before .loop in
@@ -46,9 +40,6 @@ loop-again c =
       r .kept .1 .1 .0 ∙ l .inv .1,
       gather-turns vertexRows _ (l .inv .2) (r .last .1 .1 .0) (r .result) (r .ensures ∙ ap (λ (s : Seg). gathered vertexRows (pointsOf (l .points) (l .total)) (optional (crossing s t))) (c .before .before .before .carrier-at .ensures .0)),
     )
-
-same-length : tie.Need-same-length Inv-loop μ-loop
-same-length c = search needs
 
 returns : tie.Need-returns Inv-loop μ-loop
 returns c = gather-ends vertexRows _ (c .before .loop .inv .2) (c .before .before .args .e) (omega arith)
@@ -62,8 +53,8 @@ cross-row-spec =
     loop-holds
     carrier-at-requires
     cross-pair-requires
-    add-j
-    loop-less
+    (λ c. search needs)
+    (λ c. search needs)
     loop-again
-    same-length
+    (λ c. search needs)
     returns)

@@ -22,21 +22,6 @@ abbrev μ-loop : tie.MeasureT-loop
 loop-holds : tie.Need-loop-holds Inv-loop μ-loop
 loop-holds c = (search needs, refl, gather-starts vertexRows _ _ _ (search needs))
 
-mul-from : tie.Need-mul-from Inv-loop μ-loop
-mul-from c = search needs
-
-shared-slice-read-from : tie.Need-shared-slice-read-from Inv-loop μ-loop
-shared-slice-read-from c = search needs
-
-add-e : tie.Need-add-e Inv-loop μ-loop
-add-e c = search needs
-
-mul-e : tie.Need-mul-e Inv-loop μ-loop
-mul-e c = search needs
-
-shared-slice-read-e : tie.Need-shared-slice-read-e Inv-loop μ-loop
-shared-slice-read-e c = search needs
-
 sub-e : tie.Need-sub-e Inv-loop μ-loop
 sub-e c = omega (arith, c .before .before .before .before .before .pre .1 .rises (c .before .before .before .loop .m) (omega arith))
 
@@ -45,20 +30,11 @@ cross-map-requires c κs =
     let l = c .before .before .before .before .loop in
     (record { long = omega (arith, l .inv .1); within = l .inv .2 .within }, part-carried (c .before .before .before .before .before .before .pre .1) (l .m) (omega arith))
 
-add-m : tie.Need-add-m Inv-loop μ-loop
-add-m c = search needs
-
-loop-less : tie.Need-loop-less Inv-loop μ-loop
-loop-less c = search needs
-
 loop-again : tie.Need-loop-again Inv-loop μ-loop
 loop-again c =
     let l = c .before .before .before .before .before .before .loop in
     let r = c .before .cross-map in
     (search needs, r .kept .1 .1 .1 .0 ∙ l .inv .1, gather-turns vertexRows _ (l .inv .2) (r .last .1 .1 .1 .0) (r .result) (r .ensures))
-
-same-length : tie.Need-same-length Inv-loop μ-loop
-same-length c = search needs
 
 returns : tie.Need-returns Inv-loop μ-loop
 returns c = gather-ends vertexRows _ (c .before .loop .inv .2) maps (omega arith)
@@ -70,15 +46,15 @@ crossings-spec =
     Inv-loop
     μ-loop
     loop-holds
-    mul-from
-    shared-slice-read-from
-    add-e
-    mul-e
-    shared-slice-read-e
+    (λ c. search needs)
+    (λ c. search needs)
+    (λ c. search needs)
+    (λ c. search needs)
+    (λ c. search needs)
     sub-e
     cross-map-requires
-    add-m
-    loop-less
+    (λ c. search needs)
+    (λ c. search needs)
     loop-again
-    same-length
+    (λ c. search needs)
     returns)

@@ -44,33 +44,6 @@ module _ (p : Pt) (h : Near p) (t : List ℤ) (k : ℕ) where
   d-test : Small (numberAt t k 2) → eqb (ofZ w64 (p .D)) (ofZ w64 (numberAt t k 2)) ≡ eqZ (p .D) (numberAt t k 2)
   d-test g = bits-test (p .D) (numberAt t k 2) denominators (h .D-is) tt g
 
-mul-at : tie.Need-mul-at
-mul-at c = search needs
-
-mul-if1 : tie.Need-mul-if1
-mul-if1 c = search needs
-
-shared-slice-copy-out-if1 : tie.Need-shared-slice-copy-out-if1
-shared-slice-copy-out-if1 c = search needs
-
-add-if2 : tie.Need-add-if2
-add-if2 c = search needs
-
-mul-if2 : tie.Need-mul-if2
-mul-if2 c = search needs
-
-shared-slice-copy-out-if2 : tie.Need-shared-slice-copy-out-if2
-shared-slice-copy-out-if2 c = search needs
-
-add-result : tie.Need-add-result
-add-result c = search needs
-
-mul-result : tie.Need-mul-result
-mul-result c = search needs
-
-shared-slice-copy-out-result : tie.Need-shared-slice-copy-out-result
-shared-slice-copy-out-result c = search needs
-
 returns : tie.Need-returns
 returns c =
     let s = c .before .before .before .before .before .before .before .before .before .before .before in
@@ -100,15 +73,15 @@ pub is-at-spec : {M : Type 1} → statement M
 is-at-spec =
     tie.close
     (tie.spec
-    mul-at
-    mul-if1
-    shared-slice-copy-out-if1
-    add-if2
-    mul-if2
-    shared-slice-copy-out-if2
-    add-result
-    mul-result
-    shared-slice-copy-out-result
+    (λ c. search needs)
+    (λ c. search needs)
+    (λ c. search needs)
+    (λ c. search needs)
+    (λ c. search needs)
+    (λ c. search needs)
+    (λ c. search needs)
+    (λ c. search needs)
+    (λ c. search needs)
     returns
     returns-2
     returns-3)

@@ -16,17 +16,8 @@ abbrev μ-loop : tie.MeasureT-loop
 loop-holds : tie.Need-loop-holds Inv-loop μ-loop
 loop-holds c = look-starts _ _ _
 
-is-at-requires : tie.Need-is-at-requires Inv-loop μ-loop
-is-at-requires c κs = search needs
-
 returns : tie.Need-returns Inv-loop μ-loop
 returns c = look-finds _ _ (c .before .before .before .loop .inv) (search needs) (sym (c .before .is-at .ensures) ∙ c .if1 .taken)
-
-add-k : tie.Need-add-k Inv-loop μ-loop
-add-k c = search needs
-
-loop-less : tie.Need-loop-less Inv-loop μ-loop
-loop-less c = search needs
 
 loop-again : tie.Need-loop-again Inv-loop μ-loop
 loop-again c = look-turns _ _ (c .before .before .before .loop .inv) (search needs) (sym (c .before .is-at .ensures) ∙ c .if1 .left)
@@ -41,9 +32,9 @@ stands-spec =
     Inv-loop
     μ-loop
     loop-holds
-    is-at-requires
+    (λ c κs. search needs)
     returns
-    add-k
-    loop-less
+    (λ c. search needs)
+    (λ c. search needs)
     loop-again
     returns-2)

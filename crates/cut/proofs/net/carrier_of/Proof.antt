@@ -8,28 +8,16 @@ use borrow.Author.Needs.{needs}
 use Rattle.cut.proofs.net.carrier_of.Statement.{statement}
 use Rattle.cut.proofs.net.carrier_of.Tie as tie
 
-first-map-requires : tie.Need-first-map-requires
-first-map-requires c κs = search needs
-
-nothing-requires : tie.Need-nothing-requires
-nothing-requires c κs = search needs
-
 returns : tie.Need-returns
 returns c =
     let a = c .before .before .before .before .before .args in
     (c .nothing .ensures .0 ∙ carrier-none (a .pieces .now) (a .carriers .now) (a .starts .now) (a .k) (omega (arith, c .before .before .first-map .ensures)), c .nothing .ensures .1)
-
-source-in-requires : tie.Need-source-in-requires
-source-in-requires c κs = search needs
 
 sub-edge-in : tie.Need-sub-edge-in
 sub-edge-in c =
     let a = c .before .before .before .before .before .args in
     let e = c .before .before .first-map .ensures in
     omega (arith, c .source-in .ensures .0, ap (sourceIn (a .pieces .now) (a .k)) e, first-has (a .pieces .now) (a .carriers .now) (a .starts .now) (a .k) (omega (arith, e)))
-
-edge-in-requires : tie.Need-edge-in-requires
-edge-in-requires c κs = search needs
 
 returns-2 : tie.Need-returns-2
 returns-2 c =
@@ -44,10 +32,10 @@ pub carrier-of-spec : {M : Type 1} → statement M
 carrier-of-spec =
     tie.close
     (tie.spec
-    first-map-requires
-    nothing-requires
+    (λ c κs. search needs)
+    (λ c κs. search needs)
     returns
-    source-in-requires
+    (λ c κs. search needs)
     sub-edge-in
-    edge-in-requires
+    (λ c κs. search needs)
     returns-2)

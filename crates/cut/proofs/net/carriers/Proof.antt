@@ -20,18 +20,6 @@ abbrev μ-loop : tie.MeasureT-loop
 loop-holds : tie.Need-loop-holds Inv-loop μ-loop
 loop-holds c = lay-starts 4 _ (λ k. refl) _ _ (c .before .before .pre .1 .1)
 
-carrier-of-requires : tie.Need-carrier-of-requires Inv-loop μ-loop
-carrier-of-requires c κs = search needs
-
-store4-i64-requires : tie.Need-store4-i64-requires Inv-loop μ-loop
-store4-i64-requires c κs = search needs
-
-add-k : tie.Need-add-k Inv-loop μ-loop
-add-k c = search needs
-
-loop-less : tie.Need-loop-less Inv-loop μ-loop
-loop-less c = search needs
-
 loop-again : tie.Need-loop-again Inv-loop μ-loop
 loop-again c =
     let a = c .before .before .before .before .before .before .before .before .before .before .before .before .args in
@@ -41,9 +29,6 @@ loop-again c =
     let row : ℕ → List ℤ = λ j. segRow (carrierIn (a .pieces .now) (a .carriers .now) (a .starts .now) j) in
     subst (λ (u : List ℤ). Laying 4 row (a .e) (a .out .now) u (l .k + 1)) (sym (c .before .store4-i64 .ensures))
     (lay-turns 4 row (λ j. refl) (l .inv) _ (omega arith) (ap segRow (seg-back (s .x) (s .y) (s .u) (s .v) (r .ensures .1) ∙ r .ensures .0)))
-
-same-length : tie.Need-same-length Inv-loop μ-loop
-same-length c = search needs
 
 returns : tie.Need-returns Inv-loop μ-loop
 returns c = lay-ends 4 _ (λ k. refl) (c .before .loop .inv) (search needs)
@@ -55,10 +40,10 @@ carriers-spec =
     Inv-loop
     μ-loop
     loop-holds
-    carrier-of-requires
-    store4-i64-requires
-    add-k
-    loop-less
+    (λ c κs. search needs)
+    (λ c κs. search needs)
+    (λ c. search needs)
+    (λ c. search needs)
     loop-again
-    same-length
+    (λ c. search needs)
     returns)

@@ -8,23 +8,8 @@ use borrow.Author.Needs.{needs}
 use Rattle.cut.proofs.net.edge_in.Statement.{statement}
 use Rattle.cut.proofs.net.edge_in.Tie as tie
 
-mul-row : tie.Need-mul-row
-mul-row c = search needs
-
-shared-slice-read-row : tie.Need-shared-slice-read-row
-shared-slice-read-row c = search needs
-
 add-row : tie.Need-add-row
 add-row c = let s = c .before .before in omega (arith, part-carried (s .pre .0) (s .args .m) (s .pre .1 .0) .long)
-
-add-if1 : tie.Need-add-if1
-add-if1 c = search needs
-
-mul-if1 : tie.Need-mul-if1
-mul-if1 c = search needs
-
-shared-slice-read-if1 : tie.Need-shared-slice-read-if1
-shared-slice-read-if1 c = search needs
 
 carrier-at-requires : tie.Need-carrier-at-requires
 carrier-at-requires c κs =
@@ -32,9 +17,6 @@ carrier-at-requires c κs =
     let r = part-carried (s .pre .0) (s .args .m) (s .pre .1 .0) in
     let l : startOf (s .args .starts .now) (s .args .m) + s .args .j < startOf (s .args .starts .now) (s .args .m) + edgesFrom (s .args .starts .now) (s .args .m) = omega arith in
     record { row = omega (arith, r .long); near = r .near (startOf (s .args .starts .now) (s .args .m) + s .args .j) l }
-
-nothing-requires : tie.Need-nothing-requires
-nothing-requires c κs = search needs
 
 returns : tie.Need-returns
 returns c =
@@ -50,13 +32,13 @@ pub edge-in-spec : {M : Type 1} → statement M
 edge-in-spec =
     tie.close
     (tie.spec
-    mul-row
-    shared-slice-read-row
+    (λ c. search needs)
+    (λ c. search needs)
     add-row
-    add-if1
-    mul-if1
-    shared-slice-read-if1
+    (λ c. search needs)
+    (λ c. search needs)
+    (λ c. search needs)
     carrier-at-requires
-    nothing-requires
+    (λ c κs. search needs)
     returns
     returns-2)

@@ -18,22 +18,10 @@ Inv-loop pieces k m₀ m = (m ≤ maps) × (least (λ i. ltb 0 (sourceIn pieces 
 abbrev μ-loop : tie.MeasureT-loop
 μ-loop pieces k m₀ m = maps - m
 
-loop-holds : tie.Need-loop-holds Inv-loop μ-loop
-loop-holds c = (search needs, refl)
-
-source-in-requires : tie.Need-source-in-requires Inv-loop μ-loop
-source-in-requires c κs = search needs
-
 returns : tie.Need-returns Inv-loop μ-loop
 returns c =
     let l = c .before .before .before .loop in
     sym (least-found (λ i. ltb 0 (sourceIn (c .before .before .before .before .before .args .pieces .now) (c .before .before .before .before .before .args .k) i)) maps (l .m) (omega arith) (l .inv .1) (lt-ltb 0 (sourceIn (c .before .before .before .before .before .args .pieces .now) (c .before .before .before .before .before .args .k) (l .m)) (omega (arith, c .before .source-in .ensures .0))))
-
-add-m : tie.Need-add-m Inv-loop μ-loop
-add-m c = search needs
-
-loop-less : tie.Need-loop-less Inv-loop μ-loop
-loop-less c = search needs
 
 loop-again : tie.Need-loop-again Inv-loop μ-loop
 loop-again c =
@@ -52,10 +40,10 @@ first-map-spec =
     (tie.spec
     Inv-loop
     μ-loop
-    loop-holds
-    source-in-requires
+    (λ c. (search needs, refl))
+    (λ c κs. search needs)
     returns
-    add-m
-    loop-less
+    (λ c. search needs)
+    (λ c. search needs)
     loop-again
     returns-2)

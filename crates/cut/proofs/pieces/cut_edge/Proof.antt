@@ -28,12 +28,6 @@ abbrev μ-loop : tie.MeasureT-loop
 loop-holds : tie.Need-loop-holds Inv-loop μ-loop
 loop-holds c = (refl, link-starts edgeRows _ _ _ _ _ (search needs))
 
-sub-v : tie.Need-sub-v Inv-loop μ-loop
-sub-v c = search needs
-
-point-at-requires : tie.Need-point-at-requires Inv-loop μ-loop
-point-at-requires c κs = search needs
-
 on-seg-requires : tie.Need-on-seg-requires Inv-loop μ-loop
 on-seg-requires c κs =
     let s = c .before .before .before .before in
@@ -43,12 +37,6 @@ on-seg-requires c κs =
 tested : (c : tie.After-on-seg Inv-loop μ-loop) → c .on-seg .result ≡ onSeg (segOf (c .before .before .before .before .before .args .s)) (pointAt (c .before .before .before .before .before .args .points .now) (c .before .before .before .loop .v - 1))
 tested c = c .on-seg .ensures ∙ ap (onSeg (segOf (c .before .before .before .before .before .args .s))) (c .before .point-at .ensures)
 
-link-requires : tie.Need-link-requires Inv-loop μ-loop
-link-requires c κs = search needs
-
-loop-less : tie.Need-loop-less Inv-loop μ-loop
-loop-less c = search needs
-
 loop-again : tie.Need-loop-again Inv-loop μ-loop
 loop-again c =
     let l = c .before .before .before .before .before .before .before .before .loop in (
@@ -56,16 +44,10 @@ loop-again c =
       link-turns edgeRows _ _ _ (l .inv .1) (c .before .before .link .last .0) (c .before .before .link .result) (search needs) (sym (tested (c .before .before .before .before .before)) ∙ c .before .before .before .before .if1 .taken) (c .before .before .link .ensures),
     )
 
-loop-less-2 : tie.Need-loop-less-2 Inv-loop μ-loop
-loop-less-2 c = search needs
-
 loop-again-2 : tie.Need-loop-again-2 Inv-loop μ-loop
 loop-again-2 c =
     let l = c .before .before .before .before .loop in
     (l .inv .0, link-skips edgeRows _ _ _ (l .inv .1) (search needs) (sym (tested (c .before)) ∙ c .if1 .left))
-
-same-length : tie.Need-same-length Inv-loop μ-loop
-same-length c = search needs
 
 returns : tie.Need-returns Inv-loop μ-loop
 returns c = link-ends edgeRows _ _ _ (c .before .loop .inv .1) (search needs)
@@ -77,13 +59,13 @@ cut-edge-spec =
     Inv-loop
     μ-loop
     loop-holds
-    sub-v
-    point-at-requires
+    (λ c. search needs)
+    (λ c κs. search needs)
     on-seg-requires
-    link-requires
-    loop-less
+    (λ c κs. search needs)
+    (λ c. search needs)
     loop-again
-    loop-less-2
+    (λ c. search needs)
     loop-again-2
-    same-length
+    (λ c. search needs)
     returns)

@@ -23,27 +23,15 @@ abbrev μ-loop : tie.MeasureT-loop
 loop-holds : tie.Need-loop-holds Inv-loop μ-loop
 loop-holds c = (search needs, refl, cut-starts edgeRows _ _ _ _ (search needs))
 
-sub-k : tie.Need-sub-k Inv-loop μ-loop
-sub-k c = search needs
-
-add-carrier-at : tie.Need-add-carrier-at Inv-loop μ-loop
-add-carrier-at c = search needs
-
 carrier-at-requires : tie.Need-carrier-at-requires Inv-loop μ-loop
 carrier-at-requires c κs =
     let s = c .before .before .before in
     record { row = omega (arith, s .pre .1 .1 .0 .long); near = s .pre .1 .1 .0 .near (s .args .from + (c .before .loop .k - 1)) (omega arith) }
 
-cast-cut-edge : tie.Need-cast-cut-edge Inv-loop μ-loop
-cast-cut-edge c = search needs
-
 cut-edge-requires : tie.Need-cut-edge-requires Inv-loop μ-loop
 cut-edge-requires c κs =
     let s = c .before .before .before .before .before in
     (record { long = omega (arith, c .before .before .before .loop .inv .1); within = c .before .before .before .loop .inv .2 .within }, (s .pre .1 .0, (c .before .carrier-at .ensures .1, (s .pre .1 .1 .1 .0, omega arith))))
-
-loop-less : tie.Need-loop-less Inv-loop μ-loop
-loop-less c = search needs
 
 loop-again : tie.Need-loop-again Inv-loop μ-loop
 loop-again c =
@@ -55,9 +43,6 @@ loop-again c =
           (c .before .before .cut-edge .ensures ∙ ap (λ (q : Seg). puts edgeRows (piecesIn (l .pieces) (l .total)) (cutEdge (s .points .now) (s .n) q (s .m) (l .k - 1))) (c .before .before .before .before .carrier-at .ensures .0)),
     )
 
-same-length : tie.Need-same-length Inv-loop μ-loop
-same-length c = search needs
-
 returns : tie.Need-returns Inv-loop μ-loop
 returns c = cut-ends edgeRows _ (c .before .loop .inv .2) (search needs)
 
@@ -68,12 +53,12 @@ cut-map-spec =
     Inv-loop
     μ-loop
     loop-holds
-    sub-k
-    add-carrier-at
+    (λ c. search needs)
+    (λ c. search needs)
     carrier-at-requires
-    cast-cut-edge
+    (λ c. search needs)
     cut-edge-requires
-    loop-less
+    (λ c. search needs)
     loop-again
-    same-length
+    (λ c. search needs)
     returns)

@@ -13,22 +13,10 @@ use Rattle.cut.proofs.pieces.link.Tie as tie
 returns : tie.Need-returns
 returns c = let a = c .before .before .args in link-none edgeRows (a .n) (a .next) (a .v) (only maps (a .m) (a .number)) (piecesIn (a .pieces .now) (a .count)) (search needs)
 
-cast-put : tie.Need-cast-put
-cast-put c = search needs
-
-cast-put-2 : tie.Need-cast-put-2
-cast-put-2 c = search needs
-
-put-requires : tie.Need-put-requires
-put-requires c κs = search needs
-
-same-length : tie.Need-same-length
-same-length c = search needs
-
 returns-2 : tie.Need-returns-2
 returns-2 c =
     let a = c .before .before .before .before .before .before .args in
     c .before .before .put .ensures ∙ link-one edgeRows (a .n) (a .next) (a .v) (only maps (a .m) (a .number)) (piecesIn (a .pieces .now) (a .count)) (omega arith)
 
 pub link-spec : {M : Type 1} → statement M
-link-spec = tie.close (tie.spec returns cast-put cast-put-2 put-requires same-length returns-2)
+link-spec = tie.close (tie.spec returns (λ c. search needs) (λ c. search needs) (λ c κs. search needs) (λ c. search needs) returns-2)

@@ -22,24 +22,6 @@ abbrev μ-loop : tie.MeasureT-loop
 loop-holds : tie.Need-loop-holds Inv-loop μ-loop
 loop-holds c = (search needs, refl, cut-starts edgeRows _ _ 0 _ (search needs))
 
-sub-m : tie.Need-sub-m Inv-loop μ-loop
-sub-m c = search needs
-
-mul-from : tie.Need-mul-from Inv-loop μ-loop
-mul-from c = search needs
-
-shared-slice-read-from : tie.Need-shared-slice-read-from Inv-loop μ-loop
-shared-slice-read-from c = search needs
-
-add-e : tie.Need-add-e Inv-loop μ-loop
-add-e c = search needs
-
-mul-e : tie.Need-mul-e Inv-loop μ-loop
-mul-e c = search needs
-
-shared-slice-read-e : tie.Need-shared-slice-read-e Inv-loop μ-loop
-shared-slice-read-e c = search needs
-
 sub-e : tie.Need-sub-e Inv-loop μ-loop
 sub-e c = let s = c .before .before .before .before .before .before in omega (arith, s .pre .1 .0 .rises (c .before .before .before .loop .m - 1) (omega arith))
 
@@ -49,9 +31,6 @@ cut-map-requires c κs =
     let l = c .before .before .before .before .loop in
     (record { long = omega (arith, l .inv .1); within = l .inv .2 .within }, (s .pre .0, (part-carried (s .pre .1 .0) (l .m - 1) (omega arith), (omega arith, s .pre .1 .0 .few (l .m - 1) (omega arith)))))
 
-loop-less : tie.Need-loop-less Inv-loop μ-loop
-loop-less c = search needs
-
 loop-again : tie.Need-loop-again Inv-loop μ-loop
 loop-again c =
     let l = c .before .before .before .before .before .before .before .loop in (
@@ -59,9 +38,6 @@ loop-again c =
       c .before .before .cut-map .kept .1 .1 .1 .1 .1 .1 .0 ∙ l .inv .1,
       cut-turns edgeRows _ (l .inv .2) (c .before .before .cut-map .last .1 .1 .1 .1 .1 .1 .0) (c .before .before .cut-map .result) (search needs) (c .before .before .cut-map .ensures),
     )
-
-same-length : tie.Need-same-length Inv-loop μ-loop
-same-length c = search needs
 
 returns : tie.Need-returns Inv-loop μ-loop
 returns c = cut-ends edgeRows _ (c .before .loop .inv .2) (search needs)
@@ -73,15 +49,15 @@ pieces-spec =
     Inv-loop
     μ-loop
     loop-holds
-    sub-m
-    mul-from
-    shared-slice-read-from
-    add-e
-    mul-e
-    shared-slice-read-e
+    (λ c. search needs)
+    (λ c. search needs)
+    (λ c. search needs)
+    (λ c. search needs)
+    (λ c. search needs)
+    (λ c. search needs)
     sub-e
     cut-map-requires
-    loop-less
+    (λ c. search needs)
     loop-again
-    same-length
+    (λ c. search needs)
     returns)

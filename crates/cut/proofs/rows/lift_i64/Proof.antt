@@ -16,32 +16,8 @@ abbrev μ-loop : tie.MeasureT-loop
 loop-holds : tie.Need-loop-holds Inv-loop μ-loop
 loop-holds c = lift-starts _ _ _ _ (search needs) (search needs)
 
-sub-i : tie.Need-sub-i Inv-loop μ-loop
-sub-i c = search needs
-
-mul-t : tie.Need-mul-t Inv-loop μ-loop
-mul-t c = search needs
-
-slice-copy-out-t : tie.Need-slice-copy-out-t Inv-loop μ-loop
-slice-copy-out-t c = search needs
-
-add-t10 : tie.Need-add-t10 Inv-loop μ-loop
-add-t10 c = search needs
-
-mul-t11 : tie.Need-mul-t11 Inv-loop μ-loop
-mul-t11 c = search needs
-
-slice-set-from-t : tie.Need-slice-set-from-t Inv-loop μ-loop
-slice-set-from-t c = search needs
-
-loop-less : tie.Need-loop-less Inv-loop μ-loop
-loop-less c = search needs
-
 loop-again : tie.Need-loop-again Inv-loop μ-loop
 loop-again c = lift-turns (c .before .before .loop .inv) _ (pos 0) (search needs) (read (c .before .before .loop .t) (c .before .before .loop .i - 1) (c .t .given))
-
-same-length : tie.Need-same-length Inv-loop μ-loop
-same-length c = search needs
 
 returns : tie.Need-returns Inv-loop μ-loop
 returns c = lift-ends (c .before .loop .inv) (search needs)
@@ -53,13 +29,13 @@ lift-i64-spec =
     Inv-loop
     μ-loop
     loop-holds
-    sub-i
-    mul-t
-    slice-copy-out-t
-    add-t10
-    mul-t11
-    slice-set-from-t
-    loop-less
+    (λ c. search needs)
+    (λ c. search needs)
+    (λ c. search needs)
+    (λ c. search needs)
+    (λ c. search needs)
+    (λ c. search needs)
+    (λ c. search needs)
     loop-again
-    same-length
+    (λ c. search needs)
     returns)

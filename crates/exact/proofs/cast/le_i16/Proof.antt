@@ -9,21 +9,6 @@ use Rattle.exact.specs.Cast.{word, signed16-low, signed16-high}
 use Rattle.exact.proofs.cast.le_i16.Statement.{statement}
 use Rattle.exact.proofs.cast.le_i16.Tie as tie
 
-cast-n : tie.Need-cast-n
-cast-n c = search needs
-
-mul-n : tie.Need-mul-n
-mul-n c = fits (search trn depth 20) tt
-
-cast-n-2 : tie.Need-cast-n-2
-cast-n-2 c = search needs
-
-add-n : tie.Need-add-n
-add-n c = fits (search trn depth 20) tt
-
-sub-result : tie.Need-sub-result
-sub-result c = fits (search trn depth 20) tt
-
 returns : tie.Need-returns
 returns c =
     let n = word (c .before .args .lo) (c .before .args .hi) in
@@ -35,4 +20,4 @@ returns-2 c =
     plain (search trn depth 20) tt ∙ sym (signed16-high n (≤-pos 32768 n (ltZ-no (left (c .if1 .left) (search (trb, trn) depth 20) tt))))
 
 pub le-i16-spec : {M : Type 1} → statement M
-le-i16-spec = tie.close (tie.spec cast-n mul-n cast-n-2 add-n sub-result returns returns-2)
+le-i16-spec = tie.close (tie.spec (λ c. search needs) (λ c. fits (search trn depth 20) tt) (λ c. search needs) (λ c. fits (search trn depth 20) tt) (λ c. fits (search trn depth 20) tt) returns returns-2)

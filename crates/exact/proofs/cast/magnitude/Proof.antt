@@ -59,9 +59,6 @@ returns c =
     let x = c .before .args .x in
     ap (λ (z : ℤ). natAbs z + 1) (back x (c .before .fits .x) (negative c)) ∙ one-more x (negative c)
 
-returns-2 : tie.Need-returns-2
-returns-2 c = search needs
-
 pub magnitude-spec : {M : Type 1} → statement M
 magnitude-spec =
-    tie.close (tie.spec sub-result cast-result add-result cast-result-2 returns returns-2)
+    tie.close (tie.spec sub-result cast-result add-result cast-result-2 returns (λ c. search needs))

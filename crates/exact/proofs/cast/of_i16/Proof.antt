@@ -4,11 +4,5 @@ use Rattle.exact.specs.Mach.{trs, fits, plain}
 use Rattle.exact.proofs.cast.of_i16.Statement.{statement}
 use Rattle.exact.proofs.cast.of_i16.Tie as tie
 
-cast-result : tie.Need-cast-result
-cast-result c = fits (search trs depth 20) tt
-
-returns : tie.Need-returns
-returns c = plain (search trs depth 20) tt
-
 pub of-i16-spec : {M : Type 1} → statement M
-of-i16-spec = tie.close (tie.spec cast-result returns)
+of-i16-spec = tie.close (tie.spec (λ c. fits (search trs depth 20) tt) (λ c. plain (search trs depth 20) tt))

@@ -4,11 +4,5 @@ use Rattle.exact.specs.Mach.{tr, fits, plain}
 use Rattle.exact.proofs.cast.to_i16.Statement.{statement}
 use Rattle.exact.proofs.cast.to_i16.Tie as tie
 
-cast-result : tie.Need-cast-result
-cast-result c = fits (search tr depth 20) tt
-
-returns : tie.Need-returns
-returns c = plain (search tr depth 20) tt
-
 pub to-i16-spec : {M : Type 1} → statement M
-to-i16-spec = tie.close (tie.spec cast-result returns)
+to-i16-spec = tie.close (tie.spec (λ c. fits (search tr depth 20) tt) (λ c. plain (search tr depth 20) tt))

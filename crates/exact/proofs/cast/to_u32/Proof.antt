@@ -10,8 +10,5 @@ use Rattle.exact.proofs.cast.to_u32.Tie as tie
 cast-result : tie.Need-cast-result
 cast-result c = cast-u w64 w32 (c .args .x) (tr-atom< (unsigned-abs 32 (c .args .x) (c .pre))) tt (c .pre .low)
 
-returns : tie.Need-returns
-returns c = search needs
-
 pub to-u32-spec : {M : Type 1} → statement M
-to-u32-spec = tie.close (tie.spec cast-result returns)
+to-u32-spec = tie.close (tie.spec cast-result (λ c. search needs))

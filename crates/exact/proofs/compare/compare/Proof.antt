@@ -14,12 +14,6 @@ use Rattle.exact.specs.Compare.{fractions, Narrow, narrowOf, narrow-is}
 use Rattle.exact.proofs.compare.compare.Statement.{statement}
 use Rattle.exact.proofs.compare.compare.Tie as tie
 
-narrow-requires : tie.Need-narrow-requires
-narrow-requires c κs = search needs
-
-narrow-requires-2 : tie.Need-narrow-requires-2
-narrow-requires-2 c κs = search needs
-
 -- both fractions are narrow
 shown : (x d : ℤ) {b : Bool} → SFits w64 x → SFits w64 d → pos 0 <ℤ d → b ≡ narrowOf (toZ w64 (ofZ w64 x)) (toZ w64 (ofZ w64 d)) → b ≡ true → Narrow x d
 shown x d f g h e t = narrow-is x d h ((λ i. narrowOf (sym (toZ-ofZ w64 x f) i) (sym (toZ-ofZ w64 d g) i)) ∙ sym e ∙ t)
@@ -44,16 +38,10 @@ mul-order c = let p = first c in let q = second c in fits (search tr depth 20) t
 mul-order-2 : tie.Need-mul-order-2
 mul-order-2 c = let p = first c in let q = second c in fits (search tr depth 20) tt
 
-order-requires : tie.Need-order-requires
-order-requires c κs = search needs
-
 returns : tie.Need-returns
 returns c =
     let s = c .before .before .before .before .before .args in
     c .order .ensures ∙ (λ i. sgn (product (s .x) (s .d) (s .y) (s .e) (first (c .before)) (second (c .before)) i -ℤ product (s .y) (s .e) (s .x) (s .d) (second (c .before)) (first (c .before)) i))
-
-wide-requires : tie.Need-wide-requires
-wide-requires c κs = search needs
 
 returns-2 : tie.Need-returns-2
 returns-2 c =
@@ -61,4 +49,4 @@ returns-2 c =
     c .wide .ensures ∙ (λ i. fractions (toZ-ofZ w64 (s .args .x) (s .fits .x) i) (toZ-ofZ w64 (s .args .d) (s .fits .d) i) (toZ-ofZ w64 (s .args .y) (s .fits .y) i) (toZ-ofZ w64 (s .args .e) (s .fits .e) i))
 
 pub compare-spec : {M : Type 1} → statement M
-compare-spec = tie.close (tie.spec narrow-requires narrow-requires-2 mul-order mul-order-2 order-requires returns wide-requires returns-2)
+compare-spec = tie.close (tie.spec (λ c κs. search needs) (λ c κs. search needs) mul-order mul-order-2 (λ c κs. search needs) returns (λ c κs. search needs) returns-2)

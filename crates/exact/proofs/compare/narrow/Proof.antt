@@ -11,9 +11,6 @@ use Rattle.exact.specs.Mach.{trbs, test}
 use Rattle.exact.proofs.compare.narrow.Statement.{statement}
 use Rattle.exact.proofs.compare.narrow.Tie as tie
 
-sub-if1 : tie.Need-sub-if1
-sub-if1 c = search needs
-
 -- the first two tests, where their ways meet
 both : (c : tie.Joined1) → c .if1 .if2 ≡ (ltZ (negℤ (pos numerators)) (c .before .args .x) && ltZ (c .before .args .x) (pos numerators))
 both c =
@@ -35,4 +32,4 @@ returns-2 c =
     c .if2 .left ∙ sym (ap (λ (b : Bool). b && third) (sym (both (c .before)) ∙ c .if2 .left))
 
 pub narrow-spec : {M : Type 1} → statement M
-narrow-spec = tie.close (tie.spec sub-if1 returns returns-2)
+narrow-spec = tie.close (tie.spec (λ c. search needs) returns returns-2)

@@ -14,18 +14,6 @@ use Rattle.exact.specs.Compare.{fractions, fractions-swap, fractions-opp
 use Rattle.exact.proofs.compare.wide.Statement.{statement}
 use Rattle.exact.proofs.compare.wide.Tie as tie
 
-magnitude-requires : tie.Need-magnitude-requires
-magnitude-requires c κs = search needs
-
-magnitude-requires-2 : tie.Need-magnitude-requires-2
-magnitude-requires-2 c κs = search needs
-
-magnitude-requires-3 : tie.Need-magnitude-requires-3
-magnitude-requires-3 c κs = search needs
-
-magnitude-requires-4 : tie.Need-magnitude-requires-4
-magnitude-requires-4 c κs = search needs
-
 abbrev start : tie.After-magnitude4 → tie.Start
 start m = m .before .before .before .before
 
@@ -89,4 +77,4 @@ returns-4 c =
 
 pub wide-spec : {M : Type 1} → statement M
 wide-spec =
-    tie.close (tie.spec magnitude-requires magnitude-requires-2 magnitude-requires-3 magnitude-requires-4 quotients-requires quotients-requires-2 returns returns-2 returns-3 returns-4)
+    tie.close (tie.spec (λ c κs. search needs) (λ c κs. search needs) (λ c κs. search needs) (λ c κs. search needs) quotients-requires quotients-requires-2 returns returns-2 returns-3 returns-4)

@@ -41,21 +41,6 @@ divisor-fits x y d h f = go d h f (le-of-dvd (abs-pos d h) (gcd3-d (natAbs x) (n
     go (pos n) h f l = omega (arith, f .sfits)
     go (negsuc n) h f l = absurd (h .lt)
 
-magnitude-requires : tie.Need-magnitude-requires
-magnitude-requires c κs = search needs
-
-magnitude-requires-2 : tie.Need-magnitude-requires-2
-magnitude-requires-2 c κs = search needs
-
-gcd-requires : tie.Need-gcd-requires
-gcd-requires c κs = search needs
-
-magnitude-requires-3 : tie.Need-magnitude-requires-3
-magnitude-requires-3 c κs = search needs
-
-gcd-requires-2 : tie.Need-gcd-requires-2
-gcd-requires-2 c κs = search needs
-
 abbrev start : tie.After-gcd2 → tie.Start
 start c = c .before .before .before .before .before
 
@@ -105,4 +90,4 @@ returns c =
     λ i. pt (back (s .args .x) (s .fits .x) i) (back (s .args .y) (s .fits .y) i) (back (s .args .d) (s .fits .d) i)
 
 pub lowest-spec : {M : Type 1} → statement M
-lowest-spec = tie.close (tie.spec magnitude-requires magnitude-requires-2 gcd-requires magnitude-requires-3 gcd-requires-2 of-u64-requires div-t10 div-t11 div-t12 returns)
+lowest-spec = tie.close (tie.spec (λ c κs. search needs) (λ c κs. search needs) (λ c κs. search needs) (λ c κs. search needs) (λ c κs. search needs) of-u64-requires div-t10 div-t11 div-t12 returns)

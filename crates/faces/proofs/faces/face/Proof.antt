@@ -62,12 +62,6 @@ cast-x c =
     let l = c .before .before .before .before .before .before .loop in
     omega (arith, s .pre .0 .seen (getD (s .args .lead .now) (l .x) 0) (s .pre .0 .lead .named (l .x) (l .inv .0)) (c .if2 .left))
 
-sub-left : tie.Need-sub-left Inv-loop μ-loop
-sub-left c = search needs
-
-loop-less : tie.Need-loop-less Inv-loop μ-loop
-loop-less c = search needs
-
 loop-again : tie.Need-loop-again Inv-loop μ-loop
 loop-again c =
     let s = c .before .before .before .before .before .before .before .before .before .before .before in
@@ -96,7 +90,7 @@ face-spec =
     shared-slice-read-s
     returns-2
     cast-x
-    sub-left
-    loop-less
+    (λ c. search needs)
+    (λ c. search needs)
     loop-again
     returns-3)

@@ -18,23 +18,8 @@ loop-holds c = let s = c .before .before .before .before .before in fill-starts 
 face-requires : tie.Need-face-requires Inv-loop μ-loop
 face-requires c κs = (c .before .before .before .before .before .before .before .pre .0, c .loop-test .taken)
 
-mul-out : tie.Need-mul-out Inv-loop μ-loop
-mul-out c = search needs
-
-slice-write-out : tie.Need-slice-write-out Inv-loop μ-loop
-slice-write-out c = search needs
-
-add-h : tie.Need-add-h Inv-loop μ-loop
-add-h c = search needs
-
-loop-less : tie.Need-loop-less Inv-loop μ-loop
-loop-less c = search needs
-
 loop-again : tie.Need-loop-again Inv-loop μ-loop
 loop-again c = let s = c .before .before .before .before .before .before .before .before in fill-turns (faceFrom (s .args .lead .now) (s .args .top .now) (s .args .seen .now) (s .args .numbers .now) (s .args .n)) (c .before .before .loop .inv) _ (c .before .loop-test .taken) (c .face .ensures)
-
-same-length : tie.Need-same-length Inv-loop μ-loop
-same-length c = search needs
 
 returns : tie.Need-returns Inv-loop μ-loop
 returns c = let s = c .before .before .before .before .before .before .before in fill-ends (faceFrom (s .args .lead .now) (s .args .top .now) (s .args .seen .now) (s .args .numbers .now) (s .args .n)) (c .before .loop .inv) (search needs)
@@ -47,10 +32,10 @@ faces-spec =
     μ-loop
     loop-holds
     face-requires
-    mul-out
-    slice-write-out
-    add-h
-    loop-less
+    (λ c. search needs)
+    (λ c. search needs)
+    (λ c. search needs)
+    (λ c. search needs)
     loop-again
-    same-length
+    (λ c. search needs)
     returns)

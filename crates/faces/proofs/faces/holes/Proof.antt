@@ -15,20 +15,11 @@ Inv-loop lead top faces m out₀ f h₀ out h = Tallying (holeLead lead top) (λ
 abbrev μ-loop : tie.MeasureT-loop
 μ-loop lead top faces m out₀ f h₀ out h = m - h
 
-fill-requires : tie.Need-fill-requires Inv-loop μ-loop
-fill-requires c κs = search needs
-
 loop-holds : tie.Need-loop-holds Inv-loop μ-loop
 loop-holds c = let s = c .before .before .before .before .before .before .before .before in tally-starts (holeLead (s .args .lead .now) (s .args .top .now)) (λ k. getD (s .args .faces .now) k 0) (s .args .m) (s .args .f) _ (s .args .out .now) (s .pre .1 .1 .1) (c .before .before .fill .ensures)
 
 leads-hole-requires : tie.Need-leads-hole-requires Inv-loop μ-loop
 leads-hole-requires c κs = c .before .before .before .before .before .before .before .before .before .before .pre .0 (c .before .loop .h) (c .loop-test .taken)
-
-mul-v : tie.Need-mul-v Inv-loop μ-loop
-mul-v c = search needs
-
-shared-slice-read-v : tie.Need-shared-slice-read-v Inv-loop μ-loop
-shared-slice-read-v c = search needs
 
 cast-v : tie.Need-cast-v Inv-loop μ-loop
 cast-v c =
@@ -67,12 +58,6 @@ slice-write-out c =
     let l = c .before .before .before .before .before .loop in
     omega (arith, s .pre .1 .1 .0 .named (l .h) (c .before .before .before .before .loop-test .taken), l .inv .kept, l .inv .room)
 
-add-h : tie.Need-add-h Inv-loop μ-loop
-add-h c = search needs
-
-loop-less : tie.Need-loop-less Inv-loop μ-loop
-loop-less c = search needs
-
 loop-again : tie.Need-loop-again Inv-loop μ-loop
 loop-again c =
     let s = c .before .before .before .before .before .before .before .before .before .before .before .before in
@@ -80,9 +65,6 @@ loop-again c =
     let b = c .before .before .loop-test .taken in
     let q = sym (c .before .leads-hole .ensures) in
     ⊎-elim (λ w. rw (w .3) (tally-takes (holeLead (s .args .lead .now) (s .args .top .now)) (λ k. getD (s .args .faces .now) k 0) (s .args .m) (s .args .f) _ (l .inv) (getD (s .args .faces .now) (l .h) 0) b (q ∙ w .0 .taken) refl (s .pre .1 .1 .0 .named (l .h) b))) (λ w. rw (w .1) (tally-leaves (holeLead (s .args .lead .now) (s .args .top .now)) (λ k. getD (s .args .faces .now) k 0) (s .args .m) (s .args .f) _ (l .inv) b (q ∙ w .0 .left))) (c .if1 .came)
-
-same-length : tie.Need-same-length Inv-loop μ-loop
-same-length c = search needs
 
 returns : tie.Need-returns Inv-loop μ-loop
 returns c = let s = c .before .before .before .before .before .before .before .before .before .before in tally-ends (holeLead (s .args .lead .now) (s .args .top .now)) (λ k. getD (s .args .faces .now) k 0) (s .args .m) (s .args .f) _ (c .before .loop .inv) (omega arith) (s .args .out .now) (s .pre .1 .1 .1) (c .before .before .before .before .fill .ensures)
@@ -93,19 +75,19 @@ holes-spec =
     (tie.spec
     Inv-loop
     μ-loop
-    fill-requires
+    (λ c κs. search needs)
     loop-holds
     leads-hole-requires
-    mul-v
-    shared-slice-read-v
+    (λ c. search needs)
+    (λ c. search needs)
     cast-v
     mul-out
     slice-read-out
     add-out
     mul-out-2
     slice-write-out
-    add-h
-    loop-less
+    (λ c. search needs)
+    (λ c. search needs)
     loop-again
-    same-length
+    (λ c. search needs)
     returns)

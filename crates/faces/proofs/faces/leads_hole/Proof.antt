@@ -8,17 +8,8 @@ use Rattle.faces.specs.Kinds.{holeOf}
 use Rattle.faces.proofs.faces.leads_hole.Statement.{statement}
 use Rattle.faces.proofs.faces.leads_hole.Tie as tie
 
-mul-if1 : tie.Need-mul-if1
-mul-if1 c = search needs
-
-shared-slice-read-if1 : tie.Need-shared-slice-read-if1
-shared-slice-read-if1 c = search needs
-
 cast-if1 : tie.Need-cast-if1
 cast-if1 c = omega (arith, c .shared-slice-known3 .given (c .before .before .before .args .h))
-
-is-hole-requires : tie.Need-is-hole-requires
-is-hole-requires c κs = search needs
 
 returns : tie.Need-returns
 returns c =
@@ -32,4 +23,4 @@ returns-2 c =
 
 pub leads-hole-spec : {M : Type 1} → statement M
 leads-hole-spec =
-    tie.close (tie.spec mul-if1 shared-slice-read-if1 cast-if1 is-hole-requires returns returns-2)
+    tie.close (tie.spec (λ c. search needs) (λ c. search needs) cast-if1 (λ c κs. search needs) returns returns-2)

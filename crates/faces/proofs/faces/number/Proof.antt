@@ -33,9 +33,6 @@ cast-out c =
     let l = c .before .loop in
     omega (arith, l .inv .1, count-le (outerLead (s .args .lead .now) (s .args .top .now)) (l .h), s .pre .1 .0)
 
-mul-out : tie.Need-mul-out Inv-loop μ-loop
-mul-out c = search needs
-
 slice-write-out : tie.Need-slice-write-out Inv-loop μ-loop
 slice-write-out c = omega (arith, c .before .loop .inv .0 .kept, c .before .loop .inv .0 .room)
 
@@ -47,12 +44,6 @@ add-c c =
     let s = c .before .before .before .before .before .before .before in
     let l = c .before .before .before .loop in
     omega (arith, l .inv .1, count-le (outerLead (s .args .lead .now) (s .args .top .now)) (l .h), s .pre .1 .0)
-
-add-h : tie.Need-add-h Inv-loop μ-loop
-add-h c = search needs
-
-loop-less : tie.Need-loop-less Inv-loop μ-loop
-loop-less c = search needs
 
 loop-again : tie.Need-loop-again Inv-loop μ-loop
 loop-again c =
@@ -82,12 +73,12 @@ number-spec =
     loop-holds
     add-out
     cast-out
-    mul-out
+    (λ c. search needs)
     slice-write-out
     leads-outer-requires
     add-c
-    add-h
-    loop-less
+    (λ c. search needs)
+    (λ c. search needs)
     loop-again
     same-length
     returns)

@@ -21,9 +21,6 @@ loop-holds c = let s = c .before .before .before in select-starts (outerLead (s 
 leads-outer-requires : tie.Need-leads-outer-requires Inv-loop μ-loop
 leads-outer-requires c κs = c .before .before .before .before .before .pre .0 (c .before .loop .h) (c .loop-test .taken)
 
-cast-out : tie.Need-cast-out Inv-loop μ-loop
-cast-out c = search needs
-
 mul-out : tie.Need-mul-out Inv-loop μ-loop
 mul-out c =
     let s = c .before .before .before .before .before .before .before in
@@ -41,12 +38,6 @@ add-c c =
     let s = c .before .before .before .before .before .before .before in
     let l = c .before .before .before .loop in
     omega (arith, select-room (outerLead (s .args .lead .now) (s .args .top .now)) (l .inv) (c .before .before .loop-test .taken), l .inv .kept, l .inv .room)
-
-add-h : tie.Need-add-h Inv-loop μ-loop
-add-h c = search needs
-
-loop-less : tie.Need-loop-less Inv-loop μ-loop
-loop-less c = search needs
 
 loop-again : tie.Need-loop-again Inv-loop μ-loop
 loop-again c =
@@ -71,12 +62,12 @@ outers-spec =
     μ-loop
     loop-holds
     leads-outer-requires
-    cast-out
+    (λ c. search needs)
     mul-out
     slice-write-out
     add-c
-    add-h
-    loop-less
+    (λ c. search needs)
+    (λ c. search needs)
     loop-again
     same-length
     returns)

@@ -8,20 +8,8 @@ use Rattle.faces.specs.Kinds.{seenAt}
 use Rattle.faces.proofs.faces.seen_by.Statement.{statement}
 use Rattle.faces.proofs.faces.seen_by.Tie as tie
 
-leads-hole-requires : tie.Need-leads-hole-requires
-leads-hole-requires c κs = search needs
-
-mul-seen-from : tie.Need-mul-seen-from
-mul-seen-from c = search needs
-
-shared-slice-read-seen-from : tie.Need-shared-slice-read-seen-from
-shared-slice-read-seen-from c = search needs
-
 cast-seen-from : tie.Need-cast-seen-from
 cast-seen-from c = let s = c .before .before .before .before .before .before in omega (arith, s .pre .1 .1 .1)
-
-seen-from-requires : tie.Need-seen-from-requires
-seen-from-requires c κs = search needs
 
 returns : tie.Need-returns
 returns c = let s = c .before .before .before .before .before .before .before in c .seen-from .ensures ∙ ap (λ (b : Bool). cond b (seenAt (s .args .points .now) (s .args .origins .now) (s .args .carriers .now) (s .args .n) (s .args .e) (getD (s .args .top .now) (s .args .h) 0)) absent) (sym (c .before .before .if1 .taken) ∙ c .before .before .before .leads-hole .ensures)
@@ -33,10 +21,10 @@ pub seen-by-spec : {M : Type 1} → statement M
 seen-by-spec =
     tie.close
     (tie.spec
-    leads-hole-requires
-    mul-seen-from
-    shared-slice-read-seen-from
+    (λ c κs. search needs)
+    (λ c. search needs)
+    (λ c. search needs)
     cast-seen-from
-    seen-from-requires
+    (λ c κs. search needs)
     returns
     returns-2)

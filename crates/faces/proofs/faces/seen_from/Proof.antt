@@ -16,15 +16,6 @@ start-requires c κs =
     let s = c .before in
     flat-starts (s .args .points .now) (s .args .origins .now) (s .args .carriers .now) (s .args .n) (s .args .e) (s .pre .0) (s .args .t) (s .pre .1 .1)
 
-seen-half-requires : tie.Need-seen-half-requires
-seen-half-requires c κs = search needs
-
-enum-told : tie.Need-enum-told
-enum-told c = search needs
-
-enum-known-seen : tie.Need-enum-known-seen
-enum-known-seen c = search needs
-
 returns : tie.Need-returns
 returns c =
     let s = c .before .before .before .before .before in
@@ -40,4 +31,4 @@ returns-2 c =
 pub seen-from-spec : {M : Type 1} → statement M
 seen-from-spec =
     tie.close
-    (tie.spec start-requires seen-half-requires enum-told enum-known-seen returns returns-2)
+    (tie.spec start-requires (λ c κs. search needs) (λ c. search needs) (λ c. search needs) returns returns-2)

@@ -13,9 +13,6 @@ Inv-loop points origins carriers n e lead top out₀ m h₀ out h = Filling (see
 abbrev μ-loop : tie.MeasureT-loop
 μ-loop points origins carriers n e lead top out₀ m h₀ out h = 2 * e - h
 
-mul-m : tie.Need-mul-m Inv-loop μ-loop
-mul-m c = search needs
-
 loop-holds : tie.Need-loop-holds Inv-loop μ-loop
 loop-holds c = let s = c .before .before .before .before in fill-starts (seenBy (s .args .points .now) (s .args .origins .now) (s .args .carriers .now) (s .args .n) (s .args .e) (s .args .lead .now) (s .args .top .now)) _ _ (s .pre .1 .1 .1 .1)
 
@@ -27,23 +24,8 @@ seen-by-requires c κs =
     let t = s .pre .1 .1 .1 .0 in
     (s .pre .0, (s .pre .1 .0, (record { lead-row = omega (arith, s .pre .1 .1 .0); top-row = omega (arith, t .long); top-lead = omega (arith, t .named h b, s .pre .1 .1 .0) }, t .named h b)))
 
-mul-out : tie.Need-mul-out Inv-loop μ-loop
-mul-out c = search needs
-
-slice-write-out : tie.Need-slice-write-out Inv-loop μ-loop
-slice-write-out c = search needs
-
-add-h : tie.Need-add-h Inv-loop μ-loop
-add-h c = search needs
-
-loop-less : tie.Need-loop-less Inv-loop μ-loop
-loop-less c = search needs
-
 loop-again : tie.Need-loop-again Inv-loop μ-loop
 loop-again c = let s = c .before .before .before .before .before .before .before in fill-turns (seenBy (s .args .points .now) (s .args .origins .now) (s .args .carriers .now) (s .args .n) (s .args .e) (s .args .lead .now) (s .args .top .now)) (c .before .before .loop .inv) _ (c .before .loop-test .taken) (c .seen-by .ensures)
-
-same-length : tie.Need-same-length Inv-loop μ-loop
-same-length c = search needs
 
 returns : tie.Need-returns Inv-loop μ-loop
 returns c = let s = c .before .before .before .before .before .before in fill-ends (seenBy (s .args .points .now) (s .args .origins .now) (s .args .carriers .now) (s .args .n) (s .args .e) (s .args .lead .now) (s .args .top .now)) (c .before .loop .inv) (search needs)
@@ -54,13 +36,13 @@ sees-spec =
     (tie.spec
     Inv-loop
     μ-loop
-    mul-m
+    (λ c. search needs)
     loop-holds
     seen-by-requires
-    mul-out
-    slice-write-out
-    add-h
-    loop-less
+    (λ c. search needs)
+    (λ c. search needs)
+    (λ c. search needs)
+    (λ c. search needs)
     loop-again
-    same-length
+    (λ c. search needs)
     returns)

@@ -103,45 +103,15 @@ module _ (s : tie.Start) where
 
 -- ── the needs ──
 
-mul-m : tie.Need-mul-m
-mul-m c = search needs
-
-slice-aggregate-number : tie.Need-slice-aggregate-number
-slice-aggregate-number c = search needs
-
-slice-aggregate-number-2 : tie.Need-slice-aggregate-number-2
-slice-aggregate-number-2 c = search needs
-
-slice-aggregate-number-3 : tie.Need-slice-aggregate-number-3
-slice-aggregate-number-3 c = search needs
-
 number-requires : tie.Need-number-requires
 number-requires c κs =
     let s = c .before .before .before .before .before .before in
     (kinded s, (big s, omega (arith, small s)))
 
-slice-aggregate-outers : tie.Need-slice-aggregate-outers
-slice-aggregate-outers c = search needs
-
-slice-aggregate-outers-2 : tie.Need-slice-aggregate-outers-2
-slice-aggregate-outers-2 c = search needs
-
-slice-aggregate-outers-3 : tie.Need-slice-aggregate-outers-3
-slice-aggregate-outers-3 c = search needs
-
 outers-requires : tie.Need-outers-requires
 outers-requires c κs =
     let s = c .before .before .before .before .before .before .before .before .before .before .before in
     (kinded s, (big s, omega (arith, small s)))
-
-slice-aggregate-sees : tie.Need-slice-aggregate-sees
-slice-aggregate-sees c = search needs
-
-slice-aggregate-sees-2 : tie.Need-slice-aggregate-sees-2
-slice-aggregate-sees-2 c = search needs
-
-slice-aggregate-sees-3 : tie.Need-slice-aggregate-sees-3
-slice-aggregate-sees-3 c = search needs
 
 sees-requires : tie.Need-sees-requires
 sees-requires c κs =
@@ -153,15 +123,6 @@ slice-aggregate-faces c = lead-long (c .before .before .before .before .before .
 
 slice-aggregate-faces-2 : tie.Need-slice-aggregate-faces-2
 slice-aggregate-faces-2 c = top-long (c .before .before .before .before .before .before .before .before .before .before .before .before .before .before .before .before .before .before .before .before)
-
-slice-aggregate-faces-3 : tie.Need-slice-aggregate-faces-3
-slice-aggregate-faces-3 c = search needs
-
-slice-aggregate-faces-4 : tie.Need-slice-aggregate-faces-4
-slice-aggregate-faces-4 c = search needs
-
-slice-aggregate-faces-5 : tie.Need-slice-aggregate-faces-5
-slice-aggregate-faces-5 c = search needs
 
 faces-requires : tie.Need-faces-requires
 faces-requires c κs =
@@ -175,12 +136,6 @@ slice-aggregate-holes c = lead-long (c .before .before .before .before .before .
 
 slice-aggregate-holes-2 : tie.Need-slice-aggregate-holes-2
 slice-aggregate-holes-2 c = top-long (c .before .before .before .before .before .before .before .before .before .before .before .before .before .before .before .before .before .before .before .before .before .before .before .before .before .before .before)
-
-slice-aggregate-holes-3 : tie.Need-slice-aggregate-holes-3
-slice-aggregate-holes-3 c = search needs
-
-slice-aggregate-holes-4 : tie.Need-slice-aggregate-holes-4
-slice-aggregate-holes-4 c = search needs
 
 add-holes : tie.Need-add-holes
 add-holes c =
@@ -221,29 +176,29 @@ pub enclose-spec : {M : Type 1} → statement M
 enclose-spec =
     tie.close
     (tie.spec
-    mul-m
-    slice-aggregate-number
-    slice-aggregate-number-2
-    slice-aggregate-number-3
+    (λ c. search needs)
+    (λ c. search needs)
+    (λ c. search needs)
+    (λ c. search needs)
     number-requires
-    slice-aggregate-outers
-    slice-aggregate-outers-2
-    slice-aggregate-outers-3
+    (λ c. search needs)
+    (λ c. search needs)
+    (λ c. search needs)
     outers-requires
-    slice-aggregate-sees
-    slice-aggregate-sees-2
-    slice-aggregate-sees-3
+    (λ c. search needs)
+    (λ c. search needs)
+    (λ c. search needs)
     sees-requires
     slice-aggregate-faces
     slice-aggregate-faces-2
-    slice-aggregate-faces-3
-    slice-aggregate-faces-4
-    slice-aggregate-faces-5
+    (λ c. search needs)
+    (λ c. search needs)
+    (λ c. search needs)
     faces-requires
     slice-aggregate-holes
     slice-aggregate-holes-2
-    slice-aggregate-holes-3
-    slice-aggregate-holes-4
+    (λ c. search needs)
+    (λ c. search needs)
     add-holes
     holes-requires
     returns)

@@ -12,20 +12,8 @@ use Rattle.faces.specs.Walked.{topOf}
 use Rattle.faces.proofs.link.link.Statement.{statement}
 use Rattle.faces.proofs.link.link.Tie as tie
 
-mul-m : tie.Need-mul-m
-mul-m c = search needs
-
-slice-aggregate-headings : tie.Need-slice-aggregate-headings
-slice-aggregate-headings c = search needs
-
 headings-requires : tie.Need-headings-requires
 headings-requires c κs = let s = c .before .before in (s .pre .0, (omega (arith, s .pre .1 .1 .0), omega (arith, s .pre .1 .1 .0)))
-
-slice-aggregate-follow : tie.Need-slice-aggregate-follow
-slice-aggregate-follow c = search needs
-
-slice-aggregate-follow-2 : tie.Need-slice-aggregate-follow-2
-slice-aggregate-follow-2 c = search needs
 
 follow-requires : tie.Need-follow-requires
 follow-requires c κs =
@@ -39,12 +27,6 @@ follow-requires c κs =
     let small = s .pre .1 .1 .0 in
     let W = c .before .before .before .headings in
     (F .origins, (s .pre .1 .0, (small, (ways-near ps os cs (a .n) (a .e) F Q 8000 (omega (arith, small)) (W .last .1 .1 .1 .1 .1 .0) (W .ensures), omega (arith, small)))))
-
-slice-aggregate-leads : tie.Need-slice-aggregate-leads
-slice-aggregate-leads c = search needs
-
-slice-aggregate-leads-2 : tie.Need-slice-aggregate-leads-2
-slice-aggregate-leads-2 c = search needs
 
 leads-requires : tie.Need-leads-requires
 leads-requires c κs =
@@ -64,12 +46,6 @@ leads-requires c κs =
     let nexts = next-holds ps os cs (a .n) (a .e) F Q ways heads 4000 (omega (arith, small)) next (N .ensures) in
     (next-permuted ps os cs (a .n) (a .e) F Q next nexts, (omega (arith, small), omega (arith, small)))
 
-slice-aggregate-greatest : tie.Need-slice-aggregate-greatest
-slice-aggregate-greatest c = search needs
-
-slice-aggregate-greatest-2 : tie.Need-slice-aggregate-greatest-2
-slice-aggregate-greatest-2 c = search needs
-
 greatest-requires : tie.Need-greatest-requires
 greatest-requires c κs =
     let s = c .before .before .before .before .before .before .before .before .before .before .before .before .before .before in
@@ -82,12 +58,6 @@ greatest-requires c κs =
     let small = s .pre .1 .1 .0 in
     let W = c .before .before .before .before .before .before .before .before .before .before .before .headings in
     (F .origins, (omega (arith, small), (ways-near ps os cs (a .n) (a .e) F Q 8000 (omega (arith, small)) (W .last .1 .1 .1 .1 .1 .0) (W .ensures), s .pre .1 .0)))
-
-slice-aggregate-lows : tie.Need-slice-aggregate-lows
-slice-aggregate-lows c = search needs
-
-slice-aggregate-lows-2 : tie.Need-slice-aggregate-lows-2
-slice-aggregate-lows-2 c = search needs
 
 lows-requires : tie.Need-lows-requires
 lows-requires c κs =
@@ -109,18 +79,6 @@ lows-requires c κs =
     let lead = L .last .1 .1 .0 in
     let leads = lead-holds ps os cs (a .n) (a .e) F Q next nexts 4000 (omega (arith, small)) lead (L .ensures) in
     (flat-starts ps os cs (a .n) (a .e) F, (lead-numbers ps os cs (a .n) (a .e) F Q lead leads, (omega (arith, small), omega (arith, small))))
-
-slice-aggregate-tops : tie.Need-slice-aggregate-tops
-slice-aggregate-tops c = search needs
-
-slice-aggregate-tops-2 : tie.Need-slice-aggregate-tops-2
-slice-aggregate-tops-2 c = search needs
-
-slice-aggregate-tops-3 : tie.Need-slice-aggregate-tops-3
-slice-aggregate-tops-3 c = search needs
-
-slice-aggregate-tops-4 : tie.Need-slice-aggregate-tops-4
-slice-aggregate-tops-4 c = search needs
 
 tops-requires : tie.Need-tops-requires
 tops-requires c κs =
@@ -187,24 +145,24 @@ pub link-spec : {M : Type 1} → statement M
 link-spec =
     tie.close
     (tie.spec
-    mul-m
-    slice-aggregate-headings
+    (λ c. search needs)
+    (λ c. search needs)
     headings-requires
-    slice-aggregate-follow
-    slice-aggregate-follow-2
+    (λ c. search needs)
+    (λ c. search needs)
     follow-requires
-    slice-aggregate-leads
-    slice-aggregate-leads-2
+    (λ c. search needs)
+    (λ c. search needs)
     leads-requires
-    slice-aggregate-greatest
-    slice-aggregate-greatest-2
+    (λ c. search needs)
+    (λ c. search needs)
     greatest-requires
-    slice-aggregate-lows
-    slice-aggregate-lows-2
+    (λ c. search needs)
+    (λ c. search needs)
     lows-requires
-    slice-aggregate-tops
-    slice-aggregate-tops-2
-    slice-aggregate-tops-3
-    slice-aggregate-tops-4
+    (λ c. search needs)
+    (λ c. search needs)
+    (λ c. search needs)
+    (λ c. search needs)
     tops-requires
     returns)

@@ -8,23 +8,11 @@ use Rattle.faces.specs.Turns.{earlierAt}
 use Rattle.faces.proofs.walks.earlier.Statement.{statement}
 use Rattle.faces.proofs.walks.earlier.Tie as tie
 
-cast-result : tie.Need-cast-result
-cast-result c = search needs
-
 returns : tie.Need-returns
 returns c = let a = c .before .before .args in better-none (earlierAt (a .points .now) (a .origins .now)) absent (a .h) (a .r) (c .if1 .taken)
 
-start-requires : tie.Need-start-requires
-start-requires c κs = search needs
-
 start-requires-2 : tie.Need-start-requires-2
 start-requires-2 c κs = c .before .before .before .pre .2 (c .before .if1 .left)
-
-before-requires : tie.Need-before-requires
-before-requires c κs = search needs
-
-cast-result-2 : tie.Need-cast-result-2
-cast-result-2 c = search needs
 
 returns-2 : tie.Need-returns-2
 returns-2 c =
@@ -42,11 +30,11 @@ pub earlier-spec : {M : Type 1} → statement M
 earlier-spec =
     tie.close
     (tie.spec
-    cast-result
+    (λ c. search needs)
     returns
-    start-requires
+    (λ c κs. search needs)
     start-requires-2
-    before-requires
-    cast-result-2
+    (λ c κs. search needs)
+    (λ c. search needs)
     returns-2
     returns-3)

@@ -8,23 +8,11 @@ use Rattle.faces.specs.Turns.{greaterAt}
 use Rattle.faces.proofs.walks.greater.Statement.{statement}
 use Rattle.faces.proofs.walks.greater.Tie as tie
 
-cast-result : tie.Need-cast-result
-cast-result c = search needs
-
 returns : tie.Need-returns
 returns c = let a = c .before .args in better-none (greaterAt (a .headings .now)) absent (a .h) (a .r) (c .if1 .taken)
 
 heading-at-requires : tie.Need-heading-at-requires
 heading-at-requires c κs = c .before .pre .2 (c .if1 .left)
-
-heading-at-requires-2 : tie.Need-heading-at-requires-2
-heading-at-requires-2 c κs = search needs
-
-less-angle-requires : tie.Need-less-angle-requires
-less-angle-requires c κs = search needs
-
-cast-result-2 : tie.Need-cast-result-2
-cast-result-2 c = search needs
 
 returns-2 : tie.Need-returns-2
 returns-2 c =
@@ -42,11 +30,11 @@ pub greater-spec : {M : Type 1} → statement M
 greater-spec =
     tie.close
     (tie.spec
-    cast-result
+    (λ c. search needs)
     returns
     heading-at-requires
-    heading-at-requires-2
-    less-angle-requires
-    cast-result-2
+    (λ c κs. search needs)
+    (λ c κs. search needs)
+    (λ c. search needs)
     returns-2
     returns-3)

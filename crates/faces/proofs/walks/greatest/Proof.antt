@@ -16,19 +16,10 @@ Inv-loop origins headings m out₀ n h₀ out h = Choosing (λ k. originAt origi
 abbrev μ-loop : tie.MeasureT-loop
 μ-loop origins headings m out₀ n h₀ out h = m - h
 
-fill-requires : tie.Need-fill-requires Inv-loop μ-loop
-fill-requires c κs = search needs
-
 loop-holds : tie.Need-loop-holds Inv-loop μ-loop
 loop-holds c =
     let s = c .before .before .before .before .before .before in
     choose-starts (λ k. originAt (s .args .origins .now) k) (greaterAt (s .args .headings .now)) (s .args .m) (s .args .n) _ (s .args .out .now) (s .pre .1 .1 .1) (c .before .before .fill .ensures)
-
-mul-v : tie.Need-mul-v Inv-loop μ-loop
-mul-v c = search needs
-
-shared-slice-read-v : tie.Need-shared-slice-read-v Inv-loop μ-loop
-shared-slice-read-v c = search needs
 
 cast-v : tie.Need-cast-v Inv-loop μ-loop
 cast-v c =
@@ -72,21 +63,12 @@ slice-write-out c =
     let l = c .before .before .before .before .loop in
     omega (arith, s .pre .0 .named (l .h) (c .before .before .before .loop-test .taken), l .inv .kept, l .inv .room)
 
-add-h : tie.Need-add-h Inv-loop μ-loop
-add-h c = search needs
-
-loop-less : tie.Need-loop-less Inv-loop μ-loop
-loop-less c = search needs
-
 loop-again : tie.Need-loop-again Inv-loop μ-loop
 loop-again c =
     let s = c .before .before .before .before .before .before .before .before .before .before .before in
     let l = c .before .before .before .before .loop in
     let b = c .before .before .before .loop-test .taken in
     choose-turns (λ k. originAt (s .args .origins .now) k) (greaterAt (s .args .headings .now)) (s .args .m) (s .args .n) _ (l .inv) _ _ b (s .pre .1 .0) refl (s .pre .0 .named (l .h) b) (c .greater .ensures)
-
-same-length : tie.Need-same-length Inv-loop μ-loop
-same-length c = search needs
 
 returns : tie.Need-returns Inv-loop μ-loop
 returns c =
@@ -99,18 +81,18 @@ greatest-spec =
     (tie.spec
     Inv-loop
     μ-loop
-    fill-requires
+    (λ c κs. search needs)
     loop-holds
-    mul-v
-    shared-slice-read-v
+    (λ c. search needs)
+    (λ c. search needs)
     cast-v
     mul-r
     slice-read-r
     greater-requires
     mul-out
     slice-write-out
-    add-h
-    loop-less
+    (λ c. search needs)
+    (λ c. search needs)
     loop-again
-    same-length
+    (λ c. search needs)
     returns)

@@ -39,29 +39,11 @@ Inv-loop next m lead₀ h₀ lead h = Leading (take m next) lead₀ lead h
 abbrev μ-loop : tie.MeasureT-loop
 μ-loop next m lead₀ h₀ lead h = m - h
 
-fill-requires : tie.Need-fill-requires Inv-loop μ-loop
-fill-requires c κs = search needs
-
 loop-holds : tie.Need-loop-holds Inv-loop μ-loop
 loop-holds c =
     let s = c .before .before .before .before .before .before in
     let d = c .before .before .fill in
     starts (s .args .next .now) (s .args .m) (s .pre .0) (s .pre .1 .0) (s .args .lead .now) (d .last .0) (s .pre .1 .1) (d .ensures)
-
-mul-if1 : tie.Need-mul-if1 Inv-loop μ-loop
-mul-if1 c = search needs
-
-slice-read-if1 : tie.Need-slice-read-if1 Inv-loop μ-loop
-slice-read-if1 c = search needs
-
-mark-requires : tie.Need-mark-requires Inv-loop μ-loop
-mark-requires c κs = search needs
-
-add-h : tie.Need-add-h Inv-loop μ-loop
-add-h c = search needs
-
-loop-less : tie.Need-loop-less Inv-loop μ-loop
-loop-less c = search needs
 
 loop-again : tie.Need-loop-again Inv-loop μ-loop
 loop-again c =
@@ -73,9 +55,6 @@ loop-again c =
     (λ w. rw (w .5 ∙ w .2 .ensures) (finds (s .args .next .now) (s .args .m) (s .pre .0) (s .pre .1 .0) (s .args .lead .now) (d .last .0) (s .pre .1 .1) (d .ensures) (l .lead) (l .h) (l .inv) b (w .0 .taken)))
     (λ w. rw (w .1) (skips (s .args .next .now) (s .args .m) (s .pre .0) (s .pre .1 .0) (s .args .lead .now) (d .last .0) (s .pre .1 .1) (d .ensures) (l .lead) (l .h) (l .inv) b (w .0 .left)))
     (c .if1 .came)
-
-same-length : tie.Need-same-length Inv-loop μ-loop
-same-length c = search needs
 
 returns : tie.Need-returns Inv-loop μ-loop
 returns c =
@@ -89,13 +68,13 @@ leads-spec =
     (tie.spec
     Inv-loop
     μ-loop
-    fill-requires
+    (λ c κs. search needs)
     loop-holds
-    mul-if1
-    slice-read-if1
-    mark-requires
-    add-h
-    loop-less
+    (λ c. search needs)
+    (λ c. search needs)
+    (λ c κs. search needs)
+    (λ c. search needs)
+    (λ c. search needs)
     loop-again
-    same-length
+    (λ c. search needs)
     returns)

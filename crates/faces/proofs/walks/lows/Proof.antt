@@ -14,19 +14,10 @@ Inv-loop points origins lead m out₀ h₀ out h = Choosing (λ k. getD lead k 0
 abbrev μ-loop : tie.MeasureT-loop
 μ-loop points origins lead m out₀ h₀ out h = m - h
 
-fill-requires : tie.Need-fill-requires Inv-loop μ-loop
-fill-requires c κs = search needs
-
 loop-holds : tie.Need-loop-holds Inv-loop μ-loop
 loop-holds c =
     let s = c .before .before .before .before .before .before .before in
     choose-starts (λ k. getD (s .args .lead .now) k 0) (earlierAt (s .args .points .now) (s .args .origins .now)) (s .args .m) (s .args .m) _ (s .args .out .now) (s .pre .1 .1 .1) (c .before .before .fill .ensures)
-
-mul-l : tie.Need-mul-l Inv-loop μ-loop
-mul-l c = search needs
-
-shared-slice-read-l : tie.Need-shared-slice-read-l Inv-loop μ-loop
-shared-slice-read-l c = search needs
 
 cast-l : tie.Need-cast-l Inv-loop μ-loop
 cast-l c =
@@ -69,21 +60,12 @@ slice-write-out c =
     let l = c .before .before .before .before .loop in
     omega (arith, s .pre .1 .0 .named (l .h) (c .before .before .before .loop-test .taken), l .inv .kept, l .inv .room)
 
-add-h : tie.Need-add-h Inv-loop μ-loop
-add-h c = search needs
-
-loop-less : tie.Need-loop-less Inv-loop μ-loop
-loop-less c = search needs
-
 loop-again : tie.Need-loop-again Inv-loop μ-loop
 loop-again c =
     let s = c .before .before .before .before .before .before .before .before .before .before .before .before in
     let l = c .before .before .before .before .loop in
     let b = c .before .before .before .loop-test .taken in
     choose-turns (λ k. getD (s .args .lead .now) k 0) (earlierAt (s .args .points .now) (s .args .origins .now)) (s .args .m) (s .args .m) _ (l .inv) _ _ b (s .pre .1 .1 .0) refl (s .pre .1 .0 .named (l .h) b) (c .earlier .ensures)
-
-same-length : tie.Need-same-length Inv-loop μ-loop
-same-length c = search needs
 
 returns : tie.Need-returns Inv-loop μ-loop
 returns c =
@@ -96,18 +78,18 @@ lows-spec =
     (tie.spec
     Inv-loop
     μ-loop
-    fill-requires
+    (λ c κs. search needs)
     loop-holds
-    mul-l
-    shared-slice-read-l
+    (λ c. search needs)
+    (λ c. search needs)
     cast-l
     mul-r
     slice-read-r
     earlier-requires
     mul-out
     slice-write-out
-    add-h
-    loop-less
+    (λ c. search needs)
+    (λ c. search needs)
     loop-again
-    same-length
+    (λ c. search needs)
     returns)

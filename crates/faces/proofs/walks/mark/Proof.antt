@@ -19,21 +19,6 @@ Inv-loop next m h lead₀ x₀ left₀ lead x left = Marking (take m next) h lea
 abbrev μ-loop : tie.MeasureT-loop
 μ-loop next m h lead₀ x₀ left₀ lead x left = left
 
-cast-lead : tie.Need-cast-lead Inv-loop μ-loop
-cast-lead c = search needs
-
-mul-lead : tie.Need-mul-lead Inv-loop μ-loop
-mul-lead c = search needs
-
-slice-write-lead : tie.Need-slice-write-lead Inv-loop μ-loop
-slice-write-lead c = search needs
-
-mul-x : tie.Need-mul-x Inv-loop μ-loop
-mul-x c = search needs
-
-shared-slice-read-x : tie.Need-shared-slice-read-x Inv-loop μ-loop
-shared-slice-read-x c = search needs
-
 cast-x : tie.Need-cast-x Inv-loop μ-loop
 cast-x c = let s = c .before in omega (arith, front-below (s .args .next .now) (s .args .m) (s .pre .0) (s .args .h) (s .pre .1 .1 .0))
 
@@ -50,9 +35,6 @@ same-length c = let s = c .before .before .before .before in omega (arith, c .be
 
 returns : tie.Need-returns Inv-loop μ-loop
 returns c = let s = c .before .before .before .before in mark-back (take (s .args .m) (s .args .next .now)) (s .args .h) _ (c .before .before .loop .inv) (c .if1 .taken)
-
-cast-lead-2 : tie.Need-cast-lead-2 Inv-loop μ-loop
-cast-lead-2 c = search needs
 
 mul-lead-2 : tie.Need-mul-lead-2 Inv-loop μ-loop
 mul-lead-2 c =
@@ -84,12 +66,6 @@ cast-x-2 c =
     let l = c .before .before .before .loop in
     omega (arith, front-below (s .args .next .now) (s .args .m) (s .pre .0) (l .x) (under (s .args .next .now) (s .args .m) (s .args .h) (l .x) (l .left) _ _ (s .pre .0) (l .inv)))
 
-sub-left : tie.Need-sub-left Inv-loop μ-loop
-sub-left c = search needs
-
-loop-less : tie.Need-loop-less Inv-loop μ-loop
-loop-less c = search needs
-
 loop-again : tie.Need-loop-again Inv-loop μ-loop
 loop-again c =
     let s = c .before .before .before .before .before in
@@ -111,23 +87,23 @@ mark-spec =
     (tie.spec
     Inv-loop
     μ-loop
-    cast-lead
-    mul-lead
-    slice-write-lead
-    mul-x
-    shared-slice-read-x
+    (λ c. search needs)
+    (λ c. search needs)
+    (λ c. search needs)
+    (λ c. search needs)
+    (λ c. search needs)
     cast-x
     loop-holds
     same-length
     returns
-    cast-lead-2
+    (λ c. search needs)
     mul-lead-2
     slice-write-lead-2
     mul-x-2
     shared-slice-read-x-2
     cast-x-2
-    sub-left
-    loop-less
+    (λ c. search needs)
+    (λ c. search needs)
     loop-again
     same-length-2
     returns-2)

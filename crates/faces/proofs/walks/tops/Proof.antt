@@ -17,12 +17,6 @@ abbrev μ-loop : tie.MeasureT-loop
 loop-holds : tie.Need-loop-holds Inv-loop μ-loop
 loop-holds c = fill-starts _ _ _ (c .pre .1 .1 .1 .1)
 
-mul-l : tie.Need-mul-l Inv-loop μ-loop
-mul-l c = search needs
-
-shared-slice-read-l : tie.Need-shared-slice-read-l Inv-loop μ-loop
-shared-slice-read-l c = search needs
-
 cast-l : tie.Need-cast-l Inv-loop μ-loop
 cast-l c =
     let s = c .before .before .before in
@@ -86,23 +80,8 @@ shared-slice-read-top c =
     let b = c .before .before .before .before .loop-test .taken in
     omega (arith, s .pre .1 .1 .1 .0 .named (getD (s .args .low .now) (getD (s .args .lead .now) h 0) 0) (s .pre .1 .1 .0 h b))
 
-mul-top-2 : tie.Need-mul-top-2 Inv-loop μ-loop
-mul-top-2 c = search needs
-
-slice-write-top : tie.Need-slice-write-top Inv-loop μ-loop
-slice-write-top c = search needs
-
-add-h : tie.Need-add-h Inv-loop μ-loop
-add-h c = search needs
-
-loop-less : tie.Need-loop-less Inv-loop μ-loop
-loop-less c = search needs
-
 loop-again : tie.Need-loop-again Inv-loop μ-loop
 loop-again c = fill-turns _ (c .before .before .before .before .before .loop .inv) _ (c .before .before .before .before .loop-test .taken) refl
-
-same-length : tie.Need-same-length Inv-loop μ-loop
-same-length c = search needs
 
 returns : tie.Need-returns Inv-loop μ-loop
 returns c = fill-ends _ (c .before .loop .inv) (search needs)
@@ -114,8 +93,8 @@ tops-spec =
     Inv-loop
     μ-loop
     loop-holds
-    mul-l
-    shared-slice-read-l
+    (λ c. search needs)
+    (λ c. search needs)
     cast-l
     mul-x
     shared-slice-read-x
@@ -125,10 +104,10 @@ tops-spec =
     cast-v
     mul-top
     shared-slice-read-top
-    mul-top-2
-    slice-write-top
-    add-h
-    loop-less
+    (λ c. search needs)
+    (λ c. search needs)
+    (λ c. search needs)
+    (λ c. search needs)
     loop-again
-    same-length
+    (λ c. search needs)
     returns)

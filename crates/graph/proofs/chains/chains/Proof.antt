@@ -29,23 +29,8 @@ below c = c .before .before .before .before .before .before .before .before .bef
 celled : (c : tie.After-shared-slice-known2 Inv-loop μ-loop) → getD (c .before .before .before .before .before .before .before .before .before .before .args .origins .now) (c .before .before .loop .h - 1) 0 < length (c .before .before .loop .heads)
 celled c = omega (arith, below c, roomy (c .before .before .before), heads-long (c .before .before .before .before .before .before .before .before .before .before .args .origins .now) (c .before .before .before .before .before .before .before .before .before .before .args .m) (c .before .before .before .before .before .before .before .before .before .before .args .n) (roomy (c .before .before .before)) (c .before .before .loop .inv))
 
-cast-fill : tie.Need-cast-fill Inv-loop μ-loop
-cast-fill c = search needs
-
-fill-requires : tie.Need-fill-requires Inv-loop μ-loop
-fill-requires c κs = search needs
-
 loop-holds : tie.Need-loop-holds Inv-loop μ-loop
 loop-holds c = chain-starts _ _ _ (c .before .before .before .before .before .before .before .args .heads .now) _ _ (c .before .before .before .before .before .before .before .pre .1 .1 .0) (c .before .before .fill .ensures)
-
-sub-h : tie.Need-sub-h Inv-loop μ-loop
-sub-h c = search needs
-
-mul-v : tie.Need-mul-v Inv-loop μ-loop
-mul-v c = search needs
-
-shared-slice-read-v : tie.Need-shared-slice-read-v Inv-loop μ-loop
-shared-slice-read-v c = search needs
 
 cast-v : tie.Need-cast-v Inv-loop μ-loop
 cast-v c = omega (arith, below c)
@@ -56,32 +41,17 @@ mul-chain c = omega (arith, below c)
 slice-read-chain : tie.Need-slice-read-chain Inv-loop μ-loop
 slice-read-chain c = celled (c .before)
 
-mul-chain-2 : tie.Need-mul-chain-2 Inv-loop μ-loop
-mul-chain-2 c = search needs
-
-slice-write-chain : tie.Need-slice-write-chain Inv-loop μ-loop
-slice-write-chain c = search needs
-
-cast-heads : tie.Need-cast-heads Inv-loop μ-loop
-cast-heads c = search needs
-
 mul-heads : tie.Need-mul-heads Inv-loop μ-loop
 mul-heads c = omega (arith, below (c .before))
 
 slice-write-heads : tie.Need-slice-write-heads Inv-loop μ-loop
 slice-write-heads c = celled (c .before)
 
-loop-less : tie.Need-loop-less Inv-loop μ-loop
-loop-less c = search needs
-
 loop-again : tie.Need-loop-again Inv-loop μ-loop
 loop-again c = chain-turns _ _ _ (c .before .before .before .before .before .before .before .before .before .before .before .pre .0) (roomy (c .before .before .before .before)) (c .before .before .before .before .before .before .before .before .before .before .before .pre .1 .1 .1) (c .before .before .before .loop .inv) (omega arith)
 
 same-length : tie.Need-same-length Inv-loop μ-loop
 same-length c = heads-long _ _ _ (roomy (c .before .before)) (c .before .loop .inv) ∙ kept (c .before .before)
-
-same-length-2 : tie.Need-same-length-2 Inv-loop μ-loop
-same-length-2 c = search needs
 
 returns : tie.Need-returns Inv-loop μ-loop
 returns c = (heads-ends _ _ _ (c .before .before .before .before .before .before .before .before .before .args .heads .now) (c .before .before .before .before .before .before .before .before .before .pre .1 .1 .0) (c .before .before .before .before .fill .ensures) (c .before .loop .inv) (omega arith), chain-ends _ _ _ (c .before .before .before .before .before .before .before .before .before .pre .1 .1 .1) (c .before .loop .inv) (omega arith))
@@ -92,22 +62,22 @@ chains-spec =
     (tie.spec
     Inv-loop
     μ-loop
-    cast-fill
-    fill-requires
+    (λ c. search needs)
+    (λ c κs. search needs)
     loop-holds
-    sub-h
-    mul-v
-    shared-slice-read-v
+    (λ c. search needs)
+    (λ c. search needs)
+    (λ c. search needs)
     cast-v
     mul-chain
     slice-read-chain
-    mul-chain-2
-    slice-write-chain
-    cast-heads
+    (λ c. search needs)
+    (λ c. search needs)
+    (λ c. search needs)
     mul-heads
     slice-write-heads
-    loop-less
+    (λ c. search needs)
     loop-again
     same-length
-    same-length-2
+    (λ c. search needs)
     returns)

@@ -18,18 +18,6 @@ returns c = rw (eq-eqb (c .before .args .x) (c .before .args .t) (c .if1 .taken)
 returns-2 : tie.Need-returns-2
 returns-2 c = rw (ne-eqb (c .before .before .args .x) (c .before .before .args .t) (c .before .if1 .left), eq-eqb (c .before .before .args .r) (c .before .before .args .t) (c .if2 .taken))
 
-heading-at-requires : tie.Need-heading-at-requires
-heading-at-requires c κs = search needs
-
-heading-at-requires-2 : tie.Need-heading-at-requires-2
-heading-at-requires-2 c κs = search needs
-
-heading-at-requires-3 : tie.Need-heading-at-requires-3
-heading-at-requires-3 c κs = search needs
-
-sooner-requires : tie.Need-sooner-requires
-sooner-requires c κs = search needs
-
 returns-3 : tie.Need-returns-3
 returns-3 c =
     let a = c .before .before .before .before .before .before .before .args in
@@ -48,9 +36,9 @@ first-spec =
     (tie.spec
     returns
     returns-2
-    heading-at-requires
-    heading-at-requires-2
-    heading-at-requires-3
-    sooner-requires
+    (λ c κs. search needs)
+    (λ c κs. search needs)
+    (λ c κs. search needs)
+    (λ c κs. search needs)
     returns-3
     returns-4)

@@ -30,15 +30,6 @@ least-is c = c .before .before .before .before .pre .0 .heads .at _ (below c)
 later-is : (c : tie.After-first Inv-loop μ-loop) → getD (c .before .before .before .before .before .before .before .before .before .args .chain .now) (c .before .before .loop .x) 0 ≡ later (c .before .before .before .before .before .before .before .before .before .args .origins .now) (c .before .before .before .before .before .before .before .before .before .args .m) (c .before .before .loop .x)
 later-is c = c .before .before .before .before .before .before .before .before .before .pre .0 .chain .at (c .before .before .loop .x) (c .before .loop-test .taken)
 
-twin-requires : tie.Need-twin-requires Inv-loop μ-loop
-twin-requires c κs = search needs
-
-mul-v : tie.Need-mul-v Inv-loop μ-loop
-mul-v c = search needs
-
-shared-slice-read-v : tie.Need-shared-slice-read-v Inv-loop μ-loop
-shared-slice-read-v c = search needs
-
 cast-v : tie.Need-cast-v Inv-loop μ-loop
 cast-v c = omega (arith, below (c .before))
 
@@ -65,12 +56,6 @@ first-requires c κs =
     let rm : l .r < m = subst (λ (k : ℕ). k < m) (sym (l .inv .is)) (pick-below (besides os t) (soonerAt hs t) t (l .x) m (under (c .before .before .before .before)) (l .inv .within)) in
     (headed hs m t (s .pre .1 .1 .0) (under (c .before .before .before .before)), headed hs m (l .x) (s .pre .1 .1 .0) (c .loop-test .taken), headed hs m (l .r) (s .pre .1 .1 .0) rm)
 
-mul-x-2 : tie.Need-mul-x-2 Inv-loop μ-loop
-mul-x-2 c = search needs
-
-shared-slice-read-x-2 : tie.Need-shared-slice-read-x-2 Inv-loop μ-loop
-shared-slice-read-x-2 c = search needs
-
 cast-x-2 : tie.Need-cast-x-2 Inv-loop μ-loop
 cast-x-2 c = omega (arith, later-is (c .before), onward-le (c .before .before .before .before .before .before .before .before .before .before .args .origins .now) (c .before .before .before .before .before .before .before .before .before .before .args .m) (c .before .before .before .loop .x + 1) (originAt (c .before .before .before .before .before .before .before .before .before .before .args .origins .now) (c .before .before .before .loop .x)))
 
@@ -91,17 +76,17 @@ follower-spec =
     (tie.spec
     Inv-loop
     μ-loop
-    twin-requires
-    mul-v
-    shared-slice-read-v
+    (λ c κs. search needs)
+    (λ c. search needs)
+    (λ c. search needs)
     cast-v
     mul-x
     shared-slice-read-x
     cast-x
     loop-holds
     first-requires
-    mul-x-2
-    shared-slice-read-x-2
+    (λ c. search needs)
+    (λ c. search needs)
     cast-x-2
     loop-less
     loop-again

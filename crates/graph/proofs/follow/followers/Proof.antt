@@ -14,9 +14,6 @@ Inv-loop origins headings heads chain n e next₀ m h₀ next h = Filling (follo
 abbrev μ-loop : tie.MeasureT-loop
 μ-loop origins headings heads chain n e next₀ m h₀ next h = 2 * e - h
 
-mul-m : tie.Need-mul-m Inv-loop μ-loop
-mul-m c = search needs
-
 loop-holds : tie.Need-loop-holds Inv-loop μ-loop
 loop-holds c = fill-starts _ _ _ (search needs)
 
@@ -30,23 +27,8 @@ cast-next c =
     let a = c .before .before .before .before .before .before .before .args in
     omega (arith, c .follower .ensures, follower-under (a .origins .now) (a .headings .now) (a .e) (c .before .before .loop .h) (c .before .loop-test .taken))
 
-mul-next : tie.Need-mul-next Inv-loop μ-loop
-mul-next c = search needs
-
-slice-write-next : tie.Need-slice-write-next Inv-loop μ-loop
-slice-write-next c = search needs
-
-add-h : tie.Need-add-h Inv-loop μ-loop
-add-h c = search needs
-
-loop-less : tie.Need-loop-less Inv-loop μ-loop
-loop-less c = search needs
-
 loop-again : tie.Need-loop-again Inv-loop μ-loop
 loop-again c = fill-turns _ (c .before .before .loop .inv) _ (c .before .loop-test .taken) (c .follower .ensures)
-
-same-length : tie.Need-same-length Inv-loop μ-loop
-same-length c = search needs
 
 returns : tie.Need-returns Inv-loop μ-loop
 returns c = fill-ends _ (c .before .loop .inv) (search needs)
@@ -57,14 +39,14 @@ followers-spec =
     (tie.spec
     Inv-loop
     μ-loop
-    mul-m
+    (λ c. search needs)
     loop-holds
     follower-requires
     cast-next
-    mul-next
-    slice-write-next
-    add-h
-    loop-less
+    (λ c. search needs)
+    (λ c. search needs)
+    (λ c. search needs)
+    (λ c. search needs)
     loop-again
-    same-length
+    (λ c. search needs)
     returns)

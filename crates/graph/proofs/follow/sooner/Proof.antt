@@ -12,21 +12,6 @@ use Rattle.graph.proofs.follow.sooner.Tie as tie
 by : (t h r : Vec) {a b : Bool} → lessAngle h t ≡ a → lessAngle r t ≡ b → cond a (cond b (lessAngle r h) true) (cond b false (lessAngle r h)) ≡ soonerOf t h r
 by t h r e f = λ i. cond (sym e i) (cond (sym f i) (lessAngle r h) true) (cond (sym f i) false (lessAngle r h))
 
-less-angle-requires : tie.Need-less-angle-requires
-less-angle-requires c κs = search needs
-
-less-angle-requires-2 : tie.Need-less-angle-requires-2
-less-angle-requires-2 c κs = search needs
-
-less-angle-requires-3 : tie.Need-less-angle-requires-3
-less-angle-requires-3 c κs = search needs
-
-less-angle-requires-4 : tie.Need-less-angle-requires-4
-less-angle-requires-4 c κs = search needs
-
-less-angle-requires-5 : tie.Need-less-angle-requires-5
-less-angle-requires-5 c κs = search needs
-
 returns : tie.Need-returns
 returns c =
     let a = c .before .before .before .before .before .args in
@@ -53,11 +38,11 @@ pub sooner-spec : {M : Type 1} → statement M
 sooner-spec =
     tie.close
     (tie.spec
-    less-angle-requires
-    less-angle-requires-2
-    less-angle-requires-3
-    less-angle-requires-4
-    less-angle-requires-5
+    (λ c κs. search needs)
+    (λ c κs. search needs)
+    (λ c κs. search needs)
+    (λ c κs. search needs)
+    (λ c κs. search needs)
     returns
     returns-2
     returns-3

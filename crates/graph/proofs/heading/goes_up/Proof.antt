@@ -6,12 +6,6 @@ use Rattle.graph.specs.Flat.{startAt, Starts}
 use Rattle.graph.proofs.heading.goes_up.Statement.{statement}
 use Rattle.graph.proofs.heading.goes_up.Tie as tie
 
-start-requires : tie.Need-start-requires
-start-requires c κs = search needs
-
-twin-requires : tie.Need-twin-requires
-twin-requires c κs = search needs
-
 start-requires-2 : tie.Need-start-requires-2
 start-requires-2 c κs = subst (Starts _ _) (sym (c .twin .ensures)) (c .before .before .before .pre .2)
 
@@ -25,4 +19,4 @@ returns c =
 
 pub goes-up-spec : {M : Type 1} → statement M
 goes-up-spec =
-    tie.close (tie.spec start-requires twin-requires start-requires-2 before-requires returns)
+    tie.close (tie.spec (λ c κs. search needs) (λ c κs. search needs) start-requires-2 before-requires returns)

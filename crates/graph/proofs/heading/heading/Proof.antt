@@ -13,15 +13,6 @@ use Rattle.graph.proofs.heading.heading.Tie as tie
 by : (ps : List ℤ) (os : List ℕ) (cs : List ℤ) (h : ℕ) {u : Vec} {c : Bool} → u ≡ carrierAt cs (h / 2) .up → upAt ps os h ≡ c → cond c u (opposite u) ≡ headingAt ps os cs h
 by ps os cs h e f = λ i. cond (sym f i) (e i) (opposite (e i))
 
-carrier-at-requires : tie.Need-carrier-at-requires
-carrier-at-requires c κs = search needs
-
-goes-up-requires : tie.Need-goes-up-requires
-goes-up-requires c κs = search needs
-
-opposite-requires : tie.Need-opposite-requires
-opposite-requires c κs = search needs
-
 returns : tie.Need-returns
 returns c =
     let s = c .before .before .before .before .before in
@@ -39,4 +30,4 @@ returns-2 c =
 
 pub heading-spec : {M : Type 1} → statement M
 heading-spec =
-    tie.close (tie.spec carrier-at-requires goes-up-requires opposite-requires returns returns-2)
+    tie.close (tie.spec (λ c κs. search needs) (λ c κs. search needs) (λ c κs. search needs) returns returns-2)

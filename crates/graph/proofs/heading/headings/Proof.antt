@@ -27,9 +27,6 @@ Inv-loop points origins carriers n e out₀ m h₀ out h = Laying 2 (λ j. row (
 abbrev μ-loop : tie.MeasureT-loop
 μ-loop points origins carriers n e out₀ m h₀ out h = 2 * e - h
 
-mul-m : tie.Need-mul-m Inv-loop μ-loop
-mul-m c = search needs
-
 loop-holds : tie.Need-loop-holds Inv-loop μ-loop
 loop-holds c = lay-starts 2 _ (λ k. refl) _ _ (search needs)
 
@@ -38,24 +35,12 @@ heading-requires c κs =
     let s = c .before .before .before .before in
     asked (s .args .points .now) (s .args .origins .now) (s .args .carriers .now) (s .args .n) (s .args .e) (c .before .before .loop .h) (s .pre .0) (c .before .loop-test .taken) (s .pre .1 .0)
 
-store-requires : tie.Need-store-requires Inv-loop μ-loop
-store-requires c κs = search needs
-
-add-h : tie.Need-add-h Inv-loop μ-loop
-add-h c = search needs
-
-loop-less : tie.Need-loop-less Inv-loop μ-loop
-loop-less c = search needs
-
 loop-again : tie.Need-loop-again Inv-loop μ-loop
 loop-again c =
     let s = c .before .before .before .before .before .before .before in
     let l = c .before .before .before .before .before .loop in
     let e = stored (s .args .points .now) (s .args .origins .now) (s .args .carriers .now) (s .args .n) (s .args .e) (l .h) (s .pre .0) (c .before .before .before .before .loop-test .taken) (c .before .before .heading .ensures) in
     rw (c .before .store .ensures) (lay-turns 2 _ (λ k. refl) (l .inv) _ (c .before .before .before .before .loop-test .taken) e)
-
-same-length : tie.Need-same-length Inv-loop μ-loop
-same-length c = search needs
 
 returns : tie.Need-returns Inv-loop μ-loop
 returns c = lay-ends 2 _ (λ k. refl) (c .before .loop .inv) (search needs)
@@ -66,12 +51,12 @@ headings-spec =
     (tie.spec
     Inv-loop
     μ-loop
-    mul-m
+    (λ c. search needs)
     loop-holds
     heading-requires
-    store-requires
-    add-h
-    loop-less
+    (λ c κs. search needs)
+    (λ c. search needs)
+    (λ c. search needs)
     loop-again
-    same-length
+    (λ c. search needs)
     returns)

@@ -11,12 +11,6 @@ use Rattle.plane.proofs.Machine.{back}
 use Rattle.graph.proofs.heading.opposite.Statement.{statement}
 use Rattle.graph.proofs.heading.opposite.Tie as tie
 
-sub-t2 : tie.Need-sub-t2
-sub-t2 c = fits (search tr depth 20) tt
-
-sub-t3 : tie.Need-sub-t3
-sub-t3 c = fits (search tr depth 20) tt
-
 returns : tie.Need-returns
 returns c =
     let u = c .before .before .before .before .args .u in
@@ -25,4 +19,4 @@ returns c =
     (λ i. vec ((x ∙ minus (u .x)) i) ((y ∙ minus (u .y)) i), record { x-is = atmost (search tru depth 20) tt; y-is = atmost (search tru depth 20) tt })
 
 pub opposite-spec : {M : Type 1} → statement M
-opposite-spec = tie.close (tie.spec sub-t2 sub-t3 returns)
+opposite-spec = tie.close (tie.spec (λ c. fits (search tr depth 20) tt) (λ c. fits (search tr depth 20) tt) returns)

@@ -9,27 +9,6 @@ use borrow.Author.Needs.{needs}
 use Rattle.graph.proofs.heading.store.Statement.{statement}
 use Rattle.graph.proofs.heading.store.Tie as tie
 
-mul-at : tie.Need-mul-at
-mul-at c = search needs
-
-mul-x : tie.Need-mul-x
-mul-x c = search needs
-
-slice-set-from-x : tie.Need-slice-set-from-x
-slice-set-from-x c = search needs
-
-add-y : tie.Need-add-y
-add-y c = search needs
-
-mul-y : tie.Need-mul-y
-mul-y c = search needs
-
-slice-set-from-y : tie.Need-slice-set-from-y
-slice-set-from-y c = simp length-set (omega arith)
-
-same-length : tie.Need-same-length
-same-length c = search needs
-
 returns : tie.Need-returns
 returns c =
     let u = c .before .before .args .u in
@@ -40,4 +19,4 @@ returns c =
 pub store-spec : {M : Type 1} → statement M
 store-spec =
     tie.close
-    (tie.spec mul-at mul-x slice-set-from-x add-y mul-y slice-set-from-y same-length returns)
+    (tie.spec (λ c. search needs) (λ c. search needs) (λ c. search needs) (λ c. search needs) (λ c. search needs) (λ c. simp length-set (omega arith)) (λ c. search needs) returns)

@@ -5,12 +5,6 @@ use borrow.Author.Tests.{eq-eqb, ne-eqb}
 use Rattle.graph.proofs.heading.twin.Statement.{statement}
 use Rattle.graph.proofs.heading.twin.Tie as tie
 
-add-result : tie.Need-add-result
-add-result c = search needs
-
-sub-result : tie.Need-sub-result
-sub-result c = search needs
-
 returns : tie.Need-returns
 returns c = rw (eq-eqb (c .before .args .h % 2) 0 (c .if1 .taken))
 
@@ -18,4 +12,4 @@ returns-2 : tie.Need-returns-2
 returns-2 c = rw (ne-eqb (c .before .args .h % 2) 0 (c .if1 .left))
 
 pub twin-spec : {M : Type 1} → statement M
-twin-spec = tie.close (tie.spec add-result sub-result returns returns-2)
+twin-spec = tie.close (tie.spec (λ c. search needs) (λ c. search needs) returns returns-2)

@@ -12,27 +12,6 @@ use Rattle.graph.proofs.look.at_height.Tie as tie
 by : (p a b : Pt) {c d : Bool} → below p a ≡ c → below p b ≡ d → cond c (not d) d ≡ cond (below p a) (not (below p b)) (below p b)
 by p a b e f = λ i. cond (sym e i) (not (sym f i)) (sym f i)
 
-mul-start : tie.Need-mul-start
-mul-start c = search needs
-
-start-requires : tie.Need-start-requires
-start-requires c κs = search needs
-
-below-requires : tie.Need-below-requires
-below-requires c κs = search needs
-
-mul-start-2 : tie.Need-mul-start-2
-mul-start-2 c = search needs
-
-add-start : tie.Need-add-start
-add-start c = search needs
-
-start-requires-2 : tie.Need-start-requires-2
-start-requires-2 c κs = search needs
-
-below-requires-2 : tie.Need-below-requires-2
-below-requires-2 c κs = search needs
-
 returns : tie.Need-returns
 returns c =
     let a = c .before .before .before .before .before .before .args in
@@ -57,12 +36,12 @@ pub at-height-spec : {M : Type 1} → statement M
 at-height-spec =
     tie.close
     (tie.spec
-    mul-start
-    start-requires
-    below-requires
-    mul-start-2
-    add-start
-    start-requires-2
-    below-requires-2
+    (λ c. search needs)
+    (λ c κs. search needs)
+    (λ c κs. search needs)
+    (λ c. search needs)
+    (λ c. search needs)
+    (λ c κs. search needs)
+    (λ c κs. search needs)
     returns
     returns-2)

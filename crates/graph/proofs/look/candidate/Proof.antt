@@ -8,15 +8,6 @@ use Rattle.graph.specs.Look.{westwardOf}
 use Rattle.graph.proofs.look.candidate.Statement.{statement}
 use Rattle.graph.proofs.look.candidate.Tie as tie
 
-at-height-requires : tie.Need-at-height-requires
-at-height-requires c κs = search needs
-
-carrier-at-requires : tie.Need-carrier-at-requires
-carrier-at-requires c κs = search needs
-
-westward-requires : tie.Need-westward-requires
-westward-requires c κs = search needs
-
 returns : tie.Need-returns
 returns c =
     let a = c .before .before .before .before .before .args in
@@ -32,4 +23,4 @@ returns-2 c =
 
 pub candidate-spec : {M : Type 1} → statement M
 candidate-spec =
-    tie.close (tie.spec at-height-requires carrier-at-requires westward-requires returns returns-2)
+    tie.close (tie.spec (λ c κs. search needs) (λ c κs. search needs) (λ c κs. search needs) returns returns-2)

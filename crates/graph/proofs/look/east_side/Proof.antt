@@ -7,21 +7,9 @@ use Rattle.graph.specs.Flat.{Starts}
 use Rattle.graph.proofs.look.east_side.Statement.{statement}
 use Rattle.graph.proofs.look.east_side.Tie as tie
 
-mul-goes-up : tie.Need-mul-goes-up
-mul-goes-up c = search needs
-
 goes-up-requires : tie.Need-goes-up-requires
 goes-up-requires c κs = let s = c .before in
     (s .pre .0, s .pre .1, subst (Starts (s .args .points .now) (s .args .origins .now)) (sym (twin-first (s .args .k))) (s .pre .2))
-
-mul-result : tie.Need-mul-result
-mul-result c = search needs
-
-add-result : tie.Need-add-result
-add-result c = search needs
-
-mul-result-2 : tie.Need-mul-result-2
-mul-result-2 c = search needs
 
 returns : tie.Need-returns
 returns c = let a = c .before .before .before .args in ap (λ (b : Bool). cond b (2 * a .k + 1) (2 * a .k)) (sym (c .if1 .taken) ∙ c .before .goes-up .ensures)
@@ -32,4 +20,4 @@ returns-2 c = let a = c .before .before .before .args in ap (λ (b : Bool). cond
 pub east-side-spec : {M : Type 1} → statement M
 east-side-spec =
     tie.close
-    (tie.spec mul-goes-up goes-up-requires mul-result add-result mul-result-2 returns returns-2)
+    (tie.spec (λ c. search needs) goes-up-requires (λ c. search needs) (λ c. search needs) (λ c. search needs) returns returns-2)

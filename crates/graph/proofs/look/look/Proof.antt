@@ -18,9 +18,6 @@ Inv-loop points origins carriers n e p d r₀ k₀ r k = (k ≤ e) × (r ≡ pic
 abbrev μ-loop : tie.MeasureT-loop
 μ-loop points origins carriers n e p d r₀ k₀ r k = e - k
 
-loop-holds : tie.Need-loop-holds Inv-loop μ-loop
-loop-holds c = search needs
-
 candidate-requires : tie.Need-candidate-requires Inv-loop μ-loop
 candidate-requires c κs =
     let s = c .before .before .before in
@@ -47,12 +44,6 @@ nearest-requires c κs =
     let l = c .before .before .before .loop in
     let carried = flat-carried ps os cs (s .args .n) e (s .pre .0) in
     (carried (l .k) (c .before .before .loop-test .taken), λ q. carried (l .r) q, nearest-le ps os cs e p d (l .k) (l .r) (l .inv .0) (l .inv .1), s .pre .1 .1 .0)
-
-add-k : tie.Need-add-k Inv-loop μ-loop
-add-k c = search needs
-
-loop-less : tie.Need-loop-less Inv-loop μ-loop
-loop-less c = search needs
 
 loop-again : tie.Need-loop-again Inv-loop μ-loop
 loop-again c =
@@ -116,11 +107,11 @@ look-spec =
     (tie.spec
     Inv-loop
     μ-loop
-    loop-holds
+    (λ c. search needs)
     candidate-requires
     nearest-requires
-    add-k
-    loop-less
+    (λ c. search needs)
+    (λ c. search needs)
     loop-again
     cast-t14
     returns

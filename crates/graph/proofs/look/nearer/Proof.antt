@@ -9,27 +9,6 @@ use Rattle.plane.specs.Values.{segOf}
 use Rattle.graph.proofs.look.nearer.Statement.{statement}
 use Rattle.graph.proofs.look.nearer.Tie as tie
 
-cross-of-requires : tie.Need-cross-of-requires
-cross-of-requires c κs = search needs
-
-left-by-requires : tie.Need-left-by-requires
-left-by-requires c κs = search needs
-
-mul-ahead : tie.Need-mul-ahead
-mul-ahead c = fits (search tr depth 20) tt
-
-left-by-requires-2 : tie.Need-left-by-requires-2
-left-by-requires-2 c κs = search needs
-
-mul-ahead-2 : tie.Need-mul-ahead-2
-mul-ahead-2 c = fits (search tr depth 20) tt
-
-sub-ahead : tie.Need-sub-ahead
-sub-ahead c = fits (search tr depth 20) tt
-
-rises-requires : tie.Need-rises-requires
-rises-requires c κs = search needs
-
 returns : tie.Need-returns
 returns c =
     let a = c .before .before .before .before .before .before .before .before .before .before .before .before .args in
@@ -53,11 +32,11 @@ pub nearer-spec : {M : Type 1} → statement M
 nearer-spec =
     tie.close
     (tie.spec
-    cross-of-requires
-    left-by-requires
-    mul-ahead
-    left-by-requires-2
-    mul-ahead-2
-    sub-ahead
-    rises-requires
+    (λ c κs. search needs)
+    (λ c κs. search needs)
+    (λ c. fits (search tr depth 20) tt)
+    (λ c κs. search needs)
+    (λ c. fits (search tr depth 20) tt)
+    (λ c. fits (search tr depth 20) tt)
+    (λ c κs. search needs)
     returns)

@@ -11,14 +11,8 @@ use Rattle.graph.proofs.look.nearest.Tie as tie
 returns : tie.Need-returns
 returns c = let a = c .before .args in better-none (nearerAt (a .carriers .now) (ptOf (a .p))) (a .none) (a .k) (a .r) (c .if1 .taken)
 
-carrier-at-requires : tie.Need-carrier-at-requires
-carrier-at-requires c κs = search needs
-
 carrier-at-requires-2 : tie.Need-carrier-at-requires-2
 carrier-at-requires-2 c κs = c .before .before .pre .1 (omega (arith, c .before .if1 .left, c .before .before .pre .2))
-
-nearer-requires : tie.Need-nearer-requires
-nearer-requires c κs = search needs
 
 returns-2 : tie.Need-returns-2
 returns-2 c =
@@ -39,8 +33,8 @@ nearest-spec =
     tie.close
     (tie.spec
     returns
-    carrier-at-requires
+    (λ c κs. search needs)
     carrier-at-requires-2
-    nearer-requires
+    (λ c κs. search needs)
     returns-2
     returns-3)

@@ -19,18 +19,6 @@ east-by k false = omega arith
 east-le : (ps : List ℤ) (os : List ℕ) (k : ℕ) → eastAt ps os k ≤ 2 * k + 1
 east-le ps os k = east-by k (upAt ps os (2 * k))
 
-look-requires : tie.Need-look-requires
-look-requires c κs = search needs
-
-enum-told : tie.Need-enum-told
-enum-told c = search needs
-
-enum-known-seen : tie.Need-enum-known-seen
-enum-known-seen c = search needs
-
-cast-east-side : tie.Need-cast-east-side
-cast-east-side c = search needs
-
 east-side-requires : tie.Need-east-side-requires
 east-side-requires c κs =
     let s = c .before .before .before .before .before in
@@ -91,10 +79,10 @@ pub seen-half-spec : {M : Type 1} → statement M
 seen-half-spec =
     tie.close
     (tie.spec
-    look-requires
-    enum-told
-    enum-known-seen
-    cast-east-side
+    (λ c κs. search needs)
+    (λ c. search needs)
+    (λ c. search needs)
+    (λ c. search needs)
     east-side-requires
     cast-t13
     returns

@@ -10,18 +10,6 @@ use Rattle.graph.proofs.Rows.{minus}
 use Rattle.graph.proofs.look.westward.Statement.{statement}
 use Rattle.graph.proofs.look.westward.Tie as tie
 
-cross-of-requires : tie.Need-cross-of-requires
-cross-of-requires c κs = search needs
-
-left-by-requires : tie.Need-left-by-requires
-left-by-requires c κs = search needs
-
-sub-t6 : tie.Need-sub-t6
-sub-t6 c = fits (search tr depth 20) tt
-
-rises-requires : tie.Need-rises-requires
-rises-requires c κs = search needs
-
 returns : tie.Need-returns
 returns c =
     let a = c .before .before .before .before .before .before .before .args in
@@ -37,4 +25,4 @@ returns c =
 
 pub westward-spec : {M : Type 1} → statement M
 westward-spec =
-    tie.close (tie.spec cross-of-requires left-by-requires sub-t6 rises-requires returns)
+    tie.close (tie.spec (λ c κs. search needs) (λ c κs. search needs) (λ c. fits (search tr depth 20) tt) (λ c κs. search needs) returns)

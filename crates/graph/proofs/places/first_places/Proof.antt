@@ -15,9 +15,6 @@ Inv-loop xs m none out₀ n i₀ out i = Placing (λ k. getD xs k 0) m out₀ ou
 abbrev μ-loop : tie.MeasureT-loop
 μ-loop xs m none out₀ n i₀ out i = i
 
-fill-requires : tie.Need-fill-requires Inv-loop μ-loop
-fill-requires c κs = search needs
-
 loop-holds : tie.Need-loop-holds Inv-loop μ-loop
 loop-holds c = places-start _ _ _
 
@@ -28,20 +25,8 @@ below c = c .before .before .before .before .before .before .before .before .bef
 kept : (c : tie.After-shared-slice-known2 Inv-loop μ-loop) → length (c .before .before .before .before .before .fill .last .0) ≡ length (c .before .before .before .before .before .before .before .before .before .args .out .now)
 kept c = ap length (c .before .before .before .before .before .fill .ensures) ∙ length-filled _ _ _ (c .before .before .before .before .before .before .before .before .before .pre .1 .1)
 
-sub-i : tie.Need-sub-i Inv-loop μ-loop
-sub-i c = search needs
-
-mul-x : tie.Need-mul-x Inv-loop μ-loop
-mul-x c = search needs
-
-shared-slice-read-x : tie.Need-shared-slice-read-x Inv-loop μ-loop
-shared-slice-read-x c = search needs
-
 cast-x : tie.Need-cast-x Inv-loop μ-loop
 cast-x c = omega (arith, below c)
-
-cast-out : tie.Need-cast-out Inv-loop μ-loop
-cast-out c = search needs
 
 mul-out : tie.Need-mul-out Inv-loop μ-loop
 mul-out c = omega (arith, below c)
@@ -49,14 +34,8 @@ mul-out c = omega (arith, below c)
 slice-write-out : tie.Need-slice-write-out Inv-loop μ-loop
 slice-write-out c = omega (arith, below c, kept c)
 
-loop-less : tie.Need-loop-less Inv-loop μ-loop
-loop-less c = search needs
-
 loop-again : tie.Need-loop-again Inv-loop μ-loop
 loop-again c = places-turn _ (c .before .before .loop .inv) _ (omega arith) refl (omega (arith, below c, kept c))
-
-same-length : tie.Need-same-length Inv-loop μ-loop
-same-length c = search needs
 
 returns : tie.Need-returns Inv-loop μ-loop
 returns c =
@@ -68,4 +47,4 @@ returns c =
 pub first-places-spec : {M : Type 1} → statement M
 first-places-spec =
     tie.close
-    (tie.spec Inv-loop μ-loop fill-requires loop-holds sub-i mul-x shared-slice-read-x cast-x cast-out mul-out slice-write-out loop-less loop-again same-length returns)
+    (tie.spec Inv-loop μ-loop (λ c κs. search needs) loop-holds (λ c. search needs) (λ c. search needs) (λ c. search needs) cast-x (λ c. search needs) mul-out slice-write-out (λ c. search needs) loop-again (λ c. search needs) returns)

@@ -6,19 +6,10 @@ use Rattle.layers.proofs.LabelLaws.{by-none, by-own}
 use Rattle.layers.proofs.label.label_in.Statement.{statement}
 use Rattle.layers.proofs.label.label_in.Tie as tie
 
-seen-label-requires : tie.Need-seen-label-requires
-seen-label-requires c κs = search needs
-
 returns : tie.Need-returns
 returns c =
     let a = c .before .before .before .before .args in
     by-none (flatMap (a .points .now) (a .origins .now) (a .carriers .now) (a .labels .now) (a .n) (a .e)) (a .h) (ptOf (a .p)) (vecOf (a .d)) (a .source) _ (c .before .if1 .taken) (c .seen-label .ensures)
-
-sub-own-label : tie.Need-sub-own-label
-sub-own-label c = search needs
-
-own-label-requires : tie.Need-own-label-requires
-own-label-requires c κs = search needs
 
 returns-2 : tie.Need-returns-2
 returns-2 c =
@@ -27,4 +18,4 @@ returns-2 c =
 
 pub label-in-spec : {M : Type 1} → statement M
 label-in-spec =
-    tie.close (tie.spec seen-label-requires returns sub-own-label own-label-requires returns-2)
+    tie.close (tie.spec (λ c κs. search needs) returns (λ c. search needs) (λ c κs. search needs) returns-2)

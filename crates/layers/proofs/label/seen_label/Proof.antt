@@ -11,21 +11,6 @@ use Rattle.mapcheck.specs.Seen.{west-below}
 use Rattle.layers.proofs.label.seen_label.Statement.{statement}
 use Rattle.layers.proofs.label.seen_label.Tie as tie
 
-seen-half-requires : tie.Need-seen-half-requires
-seen-half-requires c κs = search needs
-
-enum-told : tie.Need-enum-told
-enum-told c = search needs
-
-enum-known-seen : tie.Need-enum-known-seen
-enum-known-seen c = search needs
-
-cast-result : tie.Need-cast-result
-cast-result c = search needs
-
-mul-result : tie.Need-mul-result
-mul-result c = search needs
-
 shared-slice-read-result : tie.Need-shared-slice-read-result
 shared-slice-read-result c =
     let s = c .before .before .before .before .before .before .before in
@@ -52,11 +37,11 @@ pub seen-label-spec : {M : Type 1} → statement M
 seen-label-spec =
     tie.close
     (tie.spec
-    seen-half-requires
-    enum-told
-    enum-known-seen
-    cast-result
-    mul-result
+    (λ c κs. search needs)
+    (λ c. search needs)
+    (λ c. search needs)
+    (λ c. search needs)
+    (λ c. search needs)
     shared-slice-read-result
     returns
     returns-2)

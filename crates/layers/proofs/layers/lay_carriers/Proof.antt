@@ -10,36 +10,6 @@ use Rattle.layers.proofs.PartLaws.{parts-are}
 use Rattle.layers.proofs.layers.lay_carriers.Statement.{statement}
 use Rattle.layers.proofs.layers.lay_carriers.Tie as tie
 
-load-carriers-requires : tie.Need-load-carriers-requires
-load-carriers-requires c κs = search needs
-
-edge-count-requires : tie.Need-edge-count-requires
-edge-count-requires c κs = search needs
-
-cast-at : tie.Need-cast-at
-cast-at c = search needs
-
-mul-at : tie.Need-mul-at
-mul-at c = search needs
-
-mul-load-carriers : tie.Need-mul-load-carriers
-mul-load-carriers c = search needs
-
-sub-load-carriers : tie.Need-sub-load-carriers
-sub-load-carriers c = search needs
-
-part-load-carriers-start : tie.Need-part-load-carriers-start
-part-load-carriers-start c = search needs
-
-part-load-carriers-end : tie.Need-part-load-carriers-end
-part-load-carriers-end c = search needs
-
-load-carriers-requires-2 : tie.Need-load-carriers-requires-2
-load-carriers-requires-2 c κs = search needs
-
-same-length : tie.Need-same-length
-same-length c = search needs
-
 returns : tie.Need-returns
 returns c =
     let first = c .before .before .before .before .before .load-carriers in
@@ -54,14 +24,14 @@ pub lay-carriers-spec : {M : Type 1} → statement M
 lay-carriers-spec =
     tie.close
     (tie.spec
-    load-carriers-requires
-    edge-count-requires
-    cast-at
-    mul-at
-    mul-load-carriers
-    sub-load-carriers
-    part-load-carriers-start
-    part-load-carriers-end
-    load-carriers-requires-2
-    same-length
+    (λ c κs. search needs)
+    (λ c κs. search needs)
+    (λ c. search needs)
+    (λ c. search needs)
+    (λ c. search needs)
+    (λ c. search needs)
+    (λ c. search needs)
+    (λ c. search needs)
+    (λ c κs. search needs)
+    (λ c. search needs)
     returns)

@@ -10,36 +10,6 @@ use Rattle.layers.proofs.PartLaws.{parts-are}
 use Rattle.layers.proofs.layers.lay_corners.Statement.{statement}
 use Rattle.layers.proofs.layers.lay_corners.Tie as tie
 
-load-points-requires : tie.Need-load-points-requires
-load-points-requires c κs = search needs
-
-vertex-count-requires : tie.Need-vertex-count-requires
-vertex-count-requires c κs = search needs
-
-cast-at : tie.Need-cast-at
-cast-at c = search needs
-
-mul-at : tie.Need-mul-at
-mul-at c = search needs
-
-mul-load-points : tie.Need-mul-load-points
-mul-load-points c = search needs
-
-sub-load-points : tie.Need-sub-load-points
-sub-load-points c = search needs
-
-part-load-points-start : tie.Need-part-load-points-start
-part-load-points-start c = search needs
-
-part-load-points-end : tie.Need-part-load-points-end
-part-load-points-end c = search needs
-
-load-points-requires-2 : tie.Need-load-points-requires-2
-load-points-requires-2 c κs = search needs
-
-same-length : tie.Need-same-length
-same-length c = search needs
-
 returns : tie.Need-returns
 returns c =
     let first = c .before .before .before .before .before .load-points in
@@ -54,14 +24,14 @@ pub lay-corners-spec : {M : Type 1} → statement M
 lay-corners-spec =
     tie.close
     (tie.spec
-    load-points-requires
-    vertex-count-requires
-    cast-at
-    mul-at
-    mul-load-points
-    sub-load-points
-    part-load-points-start
-    part-load-points-end
-    load-points-requires-2
-    same-length
+    (λ c κs. search needs)
+    (λ c κs. search needs)
+    (λ c. search needs)
+    (λ c. search needs)
+    (λ c. search needs)
+    (λ c. search needs)
+    (λ c. search needs)
+    (λ c. search needs)
+    (λ c κs. search needs)
+    (λ c. search needs)
     returns)

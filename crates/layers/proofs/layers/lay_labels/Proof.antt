@@ -9,36 +9,6 @@ use Rattle.layers.proofs.PartLaws.{parts-are}
 use Rattle.layers.proofs.layers.lay_labels.Statement.{statement}
 use Rattle.layers.proofs.layers.lay_labels.Tie as tie
 
-load-labels-requires : tie.Need-load-labels-requires
-load-labels-requires c κs = search needs
-
-edge-count-requires : tie.Need-edge-count-requires
-edge-count-requires c κs = search needs
-
-cast-at : tie.Need-cast-at
-cast-at c = search needs
-
-mul-at : tie.Need-mul-at
-mul-at c = search needs
-
-mul-load-labels : tie.Need-mul-load-labels
-mul-load-labels c = search needs
-
-sub-load-labels : tie.Need-sub-load-labels
-sub-load-labels c = search needs
-
-part-load-labels-start : tie.Need-part-load-labels-start
-part-load-labels-start c = search needs
-
-part-load-labels-end : tie.Need-part-load-labels-end
-part-load-labels-end c = search needs
-
-load-labels-requires-2 : tie.Need-load-labels-requires-2
-load-labels-requires-2 c κs = search needs
-
-same-length : tie.Need-same-length
-same-length c = search needs
-
 returns : tie.Need-returns
 returns c =
     let first = c .before .before .before .before .before .before .before .load-labels in
@@ -53,14 +23,14 @@ pub lay-labels-spec : {M : Type 1} → statement M
 lay-labels-spec =
     tie.close
     (tie.spec
-    load-labels-requires
-    edge-count-requires
-    cast-at
-    mul-at
-    mul-load-labels
-    sub-load-labels
-    part-load-labels-start
-    part-load-labels-end
-    load-labels-requires-2
-    same-length
+    (λ c κs. search needs)
+    (λ c κs. search needs)
+    (λ c. search needs)
+    (λ c. search needs)
+    (λ c. search needs)
+    (λ c. search needs)
+    (λ c. search needs)
+    (λ c. search needs)
+    (λ c κs. search needs)
+    (λ c. search needs)
     returns)

@@ -7,17 +7,8 @@ use Rattle.listed.specs.Room.{line-as, roomy-as}
 use Rattle.listed.proofs.answer.put.Statement.{statement}
 use Rattle.listed.proofs.answer.put.Tie as tie
 
-enum-known-answer : tie.Need-enum-known-answer
-enum-known-answer c = search needs
-
 listing-requires : tie.Need-listing-requires
 listing-requires c κs = roomy-as (sym (ap answerOf (c .before .before .answer .given .1))) (c .before .before .before .before .before .pre)
-
-enum-known-answer-2 : tie.Need-enum-known-answer-2
-enum-known-answer-2 c = search needs
-
-refused-listing-requires : tie.Need-refused-listing-requires
-refused-listing-requires c κs = search needs
 
 returns : tie.Need-returns
 returns c = line-as (now (c .before .before .before .before .before .before .args .faces)) (ap answerOf (c .before .before .before .answer .given .1)) (c .listing .ensures)
@@ -29,9 +20,9 @@ pub put-spec : {M : Type 1} → statement M
 put-spec =
     tie.close
     (tie.spec
-    enum-known-answer
+    (λ c. search needs)
     listing-requires
-    enum-known-answer-2
-    refused-listing-requires
+    (λ c. search needs)
+    (λ c κs. search needs)
     returns
     returns-2)

@@ -20,20 +20,8 @@ no-look a b m s e f = rw (eq-eqb a b e, f)
 by-follower : (a b : ℕ) (s : Bool) → (a ≡ b → ⊥) → true ≡ (not (eqb a b) || s)
 by-follower a b s f = rw (ne-eqb a b f)
 
-mul-f : tie.Need-mul-f
-mul-f c = search needs
-
-shared-slice-read-f : tie.Need-shared-slice-read-f
-shared-slice-read-f c = search needs
-
 cast-f : tie.Need-cast-f
 cast-f c = let s = c .before .before .before .before in omega (arith, s .pre .0 .next .named (s .args .h) (s .pre .1))
-
-mul-label : tie.Need-mul-label
-mul-label c = search needs
-
-shared-slice-read-label : tie.Need-shared-slice-read-label
-shared-slice-read-label c = search needs
 
 mul-if1 : tie.Need-mul-if1
 mul-if1 c = let s = c .before .before .before .before .before in omega (arith, s .pre .0 .next .named (s .args .h) (s .pre .1), s .pre .0 .few)
@@ -53,18 +41,12 @@ returns c =
     let seen = eqb (getD ls (a .h) 0) (seenLabel ps os (a .carriers .now) ls (a .n) (a .e) (a .h)) in
     by-follower (getD ls (a .h) 0) (getD ls (getD nx (a .h) 0) 0) (made && not seen) (c .if1 .taken)
 
-mul-makes-hole : tie.Need-mul-makes-hole
-mul-makes-hole c = search needs
-
 makes-hole-requires : tie.Need-makes-hole-requires
 makes-hole-requires c κs =
     let s = c .before .before .before .before .before .before .before in
     let F = s .pre .0 .flat in
     let starts = flat-starts (s .args .points .now) (s .args .origins .now) (s .args .carriers .now) (s .args .n) (s .args .e) F in
     (F .origins .long, s .pre .0 .headings, record { starts = starts; next = s .pre .0 .next }, s .pre .1)
-
-seen-label-requires : tie.Need-seen-label-requires
-seen-label-requires c κs = search needs
 
 returns-2 : tie.Need-returns-2
 returns-2 c =
@@ -95,16 +77,16 @@ pub disagrees-spec : {M : Type 1} → statement M
 disagrees-spec =
     tie.close
     (tie.spec
-    mul-f
-    shared-slice-read-f
+    (λ c. search needs)
+    (λ c. search needs)
     cast-f
-    mul-label
-    shared-slice-read-label
+    (λ c. search needs)
+    (λ c. search needs)
     mul-if1
     shared-slice-read-if1
     returns
-    mul-makes-hole
+    (λ c. search needs)
     makes-hole-requires
-    seen-label-requires
+    (λ c κs. search needs)
     returns-2
     returns-3)

@@ -5,12 +5,6 @@ use Rattle.paper.specs.Plane.{before}
 use Rattle.mapcheck.proofs.labels.earlier.Statement.{statement}
 use Rattle.mapcheck.proofs.labels.earlier.Tie as tie
 
-start-requires : tie.Need-start-requires
-start-requires c κs = search needs
-
-start-requires-2 : tie.Need-start-requires-2
-start-requires-2 c κs = search needs
-
 before-requires : tie.Need-before-requires
 before-requires c κs = (c .before .start .ensures .1, c .start2 .ensures .1)
 
@@ -18,4 +12,4 @@ returns : tie.Need-returns
 returns c = c .before2 .ensures ∙ (λ i. before (c .before .before .start .ensures .0 i) (c .before .start2 .ensures .0 i))
 
 pub earlier-spec : {M : Type 1} → statement M
-earlier-spec = tie.close (tie.spec start-requires start-requires-2 before-requires returns)
+earlier-spec = tie.close (tie.spec (λ c κs. search needs) (λ c κs. search needs) before-requires returns)

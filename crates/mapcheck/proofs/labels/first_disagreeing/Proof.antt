@@ -15,27 +15,12 @@ Inv-loop points origins carriers labels headings next n e m h₀ h = (h ≤ 2 * 
 abbrev μ-loop : tie.MeasureT-loop
 μ-loop points origins carriers labels headings next n e m h₀ h = 2 * e - h
 
-mul-m : tie.Need-mul-m Inv-loop μ-loop
-mul-m c = search needs
-
-loop-holds : tie.Need-loop-holds Inv-loop μ-loop
-loop-holds c = (search needs, refl)
-
-disagrees-requires : tie.Need-disagrees-requires Inv-loop μ-loop
-disagrees-requires c κs = search needs
-
 returns : tie.Need-returns Inv-loop μ-loop
 returns c =
     let a = c .before .before .before .before .before .before .before .args in
     let p = disagreesAt (a .points .now) (a .origins .now) (a .carriers .now) (a .labels .now) (a .headings .now) (a .next .now) (a .n) (a .e) in
     let l = c .before .before .before .loop in
     sym (least-found p (2 * a .e) (l .h) (omega arith) (l .inv .1) (sym (c .before .disagrees .ensures) ∙ c .if1 .taken))
-
-add-h : tie.Need-add-h Inv-loop μ-loop
-add-h c = search needs
-
-loop-less : tie.Need-loop-less Inv-loop μ-loop
-loop-less c = search needs
 
 loop-again : tie.Need-loop-again Inv-loop μ-loop
 loop-again c =
@@ -58,11 +43,11 @@ first-disagreeing-spec =
     (tie.spec
     Inv-loop
     μ-loop
-    mul-m
-    loop-holds
-    disagrees-requires
+    (λ c. search needs)
+    (λ c. (search needs, refl))
+    (λ c κs. search needs)
     returns
-    add-h
-    loop-less
+    (λ c. search needs)
+    (λ c. search needs)
     loop-again
     returns-2)

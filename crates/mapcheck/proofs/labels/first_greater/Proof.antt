@@ -17,9 +17,6 @@ Inv-loop origins headings m h x₀ x = (x ≤ m) × (least (greaterAt origins he
 abbrev μ-loop : tie.MeasureT-loop
 μ-loop origins headings m h x₀ x = m - x
 
-loop-holds : tie.Need-loop-holds Inv-loop μ-loop
-loop-holds c = (search needs, refl)
-
 greater-requires : tie.Need-greater-requires Inv-loop μ-loop
 greater-requires c κs =
     let s = c .before .before .before in
@@ -33,12 +30,6 @@ returns c =
     let at = c .before .before .before in
     let a = at .before .before .args in
     sym (least-found (greaterAt (now (a .origins)) (now (a .headings)) (a .h)) (a .m) (at .loop .x) (omega arith) (at .loop .inv .1) (sym (c .before .greater .ensures) ∙ c .if1 .taken))
-
-add-x : tie.Need-add-x Inv-loop μ-loop
-add-x c = search needs
-
-loop-less : tie.Need-loop-less Inv-loop μ-loop
-loop-less c = search needs
 
 loop-again : tie.Need-loop-again Inv-loop μ-loop
 loop-again c =
@@ -59,10 +50,10 @@ first-greater-spec =
     (tie.spec
     Inv-loop
     μ-loop
-    loop-holds
+    (λ c. (search needs, refl))
     greater-requires
     returns
-    add-x
-    loop-less
+    (λ c. search needs)
+    (λ c. search needs)
     loop-again
     returns-2)

@@ -10,31 +10,10 @@ use borrow.Author.Needs.{needs}
 use Rattle.mapcheck.proofs.labels.greater.Statement.{statement}
 use Rattle.mapcheck.proofs.labels.greater.Tie as tie
 
-mul-if1 : tie.Need-mul-if1
-mul-if1 c = search needs
-
-shared-slice-read-if1 : tie.Need-shared-slice-read-if1
-shared-slice-read-if1 c = search needs
-
-mul-if1-2 : tie.Need-mul-if1-2
-mul-if1-2 c = search needs
-
-shared-slice-read-if1-2 : tie.Need-shared-slice-read-if1-2
-shared-slice-read-if1-2 c = search needs
-
 returns : tie.Need-returns
 returns c =
     let a = c .before .before .before .before .args in
     sym (ap (λ (b : Bool). b && lessAngle (vecAt (now (a .headings)) (a .h)) (vecAt (now (a .headings)) (a .x))) (ne-eqb (originAt (now (a .origins)) (a .x)) (originAt (now (a .origins)) (a .h)) (c .if1 .taken)))
-
-heading-at-requires : tie.Need-heading-at-requires
-heading-at-requires c κs = search needs
-
-heading-at-requires-2 : tie.Need-heading-at-requires-2
-heading-at-requires-2 c κs = search needs
-
-less-angle-requires : tie.Need-less-angle-requires
-less-angle-requires c κs = search needs
 
 returns-2 : tie.Need-returns-2
 returns-2 c =
@@ -47,12 +26,12 @@ pub greater-spec : {M : Type 1} → statement M
 greater-spec =
     tie.close
     (tie.spec
-    mul-if1
-    shared-slice-read-if1
-    mul-if1-2
-    shared-slice-read-if1-2
+    (λ c. search needs)
+    (λ c. search needs)
+    (λ c. search needs)
+    (λ c. search needs)
     returns
-    heading-at-requires
-    heading-at-requires-2
-    less-angle-requires
+    (λ c κs. search needs)
+    (λ c κs. search needs)
+    (λ c κs. search needs)
     returns-2)

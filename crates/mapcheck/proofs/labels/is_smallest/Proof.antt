@@ -61,12 +61,6 @@ cast-x-2 c =
     let l = c .before .before .before .before .before .loop in
     omega (arith, s .pre .0 .next .named (l .x) (l .inv .below))
 
-sub-left : tie.Need-sub-left Inv-loop μ-loop
-sub-left c = search needs
-
-loop-less : tie.Need-loop-less Inv-loop μ-loop
-loop-less c = search needs
-
 loop-again : tie.Need-loop-again Inv-loop μ-loop
 loop-again c =
     let s = c .before .before .before .before .before .before .before .before .before in
@@ -96,7 +90,7 @@ is-smallest-spec =
     mul-x-2
     shared-slice-read-x-2
     cast-x-2
-    sub-left
-    loop-less
+    (λ c. search needs)
+    (λ c. search needs)
     loop-again
     returns-3)

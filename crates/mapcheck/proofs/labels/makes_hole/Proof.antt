@@ -9,17 +9,11 @@ use Rattle.mapcheck.specs.Labels.{greaterAt, smallestAt}
 use Rattle.mapcheck.proofs.labels.makes_hole.Statement.{statement}
 use Rattle.mapcheck.proofs.labels.makes_hole.Tie as tie
 
-first-greater-requires : tie.Need-first-greater-requires
-first-greater-requires c κs = search needs
-
 returns : tie.Need-returns
 returns c =
     let a = c .before .before .before .before .args in
     sym (ap (λ (b : Bool). not b && smallestAt (now (a .points)) (now (a .origins)) (now (a .next)) (a .m) (a .h))
     (lt-ltb (least (greaterAt (now (a .origins)) (now (a .headings)) (a .h)) (a .m)) (a .m) (omega (arith, c .before .first-greater .ensures, c .if1 .taken))))
-
-is-smallest-requires : tie.Need-is-smallest-requires
-is-smallest-requires c κs = search needs
 
 returns-2 : tie.Need-returns-2
 returns-2 c =
@@ -30,4 +24,4 @@ returns-2 c =
 
 pub makes-hole-spec : {M : Type 1} → statement M
 makes-hole-spec =
-    tie.close (tie.spec first-greater-requires returns is-smallest-requires returns-2)
+    tie.close (tie.spec (λ c κs. search needs) returns (λ c κs. search needs) returns-2)

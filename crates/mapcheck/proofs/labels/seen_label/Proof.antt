@@ -21,21 +21,6 @@ start-requires c κs =
     let s = c .before .before in
     flat-starts (s .args .points .now) (s .args .origins .now) (s .args .carriers .now) (s .args .n) (s .args .e) (s .pre .0) (s .args .h) (s .pre .1 .1 .1)
 
-seen-half-requires : tie.Need-seen-half-requires
-seen-half-requires c κs = search needs
-
-enum-told : tie.Need-enum-told
-enum-told c = search needs
-
-enum-known-seen : tie.Need-enum-known-seen
-enum-known-seen c = search needs
-
-cast-result : tie.Need-cast-result
-cast-result c = search needs
-
-mul-result : tie.Need-mul-result
-mul-result c = search needs
-
 shared-slice-read-result : tie.Need-shared-slice-read-result
 shared-slice-read-result c =
     let s = c .before .before .before .before .before .before .before .before in
@@ -66,11 +51,11 @@ seen-label-spec =
     tie.close
     (tie.spec
     start-requires
-    seen-half-requires
-    enum-told
-    enum-known-seen
-    cast-result
-    mul-result
+    (λ c κs. search needs)
+    (λ c. search needs)
+    (λ c. search needs)
+    (λ c. search needs)
+    (λ c. search needs)
     shared-slice-read-result
     returns
     returns-2)

@@ -16,9 +16,6 @@ carrier-at-requires c κs = carried (c .pre .0) (c .pre .1)
 carrier-at-requires-2 : tie.Need-carrier-at-requires-2
 carrier-at-requires-2 c κs = carried (c .before .pre .0) (c .before .pre .2)
 
-parted-requires : tie.Need-parted-requires
-parted-requires c κs = search needs
-
 returns : tie.Need-returns
 returns c =
     let a = c .before .before .before .before .args in
@@ -27,11 +24,8 @@ returns c =
     let e : parted s t ≡ true = (λ i. parted (sym (c .before .before .before .carrier-at .ensures .0) i) (sym (c .before .before .carrier-at2 .ensures .0) i)) ∙ sym (c .before .parted .ensures) ∙ c .if1 .taken in
     sym (parted-clear s t e)
 
-clash-requires : tie.Need-clash-requires
-clash-requires c κs = search needs
-
 returns-2 : tie.Need-returns-2
 returns-2 c = c .clash .ensures ∙ (λ i. clash (c .before .before .before .before .carrier-at .ensures .0 i) (c .before .before .before .carrier-at2 .ensures .0 i))
 
 pub clashes-spec : {M : Type 1} → statement M
-clashes-spec = tie.close (tie.spec carrier-at-requires carrier-at-requires-2 parted-requires returns clash-requires returns-2)
+clashes-spec = tie.close (tie.spec carrier-at-requires carrier-at-requires-2 (λ c κs. search needs) returns (λ c κs. search needs) returns-2)

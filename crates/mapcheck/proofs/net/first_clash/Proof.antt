@@ -16,26 +16,14 @@ Inv-loop carriers e k j₀ j = (k < j) × (j ≤ e) × (least (laterAt carriers 
 abbrev μ-loop : tie.MeasureT-loop
 μ-loop carriers e k j₀ j = e - j
 
-add-j : tie.Need-add-j Inv-loop μ-loop
-add-j c = search needs
-
 loop-holds : tie.Need-loop-holds Inv-loop μ-loop
 loop-holds c = (omega arith, search needs, later-starts (now (c .args .carriers)) (c .args .k))
-
-clashes-requires : tie.Need-clashes-requires Inv-loop μ-loop
-clashes-requires c κs = search needs
 
 returns : tie.Need-returns Inv-loop μ-loop
 returns c =
     let at = c .before .before .before in
     let a = at .before .args in
     sym (least-found (laterAt (now (a .carriers)) (a .k)) (a .e) (at .loop .j) (omega arith) (at .loop .inv .2) (later-is (now (a .carriers)) (a .k) (at .loop .j) (at .loop .inv .0) ∙ sym (c .before .clashes .ensures) ∙ c .if1 .taken))
-
-add-j-2 : tie.Need-add-j-2 Inv-loop μ-loop
-add-j-2 c = search needs
-
-loop-less : tie.Need-loop-less Inv-loop μ-loop
-loop-less c = search needs
 
 loop-again : tie.Need-loop-again Inv-loop μ-loop
 loop-again c =
@@ -56,11 +44,11 @@ first-clash-spec =
     (tie.spec
     Inv-loop
     μ-loop
-    add-j
+    (λ c. search needs)
     loop-holds
-    clashes-requires
+    (λ c κs. search needs)
     returns
-    add-j-2
-    loop-less
+    (λ c. search needs)
+    (λ c. search needs)
     loop-again
     returns-2)

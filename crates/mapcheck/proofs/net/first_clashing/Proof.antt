@@ -17,12 +17,6 @@ Inv-loop carriers e k₀ k = (k ≤ e) × (least (laterClashing carriers e) k �
 abbrev μ-loop : tie.MeasureT-loop
 μ-loop carriers e k₀ k = e - k
 
-loop-holds : tie.Need-loop-holds Inv-loop μ-loop
-loop-holds c = (search needs, refl)
-
-first-clash-requires : tie.Need-first-clash-requires Inv-loop μ-loop
-first-clash-requires c κs = search needs
-
 returns : tie.Need-returns Inv-loop μ-loop
 returns c =
     let at = c .before .before .before in
@@ -30,12 +24,6 @@ returns c =
     sym (least-found (laterClashing (now (a .carriers)) (a .e)) (a .e) (at .loop .k) (omega arith) (at .loop .inv .1)
     (lt-ltb (least (laterAt (now (a .carriers)) (at .loop .k)) (a .e)) (a .e) (omega (arith, c .before .first-clash .ensures, c .if1 .taken))))
     ∙ least-later (now (a .carriers)) (a .e)
-
-add-k : tie.Need-add-k Inv-loop μ-loop
-add-k c = search needs
-
-loop-less : tie.Need-loop-less Inv-loop μ-loop
-loop-less c = search needs
 
 loop-again : tie.Need-loop-again Inv-loop μ-loop
 loop-again c =
@@ -60,10 +48,10 @@ first-clashing-spec =
     (tie.spec
     Inv-loop
     μ-loop
-    loop-holds
-    first-clash-requires
+    (λ c. (search needs, refl))
+    (λ c κs. search needs)
     returns
-    add-k
-    loop-less
+    (λ c. search needs)
+    (λ c. search needs)
     loop-again
     returns-2)

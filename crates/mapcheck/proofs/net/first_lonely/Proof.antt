@@ -17,24 +17,12 @@ Inv-loop origins m n v₀ v = (v ≤ n) × (least (lonelyAt origins m) v ≡ v)
 abbrev μ-loop : tie.MeasureT-loop
 μ-loop origins m n v₀ v = n - v
 
-loop-holds : tie.Need-loop-holds Inv-loop μ-loop
-loop-holds c = (search needs, refl)
-
-first-start-requires : tie.Need-first-start-requires Inv-loop μ-loop
-first-start-requires c κs = search needs
-
 returns : tie.Need-returns Inv-loop μ-loop
 returns c =
     let at = c .before .before .before in
     let a = at .before .before .args in
     sym (least-found (lonelyAt (now (a .origins)) (a .m)) (a .n) (at .loop .v) (omega arith) (at .loop .inv .1)
     (ap not (le-ltb (least (startsAt (now (a .origins)) (at .loop .v)) (a .m)) (a .m) (omega (arith, c .before .first-start .ensures, c .if1 .taken)))))
-
-add-v : tie.Need-add-v Inv-loop μ-loop
-add-v c = search needs
-
-loop-less : tie.Need-loop-less Inv-loop μ-loop
-loop-less c = search needs
 
 loop-again : tie.Need-loop-again Inv-loop μ-loop
 loop-again c =
@@ -58,10 +46,10 @@ first-lonely-spec =
     (tie.spec
     Inv-loop
     μ-loop
-    loop-holds
-    first-start-requires
+    (λ c. (search needs, refl))
+    (λ c κs. search needs)
     returns
-    add-v
-    loop-less
+    (λ c. search needs)
+    (λ c. search needs)
     loop-again
     returns-2)

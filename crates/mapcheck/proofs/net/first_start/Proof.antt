@@ -18,15 +18,6 @@ Inv-loop origins m v h₀ h = (h ≤ m) × (least (startsAt origins v) h ≡ h)
 abbrev μ-loop : tie.MeasureT-loop
 μ-loop origins m v h₀ h = m - h
 
-loop-holds : tie.Need-loop-holds Inv-loop μ-loop
-loop-holds c = (search needs, refl)
-
-mul-if1 : tie.Need-mul-if1 Inv-loop μ-loop
-mul-if1 c = search needs
-
-shared-slice-read-if1 : tie.Need-shared-slice-read-if1 Inv-loop μ-loop
-shared-slice-read-if1 c = search needs
-
 cast-if1 : tie.Need-cast-if1 Inv-loop μ-loop
 cast-if1 c = omega (arith, c .shared-slice-known .given (c .before .before .loop .h))
 
@@ -35,12 +26,6 @@ returns c =
     let at = c .before .before .before in
     let a = at .before .args in
     sym (least-found (startsAt (now (a .origins)) (a .v)) (a .m) (at .loop .h) (omega arith) (at .loop .inv .1) (eq-eqb (getD (now (a .origins)) (at .loop .h) 0) (a .v) (c .if1 .taken)))
-
-add-h : tie.Need-add-h Inv-loop μ-loop
-add-h c = search needs
-
-loop-less : tie.Need-loop-less Inv-loop μ-loop
-loop-less c = search needs
 
 loop-again : tie.Need-loop-again Inv-loop μ-loop
 loop-again c =
@@ -61,12 +46,12 @@ first-start-spec =
     (tie.spec
     Inv-loop
     μ-loop
-    loop-holds
-    mul-if1
-    shared-slice-read-if1
+    (λ c. (search needs, refl))
+    (λ c. search needs)
+    (λ c. search needs)
     cast-if1
     returns
-    add-h
-    loop-less
+    (λ c. search needs)
+    (λ c. search needs)
     loop-again
     returns-2)

@@ -10,18 +10,6 @@ use Rattle.mapcheck.specs.Heights.{lesser, under}
 use Rattle.mapcheck.proofs.net.parted.Statement.{statement}
 use Rattle.mapcheck.proofs.net.parted.Tie as tie
 
-add-top : tie.Need-add-top
-add-top c = fits (search tr depth 20) tt
-
-add-end : tie.Need-add-end
-add-end c = fits (search tr depth 20) tt
-
-lesser-requires : tie.Need-lesser-requires
-lesser-requires c κs = tt
-
-lesser-requires-2 : tie.Need-lesser-requires-2
-lesser-requires-2 c κs = tt
-
 returns : tie.Need-returns
 returns c =
     let s = c .before .before .before .before .before .before .before .before .args .s in
@@ -45,4 +33,4 @@ returns-2 c =
     c .lesser2 .ensures ∙ (λ i. lesser (start i) (end i) (foot i) (top i)) ∙ (λ i. sym e i || under (segOf t) (segOf s))
 
 pub parted-spec : {M : Type 1} → statement M
-parted-spec = tie.close (tie.spec add-top add-end lesser-requires lesser-requires-2 returns returns-2)
+parted-spec = tie.close (tie.spec (λ c. fits (search tr depth 20) tt) (λ c. fits (search tr depth 20) tt) (λ c κs. tt) (λ c κs. tt) returns returns-2)

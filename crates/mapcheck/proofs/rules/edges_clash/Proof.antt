@@ -13,20 +13,8 @@ use borrow.Author.Needs.{needs}
 use Rattle.mapcheck.proofs.rules.edges_clash.Statement.{statement}
 use Rattle.mapcheck.proofs.rules.edges_clash.Tie as tie
 
-slice-aggregate-load-carriers : tie.Need-slice-aggregate-load-carriers
-slice-aggregate-load-carriers c = search needs
-
 load-carriers-requires : tie.Need-load-carriers-requires
 load-carriers-requires c κs = let s = c .before .before in let k = kept (now (s .args .file)) (s .pre) in (omega (arith, k .few-edges), s .pre)
-
-edge-count-requires : tie.Need-edge-count-requires
-edge-count-requires c κs = search needs
-
-cast-e : tie.Need-cast-e
-cast-e c = search needs
-
-slice-aggregate-first-clashing : tie.Need-slice-aggregate-first-clashing
-slice-aggregate-first-clashing c = search needs
 
 first-clashing-requires : tie.Need-first-clashing-requires
 first-clashing-requires c κs =
@@ -42,9 +30,6 @@ cast-given c =
     let found = clashing-found f _ _ (omega (arith, k .few-edges)) (c .before .before .before .before .load-carriers .ensures) (c .before .before .edge-count .ensures) (c .first-clashing .ensures) in
     omega (arith, found, least-le (clashing (mapOf f .graph)) (edgeCount (mapOf f .graph)), edges-count f, k .few-edges)
 
-given-requires : tie.Need-given-requires
-given-requires c κs = search needs
-
 returns : tie.Need-returns
 returns c =
     let s = c .before .before .before .before .before .before .before .before in
@@ -58,12 +43,12 @@ pub edges-clash-spec : {M : Type 1} → statement M
 edges-clash-spec =
     tie.close
     (tie.spec
-    slice-aggregate-load-carriers
+    (λ c. search needs)
     load-carriers-requires
-    edge-count-requires
-    cast-e
-    slice-aggregate-first-clashing
+    (λ c κs. search needs)
+    (λ c. search needs)
+    (λ c. search needs)
     first-clashing-requires
     cast-given
-    given-requires
+    (λ c κs. search needs)
     returns)

@@ -7,15 +7,6 @@ use borrow.Author.Needs.{needs}
 use Rattle.mapcheck.proofs.rules.fault.Statement.{statement}
 use Rattle.mapcheck.proofs.rules.fault.Tie as tie
 
-form-and-parts-requires : tie.Need-form-and-parts-requires
-form-and-parts-requires c κs = search needs
-
-enum-told : tie.Need-enum-told
-enum-told c = search needs
-
-enum-told-2 : tie.Need-enum-told-2
-enum-told-2 c = search needs
-
 net-requires : tie.Need-net-requires
 net-requires c κs = sym (c .before .before .form-and-parts .ensures) ∙ ap verdict (c .enum-told2 .given .1)
 
@@ -31,4 +22,4 @@ returns-2 c =
 pub fault-spec : {M : Type 1} → statement M
 fault-spec =
     tie.close
-    (tie.spec form-and-parts-requires enum-told enum-told-2 net-requires returns returns-2)
+    (tie.spec (λ c κs. search needs) (λ c. search needs) (λ c. search needs) net-requires returns returns-2)

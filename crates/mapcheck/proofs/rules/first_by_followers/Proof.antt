@@ -5,28 +5,10 @@ use borrow.Author.Needs.{needs}
 use Rattle.mapcheck.proofs.rules.first_by_followers.Statement.{statement}
 use Rattle.mapcheck.proofs.rules.first_by_followers.Tie as tie
 
-slice-aggregate-headings : tie.Need-slice-aggregate-headings
-slice-aggregate-headings c = search needs
-
-headings-requires : tie.Need-headings-requires
-headings-requires c κs = search needs
-
-slice-aggregate-follow : tie.Need-slice-aggregate-follow
-slice-aggregate-follow c = search needs
-
-slice-aggregate-follow-2 : tie.Need-slice-aggregate-follow-2
-slice-aggregate-follow-2 c = search needs
-
 follow-requires : tie.Need-follow-requires
 follow-requires c κs =
     let p = c .before .before .before .before .before .before .before .pre in
     (p .0 .origins, (omega (arith, p .1 .0), (omega (arith, p .1 .1 .0), (made-headings (p .0) (p .1 .1 .0) _ _ (omega (arith, p .1 .1 .0)) (c .before .before .before .headings .ensures), omega (arith, p .1 .1 .0)))))
-
-slice-aggregate-first-disagreeing : tie.Need-slice-aggregate-first-disagreeing
-slice-aggregate-first-disagreeing c = search needs
-
-slice-aggregate-first-disagreeing-2 : tie.Need-slice-aggregate-first-disagreeing-2
-slice-aggregate-first-disagreeing-2 c = search needs
 
 first-disagreeing-requires : tie.Need-first-disagreeing-requires
 first-disagreeing-requires c κs =
@@ -44,12 +26,12 @@ pub first-by-followers-spec : {M : Type 1} → statement M
 first-by-followers-spec =
     tie.close
     (tie.spec
-    slice-aggregate-headings
-    headings-requires
-    slice-aggregate-follow
-    slice-aggregate-follow-2
+    (λ c. search needs)
+    (λ c κs. search needs)
+    (λ c. search needs)
+    (λ c. search needs)
     follow-requires
-    slice-aggregate-first-disagreeing
-    slice-aggregate-first-disagreeing-2
+    (λ c. search needs)
+    (λ c. search needs)
     first-disagreeing-requires
     returns)

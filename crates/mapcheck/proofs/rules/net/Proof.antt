@@ -8,21 +8,6 @@ use borrow.Author.Needs.{needs}
 use Rattle.mapcheck.proofs.rules.net.Statement.{statement}
 use Rattle.mapcheck.proofs.rules.net.Tie as tie
 
-edges-clash-requires : tie.Need-edges-clash-requires
-edges-clash-requires c κs = search needs
-
-vertex-alone-requires : tie.Need-vertex-alone-requires
-vertex-alone-requires c κs = search needs
-
-first-requires : tie.Need-first-requires
-first-requires c κs = search needs
-
-enum-told : tie.Need-enum-told
-enum-told c = search needs
-
-enum-told-2 : tie.Need-enum-told-2
-enum-told-2 c = search needs
-
 labels-disagree-requires : tie.Need-labels-disagree-requires
 labels-disagree-requires c κs =
     let s = c .before .before .before .before .before .before in
@@ -45,11 +30,11 @@ pub net-spec : {M : Type 1} → statement M
 net-spec =
     tie.close
     (tie.spec
-    edges-clash-requires
-    vertex-alone-requires
-    first-requires
-    enum-told
-    enum-told-2
+    (λ c κs. search needs)
+    (λ c κs. search needs)
+    (λ c κs. search needs)
+    (λ c. search needs)
+    (λ c. search needs)
     labels-disagree-requires
     returns
     returns-2)

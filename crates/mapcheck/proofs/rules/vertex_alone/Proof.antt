@@ -13,29 +13,8 @@ use borrow.Author.Needs.{needs}
 use Rattle.mapcheck.proofs.rules.vertex_alone.Statement.{statement}
 use Rattle.mapcheck.proofs.rules.vertex_alone.Tie as tie
 
-slice-aggregate-load-origins : tie.Need-slice-aggregate-load-origins
-slice-aggregate-load-origins c = search needs
-
 load-origins-requires : tie.Need-load-origins-requires
 load-origins-requires c κs = let s = c .before .before in let k = kept (now (s .args .file)) (s .pre) in omega (arith, k .few-edges)
-
-vertex-count-requires : tie.Need-vertex-count-requires
-vertex-count-requires c κs = search needs
-
-cast-n : tie.Need-cast-n
-cast-n c = search needs
-
-slice-aggregate-first-lonely : tie.Need-slice-aggregate-first-lonely
-slice-aggregate-first-lonely c = search needs
-
-edge-count-requires : tie.Need-edge-count-requires
-edge-count-requires c κs = search needs
-
-cast-first-lonely : tie.Need-cast-first-lonely
-cast-first-lonely c = search needs
-
-mul-first-lonely : tie.Need-mul-first-lonely
-mul-first-lonely c = search needs
 
 first-lonely-requires : tie.Need-first-lonely-requires
 first-lonely-requires c κs =
@@ -51,9 +30,6 @@ cast-given c =
     let found = lonely-found f _ _ (omega (arith, k .few-edges)) (c .before .before .before .before .before .load-origins .ensures) (c .before .edge-count .ensures) (c .before .before .before .vertex-count .ensures) (c .first-lonely .ensures) in
     omega (arith, found, least-le (lonely (mapOf f .graph)) (length (mapOf f .graph .points)), points-count f, k .few-vertices)
 
-given-requires : tie.Need-given-requires
-given-requires c κs = search needs
-
 returns : tie.Need-returns
 returns c =
     let s = c .before .before .before .before .before .before .before .before .before in
@@ -67,15 +43,15 @@ pub vertex-alone-spec : {M : Type 1} → statement M
 vertex-alone-spec =
     tie.close
     (tie.spec
-    slice-aggregate-load-origins
+    (λ c. search needs)
     load-origins-requires
-    vertex-count-requires
-    cast-n
-    slice-aggregate-first-lonely
-    edge-count-requires
-    cast-first-lonely
-    mul-first-lonely
+    (λ c κs. search needs)
+    (λ c. search needs)
+    (λ c. search needs)
+    (λ c κs. search needs)
+    (λ c. search needs)
+    (λ c. search needs)
     first-lonely-requires
     cast-given
-    given-requires
+    (λ c κs. search needs)
     returns)

@@ -9,18 +9,6 @@ use Rattle.mapfile.proofs.BytesLaws.{signed-low, signed-high}
 use Rattle.mapfile.proofs.bytes.i16_at.Statement.{statement}
 use Rattle.mapfile.proofs.bytes.i16_at.Tie as tie
 
-u16-at-requires : tie.Need-u16-at-requires
-u16-at-requires c κs = search needs
-
-cast-result : tie.Need-cast-result
-cast-result c = search needs
-
-cast-result-2 : tie.Need-cast-result-2
-cast-result-2 c = search needs
-
-sub-result : tie.Need-sub-result
-sub-result c = fits (search trn depth 20) tt
-
 returns : tie.Need-returns
 returns c =
     let a = c .before .before .before .args in
@@ -35,4 +23,4 @@ returns-2 c =
 
 pub i16-at-spec : {M : Type 1} → statement M
 i16-at-spec =
-    tie.close (tie.spec u16-at-requires cast-result cast-result-2 sub-result returns returns-2)
+    tie.close (tie.spec (λ c κs. search needs) (λ c. search needs) (λ c. search needs) (λ c. fits (search trn depth 20) tt) returns returns-2)

@@ -7,12 +7,6 @@ use Rattle.paper.specs.Plane.{vec}
 use Rattle.mapfile.proofs.fields.corner.Statement.{statement}
 use Rattle.mapfile.proofs.fields.corner.Tie as tie
 
-corner-x-requires : tie.Need-corner-x-requires
-corner-x-requires c κs = search needs
-
-corner-y-requires : tie.Need-corner-y-requires
-corner-y-requires c κs = search needs
-
 returns : tie.Need-returns
 returns c =
     let x = toZ-ofZ w64 _ (record { sfits = c .before .corner-x .ok }) ∙ c .before .corner-x .ensures in
@@ -20,4 +14,4 @@ returns c =
     λ i. vec (x i) (y i)
 
 pub corner-spec : {M : Type 1} → statement M
-corner-spec = tie.close (tie.spec corner-x-requires corner-y-requires returns)
+corner-spec = tie.close (tie.spec (λ c κs. search needs) (λ c κs. search needs) returns)

@@ -7,14 +7,8 @@ use Rattle.paper.specs.Bytes.{signedAt}
 use Rattle.mapfile.proofs.fields.corner_x.Statement.{statement}
 use Rattle.mapfile.proofs.fields.corner_x.Tie as tie
 
-vertex-place-requires : tie.Need-vertex-place-requires
-vertex-place-requires c κs = search needs
-
-i16-at-requires : tie.Need-i16-at-requires
-i16-at-requires c κs = search needs
-
 returns : tie.Need-returns
 returns c = plain (search trs depth 20) tt ∙ c .i16-at .ensures ∙ ap (signedAt 2 (now (c .before .before .before .args .file))) (c .before .vertex-place .ensures)
 
 pub corner-x-spec : {M : Type 1} → statement M
-corner-x-spec = tie.close (tie.spec vertex-place-requires i16-at-requires returns)
+corner-x-spec = tie.close (tie.spec (λ c κs. search needs) (λ c κs. search needs) returns)

@@ -8,17 +8,11 @@ use Rattle.paper.specs.Bytes.{u16}
 use Rattle.mapfile.proofs.fields.label_at.Statement.{statement}
 use Rattle.mapfile.proofs.fields.label_at.Tie as tie
 
-half-place-requires : tie.Need-half-place-requires
-half-place-requires c κs = search needs
-
 add-u16-at : tie.Need-add-u16-at
 add-u16-at c = let known = c .before .shared-slice-known .given in omega (arith, known 5, known 6)
-
-u16-at-requires : tie.Need-u16-at-requires
-u16-at-requires c κs = search needs
 
 returns : tie.Need-returns
 returns c = c .u16-at .ensures ∙ ap (λ (p : ℕ). u16 (now (c .before .before .before .args .file)) (p + 4)) (c .before .half-place .ensures)
 
 pub label-at-spec : {M : Type 1} → statement M
-label-at-spec = tie.close (tie.spec half-place-requires add-u16-at u16-at-requires returns)
+label-at-spec = tie.close (tie.spec (λ c κs. search needs) add-u16-at (λ c κs. search needs) returns)

@@ -6,14 +6,8 @@ use Rattle.paper.specs.Bytes.{u16}
 use Rattle.mapfile.proofs.fields.origin_at.Statement.{statement}
 use Rattle.mapfile.proofs.fields.origin_at.Tie as tie
 
-half-place-requires : tie.Need-half-place-requires
-half-place-requires c κs = search needs
-
-u16-at-requires : tie.Need-u16-at-requires
-u16-at-requires c κs = search needs
-
 returns : tie.Need-returns
 returns c = c .u16-at .ensures ∙ ap (u16 (now (c .before .before .before .args .file))) (c .before .half-place .ensures)
 
 pub origin-at-spec : {M : Type 1} → statement M
-origin-at-spec = tie.close (tie.spec half-place-requires u16-at-requires returns)
+origin-at-spec = tie.close (tie.spec (λ c κs. search needs) (λ c κs. search needs) returns)

@@ -10,25 +10,16 @@ use Rattle.mapfile.proofs.form.bad_mark.Tie as tie
 returns : tie.Need-returns
 returns c = short (now (c .before .before .args .file)) (c .if1 .taken)
 
-byte-at-requires : tie.Need-byte-at-requires
-byte-at-requires c κs = search needs
-
 returns-2 : tie.Need-returns-2
 returns-2 c =
     let long = c .before .before in
     no-z (now (long .before .before .args .file)) (long .if1 .left) (λ e. c .if2 .taken (c .before .byte-at .ensures ∙ e))
-
-byte-at-requires-2 : tie.Need-byte-at-requires-2
-byte-at-requires-2 c κs = search needs
 
 returns-3 : tie.Need-returns-3
 returns-3 c =
     let z = c .before .before in
     let long = z .before .before in
     no-m (now (long .before .before .args .file)) (long .if1 .left) (sym (z .before .byte-at .ensures) ∙ z .if2 .left) (λ e. c .if3 .taken (c .before .byte-at2 .ensures ∙ e))
-
-byte-at-requires-3 : tie.Need-byte-at-requires-3
-byte-at-requires-3 c κs = search needs
 
 returns-4 : tie.Need-returns-4
 returns-4 c =
@@ -43,9 +34,9 @@ bad-mark-spec =
     tie.close
     (tie.spec
     returns
-    byte-at-requires
+    (λ c κs. search needs)
     returns-2
-    byte-at-requires-2
+    (λ c κs. search needs)
     returns-3
-    byte-at-requires-3
+    (λ c κs. search needs)
     returns-4)

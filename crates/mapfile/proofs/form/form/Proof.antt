@@ -12,39 +12,6 @@ use Rattle.mapfile.proofs.VerdictLaws.{last, before}
 use Rattle.mapfile.proofs.form.form.Statement.{statement}
 use Rattle.mapfile.proofs.form.form.Tie as tie
 
-read-header-requires : tie.Need-read-header-requires
-read-header-requires c κs = search needs
-
-bad-mark-requires : tie.Need-bad-mark-requires
-bad-mark-requires c κs = search needs
-
-given-requires : tie.Need-given-requires
-given-requires c κs = search needs
-
-given-requires-2 : tie.Need-given-requires-2
-given-requires-2 c κs = search needs
-
-over-limits-requires : tie.Need-over-limits-requires
-over-limits-requires c κs = search needs
-
-given-requires-3 : tie.Need-given-requires-3
-given-requires-3 c κs = search needs
-
-map-length-requires : tie.Need-map-length-requires
-map-length-requires c κs = search needs
-
-given-requires-4 : tie.Need-given-requires-4
-given-requires-4 c κs = search needs
-
-first-requires : tie.Need-first-requires
-first-requires c κs = search needs
-
-first-requires-2 : tie.Need-first-requires-2
-first-requires-2 c κs = search needs
-
-first-requires-3 : tie.Need-first-requires-3
-first-requires-3 c κs = search needs
-
 returns : tie.Need-returns
 returns c =
     let fourth = c .before .before .before in
@@ -66,15 +33,15 @@ pub form-spec : {M : Type 1} → statement M
 form-spec =
     tie.close
     (tie.spec
-    read-header-requires
-    bad-mark-requires
-    given-requires
-    given-requires-2
-    over-limits-requires
-    given-requires-3
-    map-length-requires
-    given-requires-4
-    first-requires
-    first-requires-2
-    first-requires-3
+    (λ c κs. search needs)
+    (λ c κs. search needs)
+    (λ c κs. search needs)
+    (λ c κs. search needs)
+    (λ c κs. search needs)
+    (λ c κs. search needs)
+    (λ c κs. search needs)
+    (λ c κs. search needs)
+    (λ c κs. search needs)
+    (λ c κs. search needs)
+    (λ c κs. search needs)
     returns)

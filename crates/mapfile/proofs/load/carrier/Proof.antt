@@ -11,27 +11,6 @@ use Rattle.mapfile.proofs.MapLaws.{carrier-is}
 use Rattle.mapfile.proofs.load.carrier.Statement.{statement}
 use Rattle.mapfile.proofs.load.carrier.Tie as tie
 
-mul-origin-at : tie.Need-mul-origin-at
-mul-origin-at c = search needs
-
-origin-at-requires : tie.Need-origin-at-requires
-origin-at-requires c κs = search needs
-
-corner-requires : tie.Need-corner-requires
-corner-requires c κs = search needs
-
-mul-origin-at-2 : tie.Need-mul-origin-at-2
-mul-origin-at-2 c = search needs
-
-add-origin-at : tie.Need-add-origin-at
-add-origin-at c = search needs
-
-origin-at-requires-2 : tie.Need-origin-at-requires-2
-origin-at-requires-2 c κs = search needs
-
-corner-requires-2 : tie.Need-corner-requires-2
-corner-requires-2 c κs = search needs
-
 between-requires : tie.Need-between-requires
 between-requires c κs =
     let from = c .before .before in
@@ -61,12 +40,12 @@ pub carrier-spec : {M : Type 1} → statement M
 carrier-spec =
     tie.close
     (tie.spec
-    mul-origin-at
-    origin-at-requires
-    corner-requires
-    mul-origin-at-2
-    add-origin-at
-    origin-at-requires-2
-    corner-requires-2
+    (λ c. search needs)
+    (λ c κs. search needs)
+    (λ c κs. search needs)
+    (λ c. search needs)
+    (λ c. search needs)
+    (λ c κs. search needs)
+    (λ c κs. search needs)
     between-requires
     returns)

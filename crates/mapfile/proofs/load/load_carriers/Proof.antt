@@ -20,28 +20,10 @@ Inv-loop file carriers₀ n k₀ carriers k = (k ≤ n) × (length carriers ≡ 
 abbrev μ-loop : tie.MeasureT-loop
 μ-loop file carriers₀ n k₀ carriers k = n - k
 
-edge-count-requires : tie.Need-edge-count-requires Inv-loop μ-loop
-edge-count-requires c κs = search needs
-
 loop-holds : tie.Need-loop-holds Inv-loop μ-loop
 loop-holds c =
     let a = c .before .before .args in
     (search needs, refl, laid-none 4 (carrierRow (mapOf (now (a .file)) .graph)) (λ k. refl) (now (a .carriers)))
-
-carrier-requires : tie.Need-carrier-requires Inv-loop μ-loop
-carrier-requires c κs = search needs
-
-cast-store4-i64 : tie.Need-cast-store4-i64 Inv-loop μ-loop
-cast-store4-i64 c = search needs
-
-store4-i64-requires : tie.Need-store4-i64-requires Inv-loop μ-loop
-store4-i64-requires c κs = search needs
-
-add-k : tie.Need-add-k Inv-loop μ-loop
-add-k c = search needs
-
-loop-less : tie.Need-loop-less Inv-loop μ-loop
-loop-less c = search needs
 
 loop-again : tie.Need-loop-again Inv-loop μ-loop
 loop-again c =
@@ -61,9 +43,6 @@ loop-again c =
       rw (stored .store4-i64 .ensures, at .loop .inv .2) (laid-more 4 (carrierRow (mapOf (now (a .file)) .graph)) (λ k. refl) (at .loop .k) (now (a .carriers)) _ (omega arith) ((λ i. x i ∷ y i ∷ u i ∷ v i ∷ []) ∙ ap (λ (s : Seg). s .foot .x ∷ s .foot .y ∷ s .up .x ∷ s .up .y ∷ []) (made .carrier .ensures))),
     )
 
-same-length : tie.Need-same-length Inv-loop μ-loop
-same-length c = search needs
-
 returns : tie.Need-returns Inv-loop μ-loop
 returns c =
     let at = c .before in
@@ -78,13 +57,13 @@ load-carriers-spec =
     (tie.spec
     Inv-loop
     μ-loop
-    edge-count-requires
+    (λ c κs. search needs)
     loop-holds
-    carrier-requires
-    cast-store4-i64
-    store4-i64-requires
-    add-k
-    loop-less
+    (λ c κs. search needs)
+    (λ c. search needs)
+    (λ c κs. search needs)
+    (λ c. search needs)
+    (λ c. search needs)
     loop-again
-    same-length
+    (λ c. search needs)
     returns)

@@ -18,35 +18,8 @@ Inv-loop file labels₀ n h₀ labels h = (h ≤ n) × (length labels ≡ length
 abbrev μ-loop : tie.MeasureT-loop
 μ-loop file labels₀ n h₀ labels h = n - h
 
-edge-count-requires : tie.Need-edge-count-requires Inv-loop μ-loop
-edge-count-requires c κs = search needs
-
-cast-n : tie.Need-cast-n Inv-loop μ-loop
-cast-n c = search needs
-
-mul-n : tie.Need-mul-n Inv-loop μ-loop
-mul-n c = search needs
-
 loop-holds : tie.Need-loop-holds Inv-loop μ-loop
 loop-holds c = (search needs, refl, filled-none (labelAt (now (c .before .before .before .args .file))) (now (c .before .before .before .args .labels)))
-
-cast-i : tie.Need-cast-i Inv-loop μ-loop
-cast-i c = search needs
-
-label-at-requires : tie.Need-label-at-requires Inv-loop μ-loop
-label-at-requires c κs = search needs
-
-mul-labels : tie.Need-mul-labels Inv-loop μ-loop
-mul-labels c = search needs
-
-slice-write-labels : tie.Need-slice-write-labels Inv-loop μ-loop
-slice-write-labels c = search needs
-
-add-h : tie.Need-add-h Inv-loop μ-loop
-add-h c = search needs
-
-loop-less : tie.Need-loop-less Inv-loop μ-loop
-loop-less c = search needs
 
 loop-again : tie.Need-loop-again Inv-loop μ-loop
 loop-again c =
@@ -56,9 +29,6 @@ loop-again c =
       simp length-set (omega arith),
       rw (at .loop .inv .2) (filled-more (labelAt (now (a .file))) (at .loop .h) (now (a .labels)) (c .label-at .result) (omega arith) (c .label-at .ensures)),
     )
-
-same-length : tie.Need-same-length Inv-loop μ-loop
-same-length c = search needs
 
 returns : tie.Need-returns Inv-loop μ-loop
 returns c =
@@ -74,16 +44,16 @@ load-labels-spec =
     (tie.spec
     Inv-loop
     μ-loop
-    edge-count-requires
-    cast-n
-    mul-n
+    (λ c κs. search needs)
+    (λ c. search needs)
+    (λ c. search needs)
     loop-holds
-    cast-i
-    label-at-requires
-    mul-labels
-    slice-write-labels
-    add-h
-    loop-less
+    (λ c. search needs)
+    (λ c κs. search needs)
+    (λ c. search needs)
+    (λ c. search needs)
+    (λ c. search needs)
+    (λ c. search needs)
     loop-again
-    same-length
+    (λ c. search needs)
     returns)

@@ -18,35 +18,8 @@ Inv-loop file origins₀ n h₀ origins h = (h ≤ n) × (length origins ≡ len
 abbrev μ-loop : tie.MeasureT-loop
 μ-loop file origins₀ n h₀ origins h = n - h
 
-edge-count-requires : tie.Need-edge-count-requires Inv-loop μ-loop
-edge-count-requires c κs = search needs
-
-cast-n : tie.Need-cast-n Inv-loop μ-loop
-cast-n c = search needs
-
-mul-n : tie.Need-mul-n Inv-loop μ-loop
-mul-n c = search needs
-
 loop-holds : tie.Need-loop-holds Inv-loop μ-loop
 loop-holds c = (search needs, refl, filled-none (originAt (now (c .before .before .before .args .file))) (now (c .before .before .before .args .origins)))
-
-cast-i : tie.Need-cast-i Inv-loop μ-loop
-cast-i c = search needs
-
-origin-at-requires : tie.Need-origin-at-requires Inv-loop μ-loop
-origin-at-requires c κs = search needs
-
-mul-origins : tie.Need-mul-origins Inv-loop μ-loop
-mul-origins c = search needs
-
-slice-write-origins : tie.Need-slice-write-origins Inv-loop μ-loop
-slice-write-origins c = search needs
-
-add-h : tie.Need-add-h Inv-loop μ-loop
-add-h c = search needs
-
-loop-less : tie.Need-loop-less Inv-loop μ-loop
-loop-less c = search needs
 
 loop-again : tie.Need-loop-again Inv-loop μ-loop
 loop-again c =
@@ -56,9 +29,6 @@ loop-again c =
       simp length-set (omega arith),
       rw (at .loop .inv .2) (filled-more (originAt (now (a .file))) (at .loop .h) (now (a .origins)) (c .origin-at .result) (omega arith) (c .origin-at .ensures)),
     )
-
-same-length : tie.Need-same-length Inv-loop μ-loop
-same-length c = search needs
 
 returns : tie.Need-returns Inv-loop μ-loop
 returns c =
@@ -74,16 +44,16 @@ load-origins-spec =
     (tie.spec
     Inv-loop
     μ-loop
-    edge-count-requires
-    cast-n
-    mul-n
+    (λ c κs. search needs)
+    (λ c. search needs)
+    (λ c. search needs)
     loop-holds
-    cast-i
-    origin-at-requires
-    mul-origins
-    slice-write-origins
-    add-h
-    loop-less
+    (λ c. search needs)
+    (λ c κs. search needs)
+    (λ c. search needs)
+    (λ c. search needs)
+    (λ c. search needs)
+    (λ c. search needs)
     loop-again
-    same-length
+    (λ c. search needs)
     returns)

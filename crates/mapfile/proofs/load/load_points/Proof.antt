@@ -19,31 +19,10 @@ Inv-loop file points₀ n v₀ points v = (v ≤ n) × (length points ≡ length
 abbrev μ-loop : tie.MeasureT-loop
 μ-loop file points₀ n v₀ points v = n - v
 
-vertex-count-requires : tie.Need-vertex-count-requires Inv-loop μ-loop
-vertex-count-requires c κs = search needs
-
 loop-holds : tie.Need-loop-holds Inv-loop μ-loop
 loop-holds c =
     let a = c .before .before .args in
     (search needs, refl, laid-none 4 (cornerRow (now (a .file))) (four-cells (now (a .file))) (now (a .points)))
-
-cast-store4-i64 : tie.Need-cast-store4-i64 Inv-loop μ-loop
-cast-store4-i64 c = search needs
-
-corner-x-requires : tie.Need-corner-x-requires Inv-loop μ-loop
-corner-x-requires c κs = search needs
-
-corner-y-requires : tie.Need-corner-y-requires Inv-loop μ-loop
-corner-y-requires c κs = search needs
-
-store4-i64-requires : tie.Need-store4-i64-requires Inv-loop μ-loop
-store4-i64-requires c κs = search needs
-
-add-v : tie.Need-add-v Inv-loop μ-loop
-add-v c = search needs
-
-loop-less : tie.Need-loop-less Inv-loop μ-loop
-loop-less c = search needs
 
 loop-again : tie.Need-loop-again Inv-loop μ-loop
 loop-again c =
@@ -57,9 +36,6 @@ loop-again c =
       stored .store4-i64 .kept .0 ∙ at .loop .inv .1,
       rw (stored .store4-i64 .ensures, at .loop .inv .2) (laid-more 4 (cornerRow s) (four-cells s) (at .loop .v) (now (a .points)) _ (omega arith) (λ i. x i ∷ y i ∷ pos 1 ∷ pos 0 ∷ [])),
     )
-
-same-length : tie.Need-same-length Inv-loop μ-loop
-same-length c = search needs
 
 returns : tie.Need-returns Inv-loop μ-loop
 returns c =
@@ -75,14 +51,14 @@ load-points-spec =
     (tie.spec
     Inv-loop
     μ-loop
-    vertex-count-requires
+    (λ c κs. search needs)
     loop-holds
-    cast-store4-i64
-    corner-x-requires
-    corner-y-requires
-    store4-i64-requires
-    add-v
-    loop-less
+    (λ c. search needs)
+    (λ c κs. search needs)
+    (λ c κs. search needs)
+    (λ c κs. search needs)
+    (λ c. search needs)
+    (λ c. search needs)
     loop-again
-    same-length
+    (λ c. search needs)
     returns)

@@ -9,24 +9,6 @@ use Rattle.mapfile.proofs.PartsLaws.{no-from, no-to, by-ends}
 use Rattle.mapfile.proofs.parts.bad_ends.Statement.{statement}
 use Rattle.mapfile.proofs.parts.bad_ends.Tie as tie
 
-vertex-count-requires : tie.Need-vertex-count-requires
-vertex-count-requires c κs = search needs
-
-mul-origin-at : tie.Need-mul-origin-at
-mul-origin-at c = search needs
-
-origin-at-requires : tie.Need-origin-at-requires
-origin-at-requires c κs = search needs
-
-mul-origin-at-2 : tie.Need-mul-origin-at-2
-mul-origin-at-2 c = search needs
-
-add-origin-at : tie.Need-add-origin-at
-add-origin-at c = search needs
-
-origin-at-requires-2 : tie.Need-origin-at-requires-2
-origin-at-requires-2 c κs = search needs
-
 returns : tie.Need-returns
 returns c =
     let a = c .before .before .before .before .before .args in
@@ -51,12 +33,12 @@ pub bad-ends-spec : {M : Type 1} → statement M
 bad-ends-spec =
     tie.close
     (tie.spec
-    vertex-count-requires
-    mul-origin-at
-    origin-at-requires
-    mul-origin-at-2
-    add-origin-at
-    origin-at-requires-2
+    (λ c κs. search needs)
+    (λ c. search needs)
+    (λ c κs. search needs)
+    (λ c. search needs)
+    (λ c. search needs)
+    (λ c κs. search needs)
     returns
     returns-2
     returns-3)

@@ -18,26 +18,11 @@ Inv-loop file n k₀ k = (k ≤ n) × (least (badEndsAt file) k ≡ k)
 abbrev μ-loop : tie.MeasureT-loop
 μ-loop file n k₀ k = n - k
 
-edge-count-requires : tie.Need-edge-count-requires Inv-loop μ-loop
-edge-count-requires c κs = search needs
-
-loop-holds : tie.Need-loop-holds Inv-loop μ-loop
-loop-holds c = (search needs, refl)
-
-bad-ends-requires : tie.Need-bad-ends-requires Inv-loop μ-loop
-bad-ends-requires c κs = search needs
-
 returns : tie.Need-returns Inv-loop μ-loop
 returns c =
     let at = c .before .before .before in
     let s = now (at .before .before .before .args .file) in
     sym (least-ends s ∙ least-found (badEndsAt s) (edgesIn s) (at .loop .k) (omega arith) (at .loop .inv .1) (sym (c .before .bad-ends .ensures) ∙ c .if1 .taken))
-
-add-k : tie.Need-add-k Inv-loop μ-loop
-add-k c = search needs
-
-loop-less : tie.Need-loop-less Inv-loop μ-loop
-loop-less c = search needs
 
 loop-again : tie.Need-loop-again Inv-loop μ-loop
 loop-again c =
@@ -57,11 +42,11 @@ first-bad-ends-spec =
     (tie.spec
     Inv-loop
     μ-loop
-    edge-count-requires
-    loop-holds
-    bad-ends-requires
+    (λ c κs. search needs)
+    (λ c. (search needs, refl))
+    (λ c κs. search needs)
     returns
-    add-k
-    loop-less
+    (λ c. search needs)
+    (λ c. search needs)
     loop-again
     returns-2)

@@ -19,26 +19,11 @@ Inv-loop file n higher₀ higher = (higher ≤ n) × (least (doubledAt file) hig
 abbrev μ-loop : tie.MeasureT-loop
 μ-loop file n higher₀ higher = n - higher
 
-vertex-count-requires : tie.Need-vertex-count-requires Inv-loop μ-loop
-vertex-count-requires c κs = search needs
-
-loop-holds : tie.Need-loop-holds Inv-loop μ-loop
-loop-holds c = (search needs, refl)
-
-first-under-requires : tie.Need-first-under-requires Inv-loop μ-loop
-first-under-requires c κs = search needs
-
 returns : tie.Need-returns Inv-loop μ-loop
 returns c =
     let at = c .before .before .before in
     let s = now (at .before .before .before .args .file) in
     sym (least-doubled s ∙ least-found (doubledAt s) (vertexCount s) (at .loop .higher) (omega arith) (at .loop .inv .1) (ap (λ (u : ℕ). ltb u (at .loop .higher)) (sym (c .before .first-under .ensures)) ∙ lt-ltb _ _ (c .if1 .taken)))
-
-add-higher : tie.Need-add-higher Inv-loop μ-loop
-add-higher c = search needs
-
-loop-less : tie.Need-loop-less Inv-loop μ-loop
-loop-less c = search needs
 
 loop-again : tie.Need-loop-again Inv-loop μ-loop
 loop-again c =
@@ -58,11 +43,11 @@ first-doubled-spec =
     (tie.spec
     Inv-loop
     μ-loop
-    vertex-count-requires
-    loop-holds
-    first-under-requires
+    (λ c κs. search needs)
+    (λ c. (search needs, refl))
+    (λ c κs. search needs)
     returns
-    add-higher
-    loop-less
+    (λ c. search needs)
+    (λ c. search needs)
     loop-again
     returns-2)

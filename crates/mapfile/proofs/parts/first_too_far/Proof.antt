@@ -18,26 +18,11 @@ Inv-loop file n v₀ v = (v ≤ n) × (least (farAt file) v ≡ v)
 abbrev μ-loop : tie.MeasureT-loop
 μ-loop file n v₀ v = n - v
 
-vertex-count-requires : tie.Need-vertex-count-requires Inv-loop μ-loop
-vertex-count-requires c κs = search needs
-
-loop-holds : tie.Need-loop-holds Inv-loop μ-loop
-loop-holds c = (search needs, refl)
-
-too-far-requires : tie.Need-too-far-requires Inv-loop μ-loop
-too-far-requires c κs = search needs
-
 returns : tie.Need-returns Inv-loop μ-loop
 returns c =
     let at = c .before .before .before in
     let s = now (at .before .before .before .args .file) in
     sym (least-far s ∙ least-found (farAt s) (vertexCount s) (at .loop .v) (omega arith) (at .loop .inv .1) (sym (c .before .too-far .ensures) ∙ c .if1 .taken))
-
-add-v : tie.Need-add-v Inv-loop μ-loop
-add-v c = search needs
-
-loop-less : tie.Need-loop-less Inv-loop μ-loop
-loop-less c = search needs
 
 loop-again : tie.Need-loop-again Inv-loop μ-loop
 loop-again c =
@@ -57,11 +42,11 @@ first-too-far-spec =
     (tie.spec
     Inv-loop
     μ-loop
-    vertex-count-requires
-    loop-holds
-    too-far-requires
+    (λ c κs. search needs)
+    (λ c. (search needs, refl))
+    (λ c κs. search needs)
     returns
-    add-v
-    loop-less
+    (λ c. search needs)
+    (λ c. search needs)
     loop-again
     returns-2)

@@ -16,23 +16,11 @@ Inv-loop file v u₀ u = (u ≤ v) × (least (liesOn file v) u ≡ u)
 abbrev μ-loop : tie.MeasureT-loop
 μ-loop file v u₀ u = v - u
 
-loop-holds : tie.Need-loop-holds Inv-loop μ-loop
-loop-holds c = (search needs, refl)
-
-lies-on-requires : tie.Need-lies-on-requires Inv-loop μ-loop
-lies-on-requires c κs = search needs
-
 returns : tie.Need-returns Inv-loop μ-loop
 returns c =
     let at = c .before .before .before in
     let a = at .before .before .args in
     sym (least-found (liesOn (now (a .file)) (a .v)) (a .v) (at .loop .u) (omega arith) (at .loop .inv .1) (sym (c .before .lies-on .ensures) ∙ c .if1 .taken))
-
-add-u : tie.Need-add-u Inv-loop μ-loop
-add-u c = search needs
-
-loop-less : tie.Need-loop-less Inv-loop μ-loop
-loop-less c = search needs
 
 loop-again : tie.Need-loop-again Inv-loop μ-loop
 loop-again c =
@@ -53,10 +41,10 @@ first-under-spec =
     (tie.spec
     Inv-loop
     μ-loop
-    loop-holds
-    lies-on-requires
+    (λ c. (search needs, refl))
+    (λ c κs. search needs)
     returns
-    add-u
-    loop-less
+    (λ c. search needs)
+    (λ c. search needs)
     loop-again
     returns-2)

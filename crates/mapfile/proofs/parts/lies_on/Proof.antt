@@ -9,24 +9,12 @@ use Rattle.mapfile.proofs.PartsLaws.{other-y, by-x}
 use Rattle.mapfile.proofs.parts.lies_on.Statement.{statement}
 use Rattle.mapfile.proofs.parts.lies_on.Tie as tie
 
-corner-y-requires : tie.Need-corner-y-requires
-corner-y-requires c κs = search needs
-
-corner-y-requires-2 : tie.Need-corner-y-requires-2
-corner-y-requires-2 c κs = search needs
-
 returns : tie.Need-returns
 returns c =
     let a = c .before .before .before .before .args in
     let s = now (a .file) in
     other-y (cornerAt s (a .v)) (cornerAt s (a .u))
     (λ e. eq-no w64 (c .if1 .taken) (search trbits depth 20) (search trbits depth 20) tt (c .before .before .corner-y .ensures ∙ e ∙ sym (c .before .corner-y2 .ensures)))
-
-corner-x-requires : tie.Need-corner-x-requires
-corner-x-requires c κs = search needs
-
-corner-x-requires-2 : tie.Need-corner-x-requires-2
-corner-x-requires-2 c κs = search needs
 
 returns-2 : tie.Need-returns-2
 returns-2 c =
@@ -41,9 +29,9 @@ pub lies-on-spec : {M : Type 1} → statement M
 lies-on-spec =
     tie.close
     (tie.spec
-    corner-y-requires
-    corner-y-requires-2
+    (λ c κs. search needs)
+    (λ c κs. search needs)
     returns
-    corner-x-requires
-    corner-x-requires-2
+    (λ c κs. search needs)
+    (λ c κs. search needs)
     returns-2)

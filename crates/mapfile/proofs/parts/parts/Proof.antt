@@ -10,36 +10,6 @@ use Rattle.mapfile.proofs.VerdictLaws.{last, before, at-least}
 use Rattle.mapfile.proofs.parts.parts.Statement.{statement}
 use Rattle.mapfile.proofs.parts.parts.Tie as tie
 
-vertex-count-requires : tie.Need-vertex-count-requires
-vertex-count-requires c κs = search needs
-
-first-too-far-requires : tie.Need-first-too-far-requires
-first-too-far-requires c κs = search needs
-
-first-doubled-requires : tie.Need-first-doubled-requires
-first-doubled-requires c κs = search needs
-
-first-bad-ends-requires : tie.Need-first-bad-ends-requires
-first-bad-ends-requires c κs = search needs
-
-given-requires : tie.Need-given-requires
-given-requires c κs = search needs
-
-given-requires-2 : tie.Need-given-requires-2
-given-requires-2 c κs = search needs
-
-edge-count-requires : tie.Need-edge-count-requires
-edge-count-requires c κs = search needs
-
-given-requires-3 : tie.Need-given-requires-3
-given-requires-3 c κs = search needs
-
-first-requires : tie.Need-first-requires
-first-requires c κs = search needs
-
-first-requires-2 : tie.Need-first-requires-2
-first-requires-2 c κs = search needs
-
 returns : tie.Need-returns
 returns c =
     let seven = c .before .before in
@@ -60,14 +30,14 @@ pub parts-spec : {M : Type 1} → statement M
 parts-spec =
     tie.close
     (tie.spec
-    vertex-count-requires
-    first-too-far-requires
-    first-doubled-requires
-    first-bad-ends-requires
-    given-requires
-    given-requires-2
-    edge-count-requires
-    given-requires-3
-    first-requires
-    first-requires-2
+    (λ c κs. search needs)
+    (λ c κs. search needs)
+    (λ c κs. search needs)
+    (λ c κs. search needs)
+    (λ c κs. search needs)
+    (λ c κs. search needs)
+    (λ c κs. search needs)
+    (λ c κs. search needs)
+    (λ c κs. search needs)
+    (λ c κs. search needs)
     returns)

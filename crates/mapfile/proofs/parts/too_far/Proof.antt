@@ -11,24 +11,12 @@ use Rattle.mapfile.proofs.FormLaws.{beyond, within}
 use Rattle.mapfile.proofs.parts.too_far.Statement.{statement}
 use Rattle.mapfile.proofs.parts.too_far.Tie as tie
 
-corner-x-requires : tie.Need-corner-x-requires
-corner-x-requires c κs = search needs
-
-magnitude-requires : tie.Need-magnitude-requires
-magnitude-requires c κs = search needs
-
 returns : tie.Need-returns
 returns c =
     let a = c .before .before .before .before .args in
     let x = c .before .magnitude .ensures ∙ ap natAbs (toZ-ofZ w64 _ (record { sfits = c .before .before .corner-x .ok }) ∙ c .before .before .corner-x .ensures) in
     let s = now (a .file) in
     beyond reach (natAbs (cornerAt s (a .v) .x)) (ltb reach (natAbs (cornerAt s (a .v) .y))) (rw x at (c .if1 .taken))
-
-corner-y-requires : tie.Need-corner-y-requires
-corner-y-requires c κs = search needs
-
-magnitude-requires-2 : tie.Need-magnitude-requires-2
-magnitude-requires-2 c κs = search needs
 
 returns-2 : tie.Need-returns-2
 returns-2 c =
@@ -43,9 +31,9 @@ pub too-far-spec : {M : Type 1} → statement M
 too-far-spec =
     tie.close
     (tie.spec
-    corner-x-requires
-    magnitude-requires
+    (λ c κs. search needs)
+    (λ c κs. search needs)
     returns
-    corner-y-requires
-    magnitude-requires-2
+    (λ c κs. search needs)
+    (λ c κs. search needs)
     returns-2)

@@ -7,21 +7,6 @@ use Rattle.net.specs.CutLaws.{collected-once, collected-near, ordered-ne
 use Rattle.net.proofs.cutting.cut_layers.Statement.{statement}
 use Rattle.net.proofs.cutting.cut_layers.Tie as tie
 
-element-copy-out-c : tie.Need-element-copy-out-c
-element-copy-out-c c = search needs
-
-slice-aggregate-collect : tie.Need-slice-aggregate-collect
-slice-aggregate-collect c = search needs
-
-slice-aggregate-collect-2 : tie.Need-slice-aggregate-collect-2
-slice-aggregate-collect-2 c = search needs
-
-slice-aggregate-collect-3 : tie.Need-slice-aggregate-collect-3
-slice-aggregate-collect-3 c = search needs
-
-slice-aggregate-collect-4 : tie.Need-slice-aggregate-collect-4
-slice-aggregate-collect-4 c = search needs
-
 collect-requires : tie.Need-collect-requires
 collect-requires c κs =
     let s = c .before .before .before .before .before .before .before .before in
@@ -34,9 +19,6 @@ returns c =
     let k = c .before .before .collect in
     cut-over (s .args .t1) (s .pre) (k .last .1 .1 .1 .1 .0) (k .result) (k .ensures) (c .if1 .taken) (k .last .1 .1 .1 .1 .0) (replicate 8004 0) 0
 
-slice-aggregate-order : tie.Need-slice-aggregate-order
-slice-aggregate-order c = search needs
-
 order-requires : tie.Need-order-requires
 order-requires c κs =
     let s = c .before .before .before .before .before .before .before .before .before .before .before .before in
@@ -44,18 +26,6 @@ order-requires c κs =
     let out = k .last .1 .1 .1 .1 .0 in
     let few = c .before .if1 .left in
     (collected-near (s .args .t1) (s .pre) out (k .result) (k .ensures) few (omega (arith, k .kept .1 .1 .1 .1 .0)), collected-once (s .args .t1) (s .pre) out (k .result) (k .ensures) few)
-
-slice-aggregate-pieces : tie.Need-slice-aggregate-pieces
-slice-aggregate-pieces c = search needs
-
-slice-aggregate-pieces-2 : tie.Need-slice-aggregate-pieces-2
-slice-aggregate-pieces-2 c = search needs
-
-slice-aggregate-pieces-3 : tie.Need-slice-aggregate-pieces-3
-slice-aggregate-pieces-3 c = search needs
-
-slice-aggregate-pieces-4 : tie.Need-slice-aggregate-pieces-4
-slice-aggregate-pieces-4 c = search needs
 
 pieces-requires : tie.Need-pieces-requires
 pieces-requires c κs =
@@ -81,18 +51,18 @@ pub cut-layers-spec : {M : Type 1} → statement M
 cut-layers-spec =
     tie.close
     (tie.spec
-    element-copy-out-c
-    slice-aggregate-collect
-    slice-aggregate-collect-2
-    slice-aggregate-collect-3
-    slice-aggregate-collect-4
+    (λ c. search needs)
+    (λ c. search needs)
+    (λ c. search needs)
+    (λ c. search needs)
+    (λ c. search needs)
     collect-requires
     returns
-    slice-aggregate-order
+    (λ c. search needs)
     order-requires
-    slice-aggregate-pieces
-    slice-aggregate-pieces-2
-    slice-aggregate-pieces-3
-    slice-aggregate-pieces-4
+    (λ c. search needs)
+    (λ c. search needs)
+    (λ c. search needs)
+    (λ c. search needs)
     pieces-requires
     returns-2)

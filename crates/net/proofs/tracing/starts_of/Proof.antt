@@ -13,9 +13,6 @@ slice-aggregate-origins-2 c = search needs
 origins-requires : tie.Need-origins-requires
 origins-requires c κs = let s = c .before .before .before in (omega (arith, slice-aggregate-origins (c .before), s .pre), omega (arith, slice-aggregate-origins-2 c, s .pre))
 
-returns : tie.Need-returns
-returns c = search needs
-
 pub starts-of-spec : {M : Type 1} → statement M
 starts-of-spec =
-    tie.close (tie.spec slice-aggregate-origins slice-aggregate-origins-2 origins-requires returns)
+    tie.close (tie.spec slice-aggregate-origins slice-aggregate-origins-2 origins-requires (λ c. search needs))

@@ -22,12 +22,6 @@ carriers-of-requires c κs = let s = c .before .before in (starts (s .args .l) (
 slice-aggregate-link : tie.Need-slice-aggregate-link
 slice-aggregate-link c = search needs
 
-slice-aggregate-link-2 : tie.Need-slice-aggregate-link-2
-slice-aggregate-link-2 c = search needs
-
-slice-aggregate-link-3 : tie.Need-slice-aggregate-link-3
-slice-aggregate-link-3 c = search needs
-
 -- the graph in the tables
 module _ (c : tie.After-points2) where
   abbrev s : tie.Start
@@ -53,15 +47,6 @@ module _ (c : tie.After-points2) where
 
 link-requires : tie.Need-link-requires
 link-requires c κs = let p = c .before .before in let s = p .before .before .before .before in (flat p, (s .pre .1 .1 .0, (s .pre .1 .1 .1, planar p)))
-
-slice-aggregate-enclose : tie.Need-slice-aggregate-enclose
-slice-aggregate-enclose c = search needs
-
-slice-aggregate-enclose-2 : tie.Need-slice-aggregate-enclose-2
-slice-aggregate-enclose-2 c = search needs
-
-slice-aggregate-enclose-3 : tie.Need-slice-aggregate-enclose-3
-slice-aggregate-enclose-3 c = search needs
 
 enclose-requires : tie.Need-enclose-requires
 enclose-requires c κs =
@@ -96,12 +81,12 @@ trace-spec =
     starts-of-requires
     carriers-of-requires
     slice-aggregate-link
-    slice-aggregate-link-2
-    slice-aggregate-link-3
+    (λ c. search needs)
+    (λ c. search needs)
     link-requires
-    slice-aggregate-enclose
-    slice-aggregate-enclose-2
-    slice-aggregate-enclose-3
+    (λ c. search needs)
+    (λ c. search needs)
+    (λ c. search needs)
     enclose-requires
     predecessors-requires
     least-outgoing-requires

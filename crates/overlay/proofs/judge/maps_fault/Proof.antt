@@ -8,24 +8,6 @@ use borrow.Author.Needs.{needs}
 use Rattle.overlay.proofs.judge.maps_fault.Statement.{statement}
 use Rattle.overlay.proofs.judge.maps_fault.Tie as tie
 
-fault-requires : tie.Need-fault-requires
-fault-requires c κs = search needs
-
-of-map-requires : tie.Need-of-map-requires
-of-map-requires c κs = search needs
-
-enum-told : tie.Need-enum-told
-enum-told c = search needs
-
-enum-told-2 : tie.Need-enum-told-2
-enum-told-2 c = search needs
-
-fault-requires-2 : tie.Need-fault-requires-2
-fault-requires-2 c κs = search needs
-
-of-map-requires-2 : tie.Need-of-map-requires-2
-of-map-requires-2 c κs = search needs
-
 returns : tie.Need-returns
 returns c =
     let a = c .before .before .before .before .before .before .args in
@@ -43,11 +25,11 @@ pub maps-fault-spec : {M : Type 1} → statement M
 maps-fault-spec =
     tie.close
     (tie.spec
-    fault-requires
-    of-map-requires
-    enum-told
-    enum-told-2
-    fault-requires-2
-    of-map-requires-2
+    (λ c κs. search needs)
+    (λ c κs. search needs)
+    (λ c. search needs)
+    (λ c. search needs)
+    (λ c κs. search needs)
+    (λ c κs. search needs)
     returns
     returns-2)

@@ -24,24 +24,6 @@ store-requires c κs =
     let n = c .before .before .before .before .face-rows .ensures .0 in
     record { vertices = p .1 .1 .0 .vertices; edges = p .1 .1 .0 .edges; faces = omega (arith, n, p .1 .1 .1 .1) }
 
-cast-t18 : tie.Need-cast-t18
-cast-t18 c = search needs
-
-cast-t19 : tie.Need-cast-t19
-cast-t19 c = search needs
-
-same-length : tie.Need-same-length
-same-length c = search needs
-
-same-length-2 : tie.Need-same-length-2
-same-length-2 c = search needs
-
-same-length-3 : tie.Need-same-length-3
-same-length-3 c = search needs
-
-same-length-4 : tie.Need-same-length-4
-same-length-4 c = search needs
-
 returns : tie.Need-returns
 returns c =
     let a = c .before .before .before .before .before .before .before .before .before .before .before .before .before .before .before .before .before .before .args in
@@ -59,10 +41,10 @@ fill-spec =
     (tie.spec
     face-rows-requires
     store-requires
-    cast-t18
-    cast-t19
-    same-length
-    same-length-2
-    same-length-3
-    same-length-4
+    (λ c. search needs)
+    (λ c. search needs)
+    (λ c. search needs)
+    (λ c. search needs)
+    (λ c. search needs)
+    (λ c. search needs)
     returns)

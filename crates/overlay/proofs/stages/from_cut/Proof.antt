@@ -16,32 +16,11 @@ trace-requires c κs =
     let p = c .before .before .before .pre in
     (p .0, (p .1 .0, (omega (arith, p .1 .1 .vertices), omega (arith, p .1 .1 .edges))))
 
-room-in-requires : tie.Need-room-in-requires
-room-in-requires c κs = search needs
-
-cast-if1 : tie.Need-cast-if1
-cast-if1 c = search needs
-
-refuse-requires : tie.Need-refuse-requires
-refuse-requires c κs = search needs
-
 fill-requires : tie.Need-fill-requires
 fill-requires c κs =
     let p = c .before .before .before .before .before .before .before .before .before .before .before .before .pre in
     let room = ap (λ (n : Counts). n .faces) (c .before .before .before .before .before .before .before .room-in .ensures) in
     (p .0, (p .1 .0, (p .1 .1, (c .before .before .before .before .before .before .before .before .trace .ensures, omega (arith, room, c .before .before .before .before .if1)))))
-
-same-length : tie.Need-same-length
-same-length c = search needs
-
-same-length-2 : tie.Need-same-length-2
-same-length-2 c = search needs
-
-same-length-3 : tie.Need-same-length-3
-same-length-3 c = search needs
-
-same-length-4 : tie.Need-same-length-4
-same-length-4 c = search needs
 
 returns : tie.Need-returns
 returns c =
@@ -50,18 +29,6 @@ returns c =
     let room = ap (λ (n : Counts). n .faces) (c .before .before .before .before .before .before .before .before .before .before .before .before .before .before .before .room-in .ensures) in
     c .before .before .before .before .before .before .before .refuse .ensures
     ∙ faces-refused (heldMaps (a .l)) (a .c) (p .1 .0) (lengthsOf (tablesBy (now (a .vertices)) (now (a .halves)) (now (a .sources)) (now (a .faces)))) (p .1 .1) _ (c .before .before .before .before .before .before .before .before .before .before .before .before .before .before .before .before .trace .ensures) (omega (arith, room, c .before .before .before .before .before .before .before .before .before .before .before .before .if1))
-
-same-length-5 : tie.Need-same-length-5
-same-length-5 c = search needs
-
-same-length-6 : tie.Need-same-length-6
-same-length-6 c = search needs
-
-same-length-7 : tie.Need-same-length-7
-same-length-7 c = search needs
-
-same-length-8 : tie.Need-same-length-8
-same-length-8 c = search needs
 
 returns-2 : tie.Need-returns-2
 returns-2 c =
@@ -76,17 +43,17 @@ from-cut-spec =
     tie.close
     (tie.spec
     trace-requires
-    room-in-requires
-    cast-if1
-    refuse-requires
+    (λ c κs. search needs)
+    (λ c. search needs)
+    (λ c κs. search needs)
     fill-requires
-    same-length
-    same-length-2
-    same-length-3
-    same-length-4
+    (λ c. search needs)
+    (λ c. search needs)
+    (λ c. search needs)
+    (λ c. search needs)
     returns
-    same-length-5
-    same-length-6
-    same-length-7
-    same-length-8
+    (λ c. search needs)
+    (λ c. search needs)
+    (λ c. search needs)
+    (λ c. search needs)
     returns-2)

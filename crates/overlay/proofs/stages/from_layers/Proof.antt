@@ -12,41 +12,11 @@ use borrow.Author.Needs.{needs}
 use Rattle.overlay.proofs.stages.from_layers.Statement.{statement}
 use Rattle.overlay.proofs.stages.from_layers.Tie as tie
 
-cut-layers-requires : tie.Need-cut-layers-requires
-cut-layers-requires c κs = search needs
-
-room-in-requires : tie.Need-room-in-requires
-room-in-requires c κs = search needs
-
-over-room-requires : tie.Need-over-room-requires
-over-room-requires c κs = search needs
-
-enum-known-check : tie.Need-enum-known-check
-enum-known-check c = search needs
-
-refuse-requires : tie.Need-refuse-requires
-refuse-requires c κs = search needs
-
-enum-told : tie.Need-enum-told
-enum-told c = search needs
-
 from-cut-requires : tie.Need-from-cut-requires
 from-cut-requires c κs =
     let a = c .before .before .before .before .before .before .before .before .before .before .before .before .args in
     let judged = c .before .before .before .before .before .before .over-room .ensures ∙ (λ i. firstOf (given 11 1 (ltb (c .before .before .before .before .before .before .before .room-in .ensures i .vertices) (c .before .before .before .before .before .before .before .before .cut-layers .result .vertices)) ∷ given 11 2 (ltb (c .before .before .before .before .before .before .before .room-in .ensures i .edges) (c .before .before .before .before .before .before .before .before .cut-layers .result .edges)) ∷ [])) in
     (c .before .before .before .before .before .before .before .before .before .before .before .before .pre, (c .before .before .before .before .before .before .before .before .cut-layers .ensures, cut-within (heldMaps (a .l)) _ (c .before .before .before .before .before .before .before .before .cut-layers .ensures) (lengthsOf (tablesBy (now (a .vertices)) (now (a .halves)) (now (a .sources)) (now (a .faces)))) (sym judged ∙ ap verdict (c .before .before .before .before .enum-told .given .1))))
-
-same-length : tie.Need-same-length
-same-length c = search needs
-
-same-length-2 : tie.Need-same-length-2
-same-length-2 c = search needs
-
-same-length-3 : tie.Need-same-length-3
-same-length-3 c = search needs
-
-same-length-4 : tie.Need-same-length-4
-same-length-4 c = search needs
 
 returns : tie.Need-returns
 returns c =
@@ -55,18 +25,6 @@ returns c =
     c .before .before .before .before .before .before .before .refuse .ensures
     ∙ cut-refused (heldMaps (a .l)) _ (c .before .before .before .before .before .before .before .before .before .before .before .before .before .before .before .before .before .cut-layers .ensures) (lengthsOf (tablesBy (now (a .vertices)) (now (a .halves)) (now (a .sources)) (now (a .faces)))) _ (sym judged ∙ ap verdict (c .before .before .before .before .before .before .before .before .before .before .before .before .before .check .given .1))
 
-same-length-5 : tie.Need-same-length-5
-same-length-5 c = search needs
-
-same-length-6 : tie.Need-same-length-6
-same-length-6 c = search needs
-
-same-length-7 : tie.Need-same-length-7
-same-length-7 c = search needs
-
-same-length-8 : tie.Need-same-length-8
-same-length-8 c = search needs
-
 returns-2 : tie.Need-returns-2
 returns-2 c = c .before .before .before .before .before .before .before .from-cut .ensures
 
@@ -74,20 +32,20 @@ pub from-layers-spec : {M : Type 1} → statement M
 from-layers-spec =
     tie.close
     (tie.spec
-    cut-layers-requires
-    room-in-requires
-    over-room-requires
-    enum-known-check
-    refuse-requires
-    enum-told
+    (λ c κs. search needs)
+    (λ c κs. search needs)
+    (λ c κs. search needs)
+    (λ c. search needs)
+    (λ c κs. search needs)
+    (λ c. search needs)
     from-cut-requires
-    same-length
-    same-length-2
-    same-length-3
-    same-length-4
+    (λ c. search needs)
+    (λ c. search needs)
+    (λ c. search needs)
+    (λ c. search needs)
     returns
-    same-length-5
-    same-length-6
-    same-length-7
-    same-length-8
+    (λ c. search needs)
+    (λ c. search needs)
+    (λ c. search needs)
+    (λ c. search needs)
     returns-2)

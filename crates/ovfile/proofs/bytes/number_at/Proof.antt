@@ -19,17 +19,8 @@ returns c = let a = c .before .before .args in sym (number-past (a .width) (now 
 loop-holds : tie.Need-loop-holds Inv-loop μ-loop
 loop-holds c = let a = c .before .before .args in reading-starts (a .width) (now (a .file)) (a .at)
 
-sub-i : tie.Need-sub-i Inv-loop μ-loop
-sub-i c = search needs
-
 add-byte-at : tie.Need-add-byte-at Inv-loop μ-loop
 add-byte-at c = omega (arith, c .before .loop .inv .within)
-
-byte-at-requires : tie.Need-byte-at-requires Inv-loop μ-loop
-byte-at-requires c κs = search needs
-
-cast-n : tie.Need-cast-n Inv-loop μ-loop
-cast-n c = search needs
 
 mul-n : tie.Need-mul-n Inv-loop μ-loop
 mul-n c =
@@ -40,9 +31,6 @@ add-n : tie.Need-add-n Inv-loop μ-loop
 add-n c =
     let at = c .before .before in
     omega (arith, reading-small _ _ _ (at .loop .inv) (λ i. at .before .before .shared-slice-known .given i .fits) (omega arith) (c .before .loop-test .taken))
-
-loop-less : tie.Need-loop-less Inv-loop μ-loop
-loop-less c = search needs
 
 loop-again : tie.Need-loop-again Inv-loop μ-loop
 loop-again c = reading-turns _ _ _ (c .before .before .loop .inv) (c .byte-at .result) (c .before .loop-test .taken) (c .byte-at .ensures)
@@ -58,12 +46,12 @@ number-at-spec =
     μ-loop
     returns
     loop-holds
-    sub-i
+    (λ c. search needs)
     add-byte-at
-    byte-at-requires
-    cast-n
+    (λ c κs. search needs)
+    (λ c. search needs)
     mul-n
     add-n
-    loop-less
+    (λ c. search needs)
     loop-again
     returns-2)

@@ -16,19 +16,10 @@ Inv-loop width n₀ i₀ n i = (i ≤ width) × (n ≡ 256 ^ i)
 abbrev μ-loop : tie.MeasureT-loop
 μ-loop width n₀ i₀ n i = width - i
 
-loop-holds : tie.Need-loop-holds Inv-loop μ-loop
-loop-holds c = search needs
-
 mul-n : tie.Need-mul-n Inv-loop μ-loop
 mul-n c =
     let at = c .before in
     omega (arith, powers-fit (at .loop .i) (at .before .args .width) (omega arith) (omega arith))
-
-add-i : tie.Need-add-i Inv-loop μ-loop
-add-i c = search needs
-
-loop-less : tie.Need-loop-less Inv-loop μ-loop
-loop-less c = search needs
 
 loop-again : tie.Need-loop-again Inv-loop μ-loop
 loop-again c =
@@ -43,4 +34,4 @@ returns c =
 
 pub numbers-spec : {M : Type 1} → statement M
 numbers-spec =
-    tie.close (tie.spec Inv-loop μ-loop loop-holds mul-n add-i loop-less loop-again returns)
+    tie.close (tie.spec Inv-loop μ-loop (λ c. search needs) mul-n (λ c. search needs) (λ c. search needs) loop-again returns)

@@ -25,38 +25,17 @@ abbrev μ-loop : tie.MeasureT-loop
 loop-holds : tie.Need-loop-holds Inv-loop μ-loop
 loop-holds c = let a = c .before .before .args in storing-starts 2 (field (now (a .fields))) (two (now (a .fields))) _ _ _ (omega arith)
 
-mul-put : tie.Need-mul-put Inv-loop μ-loop
-mul-put c = search needs
-
-add-put : tie.Need-add-put Inv-loop μ-loop
-add-put c = search needs
-
-mul-put-2 : tie.Need-mul-put-2 Inv-loop μ-loop
-mul-put-2 c = search needs
-
-shared-slice-read-put : tie.Need-shared-slice-read-put Inv-loop μ-loop
-shared-slice-read-put c = search needs
-
 cast-put : tie.Need-cast-put Inv-loop μ-loop
 cast-put c = omega (arith, c .shared-slice-known2 .given (c .before .before .before .loop .i))
 
 put-requires : tie.Need-put-requires Inv-loop μ-loop
 put-requires c κs = omega (arith, c .before .before .before .loop .inv .room, c .before .before .before .loop .inv .kept)
 
-add-i : tie.Need-add-i Inv-loop μ-loop
-add-i c = search needs
-
-loop-less : tie.Need-loop-less Inv-loop μ-loop
-loop-less c = search needs
-
 loop-again : tie.Need-loop-again Inv-loop μ-loop
 loop-again c =
     let at = c .before .before .before .before .before .before in
     let fields = now (at .before .before .before .args .fields) in
     storing-turns 2 (field fields) (two fields) (at .loop .inv) _ (c .before .before .before .before .before .loop-test .taken) (c .before .before .put .ensures)
-
-same-length : tie.Need-same-length Inv-loop μ-loop
-same-length c = search needs
 
 returns : tie.Need-returns Inv-loop μ-loop
 returns c =
@@ -71,14 +50,14 @@ put-fields-spec =
     Inv-loop
     μ-loop
     loop-holds
-    mul-put
-    add-put
-    mul-put-2
-    shared-slice-read-put
+    (λ c. search needs)
+    (λ c. search needs)
+    (λ c. search needs)
+    (λ c. search needs)
     cast-put
     put-requires
-    add-i
-    loop-less
+    (λ c. search needs)
+    (λ c. search needs)
     loop-again
-    same-length
+    (λ c. search needs)
     returns)

@@ -12,12 +12,6 @@ use Rattle.ovfile.proofs.BytesLaws.{powers-small, number-small, below-z
 use Rattle.ovfile.proofs.bytes.signed_at.Statement.{statement}
 use Rattle.ovfile.proofs.bytes.signed_at.Tie as tie
 
-number-at-requires : tie.Need-number-at-requires
-number-at-requires c κs = search needs
-
-numbers-requires : tie.Need-numbers-requires
-numbers-requires c κs = search needs
-
 -- both numbers are far below what 64 bits hold
 module _ (c : tie.After-numbers) where
   abbrev known : tie.After-shared-slice-known
@@ -72,8 +66,8 @@ pub signed-at-spec : {M : Type 1} → statement M
 signed-at-spec =
     tie.close
     (tie.spec
-    number-at-requires
-    numbers-requires
+    (λ c κs. search needs)
+    (λ c κs. search needs)
     cast-result
     cast-result-2
     cast-result-3

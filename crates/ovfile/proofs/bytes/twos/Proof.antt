@@ -11,20 +11,11 @@ use Rattle.ovfile.proofs.BytesLaws.{wrapped-low, wrapped-high}
 use Rattle.ovfile.proofs.bytes.twos.Statement.{statement}
 use Rattle.ovfile.proofs.bytes.twos.Tie as tie
 
-numbers-requires : tie.Need-numbers-requires
-numbers-requires c κs = search needs
-
-magnitude-requires : tie.Need-magnitude-requires
-magnitude-requires c κs = search needs
-
 magnitude-is : (c : tie.After-magnitude) → c .magnitude .result ≡ natAbs (c .before .before .before .args .z)
 magnitude-is c = let s = c .before .before .before in c .magnitude .ensures ∙ ap natAbs (toZ-ofZ w64 (s .args .z) (s .fits .z))
 
 sub-result : tie.Need-sub-result
 sub-result c = omega (arith, magnitude-is c)
-
-magnitude-requires-2 : tie.Need-magnitude-requires-2
-magnitude-requires-2 c κs = search needs
 
 returns : tie.Need-returns
 returns c =
@@ -42,9 +33,9 @@ pub twos-spec : {M : Type 1} → statement M
 twos-spec =
     tie.close
     (tie.spec
-    numbers-requires
-    magnitude-requires
+    (λ c κs. search needs)
+    (λ c κs. search needs)
     sub-result
-    magnitude-requires-2
+    (λ c κs. search needs)
     returns
     returns-2)

@@ -19,23 +19,8 @@ abbrev μ-loop : tie.MeasureT-loop
 loop-holds : tie.Need-loop-holds Inv-loop μ-loop
 loop-holds c = let a = c .before .before .args in places-start (column (now (a .halves)) (a .j)) _ _
 
-sub-h : tie.Need-sub-h Inv-loop μ-loop
-sub-h c = search needs
-
-half-cell-requires : tie.Need-half-cell-requires Inv-loop μ-loop
-half-cell-requires c κs = search needs
-
-cast-store : tie.Need-cast-store Inv-loop μ-loop
-cast-store c = search needs
-
 cast-store-2 : tie.Need-cast-store-2 Inv-loop μ-loop
 cast-store-2 c = omega (arith, c .before .before .before .loop .inv .within)
-
-store-requires : tie.Need-store-requires Inv-loop μ-loop
-store-requires c κs = search needs
-
-loop-less : tie.Need-loop-less Inv-loop μ-loop
-loop-less c = search needs
 
 loop-again : tie.Need-loop-again Inv-loop μ-loop
 loop-again c =
@@ -57,12 +42,12 @@ first-places-spec =
     Inv-loop
     μ-loop
     loop-holds
-    sub-h
-    half-cell-requires
-    cast-store
+    (λ c. search needs)
+    (λ c κs. search needs)
+    (λ c. search needs)
     cast-store-2
-    store-requires
-    loop-less
+    (λ c κs. search needs)
+    (λ c. search needs)
     loop-again
     same-length
     returns)

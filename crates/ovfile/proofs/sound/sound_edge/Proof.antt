@@ -4,33 +4,6 @@ use borrow.Author.Needs.{needs}
 use Rattle.ovfile.proofs.sound.sound_edge.Statement.{statement}
 use Rattle.ovfile.proofs.sound.sound_edge.Tie as tie
 
-mul-a : tie.Need-mul-a
-mul-a c = search needs
-
-add-b : tie.Need-add-b
-add-b c = search needs
-
-half-cell-requires : tie.Need-half-cell-requires
-half-cell-requires c κs = search needs
-
-half-cell-requires-2 : tie.Need-half-cell-requires-2
-half-cell-requires-2 c κs = search needs
-
-half-cell-requires-3 : tie.Need-half-cell-requires-3
-half-cell-requires-3 c κs = search needs
-
-half-cell-requires-4 : tie.Need-half-cell-requires-4
-half-cell-requires-4 c κs = search needs
-
-sound-follower-requires : tie.Need-sound-follower-requires
-sound-follower-requires c κs = search needs
-
-sound-follower-requires-2 : tie.Need-sound-follower-requires-2
-sound-follower-requires-2 c κs = search needs
-
-has-source-requires : tie.Need-has-source-requires
-has-source-requires c κs = search needs
-
 returns : tie.Need-returns
 returns c =
     let d = c .before .before .before .before in
@@ -49,13 +22,13 @@ pub sound-edge-spec : {M : Type 1} → statement M
 sound-edge-spec =
     tie.close
     (tie.spec
-    mul-a
-    add-b
-    half-cell-requires
-    half-cell-requires-2
-    half-cell-requires-3
-    half-cell-requires-4
-    sound-follower-requires
-    sound-follower-requires-2
-    has-source-requires
+    (λ c. search needs)
+    (λ c. search needs)
+    (λ c κs. search needs)
+    (λ c κs. search needs)
+    (λ c κs. search needs)
+    (λ c κs. search needs)
+    (λ c κs. search needs)
+    (λ c κs. search needs)
+    (λ c κs. search needs)
     returns)

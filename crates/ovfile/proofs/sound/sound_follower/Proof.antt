@@ -9,33 +9,6 @@ use borrow.Author.Needs.{needs}
 use Rattle.ovfile.proofs.sound.sound_follower.Statement.{statement}
 use Rattle.ovfile.proofs.sound.sound_follower.Tie as tie
 
-half-cell-requires : tie.Need-half-cell-requires
-half-cell-requires c κs = search needs
-
-cast-f : tie.Need-cast-f
-cast-f c = search needs
-
-mul-result : tie.Need-mul-result
-mul-result c = search needs
-
-half-cell-requires-2 : tie.Need-half-cell-requires-2
-half-cell-requires-2 c κs = search needs
-
-twin-requires : tie.Need-twin-requires
-twin-requires c κs = search needs
-
-half-cell-requires-3 : tie.Need-half-cell-requires-3
-half-cell-requires-3 c κs = search needs
-
-cast-u16-at : tie.Need-cast-u16-at
-cast-u16-at c = search needs
-
-u16-at-requires : tie.Need-u16-at-requires
-u16-at-requires c κs = search needs
-
-cast-result : tie.Need-cast-result
-cast-result c = search needs
-
 returns : tie.Need-returns
 returns c =
     let d = c .before .before .before .before in
@@ -52,13 +25,13 @@ pub sound-follower-spec : {M : Type 1} → statement M
 sound-follower-spec =
     tie.close
     (tie.spec
-    half-cell-requires
-    cast-f
-    mul-result
-    half-cell-requires-2
-    twin-requires
-    half-cell-requires-3
-    cast-u16-at
-    u16-at-requires
-    cast-result
+    (λ c κs. search needs)
+    (λ c. search needs)
+    (λ c. search needs)
+    (λ c κs. search needs)
+    (λ c κs. search needs)
+    (λ c κs. search needs)
+    (λ c. search needs)
+    (λ c κs. search needs)
+    (λ c. search needs)
     returns)

@@ -12,18 +12,6 @@ use borrow.Author.Needs.{needs}
 use Rattle.ovread.proofs.fill.fill_faces.Statement.{statement}
 use Rattle.ovread.proofs.fill.fill_faces.Tie as tie
 
-lay-faces-requires : tie.Need-lay-faces-requires
-lay-faces-requires c κs = search needs
-
-counts-requires : tie.Need-counts-requires
-counts-requires c κs = search needs
-
-cast-wipe-from-u16 : tie.Need-cast-wipe-from-u16
-cast-wipe-from-u16 c = search needs
-
-mul-wipe-from-u16 : tie.Need-mul-wipe-from-u16
-mul-wipe-from-u16 c = search needs
-
 counted : (c : tie.After-counts) → c .counts .result .faces ≡ countsIn (now (c .before .before .before .before .before .before .before .args .file)) .faces
 counted c = ap (λ (n : Counts). n .faces) (c .counts .ensures)
 
@@ -31,9 +19,6 @@ wipe-from-u16-requires : tie.Need-wipe-from-u16-requires
 wipe-from-u16-requires c κs =
     let l = c .before .before .before .before .before in
     omega (arith, counted (c .before .before), l .lay-faces .kept .1 .0, l .before .before .before .before .pre)
-
-same-length : tie.Need-same-length
-same-length c = search needs
 
 returns : tie.Need-returns
 unfolding tablesIn
@@ -49,10 +34,10 @@ pub fill-faces-spec : {M : Type 1} → statement M
 fill-faces-spec =
     tie.close
     (tie.spec
-    lay-faces-requires
-    counts-requires
-    cast-wipe-from-u16
-    mul-wipe-from-u16
+    (λ c κs. search needs)
+    (λ c κs. search needs)
+    (λ c. search needs)
+    (λ c. search needs)
     wipe-from-u16-requires
-    same-length
+    (λ c. search needs)
     returns)

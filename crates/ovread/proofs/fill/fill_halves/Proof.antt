@@ -12,24 +12,6 @@ use borrow.Author.Needs.{needs}
 use Rattle.ovread.proofs.fill.fill_halves.Statement.{statement}
 use Rattle.ovread.proofs.fill.fill_halves.Tie as tie
 
-predecessors-requires : tie.Need-predecessors-requires
-predecessors-requires c κs = search needs
-
-slice-aggregate-lay-halves : tie.Need-slice-aggregate-lay-halves
-slice-aggregate-lay-halves c = search needs
-
-lay-halves-requires : tie.Need-lay-halves-requires
-lay-halves-requires c κs = search needs
-
-counts-requires : tie.Need-counts-requires
-counts-requires c κs = search needs
-
-cast-wipe-from-u16 : tie.Need-cast-wipe-from-u16
-cast-wipe-from-u16 c = search needs
-
-mul-wipe-from-u16 : tie.Need-mul-wipe-from-u16
-mul-wipe-from-u16 c = search needs
-
 counted : (c : tie.After-counts) → c .counts .result .edges ≡ countsIn (now (c .before .before .before .before .before .before .before .before .before .args .file)) .edges
 counted c = ap (λ (n : Counts). n .edges) (c .counts .ensures)
 
@@ -37,9 +19,6 @@ wipe-from-u16-requires : tie.Need-wipe-from-u16-requires
 wipe-from-u16-requires c κs =
     let l = c .before .before .before .before .before in
     omega (arith, counted (c .before .before), l .lay-halves .kept .1 .1 .0, l .before .before .before .before .before .before .pre .1)
-
-same-length : tie.Need-same-length
-same-length c = search needs
 
 returns : tie.Need-returns
 unfolding tablesIn
@@ -56,12 +35,12 @@ pub fill-halves-spec : {M : Type 1} → statement M
 fill-halves-spec =
     tie.close
     (tie.spec
-    predecessors-requires
-    slice-aggregate-lay-halves
-    lay-halves-requires
-    counts-requires
-    cast-wipe-from-u16
-    mul-wipe-from-u16
+    (λ c κs. search needs)
+    (λ c. search needs)
+    (λ c κs. search needs)
+    (λ c κs. search needs)
+    (λ c. search needs)
+    (λ c. search needs)
     wipe-from-u16-requires
-    same-length
+    (λ c. search needs)
     returns)

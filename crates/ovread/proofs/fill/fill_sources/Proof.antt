@@ -12,18 +12,6 @@ use borrow.Author.Needs.{needs}
 use Rattle.ovread.proofs.fill.fill_sources.Statement.{statement}
 use Rattle.ovread.proofs.fill.fill_sources.Tie as tie
 
-lay-sources-requires : tie.Need-lay-sources-requires
-lay-sources-requires c κs = search needs
-
-counts-requires : tie.Need-counts-requires
-counts-requires c κs = search needs
-
-cast-wipe-from-u32 : tie.Need-cast-wipe-from-u32
-cast-wipe-from-u32 c = search needs
-
-mul-wipe-from-u32 : tie.Need-mul-wipe-from-u32
-mul-wipe-from-u32 c = search needs
-
 counted : (c : tie.After-counts) → c .counts .result .edges ≡ countsIn (now (c .before .before .before .before .before .before .before .args .file)) .edges
 counted c = ap (λ (n : Counts). n .edges) (c .counts .ensures)
 
@@ -31,9 +19,6 @@ wipe-from-u32-requires : tie.Need-wipe-from-u32-requires
 wipe-from-u32-requires c κs =
     let l = c .before .before .before .before .before in
     omega (arith, counted (c .before .before), l .lay-sources .kept .1 .0, l .before .before .before .before .pre)
-
-same-length : tie.Need-same-length
-same-length c = search needs
 
 returns : tie.Need-returns
 unfolding tablesIn
@@ -49,10 +34,10 @@ pub fill-sources-spec : {M : Type 1} → statement M
 fill-sources-spec =
     tie.close
     (tie.spec
-    lay-sources-requires
-    counts-requires
-    cast-wipe-from-u32
-    mul-wipe-from-u32
+    (λ c κs. search needs)
+    (λ c κs. search needs)
+    (λ c. search needs)
+    (λ c. search needs)
     wipe-from-u32-requires
-    same-length
+    (λ c. search needs)
     returns)

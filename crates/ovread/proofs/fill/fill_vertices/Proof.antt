@@ -13,24 +13,6 @@ use borrow.Author.Needs.{needs}
 use Rattle.ovread.proofs.fill.fill_vertices.Statement.{statement}
 use Rattle.ovread.proofs.fill.fill_vertices.Tie as tie
 
-least-starts-requires : tie.Need-least-starts-requires
-least-starts-requires c κs = search needs
-
-slice-aggregate-lay-vertices : tie.Need-slice-aggregate-lay-vertices
-slice-aggregate-lay-vertices c = search needs
-
-lay-vertices-requires : tie.Need-lay-vertices-requires
-lay-vertices-requires c κs = search needs
-
-counts-requires : tie.Need-counts-requires
-counts-requires c κs = search needs
-
-cast-wipe-from-i64 : tie.Need-cast-wipe-from-i64
-cast-wipe-from-i64 c = search needs
-
-mul-wipe-from-i64 : tie.Need-mul-wipe-from-i64
-mul-wipe-from-i64 c = search needs
-
 counted : (c : tie.After-counts) → c .counts .result .vertices ≡ countsIn (now (c .before .before .before .before .before .before .before .args .file)) .vertices
 counted c = ap (λ (n : Counts). n .vertices) (c .counts .ensures)
 
@@ -38,9 +20,6 @@ wipe-from-i64-requires : tie.Need-wipe-from-i64-requires
 wipe-from-i64-requires c κs =
     let l = c .before .before .before .before in
     omega (arith, counted (c .before .before), l .lay-vertices .kept .1 .1 .0, l .before .before .before .before .before .pre .1)
-
-same-length : tie.Need-same-length
-same-length c = search needs
 
 returns : tie.Need-returns
 unfolding tablesIn
@@ -57,12 +36,12 @@ pub fill-vertices-spec : {M : Type 1} → statement M
 fill-vertices-spec =
     tie.close
     (tie.spec
-    least-starts-requires
-    slice-aggregate-lay-vertices
-    lay-vertices-requires
-    counts-requires
-    cast-wipe-from-i64
-    mul-wipe-from-i64
+    (λ c κs. search needs)
+    (λ c. search needs)
+    (λ c κs. search needs)
+    (λ c κs. search needs)
+    (λ c. search needs)
+    (λ c. search needs)
     wipe-from-i64-requires
-    same-length
+    (λ c. search needs)
     returns)

@@ -19,26 +19,8 @@ abbrev μ-loop : tie.MeasureT-loop
 loop-holds : tie.Need-loop-holds Inv-loop μ-loop
 loop-holds c = let a = c .before .before .args in places-start (storedField (now (a .file)) (a .j)) _ _
 
-sub-h : tie.Need-sub-h Inv-loop μ-loop
-sub-h c = search needs
-
-add-edge-field : tie.Need-add-edge-field Inv-loop μ-loop
-add-edge-field c = search needs
-
-edge-field-requires : tie.Need-edge-field-requires Inv-loop μ-loop
-edge-field-requires c κs = search needs
-
-cast-store : tie.Need-cast-store Inv-loop μ-loop
-cast-store c = search needs
-
 cast-store-2 : tie.Need-cast-store-2 Inv-loop μ-loop
 cast-store-2 c = omega (arith, c .before .before .before .loop .inv .within)
-
-store-requires : tie.Need-store-requires Inv-loop μ-loop
-store-requires c κs = search needs
-
-loop-less : tie.Need-loop-less Inv-loop μ-loop
-loop-less c = search needs
 
 loop-again : tie.Need-loop-again Inv-loop μ-loop
 loop-again c =
@@ -60,13 +42,13 @@ first-stored-spec =
     Inv-loop
     μ-loop
     loop-holds
-    sub-h
-    add-edge-field
-    edge-field-requires
-    cast-store
+    (λ c. search needs)
+    (λ c. search needs)
+    (λ c κs. search needs)
+    (λ c. search needs)
     cast-store-2
-    store-requires
-    loop-less
+    (λ c κs. search needs)
+    (λ c. search needs)
     loop-again
     same-length
     returns)

@@ -18,12 +18,6 @@ Inv-loop file faces₀ n f₀ faces f = Storing 4 (faceRead maps layout file) 0 
 abbrev μ-loop : tie.MeasureT-loop
 μ-loop file faces₀ n f₀ faces f = n - f
 
-counts-requires : tie.Need-counts-requires Inv-loop μ-loop
-counts-requires c κs = search needs
-
-cast-n : tie.Need-cast-n Inv-loop μ-loop
-cast-n c = search needs
-
 counted : (c : tie.After-counts Inv-loop μ-loop) → c .counts .result .faces ≡ countsIn (now (c .before .before .before .args .file)) .faces
 counted c = ap (λ (n : Counts). n .faces) (c .counts .ensures)
 
@@ -32,31 +26,10 @@ loop-holds c =
     let a = c .before .before .before .before .args in
     laying-starts 4 (faceRead maps layout (now (a .file))) (λ k. refl) _ _ (omega (arith, counted (c .before)))
 
-cast-store4-u16 : tie.Need-cast-store4-u16 Inv-loop μ-loop
-cast-store4-u16 c = search needs
-
-face-field-requires : tie.Need-face-field-requires Inv-loop μ-loop
-face-field-requires c κs = search needs
-
-face-field-requires-2 : tie.Need-face-field-requires-2 Inv-loop μ-loop
-face-field-requires-2 c κs = search needs
-
-face-field-requires-3 : tie.Need-face-field-requires-3 Inv-loop μ-loop
-face-field-requires-3 c κs = search needs
-
-face-field-requires-4 : tie.Need-face-field-requires-4 Inv-loop μ-loop
-face-field-requires-4 c κs = search needs
-
 store4-u16-requires : tie.Need-store4-u16-requires Inv-loop μ-loop
 store4-u16-requires c κs =
     let at = c .before .before .before .before .before .before in
     omega (arith, at .loop .inv .room, at .loop .inv .kept)
-
-add-f : tie.Need-add-f Inv-loop μ-loop
-add-f c = search needs
-
-loop-less : tie.Need-loop-less Inv-loop μ-loop
-loop-less c = search needs
 
 loop-again : tie.Need-loop-again Inv-loop μ-loop
 loop-again c =
@@ -83,17 +56,17 @@ lay-faces-spec =
     (tie.spec
     Inv-loop
     μ-loop
-    counts-requires
-    cast-n
+    (λ c κs. search needs)
+    (λ c. search needs)
     loop-holds
-    cast-store4-u16
-    face-field-requires
-    face-field-requires-2
-    face-field-requires-3
-    face-field-requires-4
+    (λ c. search needs)
+    (λ c κs. search needs)
+    (λ c κs. search needs)
+    (λ c κs. search needs)
+    (λ c κs. search needs)
     store4-u16-requires
-    add-f
-    loop-less
+    (λ c. search needs)
+    (λ c. search needs)
     loop-again
     same-length
     returns)

@@ -24,15 +24,6 @@ Inv-loop file first halves₀ n h₀ halves h = Storing 5 (row file) 0 n halves�
 abbrev μ-loop : tie.MeasureT-loop
 μ-loop file first halves₀ n h₀ halves h = n - h
 
-counts-requires : tie.Need-counts-requires Inv-loop μ-loop
-counts-requires c κs = search needs
-
-cast-n : tie.Need-cast-n Inv-loop μ-loop
-cast-n c = search needs
-
-mul-n : tie.Need-mul-n Inv-loop μ-loop
-mul-n c = search needs
-
 counted : (c : tie.After-counts Inv-loop μ-loop) → c .counts .result .edges ≡ countsIn (now (c .before .before .before .before .args .file)) .edges
 counted c = ap (λ (n : Counts). n .edges) (c .counts .ensures)
 
@@ -41,42 +32,15 @@ loop-holds c =
     let a = c .before .before .before .before .before .args in
     laying-starts 5 (row (now (a .file))) (λ k. refl) _ _ (omega (arith, counted (c .before), c .before .before .before .before .before .pre .2))
 
-cast-store5-u16 : tie.Need-cast-store5-u16 Inv-loop μ-loop
-cast-store5-u16 c = search needs
-
-origin-requires : tie.Need-origin-requires Inv-loop μ-loop
-origin-requires c κs = search needs
-
-twin-requires : tie.Need-twin-requires Inv-loop μ-loop
-twin-requires c κs = search needs
-
 cast-store5-u16-2 : tie.Need-cast-store5-u16-2 Inv-loop μ-loop
 cast-store5-u16-2 c =
     let at = c .before .before .before .before in
     omega (arith, c .twin .ensures, twin-le (at .loop .h), c .before .before .before .loop-test .taken, counted (at .before .before), at .before .before .before .before .before .before .pre .0 .edges)
 
-follower-requires : tie.Need-follower-requires Inv-loop μ-loop
-follower-requires c κs = search needs
-
-cast-u16-at : tie.Need-cast-u16-at Inv-loop μ-loop
-cast-u16-at c = search needs
-
-u16-at-requires : tie.Need-u16-at-requires Inv-loop μ-loop
-u16-at-requires c κs = search needs
-
-face-requires : tie.Need-face-requires Inv-loop μ-loop
-face-requires c κs = search needs
-
 store5-u16-requires : tie.Need-store5-u16-requires Inv-loop μ-loop
 store5-u16-requires c κs =
     let at = c .before .before .before .before .before .before .before in
     omega (arith, at .loop .inv .room, at .loop .inv .kept, c .before .before .before .before .before .before .loop-test .taken)
-
-add-h : tie.Need-add-h Inv-loop μ-loop
-add-h c = search needs
-
-loop-less : tie.Need-loop-less Inv-loop μ-loop
-loop-less c = search needs
 
 loop-again : tie.Need-loop-again Inv-loop μ-loop
 loop-again c =
@@ -111,21 +75,21 @@ lay-halves-spec =
     (tie.spec
     Inv-loop
     μ-loop
-    counts-requires
-    cast-n
-    mul-n
+    (λ c κs. search needs)
+    (λ c. search needs)
+    (λ c. search needs)
     loop-holds
-    cast-store5-u16
-    origin-requires
-    twin-requires
+    (λ c. search needs)
+    (λ c κs. search needs)
+    (λ c κs. search needs)
     cast-store5-u16-2
-    follower-requires
-    cast-u16-at
-    u16-at-requires
-    face-requires
+    (λ c κs. search needs)
+    (λ c. search needs)
+    (λ c κs. search needs)
+    (λ c κs. search needs)
     store5-u16-requires
-    add-h
-    loop-less
+    (λ c. search needs)
+    (λ c. search needs)
     loop-again
     same-length
     returns)

@@ -21,12 +21,6 @@ Inv-loop file sources₀ n k₀ sources k = Storing 2 (row file) 0 n sources₀ 
 abbrev μ-loop : tie.MeasureT-loop
 μ-loop file sources₀ n k₀ sources k = n - k
 
-counts-requires : tie.Need-counts-requires Inv-loop μ-loop
-counts-requires c κs = search needs
-
-cast-n : tie.Need-cast-n Inv-loop μ-loop
-cast-n c = search needs
-
 counted : (c : tie.After-counts Inv-loop μ-loop) → c .counts .result .edges ≡ countsIn (now (c .before .before .before .args .file)) .edges
 counted c = ap (λ (n : Counts). n .edges) (c .counts .ensures)
 
@@ -35,31 +29,10 @@ loop-holds c =
     let a = c .before .before .before .before .args in
     laying-starts 2 (row (now (a .file))) (λ k. refl) _ _ (omega (arith, counted (c .before)))
 
-cast-store2-u32 : tie.Need-cast-store2-u32 Inv-loop μ-loop
-cast-store2-u32 c = search needs
-
-edge-field-requires : tie.Need-edge-field-requires Inv-loop μ-loop
-edge-field-requires c κs = search needs
-
-cast-store2-u32-2 : tie.Need-cast-store2-u32-2 Inv-loop μ-loop
-cast-store2-u32-2 c = search needs
-
-edge-field-requires-2 : tie.Need-edge-field-requires-2 Inv-loop μ-loop
-edge-field-requires-2 c κs = search needs
-
-cast-store2-u32-3 : tie.Need-cast-store2-u32-3 Inv-loop μ-loop
-cast-store2-u32-3 c = search needs
-
 store2-u32-requires : tie.Need-store2-u32-requires Inv-loop μ-loop
 store2-u32-requires c κs =
     let at = c .before .before .before .before in
     omega (arith, at .loop .inv .room, at .loop .inv .kept)
-
-add-k : tie.Need-add-k Inv-loop μ-loop
-add-k c = search needs
-
-loop-less : tie.Need-loop-less Inv-loop μ-loop
-loop-less c = search needs
 
 loop-again : tie.Need-loop-again Inv-loop μ-loop
 loop-again c =
@@ -86,17 +59,17 @@ lay-sources-spec =
     (tie.spec
     Inv-loop
     μ-loop
-    counts-requires
-    cast-n
+    (λ c κs. search needs)
+    (λ c. search needs)
     loop-holds
-    cast-store2-u32
-    edge-field-requires
-    cast-store2-u32-2
-    edge-field-requires-2
-    cast-store2-u32-3
+    (λ c. search needs)
+    (λ c κs. search needs)
+    (λ c. search needs)
+    (λ c κs. search needs)
+    (λ c. search needs)
     store2-u32-requires
-    add-k
-    loop-less
+    (λ c. search needs)
+    (λ c. search needs)
     loop-again
     same-length
     returns)

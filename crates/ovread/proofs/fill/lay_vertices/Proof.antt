@@ -21,9 +21,6 @@ Inv-loop file least vertices₀ n v₀ vertices v = Storing 4 (vertexBy file lea
 abbrev μ-loop : tie.MeasureT-loop
 μ-loop file least vertices₀ n v₀ vertices v = n - v
 
-counts-requires : tie.Need-counts-requires Inv-loop μ-loop
-counts-requires c κs = search needs
-
 counted : (c : tie.After-counts Inv-loop μ-loop) → c .counts .result .vertices ≡ countsIn (now (c .before .before .before .args .file)) .vertices
 counted c = ap (λ (n : Counts). n .vertices) (c .counts .ensures)
 
@@ -32,55 +29,16 @@ loop-holds c =
     let a = c .before .before .before .args in
     laying-starts 4 (vertexBy (now (a .file)) (now (a .least))) (λ k. refl) _ _ (omega (arith, counted c))
 
-vertex-place-requires : tie.Need-vertex-place-requires Inv-loop μ-loop
-vertex-place-requires c κs = search needs
-
-signed-at-requires : tie.Need-signed-at-requires Inv-loop μ-loop
-signed-at-requires c κs = search needs
-
-add-signed-at : tie.Need-add-signed-at Inv-loop μ-loop
-add-signed-at c = search needs
-
-signed-at-requires-2 : tie.Need-signed-at-requires-2 Inv-loop μ-loop
-signed-at-requires-2 c κs = search needs
-
-mul-number-at : tie.Need-mul-number-at Inv-loop μ-loop
-mul-number-at c = search needs
-
-add-number-at : tie.Need-add-number-at Inv-loop μ-loop
-add-number-at c = search needs
-
-number-at-requires : tie.Need-number-at-requires Inv-loop μ-loop
-number-at-requires c κs = search needs
-
 of-u64-requires : tie.Need-of-u64-requires Inv-loop μ-loop
 of-u64-requires c κs =
     let p = c .before .before .before in
     let start = p .before .before .before in
     omega (arith, c .number-at .ensures, number-below 4 (now (start .before .before .before .args .file)) (p .vertex-place .result + 10) (λ i. start .before .before .shared-slice-known .given i .fits))
 
-cast-store4-i64 : tie.Need-cast-store4-i64 Inv-loop μ-loop
-cast-store4-i64 c = search needs
-
-cast-u16-at : tie.Need-cast-u16-at Inv-loop μ-loop
-cast-u16-at c = search needs
-
-u16-at-requires : tie.Need-u16-at-requires Inv-loop μ-loop
-u16-at-requires c κs = search needs
-
-of-u16-requires : tie.Need-of-u16-requires Inv-loop μ-loop
-of-u16-requires c κs = search needs
-
 store4-i64-requires : tie.Need-store4-i64-requires Inv-loop μ-loop
 store4-i64-requires c κs =
     let at = c .before .before .before .before .before .before .before .before .before in
     omega (arith, at .loop .inv .room, at .loop .inv .kept, c .before .before .before .before .before .before .before .before .loop-test .taken)
-
-add-v : tie.Need-add-v Inv-loop μ-loop
-add-v c = search needs
-
-loop-less : tie.Need-loop-less Inv-loop μ-loop
-loop-less c = search needs
 
 loop-again : tie.Need-loop-again Inv-loop μ-loop
 loop-again c =
@@ -114,23 +72,23 @@ lay-vertices-spec =
     (tie.spec
     Inv-loop
     μ-loop
-    counts-requires
+    (λ c κs. search needs)
     loop-holds
-    vertex-place-requires
-    signed-at-requires
-    add-signed-at
-    signed-at-requires-2
-    mul-number-at
-    add-number-at
-    number-at-requires
+    (λ c κs. search needs)
+    (λ c κs. search needs)
+    (λ c. search needs)
+    (λ c κs. search needs)
+    (λ c. search needs)
+    (λ c. search needs)
+    (λ c κs. search needs)
     of-u64-requires
-    cast-store4-i64
-    cast-u16-at
-    u16-at-requires
-    of-u16-requires
+    (λ c. search needs)
+    (λ c. search needs)
+    (λ c κs. search needs)
+    (λ c κs. search needs)
     store4-i64-requires
-    add-v
-    loop-less
+    (λ c. search needs)
+    (λ c. search needs)
     loop-again
     same-length
     returns)

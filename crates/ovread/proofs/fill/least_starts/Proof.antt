@@ -12,18 +12,6 @@ use borrow.Author.Needs.{needs}
 use Rattle.ovread.proofs.fill.least_starts.Statement.{statement}
 use Rattle.ovread.proofs.fill.least_starts.Tie as tie
 
-counts-requires : tie.Need-counts-requires
-counts-requires c κs = search needs
-
-cast-first-stored : tie.Need-cast-first-stored
-cast-first-stored c = search needs
-
-mul-first-stored : tie.Need-mul-first-stored
-mul-first-stored c = search needs
-
-slice-aggregate-first-stored : tie.Need-slice-aggregate-first-stored
-slice-aggregate-first-stored c = search needs
-
 counted : (c : tie.After-counts) → c .counts .result .edges ≡ countsIn (now (c .before .before .args .file)) .edges
 counted c = ap (λ (n : Counts). n .edges) (c .counts .ensures)
 
@@ -41,9 +29,9 @@ pub least-starts-spec : {M : Type 1} → statement M
 least-starts-spec =
     tie.close
     (tie.spec
-    counts-requires
-    cast-first-stored
-    mul-first-stored
-    slice-aggregate-first-stored
+    (λ c κs. search needs)
+    (λ c. search needs)
+    (λ c. search needs)
+    (λ c. search needs)
     first-stored-requires
     returns)

@@ -11,23 +11,11 @@ use borrow.Author.Needs.{needs}
 use Rattle.ovread.proofs.fill.predecessors.Statement.{statement}
 use Rattle.ovread.proofs.fill.predecessors.Tie as tie
 
-counts-requires : tie.Need-counts-requires
-counts-requires c κs = search needs
-
-cast-n : tie.Need-cast-n
-cast-n c = search needs
-
-mul-n : tie.Need-mul-n
-mul-n c = search needs
-
 counted : (c : tie.After-counts) → c .counts .result .edges ≡ countsIn (now (c .before .before .args .file)) .edges
 counted c = ap (λ (n : Counts). n .edges) (c .counts .ensures)
 
 cast-first : tie.Need-cast-first
 cast-first c = omega (arith, counted (c .before), c .before .before .before .pre .edges)
-
-slice-aggregate-first-stored : tie.Need-slice-aggregate-first-stored
-slice-aggregate-first-stored c = search needs
 
 first-stored-requires : tie.Need-first-stored-requires
 first-stored-requires c κs = omega (arith, counted (c .before .before), c .before .before .before .before .pre .edges)
@@ -44,10 +32,10 @@ pub predecessors-spec : {M : Type 1} → statement M
 predecessors-spec =
     tie.close
     (tie.spec
-    counts-requires
-    cast-n
-    mul-n
+    (λ c κs. search needs)
+    (λ c. search needs)
+    (λ c. search needs)
     cast-first
-    slice-aggregate-first-stored
+    (λ c. search needs)
     first-stored-requires
     returns)

@@ -8,15 +8,6 @@ use borrow.Author.Needs.{needs}
 use Rattle.ovread.proofs.head.bad_mark.Statement.{statement}
 use Rattle.ovread.proofs.head.bad_mark.Tie as tie
 
-byte-at-requires : tie.Need-byte-at-requires
-byte-at-requires c κs = search needs
-
-byte-at-requires-2 : tie.Need-byte-at-requires-2
-byte-at-requires-2 c κs = search needs
-
-byte-at-requires-3 : tie.Need-byte-at-requires-3
-byte-at-requires-3 c κs = search needs
-
 returns : tie.Need-returns
 returns c =
     let s = now (c .before .before .before .before .args .file) in
@@ -24,4 +15,4 @@ returns c =
     ∙ ap (λ (b : Bool). ltb (length s) overlayHead || not b) (mark-is s)
 
 pub bad-mark-spec : {M : Type 1} → statement M
-bad-mark-spec = tie.close (tie.spec byte-at-requires byte-at-requires-2 byte-at-requires-3 returns)
+bad-mark-spec = tie.close (tie.spec (λ c κs. search needs) (λ c κs. search needs) (λ c κs. search needs) returns)

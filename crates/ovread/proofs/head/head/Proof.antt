@@ -11,45 +11,6 @@ use borrow.Author.Needs.{needs}
 use Rattle.ovread.proofs.head.head.Statement.{statement}
 use Rattle.ovread.proofs.head.head.Tie as tie
 
-bad-mark-requires : tie.Need-bad-mark-requires
-bad-mark-requires c κs = search needs
-
-given-requires : tie.Need-given-requires
-given-requires c κs = search needs
-
-bad-version-requires : tie.Need-bad-version-requires
-bad-version-requires c κs = search needs
-
-given-requires-2 : tie.Need-given-requires-2
-given-requires-2 c κs = search needs
-
-counts-requires : tie.Need-counts-requires
-counts-requires c κs = search needs
-
-numbers-requires : tie.Need-numbers-requires
-numbers-requires c κs = search needs
-
-over-requires : tie.Need-over-requires
-over-requires c κs = search needs
-
-given-requires-3 : tie.Need-given-requires-3
-given-requires-3 c κs = search needs
-
-file-length-requires : tie.Need-file-length-requires
-file-length-requires c κs = search needs
-
-given-requires-4 : tie.Need-given-requires-4
-given-requires-4 c κs = search needs
-
-first-requires : tie.Need-first-requires
-first-requires c κs = search needs
-
-first-requires-2 : tie.Need-first-requires-2
-first-requires-2 c κs = search needs
-
-first-requires-3 : tie.Need-first-requires-3
-first-requires-3 c κs = search needs
-
 returns : tie.Need-returns
 returns c =
     let d = c .before .before .before in
@@ -69,17 +30,17 @@ pub head-spec : {M : Type 1} → statement M
 head-spec =
     tie.close
     (tie.spec
-    bad-mark-requires
-    given-requires
-    bad-version-requires
-    given-requires-2
-    counts-requires
-    numbers-requires
-    over-requires
-    given-requires-3
-    file-length-requires
-    given-requires-4
-    first-requires
-    first-requires-2
-    first-requires-3
+    (λ c κs. search needs)
+    (λ c κs. search needs)
+    (λ c κs. search needs)
+    (λ c κs. search needs)
+    (λ c κs. search needs)
+    (λ c κs. search needs)
+    (λ c κs. search needs)
+    (λ c κs. search needs)
+    (λ c κs. search needs)
+    (λ c κs. search needs)
+    (λ c κs. search needs)
+    (λ c κs. search needs)
+    (λ c κs. search needs)
     returns)

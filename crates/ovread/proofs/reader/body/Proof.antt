@@ -12,36 +12,6 @@ use borrow.Author.Needs.{needs}
 use Rattle.ovread.proofs.reader.body.Statement.{statement}
 use Rattle.ovread.proofs.reader.body.Tie as tie
 
-counts-requires : tie.Need-counts-requires
-counts-requires c κs = search needs
-
-room-in-requires : tie.Need-room-in-requires
-room-in-requires c κs = search needs
-
-unsound-requires : tie.Need-unsound-requires
-unsound-requires c κs = search needs
-
-given-requires : tie.Need-given-requires
-given-requires c κs = search needs
-
-given-requires-2 : tie.Need-given-requires-2
-given-requires-2 c κs = search needs
-
-given-requires-3 : tie.Need-given-requires-3
-given-requires-3 c κs = search needs
-
-given-requires-4 : tie.Need-given-requires-4
-given-requires-4 c κs = search needs
-
-first-requires : tie.Need-first-requires
-first-requires c κs = search needs
-
-first-requires-2 : tie.Need-first-requires-2
-first-requires-2 c κs = search needs
-
-first-requires-3 : tie.Need-first-requires-3
-first-requires-3 c κs = search needs
-
 returns : tie.Need-returns
 returns c =
     let e = c .before .before .before .before .before .before .before .before .before .before .before .before .before .before in
@@ -59,14 +29,14 @@ pub body-spec : {M : Type 1} → statement M
 body-spec =
     tie.close
     (tie.spec
-    counts-requires
-    room-in-requires
-    unsound-requires
-    given-requires
-    given-requires-2
-    given-requires-3
-    given-requires-4
-    first-requires
-    first-requires-2
-    first-requires-3
+    (λ c κs. search needs)
+    (λ c κs. search needs)
+    (λ c κs. search needs)
+    (λ c κs. search needs)
+    (λ c κs. search needs)
+    (λ c κs. search needs)
+    (λ c κs. search needs)
+    (λ c κs. search needs)
+    (λ c κs. search needs)
+    (λ c κs. search needs)
     returns)

@@ -13,15 +13,6 @@ use borrow.Author.Needs.{needs}
 use Rattle.ovread.proofs.reader.judge.Statement.{statement}
 use Rattle.ovread.proofs.reader.judge.Tie as tie
 
-head-requires : tie.Need-head-requires
-head-requires c κs = search needs
-
-enum-told : tie.Need-enum-told
-enum-told c = search needs
-
-enum-told-2 : tie.Need-enum-told-2
-enum-told-2 c = search needs
-
 form-is-right : (c : tie.After-enum-told2) → firstOf (headFaults (length layouts) (layoutIn (now (c .before .before .before .before .args .file))) (now (c .before .before .before .before .args .file))) ≡ none
 form-is-right c = sym (c .before .before .head .ensures) ∙ ap verdict (c .enum-told2 .given .1)
 
@@ -46,4 +37,4 @@ returns-2 c =
 
 pub judge-spec : {M : Type 1} → statement M
 judge-spec =
-    tie.close (tie.spec head-requires enum-told enum-told-2 body-requires returns returns-2)
+    tie.close (tie.spec (λ c κs. search needs) (λ c. search needs) (λ c. search needs) body-requires returns returns-2)

@@ -11,39 +11,12 @@ use borrow.Author.Needs.{needs}
 use Rattle.ovread.proofs.reader.read.Statement.{statement}
 use Rattle.ovread.proofs.reader.read.Tie as tie
 
-judge-requires : tie.Need-judge-requires
-judge-requires c κs = search needs
-
-enum-known-check : tie.Need-enum-known-check
-enum-known-check c = search needs
-
-wipe-all-requires : tie.Need-wipe-all-requires
-wipe-all-requires c κs = search needs
-
-enum-told : tie.Need-enum-told
-enum-told c = search needs
-
 fill-requires : tie.Need-fill-requires
 fill-requires c κs =
     let a = c .before .before .before .before .before .before .before .before .before .before .before .args in
     let s = now (a .file) in
     let e = sym (c .before .before .before .before .before .before .judge .ensures) ∙ ap verdict (c .before .before .before .before .enum-told .given .1) in
     (right-counts s (form-right s (lengthsBy (length (now (a .vertices))) (length (now (a .halves))) (length (now (a .sources))) (length (now (a .faces)))) e), room-enough s _ e)
-
-counts-requires : tie.Need-counts-requires
-counts-requires c κs = search needs
-
-same-length : tie.Need-same-length
-same-length c = search needs
-
-same-length-2 : tie.Need-same-length-2
-same-length-2 c = search needs
-
-same-length-3 : tie.Need-same-length-3
-same-length-3 c = search needs
-
-same-length-4 : tie.Need-same-length-4
-same-length-4 c = search needs
 
 returns : tie.Need-returns
 returns c =
@@ -52,18 +25,6 @@ returns c =
     let told = c .before .before .before .before .before .before .before .before .before .before .before .before .before .check .given in
     (λ i. record { answer = refused (refusalOf (told .0 .0)); tables = c .before .before .before .before .before .before .before .wipe-all .ensures i })
     ∙ read-refused s _ _ (sym (c .before .before .before .before .before .before .before .before .before .before .before .before .before .before .before .judge .ensures) ∙ ap verdict (told .1))
-
-same-length-5 : tie.Need-same-length-5
-same-length-5 c = search needs
-
-same-length-6 : tie.Need-same-length-6
-same-length-6 c = search needs
-
-same-length-7 : tie.Need-same-length-7
-same-length-7 c = search needs
-
-same-length-8 : tie.Need-same-length-8
-same-length-8 c = search needs
 
 returns-2 : tie.Need-returns-2
 returns-2 c =
@@ -77,19 +38,19 @@ pub read-spec : {M : Type 1} → statement M
 read-spec =
     tie.close
     (tie.spec
-    judge-requires
-    enum-known-check
-    wipe-all-requires
-    enum-told
+    (λ c κs. search needs)
+    (λ c. search needs)
+    (λ c κs. search needs)
+    (λ c. search needs)
     fill-requires
-    counts-requires
-    same-length
-    same-length-2
-    same-length-3
-    same-length-4
+    (λ c κs. search needs)
+    (λ c. search needs)
+    (λ c. search needs)
+    (λ c. search needs)
+    (λ c. search needs)
     returns
-    same-length-5
-    same-length-6
-    same-length-7
-    same-length-8
+    (λ c. search needs)
+    (λ c. search needs)
+    (λ c. search needs)
+    (λ c. search needs)
     returns-2)

@@ -12,26 +12,11 @@ use borrow.Author.Needs.{needs}
 use Rattle.ovread.proofs.reader.unsound_by.Statement.{statement}
 use Rattle.ovread.proofs.reader.unsound_by.Tie as tie
 
-fill-halves-requires : tie.Need-fill-halves-requires
-fill-halves-requires c κs = search needs
-
-fill-sources-requires : tie.Need-fill-sources-requires
-fill-sources-requires c κs = search needs
-
-counts-requires : tie.Need-counts-requires
-counts-requires c κs = search needs
-
 counted : (c : tie.After-counts) → c .counts .result .edges ≡ countsIn (now (c .before .before .before .before .before .before .before .before .before .before .before .before .args .file)) .edges
 counted c = ap (λ (n : Counts). n .edges) (c .counts .ensures)
 
 first-unsound-requires : tie.Need-first-unsound-requires
 first-unsound-requires c κs = omega (arith, counted (c .before .before), c .before .before .before .before .before .before .before .before .before .before .before .before .before .before .pre .0 .edges)
-
-same-length : tie.Need-same-length
-same-length c = search needs
-
-same-length-2 : tie.Need-same-length-2
-same-length-2 c = search needs
 
 returns : tie.Need-returns
 returns c =
@@ -44,10 +29,10 @@ pub unsound-by-spec : {M : Type 1} → statement M
 unsound-by-spec =
     tie.close
     (tie.spec
-    fill-halves-requires
-    fill-sources-requires
-    counts-requires
+    (λ c κs. search needs)
+    (λ c κs. search needs)
+    (λ c κs. search needs)
     first-unsound-requires
-    same-length
-    same-length-2
+    (λ c. search needs)
+    (λ c. search needs)
     returns)

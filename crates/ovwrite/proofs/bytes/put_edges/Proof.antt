@@ -16,32 +16,14 @@ Inv-loop halves sources buffer₀ n start k₀ buffer k = Storing 16 (edgeBytes 
 abbrev μ-loop : tie.MeasureT-loop
 μ-loop halves sources buffer₀ n start k₀ buffer k = n - k
 
-edges-at-requires : tie.Need-edges-at-requires Inv-loop μ-loop
-edges-at-requires c κs = search needs
-
 loop-holds : tie.Need-loop-holds Inv-loop μ-loop
 loop-holds c =
     let s = c .before .before .before .before in
     let t = edgeTables (now (s .args .halves)) (now (s .args .sources)) in
     storing-starts 16 (edgeBytes t) (edge-long t) (c .edges-at .result) (s .args .c .edges) (now (s .args .buffer)) (omega (arith, c .edges-at .ensures, s .pre))
 
-cast-put-edge : tie.Need-cast-put-edge Inv-loop μ-loop
-cast-put-edge c = search needs
-
-mul-put-edge : tie.Need-mul-put-edge Inv-loop μ-loop
-mul-put-edge c = search needs
-
-add-put-edge : tie.Need-add-put-edge Inv-loop μ-loop
-add-put-edge c = search needs
-
 put-edge-requires : tie.Need-put-edge-requires Inv-loop μ-loop
 put-edge-requires c κs = let at = c .before .before in omega (arith, at .loop .inv .room, at .loop .inv .kept, c .before .loop-test .taken)
-
-add-k : tie.Need-add-k Inv-loop μ-loop
-add-k c = search needs
-
-loop-less : tie.Need-loop-less Inv-loop μ-loop
-loop-less c = search needs
 
 loop-again : tie.Need-loop-again Inv-loop μ-loop
 loop-again c =
@@ -66,14 +48,14 @@ put-edges-spec =
     (tie.spec
     Inv-loop
     μ-loop
-    edges-at-requires
+    (λ c κs. search needs)
     loop-holds
-    cast-put-edge
-    mul-put-edge
-    add-put-edge
+    (λ c. search needs)
+    (λ c. search needs)
+    (λ c. search needs)
     put-edge-requires
-    add-k
-    loop-less
+    (λ c. search needs)
+    (λ c. search needs)
     loop-again
     same-length
     returns)

@@ -16,32 +16,14 @@ Inv-loop faces buffer₀ n start f₀ buffer f = Storing 8 (faceBytes (tablesBy 
 abbrev μ-loop : tie.MeasureT-loop
 μ-loop faces buffer₀ n start f₀ buffer f = n - f
 
-faces-at-requires : tie.Need-faces-at-requires Inv-loop μ-loop
-faces-at-requires c κs = search needs
-
 loop-holds : tie.Need-loop-holds Inv-loop μ-loop
 loop-holds c =
     let s = c .before .before .before in
     let t = tablesBy [] [] [] (now (s .args .faces)) in
     storing-starts 8 (faceBytes t) (face-long t) (c .faces-at .result) (s .args .c .faces) (now (s .args .buffer)) (omega (arith, c .faces-at .ensures, s .pre))
 
-cast-put-face : tie.Need-cast-put-face Inv-loop μ-loop
-cast-put-face c = search needs
-
-mul-put-face : tie.Need-mul-put-face Inv-loop μ-loop
-mul-put-face c = search needs
-
-add-put-face : tie.Need-add-put-face Inv-loop μ-loop
-add-put-face c = search needs
-
 put-face-requires : tie.Need-put-face-requires Inv-loop μ-loop
 put-face-requires c κs = let at = c .before .before in omega (arith, at .loop .inv .room, at .loop .inv .kept, c .before .loop-test .taken)
-
-add-f : tie.Need-add-f Inv-loop μ-loop
-add-f c = search needs
-
-loop-less : tie.Need-loop-less Inv-loop μ-loop
-loop-less c = search needs
 
 loop-again : tie.Need-loop-again Inv-loop μ-loop
 loop-again c =
@@ -65,14 +47,14 @@ put-faces-spec =
     (tie.spec
     Inv-loop
     μ-loop
-    faces-at-requires
+    (λ c κs. search needs)
     loop-holds
-    cast-put-face
-    mul-put-face
-    add-put-face
+    (λ c. search needs)
+    (λ c. search needs)
+    (λ c. search needs)
     put-face-requires
-    add-f
-    loop-less
+    (λ c. search needs)
+    (λ c. search needs)
     loop-again
     same-length
     returns)

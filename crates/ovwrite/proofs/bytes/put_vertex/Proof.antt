@@ -11,44 +11,14 @@ use borrow.Author.Needs.{needs}
 use Rattle.ovwrite.proofs.bytes.put_vertex.Statement.{statement}
 use Rattle.ovwrite.proofs.bytes.put_vertex.Tie as tie
 
-vertex-cell-requires : tie.Need-vertex-cell-requires
-vertex-cell-requires c κs = search needs
-
 twos-requires : tie.Need-twos-requires
 twos-requires c κs = (omega arith, omega (arith, ap natAbs (toZ-ofZ w64 _ (record { sfits = c .vertex-cell .ok }) ∙ c .vertex-cell .ensures), c .before .before .pre .0 .x))
-
-vertex-cell-requires-2 : tie.Need-vertex-cell-requires-2
-vertex-cell-requires-2 c κs = search needs
 
 twos-requires-2 : tie.Need-twos-requires-2
 twos-requires-2 c κs = (omega arith, omega (arith, ap natAbs (toZ-ofZ w64 _ (record { sfits = c .vertex-cell2 .ok }) ∙ c .vertex-cell2 .ensures), c .before .before .before .before .pre .0 .y))
 
-vertex-cell-requires-3 : tie.Need-vertex-cell-requires-3
-vertex-cell-requires-3 c κs = search needs
-
 twos-requires-3 : tie.Need-twos-requires-3
 twos-requires-3 c κs = (omega arith, omega (arith, ap natAbs (toZ-ofZ w64 _ (record { sfits = c .vertex-cell3 .ok }) ∙ c .vertex-cell3 .ensures), c .before .before .before .before .before .before .pre .0 .d))
-
-put-requires : tie.Need-put-requires
-put-requires c κs = search needs
-
-add-put : tie.Need-add-put
-add-put c = search needs
-
-put-requires-2 : tie.Need-put-requires-2
-put-requires-2 c κs = search needs
-
-mul-put : tie.Need-mul-put
-mul-put c = search needs
-
-add-put-2 : tie.Need-add-put-2
-add-put-2 c = search needs
-
-put-requires-3 : tie.Need-put-requires-3
-put-requires-3 c κs = search needs
-
-same-length : tie.Need-same-length
-same-length c = search needs
 
 returns : tie.Need-returns
 returns c =
@@ -66,17 +36,17 @@ pub put-vertex-spec : {M : Type 1} → statement M
 put-vertex-spec =
     tie.close
     (tie.spec
-    vertex-cell-requires
+    (λ c κs. search needs)
     twos-requires
-    vertex-cell-requires-2
+    (λ c κs. search needs)
     twos-requires-2
-    vertex-cell-requires-3
+    (λ c κs. search needs)
     twos-requires-3
-    put-requires
-    add-put
-    put-requires-2
-    mul-put
-    add-put-2
-    put-requires-3
-    same-length
+    (λ c κs. search needs)
+    (λ c. search needs)
+    (λ c κs. search needs)
+    (λ c. search needs)
+    (λ c. search needs)
+    (λ c κs. search needs)
+    (λ c. search needs)
     returns)

@@ -24,19 +24,10 @@ abbrev μ-loop : tie.MeasureT-loop
 loop-holds : tie.Need-loop-holds Inv-loop μ-loop
 loop-holds c = let s = c .before in let vs = now (s .args .vertices) in storing-starts 14 (bytes vs) (vertex-long (tablesBy vs [] [] [])) 11 (s .args .n) (now (s .args .buffer)) (s .pre .1)
 
-vertex-place-requires : tie.Need-vertex-place-requires Inv-loop μ-loop
-vertex-place-requires c κs = search needs
-
 put-vertex-requires : tie.Need-put-vertex-requires Inv-loop μ-loop
 put-vertex-requires c κs =
     let at = c .before .before .before in
     (at .before .before .pre .0 .at (at .loop .v) (c .before .before .loop-test .taken), omega (arith, c .vertex-place .ensures, at .loop .inv .room, at .loop .inv .kept, c .before .before .loop-test .taken))
-
-add-v : tie.Need-add-v Inv-loop μ-loop
-add-v c = search needs
-
-loop-less : tie.Need-loop-less Inv-loop μ-loop
-loop-less c = search needs
 
 loop-again : tie.Need-loop-again Inv-loop μ-loop
 loop-again c =
@@ -58,10 +49,10 @@ put-vertices-spec =
     Inv-loop
     μ-loop
     loop-holds
-    vertex-place-requires
+    (λ c κs. search needs)
     put-vertex-requires
-    add-v
-    loop-less
+    (λ c. search needs)
+    (λ c. search needs)
     loop-again
     same-length
     returns)

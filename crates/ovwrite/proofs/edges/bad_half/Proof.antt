@@ -7,30 +7,6 @@ use borrow.Author.Needs.{needs}
 use Rattle.ovwrite.proofs.edges.bad_half.Statement.{statement}
 use Rattle.ovwrite.proofs.edges.bad_half.Tie as tie
 
-half-cell-requires : tie.Need-half-cell-requires
-half-cell-requires c κs = search needs
-
-cast-p : tie.Need-cast-p
-cast-p c = search needs
-
-half-cell-requires-2 : tie.Need-half-cell-requires-2
-half-cell-requires-2 c κs = search needs
-
-cast-other : tie.Need-cast-other
-cast-other c = search needs
-
-twin-requires : tie.Need-twin-requires
-twin-requires c κs = search needs
-
-half-cell-requires-3 : tie.Need-half-cell-requires-3
-half-cell-requires-3 c κs = search needs
-
-cast-back : tie.Need-cast-back
-cast-back c = search needs
-
-mul-result : tie.Need-mul-result
-mul-result c = search needs
-
 returns : tie.Need-returns
 returns c =
     let p = c .before .before .before .half-cell .ensures in
@@ -43,12 +19,12 @@ pub bad-half-spec : {M : Type 1} → statement M
 bad-half-spec =
     tie.close
     (tie.spec
-    half-cell-requires
-    cast-p
-    half-cell-requires-2
-    cast-other
-    twin-requires
-    half-cell-requires-3
-    cast-back
-    mul-result
+    (λ c κs. search needs)
+    (λ c. search needs)
+    (λ c κs. search needs)
+    (λ c. search needs)
+    (λ c κs. search needs)
+    (λ c κs. search needs)
+    (λ c. search needs)
+    (λ c. search needs)
     returns)

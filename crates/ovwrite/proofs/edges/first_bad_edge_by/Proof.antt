@@ -27,19 +27,10 @@ test c = let a = c .before .before .before .before .args in bad (a .c) (now (a .
 loop-holds : tie.Need-loop-holds Inv-loop μ-loop
 loop-holds c = let a = c .before .before .before .args in search-starts (bad (a .c) (now (a .halves)) (now (a .sources))) (a .c .edges)
 
-bad-edge-requires : tie.Need-bad-edge-requires Inv-loop μ-loop
-bad-edge-requires c κs = search needs
-
 returns : tie.Need-returns Inv-loop μ-loop
 returns c =
     let at = c .before .before .before in
     search-finds (test at) (at .loop .inv) (c .before .before .loop-test .taken) (sym (c .before .bad-edge .ensures) ∙ c .if1 .taken)
-
-add-k : tie.Need-add-k Inv-loop μ-loop
-add-k c = search needs
-
-loop-less : tie.Need-loop-less Inv-loop μ-loop
-loop-less c = search needs
 
 loop-again : tie.Need-loop-again Inv-loop μ-loop
 loop-again c =
@@ -56,9 +47,9 @@ first-bad-edge-by-spec =
     Inv-loop
     μ-loop
     loop-holds
-    bad-edge-requires
+    (λ c κs. search needs)
     returns
-    add-k
-    loop-less
+    (λ c. search needs)
+    (λ c. search needs)
     loop-again
     returns-2)

@@ -8,12 +8,6 @@ use borrow.Author.Needs.{needs}
 use Rattle.ovwrite.proofs.edges.wide_source.Statement.{statement}
 use Rattle.ovwrite.proofs.edges.wide_source.Tie as tie
 
-source-cell-requires : tie.Need-source-cell-requires
-source-cell-requires c κs = search needs
-
-source-cell-requires-2 : tie.Need-source-cell-requires-2
-source-cell-requires-2 c κs = search needs
-
 returns : tie.Need-returns
 returns c =
     let a = c .before .before .before .args in
@@ -21,4 +15,4 @@ returns c =
     ∙ some-two (λ i. leb 65536 (cell 0 maps (now (a .sources)) (a .k) i))
 
 pub wide-source-spec : {M : Type 1} → statement M
-wide-source-spec = tie.close (tie.spec source-cell-requires source-cell-requires-2 returns)
+wide-source-spec = tie.close (tie.spec (λ c κs. search needs) (λ c κs. search needs) returns)

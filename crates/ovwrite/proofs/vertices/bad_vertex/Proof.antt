@@ -9,33 +9,6 @@ use borrow.Author.Needs.{needs}
 use Rattle.ovwrite.proofs.vertices.bad_vertex.Statement.{statement}
 use Rattle.ovwrite.proofs.vertices.bad_vertex.Tie as tie
 
-vertex-cell-requires : tie.Need-vertex-cell-requires
-vertex-cell-requires c κs = search needs
-
-fits-signed-requires : tie.Need-fits-signed-requires
-fits-signed-requires c κs = search needs
-
-vertex-cell-requires-2 : tie.Need-vertex-cell-requires-2
-vertex-cell-requires-2 c κs = search needs
-
-fits-signed-requires-2 : tie.Need-fits-signed-requires-2
-fits-signed-requires-2 c κs = search needs
-
-vertex-cell-requires-3 : tie.Need-vertex-cell-requires-3
-vertex-cell-requires-3 c κs = search needs
-
-fits-unsigned-requires : tie.Need-fits-unsigned-requires
-fits-unsigned-requires c κs = search needs
-
-vertex-cell-requires-4 : tie.Need-vertex-cell-requires-4
-vertex-cell-requires-4 c κs = search needs
-
-u16-at-requires : tie.Need-u16-at-requires
-u16-at-requires c κs = search needs
-
-of-u16-requires : tie.Need-of-u16-requires
-of-u16-requires c κs = search needs
-
 returns : tie.Need-returns
 returns c =
     let x = c .before .before .before .before .before .before .before in
@@ -51,13 +24,13 @@ pub bad-vertex-spec : {M : Type 1} → statement M
 bad-vertex-spec =
     tie.close
     (tie.spec
-    vertex-cell-requires
-    fits-signed-requires
-    vertex-cell-requires-2
-    fits-signed-requires-2
-    vertex-cell-requires-3
-    fits-unsigned-requires
-    vertex-cell-requires-4
-    u16-at-requires
-    of-u16-requires
+    (λ c κs. search needs)
+    (λ c κs. search needs)
+    (λ c κs. search needs)
+    (λ c κs. search needs)
+    (λ c κs. search needs)
+    (λ c κs. search needs)
+    (λ c κs. search needs)
+    (λ c κs. search needs)
+    (λ c κs. search needs)
     returns)

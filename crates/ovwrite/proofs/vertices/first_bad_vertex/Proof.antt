@@ -7,15 +7,6 @@ use borrow.Author.Needs.{needs}
 use Rattle.ovwrite.proofs.vertices.first_bad_vertex.Statement.{statement}
 use Rattle.ovwrite.proofs.vertices.first_bad_vertex.Tie as tie
 
-least-starts-requires : tie.Need-least-starts-requires
-least-starts-requires c κs = search needs
-
-slice-aggregate-first-bad-vertex-by : tie.Need-slice-aggregate-first-bad-vertex-by
-slice-aggregate-first-bad-vertex-by c = search needs
-
-first-bad-vertex-by-requires : tie.Need-first-bad-vertex-by-requires
-first-bad-vertex-by-requires c κs = search needs
-
 returns : tie.Need-returns
 returns c =
     let s = c .before .before .before .before in
@@ -25,7 +16,7 @@ pub first-bad-vertex-spec : {M : Type 1} → statement M
 first-bad-vertex-spec =
     tie.close
     (tie.spec
-    least-starts-requires
-    slice-aggregate-first-bad-vertex-by
-    first-bad-vertex-by-requires
+    (λ c κs. search needs)
+    (λ c. search needs)
+    (λ c κs. search needs)
     returns)

@@ -20,19 +20,10 @@ test c = let a = c .before .before .args in badVertexBy (now (a .vertices)) (now
 loop-holds : tie.Need-loop-holds Inv-loop μ-loop
 loop-holds c = let a = c .before .args in search-starts (badVertexBy (now (a .vertices)) (now (a .starts))) (a .n)
 
-bad-vertex-requires : tie.Need-bad-vertex-requires Inv-loop μ-loop
-bad-vertex-requires c κs = search needs
-
 returns : tie.Need-returns Inv-loop μ-loop
 returns c =
     let at = c .before .before .before in
     search-finds (test at) (at .loop .inv) (c .before .before .loop-test .taken) (sym (c .before .bad-vertex .ensures) ∙ c .if1 .taken)
-
-add-v : tie.Need-add-v Inv-loop μ-loop
-add-v c = search needs
-
-loop-less : tie.Need-loop-less Inv-loop μ-loop
-loop-less c = search needs
 
 loop-again : tie.Need-loop-again Inv-loop μ-loop
 loop-again c =
@@ -49,9 +40,9 @@ first-bad-vertex-by-spec =
     Inv-loop
     μ-loop
     loop-holds
-    bad-vertex-requires
+    (λ c κs. search needs)
     returns
-    add-v
-    loop-less
+    (λ c. search needs)
+    (λ c. search needs)
     loop-again
     returns-2)

@@ -10,15 +10,6 @@ use borrow.Author.Needs.{needs}
 use Rattle.ovwrite.proofs.vertices.fits_signed.Statement.{statement}
 use Rattle.ovwrite.proofs.vertices.fits_signed.Tie as tie
 
-numbers-requires : tie.Need-numbers-requires
-numbers-requires c κs = search needs
-
-magnitude-requires : tie.Need-magnitude-requires
-magnitude-requires c κs = search needs
-
-magnitude-requires-2 : tie.Need-magnitude-requires-2
-magnitude-requires-2 c κs = search needs
-
 returns : tie.Need-returns
 returns c =
     let s = c .before .before .before in
@@ -35,4 +26,4 @@ returns-2 c =
 
 pub fits-signed-spec : {M : Type 1} → statement M
 fits-signed-spec =
-    tie.close (tie.spec numbers-requires magnitude-requires magnitude-requires-2 returns returns-2)
+    tie.close (tie.spec (λ c κs. search needs) (λ c κs. search needs) (λ c κs. search needs) returns returns-2)

@@ -13,12 +13,6 @@ use Rattle.ovwrite.proofs.vertices.fits_unsigned.Tie as tie
 returns : tie.Need-returns
 returns c = let a = c .before .args in unsigned-high (a .width) (a .z) (ltZ-yes (taken (c .if1 .taken) (search trbs depth 20) tt))
 
-magnitude-requires : tie.Need-magnitude-requires
-magnitude-requires c κs = search needs
-
-numbers-requires : tie.Need-numbers-requires
-numbers-requires c κs = search needs
-
 returns-2 : tie.Need-returns-2
 returns-2 c =
     let s = c .before .before .before in
@@ -26,4 +20,4 @@ returns-2 c =
     ∙ unsigned-low (s .args .width) (s .args .z) (ltZ-no (left (c .before .before .if1 .left) (search trbs depth 20) tt))
 
 pub fits-unsigned-spec : {M : Type 1} → statement M
-fits-unsigned-spec = tie.close (tie.spec returns magnitude-requires numbers-requires returns-2)
+fits-unsigned-spec = tie.close (tie.spec returns (λ c κs. search needs) (λ c κs. search needs) returns-2)

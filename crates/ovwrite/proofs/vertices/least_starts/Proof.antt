@@ -8,15 +8,6 @@ use borrow.Author.Needs.{needs}
 use Rattle.ovwrite.proofs.vertices.least_starts.Statement.{statement}
 use Rattle.ovwrite.proofs.vertices.least_starts.Tie as tie
 
-mul-first-places : tie.Need-mul-first-places
-mul-first-places c = search needs
-
-slice-aggregate-first-places : tie.Need-slice-aggregate-first-places
-slice-aggregate-first-places c = search needs
-
-first-places-requires : tie.Need-first-places-requires
-first-places-requires c κs = search needs
-
 returns : tie.Need-returns
 returns c =
     starts-by (now (c .before .before .before .before .args .halves)) (c .before .first-places .ensures) (omega (arith, c .before .first-places .kept .1 .1 .1 .0))
@@ -25,4 +16,4 @@ returns c =
 pub least-starts-spec : {M : Type 1} → statement M
 least-starts-spec =
     tie.close
-    (tie.spec mul-first-places slice-aggregate-first-places first-places-requires returns)
+    (tie.spec (λ c. search needs) (λ c. search needs) (λ c κs. search needs) returns)

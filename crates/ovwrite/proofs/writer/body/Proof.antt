@@ -12,30 +12,6 @@ use borrow.Author.Needs.{needs}
 use Rattle.ovwrite.proofs.writer.body.Statement.{statement}
 use Rattle.ovwrite.proofs.writer.body.Tie as tie
 
-first-bad-vertex-requires : tie.Need-first-bad-vertex-requires
-first-bad-vertex-requires c κs = search needs
-
-first-bad-edge-requires : tie.Need-first-bad-edge-requires
-first-bad-edge-requires c κs = search needs
-
-given-requires : tie.Need-given-requires
-given-requires c κs = search needs
-
-given-requires-2 : tie.Need-given-requires-2
-given-requires-2 c κs = search needs
-
-file-length-requires : tie.Need-file-length-requires
-file-length-requires c κs = search needs
-
-given-requires-3 : tie.Need-given-requires-3
-given-requires-3 c κs = search needs
-
-first-requires : tie.Need-first-requires
-first-requires c κs = search needs
-
-first-requires-2 : tie.Need-first-requires-2
-first-requires-2 c κs = search needs
-
 returns : tie.Need-returns
 returns c =
     let a = c .before .before .before .before .before .before .before .before .before .before .before .before .args in
@@ -49,12 +25,12 @@ pub body-spec : {M : Type 1} → statement M
 body-spec =
     tie.close
     (tie.spec
-    first-bad-vertex-requires
-    first-bad-edge-requires
-    given-requires
-    given-requires-2
-    file-length-requires
-    given-requires-3
-    first-requires
-    first-requires-2
+    (λ c κs. search needs)
+    (λ c κs. search needs)
+    (λ c κs. search needs)
+    (λ c κs. search needs)
+    (λ c κs. search needs)
+    (λ c κs. search needs)
+    (λ c κs. search needs)
+    (λ c κs. search needs)
     returns)

@@ -12,25 +12,10 @@ use borrow.Author.Needs.{needs}
 use Rattle.ovwrite.proofs.writer.judge.Statement.{statement}
 use Rattle.ovwrite.proofs.writer.judge.Tie as tie
 
-room-in-requires : tie.Need-room-in-requires
-room-in-requires c κs = search needs
-
-over-requires : tie.Need-over-requires
-over-requires c κs = search needs
-
-given-requires : tie.Need-given-requires
-given-requires c κs = search needs
-
 -- the counts against the room, as the definitions have them
 counts-are : (c : tie.After-given)
     → verdict (c .given .result) ≡ (let a = c .before .before .before .before .before .args in tooMany (lengthsBy (length (now (a .vertices))) (length (now (a .halves))) (length (now (a .sources))) (a .faces)) (countsOf (a .c)))
 counts-are c = let a = c .before .before .before .before .before .args in c .given .ensures ∙ ap (given 3 0) (c .before .over .ensures ∙ ap (λ (r : paper.Counts). over r (countsOf (a .c))) (c .before .before .room-in .ensures))
-
-enum-told : tie.Need-enum-told
-enum-told c = search needs
-
-enum-told-2 : tie.Need-enum-told-2
-enum-told-2 c = search needs
 
 body-requires : tie.Need-body-requires
 body-requires c κs = let a = c .before .before .before .before .before .before .before .args in within (lengthsBy (length (now (a .vertices))) (length (now (a .halves))) (length (now (a .sources))) (a .faces)) (countsOf (a .c)) (sym (counts-are (c .before .before)) ∙ ap verdict (c .enum-told2 .given .1))
@@ -51,11 +36,11 @@ pub judge-spec : {M : Type 1} → statement M
 judge-spec =
     tie.close
     (tie.spec
-    room-in-requires
-    over-requires
-    given-requires
-    enum-told
-    enum-told-2
+    (λ c κs. search needs)
+    (λ c κs. search needs)
+    (λ c κs. search needs)
+    (λ c. search needs)
+    (λ c. search needs)
     body-requires
     returns
     returns-2)

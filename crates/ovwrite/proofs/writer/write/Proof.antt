@@ -11,30 +11,12 @@ use borrow.Author.Needs.{needs}
 use Rattle.ovwrite.proofs.writer.write.Statement.{statement}
 use Rattle.ovwrite.proofs.writer.write.Tie as tie
 
-judge-requires : tie.Need-judge-requires
-judge-requires c κs = search needs
-
-enum-known-check : tie.Need-enum-known-check
-enum-known-check c = search needs
-
-wipe-u8-requires : tie.Need-wipe-u8-requires
-wipe-u8-requires c κs = search needs
-
-enum-told : tie.Need-enum-told
-enum-told c = search needs
-
 put-file-requires : tie.Need-put-file-requires
 put-file-requires c κs =
     let a = c .before .before .before .before .before .before .before .before .args in
     let n = length (now (a .buffer)) in
     let e = sym (c .before .before .before .judge .ensures) ∙ ap verdict (c .before .enum-told .given .1) in
     (all-fit n (countsOf (a .c)) (now (a .vertices)) (now (a .halves)) (now (a .sources)) (now (a .faces)) e, room-enough n (countsOf (a .c)) (now (a .vertices)) (now (a .halves)) (now (a .sources)) (now (a .faces)) e)
-
-file-length-requires : tie.Need-file-length-requires
-file-length-requires c κs = search needs
-
-same-length : tie.Need-same-length
-same-length c = search needs
 
 returns : tie.Need-returns
 returns c =
@@ -43,9 +25,6 @@ returns c =
     let told = c .before .before .before .before .before .check .given in
     (λ i. record { answer = refused (refusalOf (told .0 .0)); buffer = (c .before .before .wipe-u8 .ensures ∙ sym (padded-none 0 n)) i })
     ∙ write-refused n (countsOf (a .c)) (now (a .vertices)) (now (a .halves)) (now (a .sources)) (now (a .faces)) _ (sym (c .before .before .before .before .before .before .before .judge .ensures) ∙ ap verdict (told .1))
-
-same-length-2 : tie.Need-same-length-2
-same-length-2 c = search needs
 
 returns-2 : tie.Need-returns-2
 returns-2 c =
@@ -59,13 +38,13 @@ pub write-spec : {M : Type 1} → statement M
 write-spec =
     tie.close
     (tie.spec
-    judge-requires
-    enum-known-check
-    wipe-u8-requires
-    enum-told
+    (λ c κs. search needs)
+    (λ c. search needs)
+    (λ c κs. search needs)
+    (λ c. search needs)
     put-file-requires
-    file-length-requires
-    same-length
+    (λ c κs. search needs)
+    (λ c. search needs)
     returns
-    same-length-2
+    (λ c. search needs)
     returns-2)

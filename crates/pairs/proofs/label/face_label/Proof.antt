@@ -22,9 +22,6 @@ outer-of-requires c κs =
     let l = inner (a .points .now) (a .ends .now) (a .lines .now) (a .pieces .now) (a .m) (a .outers .now) (a .b - a .a) (a .f) q (s .pre .1) in
     (omega (arith, q), omega (arith, q, l .0))
 
-cast-half-label : tie.Need-cast-half-label
-cast-half-label c = search needs
-
 half-label-requires : tie.Need-half-label-requires
 half-label-requires c κs =
     let s = c .before .before .before .before .before .before .before in
@@ -42,4 +39,4 @@ returns-2 c =
 
 pub face-label-spec : {M : Type 1} → statement M
 face-label-spec =
-    tie.close (tie.spec returns outer-of-requires cast-half-label half-label-requires returns-2)
+    tie.close (tie.spec returns outer-of-requires (λ c. search needs) half-label-requires returns-2)

@@ -7,9 +7,6 @@ use Rattle.layers.specs.Standing.{standing}
 use Rattle.pairs.proofs.label.half_label.Statement.{statement}
 use Rattle.pairs.proofs.label.half_label.Tie as tie
 
-mul-start : tie.Need-mul-start
-mul-start c = search needs
-
 start-requires : tie.Need-start-requires
 start-requires c κs = c .before .before .before .before .pre .1 .starts
 
@@ -34,7 +31,7 @@ pub half-label-spec : {M : Type 1} → statement M
 half-label-spec =
     tie.close
     (tie.spec
-    mul-start
+    (λ c. search needs)
     start-requires
     upward-requires
     source-in-requires

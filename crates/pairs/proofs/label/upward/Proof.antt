@@ -7,9 +7,6 @@ use Rattle.plane.proofs.Machine.{vec-back}
 use Rattle.pairs.proofs.label.upward.Statement.{statement}
 use Rattle.pairs.proofs.label.upward.Tie as tie
 
-carrier-at-requires : tie.Need-carrier-at-requires
-carrier-at-requires c κs = search needs
-
 returns : tie.Need-returns
 returns c =
     let r = c .before .carrier-at in
@@ -17,4 +14,4 @@ returns c =
     (b ∙ ap (λ (z : Seg). z .up) (r .ensures .0), subst Direction (sym b) (r .ensures .1 .up-is))
 
 pub upward-spec : {M : Type 1} → statement M
-upward-spec = tie.close (tie.spec carrier-at-requires returns)
+upward-spec = tie.close (tie.spec (λ c κs. search needs) returns)

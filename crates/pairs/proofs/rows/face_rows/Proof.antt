@@ -26,26 +26,14 @@ outers-long s = length-unmapped ℕ (s .args .t .outers) 4000 (s .good .1 .1 .0 
 holes-long : (s : tie.Start) → length (s .args .t .holes) ≡ 4001
 holes-long s = length-unmapped ℕ (s .args .t .holes) 4001 (s .good .1 .1 .0 .1 .1 .1 .1 .1 .1 .1 .1 .1 .0 .1 .0 .1)
 
-slice-aggregate-lay-labels : tie.Need-slice-aggregate-lay-labels
-slice-aggregate-lay-labels c = search needs
-
 lay-labels-requires : tie.Need-lay-labels-requires
 lay-labels-requires c κs = (whole (c .before), (omega arith, whole (c .before) .few-faces))
-
-slice-aggregate-lay-labels-2 : tie.Need-slice-aggregate-lay-labels-2
-slice-aggregate-lay-labels-2 c = search needs
 
 lay-labels-requires-2 : tie.Need-lay-labels-requires-2
 lay-labels-requires-2 c κs = let s = c .before .before .before .before in (whole s, (omega arith, whole s .few-faces))
 
-add-n : tie.Need-add-n
-add-n c = search needs
-
 slice-aggregate-lay-outers : tie.Need-slice-aggregate-lay-outers
 slice-aggregate-lay-outers c = sym (outers-long (c .before .before .before .before .before .before .before .before .before))
-
-slice-aggregate-lay-outers-2 : tie.Need-slice-aggregate-lay-outers-2
-slice-aggregate-lay-outers-2 c = search needs
 
 lay-outers-requires : tie.Need-lay-outers-requires
 lay-outers-requires c κs = let s = c .before .before .before .before .before .before .before .before .before .before in (omega (arith, outers-long s, whole s .few-faces), whole s .few-faces)
@@ -53,14 +41,8 @@ lay-outers-requires c κs = let s = c .before .before .before .before .before .b
 slice-aggregate-lay-holes : tie.Need-slice-aggregate-lay-holes
 slice-aggregate-lay-holes c = sym (holes-long (c .before .before .before .before .before .before .before .before .before .before .before .before .before .before))
 
-slice-aggregate-lay-holes-2 : tie.Need-slice-aggregate-lay-holes-2
-slice-aggregate-lay-holes-2 c = search needs
-
 lay-holes-requires : tie.Need-lay-holes-requires
 lay-holes-requires c κs = let s = c .before .before .before .before .before .before .before .before .before .before .before .before .before .before .before in (omega (arith, holes-long s, whole s .few-faces), whole s .few-faces)
-
-cast-t24 : tie.Need-cast-t24
-cast-t24 c = search needs
 
 returns : tie.Need-returns
 returns c =
@@ -75,16 +57,16 @@ pub face-rows-spec : {M : Type 1} → statement M
 face-rows-spec =
     tie.close
     (tie.spec
-    slice-aggregate-lay-labels
+    (λ c. search needs)
     lay-labels-requires
-    slice-aggregate-lay-labels-2
+    (λ c. search needs)
     lay-labels-requires-2
-    add-n
+    (λ c. search needs)
     slice-aggregate-lay-outers
-    slice-aggregate-lay-outers-2
+    (λ c. search needs)
     lay-outers-requires
     slice-aggregate-lay-holes
-    slice-aggregate-lay-holes-2
+    (λ c. search needs)
     lay-holes-requires
-    cast-t24
+    (λ c. search needs)
     returns)

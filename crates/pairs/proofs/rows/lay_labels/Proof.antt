@@ -54,36 +54,6 @@ slice-aggregate-face-labels-3 c = sym (carriers-long (c .before .before .before 
 slice-aggregate-face-labels-4 : tie.Need-slice-aggregate-face-labels-4
 slice-aggregate-face-labels-4 c = sym (labels-long (c .before .before .before .before .before .before .before .before .before .before .before .before .before .before))
 
-mul-face-labels : tie.Need-mul-face-labels
-mul-face-labels c = search needs
-
-element-copy-out-face-labels : tie.Need-element-copy-out-face-labels
-element-copy-out-face-labels c = search needs
-
-add-face-labels : tie.Need-add-face-labels
-add-face-labels c = search needs
-
-mul-face-labels-2 : tie.Need-mul-face-labels-2
-mul-face-labels-2 c = search needs
-
-element-copy-out-face-labels-2 : tie.Need-element-copy-out-face-labels-2
-element-copy-out-face-labels-2 c = search needs
-
-mul-face-labels-3 : tie.Need-mul-face-labels-3
-mul-face-labels-3 c = search needs
-
-element-copy-out-face-labels-3 : tie.Need-element-copy-out-face-labels-3
-element-copy-out-face-labels-3 c = search needs
-
-add-face-labels-2 : tie.Need-add-face-labels-2
-add-face-labels-2 c = search needs
-
-mul-face-labels-4 : tie.Need-mul-face-labels-4
-mul-face-labels-4 c = search needs
-
-element-copy-out-face-labels-4 : tie.Need-element-copy-out-face-labels-4
-element-copy-out-face-labels-4 c = search needs
-
 slice-aggregate-face-labels-5 : tie.Need-slice-aggregate-face-labels-5
 slice-aggregate-face-labels-5 c = sym (points-long (c .before .before .before .before .before .before .before .before .before .before .before .before .before .before .before .before .before .before .before))
 
@@ -99,9 +69,6 @@ slice-aggregate-face-labels-8 c = sym (pieces-long (c .before .before .before .b
 slice-aggregate-face-labels-9 : tie.Need-slice-aggregate-face-labels-9
 slice-aggregate-face-labels-9 c = sym (outers-long (c .before .before .before .before .before .before .before .before .before .before .before .before .before .before .before .before .before .before .before .before .before .before .before))
 
-add-face-labels-3 : tie.Need-add-face-labels-3
-add-face-labels-3 c = search needs
-
 face-labels-requires : tie.Need-face-labels-requires
 face-labels-requires c κs =
     let s = c .before .before .before .before .before .before .before .before .before .before .before .before .before .before .before .before .before .before .before .before .before .before .before .before .before in
@@ -109,9 +76,6 @@ face-labels-requires c κs =
     let W = s .pre .0 in
     let b = s .pre .1 .0 in
     (W .held .stands (a .m) b, (readable (a .t1) (a .c) (a .t) W (a .m) b (omega (arith, pieces-long s, W .few-edges)), (W .few-faces, s .pre .1 .1)))
-
-same-length : tie.Need-same-length
-same-length c = search needs
 
 returns : tie.Need-returns
 returns c =
@@ -130,22 +94,22 @@ lay-labels-spec =
     slice-aggregate-face-labels-2
     slice-aggregate-face-labels-3
     slice-aggregate-face-labels-4
-    mul-face-labels
-    element-copy-out-face-labels
-    add-face-labels
-    mul-face-labels-2
-    element-copy-out-face-labels-2
-    mul-face-labels-3
-    element-copy-out-face-labels-3
-    add-face-labels-2
-    mul-face-labels-4
-    element-copy-out-face-labels-4
+    (λ c. search needs)
+    (λ c. search needs)
+    (λ c. search needs)
+    (λ c. search needs)
+    (λ c. search needs)
+    (λ c. search needs)
+    (λ c. search needs)
+    (λ c. search needs)
+    (λ c. search needs)
+    (λ c. search needs)
     slice-aggregate-face-labels-5
     slice-aggregate-face-labels-6
     slice-aggregate-face-labels-7
     slice-aggregate-face-labels-8
     slice-aggregate-face-labels-9
-    add-face-labels-3
+    (λ c. search needs)
     face-labels-requires
-    same-length
+    (λ c. search needs)
     returns)

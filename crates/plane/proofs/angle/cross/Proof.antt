@@ -7,9 +7,6 @@ use Rattle.plane.proofs.Machine.{vec-back}
 use Rattle.plane.proofs.angle.cross.Statement.{statement}
 use Rattle.plane.proofs.angle.cross.Tie as tie
 
-cross-of-requires : tie.Need-cross-of-requires
-cross-of-requires c κs = search needs
-
 returns : tie.Need-returns
 returns c =
     let st = c .before .before .before .before .before in
@@ -18,4 +15,4 @@ returns c =
     (plain (search tr depth 20) tt ∙ c .cross-of .ensures .0 ∙ (λ i. cross (vec-back (u .x) (u .y) (st .pre .0) i) (vec-back (v .x) (v .y) (st .pre .1) i)), atmost (search tru depth 20) tt)
 
 pub cross-spec : {M : Type 1} → statement M
-cross-spec = tie.close (tie.spec cross-of-requires returns)
+cross-spec = tie.close (tie.spec (λ c κs. search needs) returns)

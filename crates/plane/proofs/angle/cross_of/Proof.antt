@@ -3,17 +3,8 @@ use Rattle.exact.specs.Mach.{tr, tru, fits, plain, atmost}
 use Rattle.plane.proofs.angle.cross_of.Statement.{statement}
 use Rattle.plane.proofs.angle.cross_of.Tie as tie
 
-mul-result : tie.Need-mul-result
-mul-result c = fits (search tr depth 20) tt
-
-mul-result-2 : tie.Need-mul-result-2
-mul-result-2 c = fits (search tr depth 20) tt
-
-sub-result : tie.Need-sub-result
-sub-result c = fits (search tr depth 20) tt
-
 returns : tie.Need-returns
 returns c = (plain (search tr depth 20) tt, atmost (search tru depth 20) tt)
 
 pub cross-of-spec : {M : Type 1} → statement M
-cross-of-spec = tie.close (tie.spec mul-result mul-result-2 sub-result returns)
+cross-of-spec = tie.close (tie.spec (λ c. fits (search tr depth 20) tt) (λ c. fits (search tr depth 20) tt) (λ c. fits (search tr depth 20) tt) returns)

@@ -19,21 +19,6 @@ by u v e f = let left = isPlus (sgn (cross u v)) in λ i. cond (sym e i) (not (s
 left-of : (u v : Vec) (r : ℤ) → r ≡ cross u v → ltZ (pos 0) r ≡ isPlus (sgn (cross u v))
 left-of u v r e = (λ i. ltZ (pos 0) (e i)) ∙ plus-test (cross u v)
 
-rises-requires : tie.Need-rises-requires
-rises-requires c κs = search needs
-
-rises-requires-2 : tie.Need-rises-requires-2
-rises-requires-2 c κs = search needs
-
-cross-requires : tie.Need-cross-requires
-cross-requires c κs = search needs
-
-rises-requires-3 : tie.Need-rises-requires-3
-rises-requires-3 c κs = search needs
-
-cross-requires-2 : tie.Need-cross-requires-2
-cross-requires-2 c κs = search needs
-
 returns : tie.Need-returns
 returns c =
     let a = c .before .before .before .before .before .args in
@@ -62,11 +47,11 @@ pub less-angle-spec : {M : Type 1} → statement M
 less-angle-spec =
     tie.close
     (tie.spec
-    rises-requires
-    rises-requires-2
-    cross-requires
-    rises-requires-3
-    cross-requires-2
+    (λ c κs. search needs)
+    (λ c κs. search needs)
+    (λ c κs. search needs)
+    (λ c κs. search needs)
+    (λ c κs. search needs)
     returns
     returns-2
     returns-3

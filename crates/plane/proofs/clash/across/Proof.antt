@@ -7,12 +7,6 @@ use Rattle.plane.specs.Values.{segOf}
 use Rattle.plane.proofs.clash.across.Statement.{statement}
 use Rattle.plane.proofs.clash.across.Tie as tie
 
-apart-requires : tie.Need-apart-requires
-apart-requires c κs = search needs
-
-apart-requires-2 : tie.Need-apart-requires-2
-apart-requires-2 c κs = search needs
-
 returns : tie.Need-returns
 returns c =
     let a = c .before .before .before .args in
@@ -24,4 +18,4 @@ returns-2 c =
     λ i. (sym (c .if1 .left) ∙ c .before .apart .ensures) i && apart (segOf (a .t)) (segOf (a .s))
 
 pub across-spec : {M : Type 1} → statement M
-across-spec = tie.close (tie.spec apart-requires apart-requires-2 returns returns-2)
+across-spec = tie.close (tie.spec (λ c κs. search needs) (λ c κs. search needs) returns returns-2)

@@ -16,18 +16,6 @@ use Rattle.plane.proofs.clash.apart.Tie as tie
 small : (r : ℤ) (s : Seg) (p : Pt) → r ≡ side s p → natAbs r ≤ 1
 small r s p e = subst (λ (z : ℤ). natAbs z ≤ 1) (sym e) (number-bound (sgn (leftBy s p)))
 
-foot-requires : tie.Need-foot-requires
-foot-requires c κs = search needs
-
-side-requires : tie.Need-side-requires
-side-requires c κs = search needs
-
-head-requires : tie.Need-head-requires
-head-requires c κs = search needs
-
-side-requires-2 : tie.Need-side-requires-2
-side-requires-2 c κs = search needs
-
 mul-result : tie.Need-mul-result
 mul-result c =
     let a = c .before .before .before .before .args in
@@ -48,4 +36,4 @@ returns c =
 pub apart-spec : {M : Type 1} → statement M
 apart-spec =
     tie.close
-    (tie.spec foot-requires side-requires head-requires side-requires-2 mul-result returns)
+    (tie.spec (λ c κs. search needs) (λ c κs. search needs) (λ c κs. search needs) (λ c κs. search needs) mul-result returns)

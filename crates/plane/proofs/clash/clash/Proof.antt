@@ -17,32 +17,20 @@ equal s t = same (whole (s .foot)) (whole (t .foot)) && same (whole (head s)) (w
 by : (s t : Seg) {a b d : Bool} → a ≡ tee s t → b ≡ tee t s → d ≡ (apart s t && apart t s) → ((a || b) || (d || equal s t)) ≡ clash s t
 by s t e f g = λ i. (e i || f i) || (g i || equal s t)
 
-tee-requires : tie.Need-tee-requires
-tee-requires c κs = search needs
-
 returns : tie.Need-returns
 returns c =
     let a = c .before .before .args in
     by (segOf (a .s)) (segOf (a .t)) (sym (c .if1 .taken) ∙ c .before .tee .ensures) refl refl
-
-tee-requires-2 : tie.Need-tee-requires-2
-tee-requires-2 c κs = search needs
 
 returns-2 : tie.Need-returns-2
 returns-2 c =
     let a = c .before .before .before .before .args in
     by (segOf (a .s)) (segOf (a .t)) (sym (c .before .before .if1 .left) ∙ c .before .before .before .tee .ensures) (sym (c .if2 .taken) ∙ c .before .tee2 .ensures) refl
 
-across-requires : tie.Need-across-requires
-across-requires c κs = search needs
-
 returns-3 : tie.Need-returns-3
 returns-3 c =
     let a = c .before .before .before .before .before .before .args in
     by (segOf (a .s)) (segOf (a .t)) (sym (c .before .before .before .before .if1 .left) ∙ c .before .before .before .before .before .tee .ensures) (sym (c .before .before .if2 .left) ∙ c .before .before .before .tee2 .ensures) (sym (c .if3 .taken) ∙ c .before .across .ensures)
-
-equal-requires : tie.Need-equal-requires
-equal-requires c κs = search needs
 
 returns-4 : tie.Need-returns-4
 returns-4 c =
@@ -53,11 +41,11 @@ pub clash-spec : {M : Type 1} → statement M
 clash-spec =
     tie.close
     (tie.spec
-    tee-requires
+    (λ c κs. search needs)
     returns
-    tee-requires-2
+    (λ c κs. search needs)
     returns-2
-    across-requires
+    (λ c κs. search needs)
     returns-3
-    equal-requires
+    (λ c κs. search needs)
     returns-4)

@@ -11,24 +11,6 @@ use Rattle.plane.proofs.clash.equal.Tie as tie
 by : (s t : Seg) {a : Bool} → a ≡ same (whole (s .foot)) (whole (t .foot)) → (a && same (whole (head s)) (whole (head t))) ≡ (same (whole (s .foot)) (whole (t .foot)) && same (whole (head s)) (whole (head t)))
 by s t e = λ i. e i && same (whole (head s)) (whole (head t))
 
-foot-requires : tie.Need-foot-requires
-foot-requires c κs = search needs
-
-foot-requires-2 : tie.Need-foot-requires-2
-foot-requires-2 c κs = search needs
-
-same-requires : tie.Need-same-requires
-same-requires c κs = search needs
-
-head-requires : tie.Need-head-requires
-head-requires c κs = search needs
-
-head-requires-2 : tie.Need-head-requires-2
-head-requires-2 c κs = search needs
-
-same-requires-2 : tie.Need-same-requires-2
-same-requires-2 c κs = search needs
-
 returns : tie.Need-returns
 returns c =
     let a = c .before .before .before .before .before .before .before .args in
@@ -43,11 +25,11 @@ pub equal-spec : {M : Type 1} → statement M
 equal-spec =
     tie.close
     (tie.spec
-    foot-requires
-    foot-requires-2
-    same-requires
-    head-requires
-    head-requires-2
-    same-requires-2
+    (λ c κs. search needs)
+    (λ c κs. search needs)
+    (λ c κs. search needs)
+    (λ c κs. search needs)
+    (λ c κs. search needs)
+    (λ c κs. search needs)
     returns
     returns-2)

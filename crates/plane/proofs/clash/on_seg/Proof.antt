@@ -16,21 +16,6 @@ use Rattle.plane.proofs.clash.on_seg.Tie as tie
 by : (s : Seg) (p : Pt) {a b : Bool} → a ≡ isZer (sgn (leftBy s p)) → b ≡ before p (whole (s .foot)) → (a && (not b && not (before (whole (head s)) p))) ≡ onSeg s p
 by s p e f = λ i. e i && (not (f i) && not (before (whole (head s)) p))
 
-left-by-requires : tie.Need-left-by-requires
-left-by-requires c κs = search needs
-
-foot-requires : tie.Need-foot-requires
-foot-requires c κs = search needs
-
-before-requires : tie.Need-before-requires
-before-requires c κs = search needs
-
-head-requires : tie.Need-head-requires
-head-requires c κs = search needs
-
-before-requires-2 : tie.Need-before-requires-2
-before-requires-2 c κs = search needs
-
 returns : tie.Need-returns
 returns c =
     let s = segOf (c .before .before .before .before .before .args .s) in
@@ -62,11 +47,11 @@ pub on-seg-spec : {M : Type 1} → statement M
 on-seg-spec =
     tie.close
     (tie.spec
-    left-by-requires
-    foot-requires
-    before-requires
-    head-requires
-    before-requires-2
+    (λ c κs. search needs)
+    (λ c κs. search needs)
+    (λ c κs. search needs)
+    (λ c κs. search needs)
+    (λ c κs. search needs)
     returns
     returns-2
     returns-3)

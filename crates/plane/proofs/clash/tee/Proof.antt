@@ -11,18 +11,6 @@ use Rattle.plane.proofs.clash.tee.Tie as tie
 by : (s t : Seg) {a : Bool} → a ≡ inside s (whole (t .foot)) → (a || inside s (whole (head t))) ≡ (inside s (whole (t .foot)) || inside s (whole (head t)))
 by s t e = λ i. e i || inside s (whole (head t))
 
-foot-requires : tie.Need-foot-requires
-foot-requires c κs = search needs
-
-inside-requires : tie.Need-inside-requires
-inside-requires c κs = search needs
-
-head-requires : tie.Need-head-requires
-head-requires c κs = search needs
-
-inside-requires-2 : tie.Need-inside-requires-2
-inside-requires-2 c κs = search needs
-
 returns : tie.Need-returns
 returns c =
     let a = c .before .before .before .args in
@@ -39,4 +27,4 @@ returns-2 c =
 pub tee-spec : {M : Type 1} → statement M
 tee-spec =
     tie.close
-    (tie.spec foot-requires inside-requires head-requires inside-requires-2 returns returns-2)
+    (tie.spec (λ c κs. search needs) (λ c κs. search needs) (λ c κs. search needs) (λ c κs. search needs) returns returns-2)

@@ -14,24 +14,6 @@ use Rattle.plane.proofs.Box.{weighed-below}
 use Rattle.plane.proofs.crossing.along.Statement.{statement}
 use Rattle.plane.proofs.crossing.along.Tie as tie
 
-mul-t4 : tie.Need-mul-t4
-mul-t4 c = fits (search tr depth 20) tt
-
-mul-t5 : tie.Need-mul-t5
-mul-t5 c = fits (search tr depth 20) tt
-
-add-t6 : tie.Need-add-t6
-add-t6 c = fits (search tr depth 20) tt
-
-mul-t7 : tie.Need-mul-t7
-mul-t7 c = fits (search tr depth 20) tt
-
-mul-t8 : tie.Need-mul-t8
-mul-t8 c = fits (search tr depth 20) tt
-
-add-t9 : tie.Need-add-t9
-add-t9 c = fits (search tr depth 20) tt
-
 -- the point, before the machine has it
 near : (c : tie.Start) → Near (meeting (segOf (c .args .s)) (c .args .n) (c .args .d))
 near c =
@@ -62,4 +44,4 @@ returns c =
     (is, subst Near (sym is) (near st))
 
 pub along-spec : {M : Type 1} → statement M
-along-spec = tie.close (tie.spec mul-t4 mul-t5 add-t6 mul-t7 mul-t8 add-t9 returns)
+along-spec = tie.close (tie.spec (λ c. fits (search tr depth 20) tt) (λ c. fits (search tr depth 20) tt) (λ c. fits (search tr depth 20) tt) (λ c. fits (search tr depth 20) tt) (λ c. fits (search tr depth 20) tt) (λ c. fits (search tr depth 20) tt) returns)

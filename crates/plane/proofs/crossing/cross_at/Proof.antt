@@ -22,12 +22,6 @@ by s n m d e f = λ i. cond (e i && f i) (some (lowestOf (meeting s n d))) none
 told : (n d : ℤ) → Over n d → within (back n) (back d) ≡ within n d
 told n d o = λ i. within (number-back n (o .n-is) i) (number-back d (o .d-is) i)
 
-within-requires : tie.Need-within-requires
-within-requires c κs = search needs
-
-within-requires-2 : tie.Need-within-requires-2
-within-requires-2 c κs = search needs
-
 along-requires : tie.Need-along-requires
 along-requires c κs =
     let st = c .before .before .before .before in
@@ -75,8 +69,8 @@ pub cross-at-spec : {M : Type 1} → statement M
 cross-at-spec =
     tie.close
     (tie.spec
-    within-requires
-    within-requires-2
+    (λ c κs. search needs)
+    (λ c κs. search needs)
     along-requires
     lowest-requires
     returns

@@ -12,15 +12,6 @@ use Rattle.plane.proofs.Crosses.{by-neg, by-plus, by-zer, turned}
 use Rattle.plane.proofs.crossing.cross_by.Statement.{statement}
 use Rattle.plane.proofs.crossing.cross_by.Tie as tie
 
-sub-cross-at : tie.Need-sub-cross-at
-sub-cross-at c = fits (search tr depth 20) tt
-
-sub-cross-at-2 : tie.Need-sub-cross-at-2
-sub-cross-at-2 c = fits (search tr depth 20) tt
-
-sub-cross-at-3 : tie.Need-sub-cross-at-3
-sub-cross-at-3 c = fits (search tr depth 20) tt
-
 -- what the tests told
 negative : (c : tie.Then1) → c .before .args .d <ℤ pos 0
 negative c = ltZ-yes (taken (c .if1 .taken) (search trb depth 20) tt)
@@ -67,9 +58,9 @@ pub cross-by-spec : {M : Type 1} → statement M
 cross-by-spec =
     tie.close
     (tie.spec
-    sub-cross-at
-    sub-cross-at-2
-    sub-cross-at-3
+    (λ c. fits (search tr depth 20) tt)
+    (λ c. fits (search tr depth 20) tt)
+    (λ c. fits (search tr depth 20) tt)
     cross-at-requires
     cross-at-requires-2
     returns

@@ -9,15 +9,6 @@ use Rattle.plane.proofs.Machine.{back}
 use Rattle.plane.proofs.crossing.crossing.Statement.{statement}
 use Rattle.plane.proofs.crossing.crossing.Tie as tie
 
-over-requires : tie.Need-over-requires
-over-requires c κs = search needs
-
-number-over-requires : tie.Need-number-over-requires
-number-over-requires c κs = search needs
-
-number-over-requires-2 : tie.Need-number-over-requires-2
-number-over-requires-2 c κs = search needs
-
 cross-by-requires : tie.Need-cross-by-requires
 cross-by-requires c κs =
     (c .before .before .before .pre .0, atmost (search tru depth 20) tt, atmost (search tru depth 20) tt, atmost (search tru depth 20) tt)
@@ -34,4 +25,4 @@ returns c =
 
 pub crossing-spec : {M : Type 1} → statement M
 crossing-spec =
-    tie.close (tie.spec over-requires number-over-requires number-over-requires-2 cross-by-requires returns)
+    tie.close (tie.spec (λ c κs. search needs) (λ c κs. search needs) (λ c κs. search needs) cross-by-requires returns)

@@ -7,12 +7,6 @@ use Rattle.plane.proofs.Machine.{back, vec-back}
 use Rattle.plane.proofs.crossing.number_over.Statement.{statement}
 use Rattle.plane.proofs.crossing.number_over.Tie as tie
 
-sub-cross-of : tie.Need-sub-cross-of
-sub-cross-of c = fits (search tr depth 20) tt
-
-sub-cross-of-2 : tie.Need-sub-cross-of-2
-sub-cross-of-2 c = fits (search tr depth 20) tt
-
 cross-of-requires : tie.Need-cross-of-requires
 cross-of-requires c κs =
     let p = c .before .before .before .before .before .before .before .before .before .before .pre in
@@ -30,4 +24,4 @@ returns c =
     (plain (search tr depth 20) tt ∙ c .cross-of .ensures .0 ∙ (λ i. cross (vec (x i) (y i)) (vec-back (e .u) (e .v) (p .2 .up-is) i)), atmost (search tru depth 20) tt)
 
 pub number-over-spec : {M : Type 1} → statement M
-number-over-spec = tie.close (tie.spec sub-cross-of sub-cross-of-2 cross-of-requires returns)
+number-over-spec = tie.close (tie.spec (λ c. fits (search tr depth 20) tt) (λ c. fits (search tr depth 20) tt) cross-of-requires returns)

@@ -8,9 +8,6 @@ use Rattle.plane.proofs.Machine.{back, vec-back}
 use Rattle.plane.proofs.crossing.over.Statement.{statement}
 use Rattle.plane.proofs.crossing.over.Tie as tie
 
-cross-of-requires : tie.Need-cross-of-requires
-cross-of-requires c κs = search needs
-
 returns : tie.Need-returns
 returns c =
     let st = c .before .before .before .before .before in
@@ -20,4 +17,4 @@ returns c =
     ((r, r), atmost (search tru depth 20) tt)
 
 pub over-spec : {M : Type 1} → statement M
-over-spec = tie.close (tie.spec cross-of-requires returns)
+over-spec = tie.close (tie.spec (λ c κs. search needs) returns)

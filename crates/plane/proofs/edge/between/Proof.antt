@@ -7,21 +7,6 @@ use Rattle.plane.specs.Values.{vecOf, fromTo}
 use Rattle.plane.proofs.edge.between.Statement.{statement}
 use Rattle.plane.proofs.edge.between.Tie as tie
 
-whole-requires : tie.Need-whole-requires
-whole-requires c κs = search needs
-
-whole-requires-2 : tie.Need-whole-requires-2
-whole-requires-2 c κs = search needs
-
-before-requires : tie.Need-before-requires
-before-requires c κs = search needs
-
-from-to-requires : tie.Need-from-to-requires
-from-to-requires c κs = search needs
-
-from-to-requires-2 : tie.Need-from-to-requires-2
-from-to-requires-2 c κs = search needs
-
 -- what the call of `before` told
 told : (c : tie.After-before2) → let a = c .before .before .before .args in c .before2 .result ≡ before (whole (vecOf (a .b))) (whole (vecOf (a .a)))
 told c = c .before2 .ensures ∙ (λ i. before (c .before .before .whole .ensures .0 i) (c .before .whole2 .ensures .0 i))
@@ -43,4 +28,4 @@ returns-2 c =
 pub between-spec : {M : Type 1} → statement M
 between-spec =
     tie.close
-    (tie.spec whole-requires whole-requires-2 before-requires from-to-requires from-to-requires-2 returns returns-2)
+    (tie.spec (λ c κs. search needs) (λ c κs. search needs) (λ c κs. search needs) (λ c κs. search needs) (λ c κs. search needs) returns returns-2)

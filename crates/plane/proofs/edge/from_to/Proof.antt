@@ -9,12 +9,6 @@ use Rattle.plane.proofs.Edges.{edge-from-to}
 use Rattle.plane.proofs.edge.from_to.Statement.{statement}
 use Rattle.plane.proofs.edge.from_to.Tie as tie
 
-sub-t3 : tie.Need-sub-t3
-sub-t3 c = fits (search tr depth 20) tt
-
-sub-t4 : tie.Need-sub-t4
-sub-t4 c = fits (search tr depth 20) tt
-
 returns : tie.Need-returns
 returns c =
     let st = c .before .before .before .before .before .before .before .before .before in
@@ -30,4 +24,4 @@ returns c =
     (is, subst Edge (sym is) (edge-from-to (vecOf a) (vecOf b) h l))
 
 pub from-to-spec : {M : Type 1} → statement M
-from-to-spec = tie.close (tie.spec sub-t3 sub-t4 returns)
+from-to-spec = tie.close (tie.spec (λ c. fits (search tr depth 20) tt) (λ c. fits (search tr depth 20) tt) returns)

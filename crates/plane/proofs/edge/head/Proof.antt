@@ -7,12 +7,6 @@ use Rattle.plane.proofs.Machine.{back}
 use Rattle.plane.proofs.edge.head.Statement.{statement}
 use Rattle.plane.proofs.edge.head.Tie as tie
 
-add-t2 : tie.Need-add-t2
-add-t2 c = fits (search tr depth 20) tt
-
-add-t3 : tie.Need-add-t3
-add-t3 c = fits (search tr depth 20) tt
-
 returns : tie.Need-returns
 returns c =
     let s = c .before .before .before .before .args .s in
@@ -21,4 +15,4 @@ returns c =
     (λ i. pt (x i) (y i) (pos 1), record { positive = record { lt = tt }; X-is = atmost (search tru depth 20) tt; Y-is = atmost (search tru depth 20) tt; D-is = atmost (search tru depth 20) tt })
 
 pub head-spec : {M : Type 1} → statement M
-head-spec = tie.close (tie.spec add-t2 add-t3 returns)
+head-spec = tie.close (tie.spec (λ c. fits (search tr depth 20) tt) (λ c. fits (search tr depth 20) tt) returns)

@@ -6,9 +6,6 @@ use Rattle.plane.proofs.Machine.{pt-back}
 use Rattle.plane.proofs.order.below.Statement.{statement}
 use Rattle.plane.proofs.order.below.Tie as tie
 
-below-of-requires : tie.Need-below-of-requires
-below-of-requires c κs = search needs
-
 returns : tie.Need-returns
 returns c =
     let st = c .before .before .before .before .before .before .before in
@@ -17,4 +14,4 @@ returns c =
     c .below-of .ensures ∙ (λ i. below (pt-back (p .x) (p .y) (p .d) (st .pre .0) i) (pt-back (q .x) (q .y) (q .d) (st .pre .1) i))
 
 pub below-spec : {M : Type 1} → statement M
-below-spec = tie.close (tie.spec below-of-requires returns)
+below-spec = tie.close (tie.spec (λ c κs. search needs) returns)

@@ -6,14 +6,8 @@ use Rattle.exact.specs.Tests.{lt-sign}
 use Rattle.plane.proofs.order.below_of.Statement.{statement}
 use Rattle.plane.proofs.order.below_of.Tie as tie
 
-mul-result : tie.Need-mul-result
-mul-result c = fits (search tr depth 20) tt
-
-mul-result-2 : tie.Need-mul-result-2
-mul-result-2 c = fits (search tr depth 20) tt
-
 returns : tie.Need-returns
 returns c = let a = c .args in test (search trb depth 20) tt ∙ lt-sign (a .py *ℤ a .qd) (a .qy *ℤ a .pd)
 
 pub below-of-spec : {M : Type 1} → statement M
-below-of-spec = tie.close (tie.spec mul-result mul-result-2 returns)
+below-of-spec = tie.close (tie.spec (λ c. fits (search tr depth 20) tt) (λ c. fits (search tr depth 20) tt) returns)

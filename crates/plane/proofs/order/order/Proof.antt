@@ -6,9 +6,6 @@ use Rattle.plane.proofs.Machine.{pt-back}
 use Rattle.plane.proofs.order.order.Statement.{statement}
 use Rattle.plane.proofs.order.order.Tie as tie
 
-order-of-requires : tie.Need-order-of-requires
-order-of-requires c κs = search needs
-
 returns : tie.Need-returns
 returns c =
     let st = c .before .before .before .before .before .before .before in
@@ -17,4 +14,4 @@ returns c =
     c .order-of .ensures ∙ (λ i. order (pt-back (p .x) (p .y) (p .d) (st .pre .0) i) (pt-back (q .x) (q .y) (q .d) (st .pre .1) i))
 
 pub order-spec : {M : Type 1} → statement M
-order-spec = tie.close (tie.spec order-of-requires returns)
+order-spec = tie.close (tie.spec (λ c κs. search needs) returns)

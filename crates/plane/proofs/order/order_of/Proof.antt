@@ -9,33 +9,6 @@ use Rattle.plane.proofs.Machine.{back}
 use Rattle.plane.proofs.order.order_of.Statement.{statement}
 use Rattle.plane.proofs.order.order_of.Tie as tie
 
-mul-order : tie.Need-mul-order
-mul-order c = fits (search tr depth 20) tt
-
-mul-order-2 : tie.Need-mul-order-2
-mul-order-2 c = fits (search tr depth 20) tt
-
-order-requires : tie.Need-order-requires
-order-requires c κs = search needs
-
-enum-told : tie.Need-enum-told
-enum-told c = search needs
-
-enum-told-2 : tie.Need-enum-told-2
-enum-told-2 c = search needs
-
-mul-order-3 : tie.Need-mul-order-3
-mul-order-3 c = fits (search tr depth 20) tt
-
-mul-order-4 : tie.Need-mul-order-4
-mul-order-4 c = fits (search tr depth 20) tt
-
-order-requires-2 : tie.Need-order-requires-2
-order-requires-2 c κs = search needs
-
-enum-told-3 : tie.Need-enum-told-3
-enum-told-3 c = search needs
-
 -- what the first call told
 by-y : (c : tie.After-order) → let a = c .before .args in signOf (c .order .result) ≡ sgn (a .py *ℤ a .qd -ℤ a .qy *ℤ a .pd)
 by-y c =
@@ -63,15 +36,15 @@ pub order-of-spec : {M : Type 1} → statement M
 order-of-spec =
     tie.close
     (tie.spec
-    mul-order
-    mul-order-2
-    order-requires
-    enum-told
-    enum-told-2
-    mul-order-3
-    mul-order-4
-    order-requires-2
-    enum-told-3
+    (λ c. fits (search tr depth 20) tt)
+    (λ c. fits (search tr depth 20) tt)
+    (λ c κs. search needs)
+    (λ c. search needs)
+    (λ c. search needs)
+    (λ c. fits (search tr depth 20) tt)
+    (λ c. fits (search tr depth 20) tt)
+    (λ c κs. search needs)
+    (λ c. search needs)
     returns
     returns-2
     returns-3)

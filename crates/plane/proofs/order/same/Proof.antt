@@ -6,18 +6,6 @@ use Rattle.exact.specs.Sign.{isZer}
 use Rattle.plane.proofs.order.same.Statement.{statement}
 use Rattle.plane.proofs.order.same.Tie as tie
 
-order-requires : tie.Need-order-requires
-order-requires c κs = search needs
-
-enum-told : tie.Need-enum-told
-enum-told c = search needs
-
-enum-told-2 : tie.Need-enum-told-2
-enum-told-2 c = search needs
-
-enum-told-3 : tie.Need-enum-told-3
-enum-told-3 c = search needs
-
 returns : tie.Need-returns
 returns c = ap isZer (sym (ap signOf (c .enum-told .given .1)) ∙ c .before .before .order .ensures)
 
@@ -28,4 +16,4 @@ returns-3 : tie.Need-returns-3
 returns-3 c = ap isZer (sym (ap signOf (c .enum-told3 .given .1)) ∙ c .before .before .order .ensures)
 
 pub same-spec : {M : Type 1} → statement M
-same-spec = tie.close (tie.spec order-requires enum-told enum-told-2 enum-told-3 returns returns-2 returns-3)
+same-spec = tie.close (tie.spec (λ c κs. search needs) (λ c. search needs) (λ c. search needs) (λ c. search needs) returns returns-2 returns-3)

@@ -11,15 +11,6 @@ use Rattle.plane.proofs.side.number.Tie as tie
 abbrev numberOf : Ordering → ℤ
 numberOf o = signNumber (signOf o)
 
-enum-told : tie.Need-enum-told
-enum-told c = search needs
-
-enum-told-2 : tie.Need-enum-told-2
-enum-told-2 c = search needs
-
-enum-told-3 : tie.Need-enum-told-3
-enum-told-3 c = search needs
-
 returns : tie.Need-returns
 returns c = sym (ap numberOf (c .enum-told .given .1))
 
@@ -30,4 +21,4 @@ returns-3 : tie.Need-returns-3
 returns-3 c = sym (ap numberOf (c .enum-told3 .given .1))
 
 pub number-spec : {M : Type 1} → statement M
-number-spec = tie.close (tie.spec enum-told enum-told-2 enum-told-3 returns returns-2 returns-3)
+number-spec = tie.close (tie.spec (λ c. search needs) (λ c. search needs) (λ c. search needs) returns returns-2 returns-3)

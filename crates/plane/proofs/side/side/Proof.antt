@@ -11,15 +11,6 @@ use Rattle.plane.proofs.Machine.{back}
 use Rattle.plane.proofs.side.side.Statement.{statement}
 use Rattle.plane.proofs.side.side.Tie as tie
 
-left-by-requires : tie.Need-left-by-requires
-left-by-requires c κs = search needs
-
-order-requires : tie.Need-order-requires
-order-requires c κs = search needs
-
-number-requires : tie.Need-number-requires
-number-requires c κs = search needs
-
 returns : tie.Need-returns
 returns c =
     let left = c .before .before .left-by in
@@ -27,4 +18,4 @@ returns c =
     toZ-ofZ w64 (c .number .result) (search needs) ∙ c .number .ensures ∙ ap signNumber (c .before .order .ensures ∙ ap sgn (+ℤ-idr (back (left .result)) ∙ l ∙ left .ensures .0))
 
 pub side-spec : {M : Type 1} → statement M
-side-spec = tie.close (tie.spec left-by-requires order-requires number-requires returns)
+side-spec = tie.close (tie.spec (λ c κs. search needs) (λ c κs. search needs) (λ c κs. search needs) returns)

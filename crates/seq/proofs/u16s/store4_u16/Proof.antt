@@ -6,47 +6,8 @@ use lib.ListN.{length-set}
 use Rattle.seq.proofs.u16s.store4_u16.Statement.{statement}
 use Rattle.seq.proofs.u16s.store4_u16.Tie as tie
 
-mul-at : tie.Need-mul-at
-mul-at c = search needs
-
-mul-t : tie.Need-mul-t
-mul-t c = search needs
-
-slice-write-t : tie.Need-slice-write-t
-slice-write-t c = search needs
-
-add-t : tie.Need-add-t
-add-t c = search needs
-
-mul-t-2 : tie.Need-mul-t-2
-mul-t-2 c = search needs
-
-slice-write-t-2 : tie.Need-slice-write-t-2
-slice-write-t-2 c = simp length-set (omega arith)
-
-add-t-2 : tie.Need-add-t-2
-add-t-2 c = search needs
-
-mul-t-3 : tie.Need-mul-t-3
-mul-t-3 c = search needs
-
-slice-write-t-3 : tie.Need-slice-write-t-3
-slice-write-t-3 c = simp length-set (omega arith)
-
-add-t-3 : tie.Need-add-t-3
-add-t-3 c = search needs
-
-mul-t-4 : tie.Need-mul-t-4
-mul-t-4 c = search needs
-
-slice-write-t-4 : tie.Need-slice-write-t-4
-slice-write-t-4 c = simp length-set (omega arith)
-
-same-length : tie.Need-same-length
-same-length c = simp length-set
-
 returns : tie.Need-returns
 returns c = simp towards-suc
 
 pub store4-u16-spec : {M : Type 1} → statement M
-store4-u16-spec = tie.close (tie.spec mul-at mul-t slice-write-t add-t mul-t-2 slice-write-t-2 add-t-2 mul-t-3 slice-write-t-3 add-t-3 mul-t-4 slice-write-t-4 same-length returns)
+store4-u16-spec = tie.close (tie.spec (λ c. search needs) (λ c. search needs) (λ c. search needs) (λ c. search needs) (λ c. search needs) (λ c. simp length-set (omega arith)) (λ c. search needs) (λ c. search needs) (λ c. simp length-set (omega arith)) (λ c. search needs) (λ c. search needs) (λ c. simp length-set (omega arith)) (λ c. simp length-set) returns)

@@ -5,14 +5,8 @@ use Rattle.seq.specs.Wiped.{wiped-all}
 use Rattle.seq.proofs.u16s.wipe_u16.Statement.{statement}
 use Rattle.seq.proofs.u16s.wipe_u16.Tie as tie
 
-wipe-from-u16-requires : tie.Need-wipe-from-u16-requires
-wipe-from-u16-requires c κs = search needs
-
-same-length : tie.Need-same-length
-same-length c = search needs
-
 returns : tie.Need-returns
 returns c = c .before .before .wipe-from-u16 .ensures ∙ wiped-all 0 (c .before .before .before .before .before .args .t .now)
 
 pub wipe-u16-spec : {M : Type 1} → statement M
-wipe-u16-spec = tie.close (tie.spec wipe-from-u16-requires same-length returns)
+wipe-u16-spec = tie.close (tie.spec (λ c κs. search needs) (λ c. search needs) returns)

@@ -5,14 +5,8 @@ use Rattle.seq.specs.Wiped.{wiped-all}
 use Rattle.seq.proofs.u8s.wipe_u8.Statement.{statement}
 use Rattle.seq.proofs.u8s.wipe_u8.Tie as tie
 
-wipe-from-u8-requires : tie.Need-wipe-from-u8-requires
-wipe-from-u8-requires c κs = search needs
-
-same-length : tie.Need-same-length
-same-length c = search needs
-
 returns : tie.Need-returns
 returns c = c .before .before .wipe-from-u8 .ensures ∙ wiped-all 0 (c .before .before .before .before .before .args .t .now)
 
 pub wipe-u8-spec : {M : Type 1} → statement M
-wipe-u8-spec = tie.close (tie.spec wipe-from-u8-requires same-length returns)
+wipe-u8-spec = tie.close (tie.spec (λ c κs. search needs) (λ c. search needs) returns)

@@ -22,9 +22,6 @@ in-halves c = let a = c .before .before .before .before .args in room-halves (no
 in-sources : (c : tie.Else1) → 2 * c .before .before .before .before .args .k + 2 ≤ length (now (c .before .before .before .before .args .sources))
 in-sources c = let a = c .before .before .before .before .args in room-sources (now (a .halves)) (now (a .sources)) (a .k) (within c)
 
-edge-room-requires : tie.Need-edge-room-requires
-edge-room-requires c κs = search needs
-
 returns : tie.Need-returns
 returns c = let a = c .before .before .before .before .args in record-not (now (a .halves)) (now (a .sources)) (a .k) (omega (arith, c .before .edge-room .ensures, c .if1 .taken))
 
@@ -67,9 +64,6 @@ mul-record-by-2 c = omega (arith, in-sources (c .before .before .before))
 shared-slice-read-record-by-2 : tie.Need-shared-slice-read-record-by-2
 shared-slice-read-record-by-2 c = omega (arith, in-sources (c .before .before .before .before))
 
-record-by-requires : tie.Need-record-by-requires
-record-by-requires c κs = search needs
-
 returns-2 : tie.Need-returns-2
 returns-2 c = let a = c .before .before .before .before .before .before .before .before .before .args in c .record-by .ensures ∙ record-there (now (a .halves)) (now (a .sources)) (a .k) (within (c .before .before .before .before .before))
 
@@ -77,7 +71,7 @@ pub edge-spec : {M : Type 1} → statement M
 edge-spec =
     tie.close
     (tie.spec
-    edge-room-requires
+    (λ c κs. search needs)
     returns
     mul-at
     mul-at-2
@@ -92,5 +86,5 @@ edge-spec =
     add-record-by
     mul-record-by-2
     shared-slice-read-record-by-2
-    record-by-requires
+    (λ c κs. search needs)
     returns-2)

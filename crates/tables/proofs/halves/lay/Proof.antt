@@ -18,12 +18,6 @@ Inv-loop halves₀ t m h₀ halves h = Laying 5 (halfOf t) m halves₀ halves h
 abbrev μ-loop : tie.MeasureT-loop
 μ-loop halves₀ t m h₀ halves h = m - h
 
-cast-m : tie.Need-cast-m Inv-loop μ-loop
-cast-m c = search needs
-
-mul-m : tie.Need-mul-m Inv-loop μ-loop
-mul-m c = search needs
-
 loop-holds : tie.Need-loop-holds Inv-loop μ-loop
 loop-holds c = lay-starts 5 (halfOf (c .before .args .t2)) (λ k. refl) (2 * c .before .args .t2 .edges) (now (c .before .args .halves)) (c .before .pre .1)
 
@@ -32,39 +26,6 @@ twin-requires c κs = omega (arith, c .before .before .before .pre .0)
 
 cast-other : tie.Need-cast-other Inv-loop μ-loop
 cast-other c = omega (arith, twin-le (c .before .before .loop .h), c .twin .ensures)
-
-mul-store5-u16 : tie.Need-mul-store5-u16 Inv-loop μ-loop
-mul-store5-u16 c = search needs
-
-element-copy-out-store5-u16 : tie.Need-element-copy-out-store5-u16 Inv-loop μ-loop
-element-copy-out-store5-u16 c = search needs
-
-mul-store5-u16-2 : tie.Need-mul-store5-u16-2 Inv-loop μ-loop
-mul-store5-u16-2 c = search needs
-
-element-copy-out-store5-u16-2 : tie.Need-element-copy-out-store5-u16-2 Inv-loop μ-loop
-element-copy-out-store5-u16-2 c = search needs
-
-mul-store5-u16-3 : tie.Need-mul-store5-u16-3 Inv-loop μ-loop
-mul-store5-u16-3 c = search needs
-
-element-copy-out-store5-u16-3 : tie.Need-element-copy-out-store5-u16-3 Inv-loop μ-loop
-element-copy-out-store5-u16-3 c = search needs
-
-mul-store5-u16-4 : tie.Need-mul-store5-u16-4 Inv-loop μ-loop
-mul-store5-u16-4 c = search needs
-
-element-copy-out-store5-u16-4 : tie.Need-element-copy-out-store5-u16-4 Inv-loop μ-loop
-element-copy-out-store5-u16-4 c = search needs
-
-store5-u16-requires : tie.Need-store5-u16-requires Inv-loop μ-loop
-store5-u16-requires c κs = search needs
-
-add-h : tie.Need-add-h Inv-loop μ-loop
-add-h c = search needs
-
-loop-less : tie.Need-loop-less Inv-loop μ-loop
-loop-less c = search needs
 
 loop-again : tie.Need-loop-again Inv-loop μ-loop
 loop-again c =
@@ -75,9 +36,6 @@ loop-again c =
     (lay-turns 5 (halfOf t) (λ k. refl) (at .loop .inv) _ (omega arith)
     (λ i. getD (t .origins) h 0 ∷ c .before .before .before .before .before .before .before .before .twin .ensures i ∷ getD (t .next) h 0 ∷ getD (t .prev) h 0 ∷ getD (t .face) h 0 ∷ []))
 
-same-length : tie.Need-same-length Inv-loop μ-loop
-same-length c = search needs
-
 returns : tie.Need-returns Inv-loop μ-loop
 returns c = lay-ends 5 (halfOf (c .before .before .before .args .t2)) (λ k. refl) (c .before .loop .inv) (omega arith)
 
@@ -87,22 +45,22 @@ lay-spec =
     (tie.spec
     Inv-loop
     μ-loop
-    cast-m
-    mul-m
+    (λ c. search needs)
+    (λ c. search needs)
     loop-holds
     twin-requires
     cast-other
-    mul-store5-u16
-    element-copy-out-store5-u16
-    mul-store5-u16-2
-    element-copy-out-store5-u16-2
-    mul-store5-u16-3
-    element-copy-out-store5-u16-3
-    mul-store5-u16-4
-    element-copy-out-store5-u16-4
-    store5-u16-requires
-    add-h
-    loop-less
+    (λ c. search needs)
+    (λ c. search needs)
+    (λ c. search needs)
+    (λ c. search needs)
+    (λ c. search needs)
+    (λ c. search needs)
+    (λ c. search needs)
+    (λ c. search needs)
+    (λ c κs. search needs)
+    (λ c. search needs)
+    (λ c. search needs)
     loop-again
-    same-length
+    (λ c. search needs)
     returns)

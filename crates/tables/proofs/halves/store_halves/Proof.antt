@@ -8,24 +8,6 @@ use Rattle.tables.proofs.RowLaws.{laid-wiped}
 use Rattle.tables.proofs.halves.store_halves.Statement.{statement}
 use Rattle.tables.proofs.halves.store_halves.Tie as tie
 
-lay-requires : tie.Need-lay-requires
-lay-requires c κs = search needs
-
-cast-m : tie.Need-cast-m
-cast-m c = search needs
-
-mul-m : tie.Need-mul-m
-mul-m c = search needs
-
-mul-wipe-from-u16 : tie.Need-mul-wipe-from-u16
-mul-wipe-from-u16 c = search needs
-
-wipe-from-u16-requires : tie.Need-wipe-from-u16-requires
-wipe-from-u16-requires c κs = search needs
-
-same-length : tie.Need-same-length
-same-length c = search needs
-
 returns : tie.Need-returns
 returns c =
     let s = c .before .before .before .before .before .before .before .before .before .before in
@@ -36,10 +18,10 @@ pub store-halves-spec : {M : Type 1} → statement M
 store-halves-spec =
     tie.close
     (tie.spec
-    lay-requires
-    cast-m
-    mul-m
-    mul-wipe-from-u16
-    wipe-from-u16-requires
-    same-length
+    (λ c κs. search needs)
+    (λ c. search needs)
+    (λ c. search needs)
+    (λ c. search needs)
+    (λ c κs. search needs)
+    (λ c. search needs)
     returns)

@@ -6,18 +6,6 @@ use borrow.Author.Needs.{needs}
 use Rattle.tables.proofs.room.room_in.Statement.{statement}
 use Rattle.tables.proofs.room.room_in.Tie as tie
 
-smaller-requires : tie.Need-smaller-requires
-smaller-requires c κs = search needs
-
-edge-room-requires : tie.Need-edge-room-requires
-edge-room-requires c κs = search needs
-
-smaller-requires-2 : tie.Need-smaller-requires-2
-smaller-requires-2 c κs = search needs
-
-smaller-requires-3 : tie.Need-smaller-requires-3
-smaller-requires-3 c κs = search needs
-
 returns : tie.Need-returns
 returns c i =
     record {
@@ -29,4 +17,4 @@ returns c i =
 pub room-in-spec : {M : Type 1} → statement M
 room-in-spec =
     tie.close
-    (tie.spec smaller-requires edge-room-requires smaller-requires-2 smaller-requires-3 returns)
+    (tie.spec (λ c κs. search needs) (λ c κs. search needs) (λ c κs. search needs) (λ c κs. search needs) returns)

@@ -8,21 +8,6 @@ use Rattle.tables.proofs.RowLaws.{laid-wiped}
 use Rattle.tables.proofs.vertices.store_vertices.Statement.{statement}
 use Rattle.tables.proofs.vertices.store_vertices.Tie as tie
 
-lay-requires : tie.Need-lay-requires
-lay-requires c κs = search needs
-
-cast-n : tie.Need-cast-n
-cast-n c = search needs
-
-mul-wipe-from-i64 : tie.Need-mul-wipe-from-i64
-mul-wipe-from-i64 c = search needs
-
-wipe-from-i64-requires : tie.Need-wipe-from-i64-requires
-wipe-from-i64-requires c κs = search needs
-
-same-length : tie.Need-same-length
-same-length c = search needs
-
 returns : tie.Need-returns
 returns c =
     let s = c .before .before .before .before .before .before .before in
@@ -32,4 +17,4 @@ returns c =
 pub store-vertices-spec : {M : Type 1} → statement M
 store-vertices-spec =
     tie.close
-    (tie.spec lay-requires cast-n mul-wipe-from-i64 wipe-from-i64-requires same-length returns)
+    (tie.spec (λ c κs. search needs) (λ c. search needs) (λ c. search needs) (λ c κs. search needs) (λ c. search needs) returns)

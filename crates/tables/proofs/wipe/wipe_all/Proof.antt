@@ -8,18 +8,6 @@ use borrow.Author.Needs.{needs}
 use Rattle.tables.proofs.wipe.wipe_all.Statement.{statement}
 use Rattle.tables.proofs.wipe.wipe_all.Tie as tie
 
-wipe-i64-requires : tie.Need-wipe-i64-requires
-wipe-i64-requires c κs = search needs
-
-wipe-u16-requires : tie.Need-wipe-u16-requires
-wipe-u16-requires c κs = search needs
-
-wipe-u32-requires : tie.Need-wipe-u32-requires
-wipe-u32-requires c κs = search needs
-
-wipe-u16-requires-2 : tie.Need-wipe-u16-requires-2
-wipe-u16-requires-2 c κs = search needs
-
 same-length : tie.Need-same-length
 same-length c = c .before .before .before .before .before .before .before .before .before .before .before .before .before .wipe-i64 .kept .0
 
@@ -46,10 +34,10 @@ pub wipe-all-spec : {M : Type 1} → statement M
 wipe-all-spec =
     tie.close
     (tie.spec
-    wipe-i64-requires
-    wipe-u16-requires
-    wipe-u32-requires
-    wipe-u16-requires-2
+    (λ c κs. search needs)
+    (λ c κs. search needs)
+    (λ c κs. search needs)
+    (λ c κs. search needs)
     same-length
     same-length-2
     same-length-3

@@ -15,18 +15,6 @@ abbrev μ-loop : tie.MeasureT-loop
 loop-holds : tie.Need-loop-holds Inv-loop μ-loop
 loop-holds c = counting-starts _ _
 
-cell-requires : tie.Need-cell-requires Inv-loop μ-loop
-cell-requires c κs = search needs
-
-counted-requires : tie.Need-counted-requires Inv-loop μ-loop
-counted-requires c κs = search needs
-
-add-f : tie.Need-add-f Inv-loop μ-loop
-add-f c = search needs
-
-loop-less : tie.Need-loop-less Inv-loop μ-loop
-loop-less c = search needs
-
 loop-again : tie.Need-loop-again Inv-loop μ-loop
 loop-again c = counting-turns (c .before .before .before .loop .inv) (c .before .before .loop-test .taken) (c .counted .ensures ∙ ap (λ (x : ℕ). c .before .before .before .loop .found + cond (eqb x 0) 1 0) (c .before .cell .ensures))
 
@@ -40,9 +28,9 @@ gaps-spec =
     Inv-loop
     μ-loop
     loop-holds
-    cell-requires
-    counted-requires
-    add-f
-    loop-less
+    (λ c κs. search needs)
+    (λ c κs. search needs)
+    (λ c. search needs)
+    (λ c. search needs)
     loop-again
     returns)

@@ -7,22 +7,10 @@ use Rattle.text.proofs.DigitsLaws.{fewest-decimal, fewest-five}
 use Rattle.text.proofs.line.decimal.Statement.{statement}
 use Rattle.text.proofs.line.decimal.Tie as tie
 
-decimal-requires : tie.Need-decimal-requires
-decimal-requires c κs = search needs
-
-array-share-prefix-digits : tie.Need-array-share-prefix-digits
-array-share-prefix-digits c = search needs
-
-slice-aggregate-words : tie.Need-slice-aggregate-words
-slice-aggregate-words c = search needs
-
 words-requires : tie.Need-words-requires
 words-requires c κs =
     let d = c .before .before .decimal in
     omega (arith, fewest-five (c .before .before .before .before .before .args .n) (d .result) (omega arith) (d .ensures .1 .0), d .ensures .0 .1)
-
-same-length : tie.Need-same-length
-same-length c = search needs
 
 returns : tie.Need-returns
 returns c =
@@ -37,9 +25,9 @@ pub decimal-spec : {M : Type 1} → statement M
 decimal-spec =
     tie.close
     (tie.spec
-    decimal-requires
-    array-share-prefix-digits
-    slice-aggregate-words
+    (λ c κs. search needs)
+    (λ c. search needs)
+    (λ c. search needs)
     words-requires
-    same-length
+    (λ c. search needs)
     returns)

@@ -10,36 +10,6 @@ use Rattle.text.proofs.LineLaws.{put-as, put-behind, put-field, put-lin
 use Rattle.text.proofs.lines.face_line.Statement.{statement}
 use Rattle.text.proofs.lines.face_line.Tie as tie
 
-cell-requires : tie.Need-cell-requires
-cell-requires c κs = search needs
-
-cell-requires-2 : tie.Need-cell-requires-2
-cell-requires-2 c κs = search needs
-
-labels-field-requires : tie.Need-labels-field-requires
-labels-field-requires c κs = search needs
-
-cell-requires-3 : tie.Need-cell-requires-3
-cell-requires-3 c κs = search needs
-
-least-field-requires : tie.Need-least-field-requires
-least-field-requires c κs = search needs
-
-slice-aggregate-field : tie.Need-slice-aggregate-field
-slice-aggregate-field c = search needs
-
-cell-requires-4 : tie.Need-cell-requires-4
-cell-requires-4 c κs = search needs
-
-field-requires : tie.Need-field-requires
-field-requires c κs = search needs
-
-slice-aggregate-words : tie.Need-slice-aggregate-words
-slice-aggregate-words c = search needs
-
-words-requires : tie.Need-words-requires
-words-requires c κs = search needs
-
 returns : tie.Need-returns
 returns c =
     let long : 64 ≤ length (now (c .before .before .before .before .before .before .before .before .before .before .before .before .before .before .before .args .line)) = omega arith in
@@ -59,14 +29,14 @@ pub face-line-spec : {M : Type 1} → statement M
 face-line-spec =
     tie.close
     (tie.spec
-    cell-requires
-    cell-requires-2
-    labels-field-requires
-    cell-requires-3
-    least-field-requires
-    slice-aggregate-field
-    cell-requires-4
-    field-requires
-    slice-aggregate-words
-    words-requires
+    (λ c κs. search needs)
+    (λ c κs. search needs)
+    (λ c κs. search needs)
+    (λ c κs. search needs)
+    (λ c κs. search needs)
+    (λ c. search needs)
+    (λ c κs. search needs)
+    (λ c κs. search needs)
+    (λ c. search needs)
+    (λ c κs. search needs)
     returns)

@@ -7,15 +7,6 @@ use Rattle.text.proofs.LineLaws.{put-as, put-behind, put-line, listing-
 use Rattle.text.proofs.whole.listing.Statement.{statement}
 use Rattle.text.proofs.whole.listing.Tie as tie
 
-put-counts-requires : tie.Need-put-counts-requires
-put-counts-requires c κs = search needs
-
-put-faces-requires : tie.Need-put-faces-requires
-put-faces-requires c κs = search needs
-
-put-gaps-requires : tie.Need-put-gaps-requires
-put-gaps-requires c κs = search needs
-
 returns : tie.Need-returns
 returns c =
     let a = c .before .before .before .before .before .before .before .args in
@@ -24,4 +15,4 @@ returns c =
     put-line {m = 85504} (put-as parts (listing-parts counts (now (a .faces))) (omega arith)) (omega arith) (omega arith)
 
 pub listing-spec : {M : Type 1} → statement M
-listing-spec = tie.close (tie.spec put-counts-requires put-faces-requires put-gaps-requires returns)
+listing-spec = tie.close (tie.spec (λ c κs. search needs) (λ c κs. search needs) (λ c κs. search needs) returns)

@@ -19,20 +19,8 @@ abbrev μ-loop : tie.MeasureT-loop
 loop-holds : tie.Need-loop-holds Inv-loop μ-loop
 loop-holds c = (put-none _ _, omega arith)
 
-put-face-requires : tie.Need-put-face-requires Inv-loop μ-loop
-put-face-requires c κs = search needs
-
-add-f : tie.Need-add-f Inv-loop μ-loop
-add-f c = search needs
-
-loop-less : tie.Need-loop-less Inv-loop μ-loop
-loop-less c = search needs
-
 loop-again : tie.Need-loop-again Inv-loop μ-loop
 loop-again c = let l = c .before .before .before .before .before .loop in (put-face-more (now (c .before .before .before .before .before .before .before .before .args .faces)) (l .f) (l .inv .0) (c .before .before .put-face .ensures), omega arith)
-
-same-length : tie.Need-same-length Inv-loop μ-loop
-same-length c = search needs
 
 returns : tie.Need-returns Inv-loop μ-loop
 returns c = put-faces-all (now (c .before .before .before .before .args .faces)) (c .before .loop .inv .0) (c .before .loop .inv .1) (c .loop-test .left)
@@ -44,9 +32,9 @@ put-faces-spec =
     Inv-loop
     μ-loop
     loop-holds
-    put-face-requires
-    add-f
-    loop-less
+    (λ c κs. search needs)
+    (λ c. search needs)
+    (λ c. search needs)
     loop-again
-    same-length
+    (λ c. search needs)
     returns)

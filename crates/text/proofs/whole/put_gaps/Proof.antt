@@ -7,23 +7,8 @@ use Rattle.text.proofs.LineLaws.{put-as, put-lined}
 use Rattle.text.proofs.whole.put_gaps.Statement.{statement}
 use Rattle.text.proofs.whole.put_gaps.Tie as tie
 
-gaps-requires : tie.Need-gaps-requires
-gaps-requires c κs = search needs
-
-gaps-line-requires : tie.Need-gaps-line-requires
-gaps-line-requires c κs = search needs
-
-array-share-prefix-line : tie.Need-array-share-prefix-line
-array-share-prefix-line c = search needs
-
-slice-aggregate-words : tie.Need-slice-aggregate-words
-slice-aggregate-words c = search needs
-
 words-requires : tie.Need-words-requires
 words-requires c κs = omega (arith, c .before .before .gaps-line .ensures .within, c .before .before .gaps-line .ensures .counts .1)
-
-same-length : tie.Need-same-length
-same-length c = search needs
 
 returns : tie.Need-returns
 returns c =
@@ -36,10 +21,10 @@ pub put-gaps-spec : {M : Type 1} → statement M
 put-gaps-spec =
     tie.close
     (tie.spec
-    gaps-requires
-    gaps-line-requires
-    array-share-prefix-line
-    slice-aggregate-words
+    (λ c κs. search needs)
+    (λ c κs. search needs)
+    (λ c. search needs)
+    (λ c. search needs)
     words-requires
-    same-length
+    (λ c. search needs)
     returns)
