@@ -11,7 +11,7 @@ use Prim.Native.Nat.{ℕ, _^_, _≤_}
 use lib.IntN.{ℤ, pos, negℤ, natAbs, _-ℤ_, _*ℤ_}
 use lib.Signed.{ltZ, _≤ℤ_, _<ℤ_}
 use Rattle.exact.specs.Solve.{ring, reify}
-use Rattle.exact.specs.Order.{zomega, sq, <→≤, 0≤-*, 0<-*}
+use Rattle.exact.specs.Order.{zomega, sq, <→≤, 0<-neg, 0≤-*, 0<-*}
 use Rattle.exact.specs.Sign.{Sign, neg, zer, plus, sgn, sgn-neg, negS, sums, sgn-sums, sgn-negℤ, sg, sgn-is, sg-scale}
 use Rattle.exact.specs.Tests.{and-parts, lt-t}
 use Rattle.exact.specs.Abs.{abs-of, abs-is-self, abs-is-neg}
@@ -88,11 +88,8 @@ fractions-sums x d y e z f p q r =
 module _ (x d y e : ℤ) (hd : pos 0 <ℤ d) (he : pos 0 <ℤ e) where
   pub fractions-opposite : x <ℤ pos 0 → pos 0 ≤ℤ y → fractions x d y e ≡ neg
   fractions-opposite hx hy =
-      sgn-neg (less x d y e (0<-* {a = negℤ x} {b = e} (turned x hx) he) (0≤-* {a = y} {b = d} hy (<→≤ hd)))
+      sgn-neg (less x d y e (0<-* {a = negℤ x} {b = e} (0<-neg x hx) he) (0≤-* {a = y} {b = d} hy (<→≤ hd)))
     where
-      turned : (x : ℤ) → x <ℤ pos 0 → pos 0 <ℤ negℤ x
-      turned x = zomega (x ∷ []) (search sq depth 20) (omega arith)
-
       less : (x d y e : ℤ) → pos 0 <ℤ (negℤ x *ℤ e) → pos 0 ≤ℤ (y *ℤ d) → (x *ℤ e -ℤ y *ℤ d) <ℤ pos 0
       less x d y e = zomega (x ∷ d ∷ y ∷ e ∷ []) (search sq depth 20) (omega arith)
 

@@ -6,8 +6,10 @@ pub mod Abs
 pub mod Linear
 pub mod Order
 pub mod Mul
+pub mod Mean
 pub mod Sign
 pub mod Tests
+pub mod Signs
 pub mod Terms
 pub mod Flags
 pub mod Bits
@@ -18,4 +20,6 @@ pub mod Lowest
 pub mod Cast
 pub mod Compare
 pub mod Quotients
+pub mod Digits
+pub mod Floor
 pub mod Worked

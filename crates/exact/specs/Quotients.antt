@@ -8,7 +8,7 @@ use native.Mathlib.Omega.{arith}
 use lib.IntN.{ℤ, pos, _+ℤ_, _-ℤ_, _*ℤ_}
 use lib.Signed.{_≤ℤ_, _<ℤ_}
 use Rattle.exact.specs.Solve.{ring, reify}
-use Rattle.exact.specs.Order.{zomega, sq, pos-<, 0≤pos, 0≤-*, 0<-*}
+use Rattle.exact.specs.Order.{zomega, sq, pos-<, 0≤pos, <→0<, less-gap, 0≤-*, 0<-*}
 use Rattle.exact.specs.Sign.{neg, zer, plus, sgn, sgn-neg, negS}
 use Rattle.exact.specs.Compare.{fractions, fractions-swap}
 
@@ -20,21 +20,15 @@ parts a d = ap pos (sym (div-add-mod' a d))
 less-by : (q r d p s e : ℤ) → pos 0 ≤ℤ ((p -ℤ q -ℤ pos 1) *ℤ (d *ℤ e)) → pos 0 ≤ℤ (s *ℤ d) → pos 0 <ℤ ((d -ℤ r) *ℤ e) → ((q *ℤ d +ℤ r) *ℤ e -ℤ (p *ℤ e +ℤ s) *ℤ d) <ℤ pos 0
 less-by q r d p s e = zomega (q ∷ r ∷ d ∷ p ∷ s ∷ e ∷ []) (search sq depth 20) (omega arith)
 
-gap : (q p : ℤ) → q <ℤ p → pos 0 ≤ℤ (p -ℤ q -ℤ pos 1)
-gap q p = zomega (q ∷ p ∷ []) (search sq depth 20) (omega arith)
-
-below : (r d : ℤ) → r <ℤ d → pos 0 <ℤ (d -ℤ r)
-below r d = zomega (r ∷ d ∷ []) (search sq depth 20) (omega arith)
-
 module _ (a d b e : ℕ) (hd : 0 < d) (he : 0 < e) where
   pub whole-less : a / d < b / e → fractions (pos a) (pos d) (pos b) (pos e) ≡ neg
   whole-less h =
       let q = pos (a / d) in let r = pos (a % d) in let p = pos (b / e) in let s = pos (b % e) in
       (λ i. fractions (parts a d i) (pos d) (parts b e i) (pos e))
       ∙ sgn-neg (less-by q r (pos d) p s (pos e)
-      (0≤-* {a = p -ℤ q -ℤ pos 1} {b = pos d *ℤ pos e} (gap q p (pos-< (a / d) (b / e) h)) (0≤pos (d * e)))
+      (0≤-* {a = p -ℤ q -ℤ pos 1} {b = pos d *ℤ pos e} (less-gap q p (pos-< (a / d) (b / e) h)) (0≤pos (d * e)))
       (0≤pos (b % e * d))
-      (0<-* {a = pos d -ℤ r} {b = pos e} (below r (pos d) (pos-< (a % d) d (mod-lt a hd))) (pos-< 0 e he)))
+      (0<-* {a = pos d -ℤ r} {b = pos e} (<→0< {a = r} {b = pos d} (pos-< (a % d) d (mod-lt a hd))) (pos-< 0 e he)))
 
   -- ---- whole parts that agree
   pub whole-same : a / d ≡ b / e → fractions (pos a) (pos d) (pos b) (pos e) ≡ fractions (pos e) (pos (b % e)) (pos d) (pos (a % d))

@@ -12,7 +12,7 @@ use tables::vertices::store_vertices;
 ghost use mathlib.Core.Path.{_≡_};
 ghost use Rattle.paper.specs.Limits.{maps};
 ghost use Rattle.paper.specs.Lent.{lengthsOf, roomIn, paddedTables};
-ghost use Rattle.filelaws.specs.Refusals.{Fits};
+ghost use Rattle.refusallaws.specs.Room.{Fits};
 ghost use Rattle.tables.specs.Values.{tablesBy};
 ghost use Rattle.overlay.specs.Stored.{stored, storedCounts};
 

@@ -3,7 +3,7 @@
 pub use Rattle.exact.specs.Lowest.{Pt, lowest}
 pub use Rattle.exact.specs.Sign.{Sign, neg, zer, plus, sgn, isNeg, isZer, isPlus, pick, lexS}
 use lib.Signed.{leZ}
-use Rattle.seq.specs.Seq.{Bool, cond, not, _&&_, _||_, Option, none, some, ℕ, zero, suc, ℤ, pos, negsuc, negℤ, _+ℤ_, _-ℤ_, _*ℤ_}
+use Rattle.seq.specs.Seq.{Bool, cond, not, _&&_, _||_, Option, none, some, zero, suc, ℤ, pos, negsuc, negℤ, _+ℤ_, _-ℤ_, _*ℤ_}
 
 -- ── directions ──
 

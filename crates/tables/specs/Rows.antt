@@ -1,5 +1,5 @@
 -- The rows that are stored, from the values in local tables. Assumes nothing.
-use Rattle.seq.specs.Seq.{List, [], _∷_, ℕ, _+_, _*_, getD, ℤ, pos, cell}
+use Rattle.seq.specs.Seq.{List, [], _∷_, ℕ, getD, ℤ, pos, cell}
 use Rattle.paper.specs.Graph.{twin}
 use Rattle.tables.specs.declared.vertices.VertexRows.{VertexRows}
 use Rattle.tables.specs.declared.halves.HalfRows.{HalfRows}

@@ -1,7 +1,6 @@
 -- `mapcheck::check` meets its contract. Assumes nothing.
-use mathlib.Core.Path.{_≡_, sym, ap, _∙_}
+use mathlib.Core.Path.{sym, ap, _∙_}
 use denote.Ref.{now}
-use Rattle.seq.specs.Seq.{ℕ}
 use Rattle.paper.specs.Refusal.{answer, done}
 use Rattle.paper.specs.Map.{vertexCount, edgesIn}
 use Rattle.mapfile.specs.Verdict.{verdict}

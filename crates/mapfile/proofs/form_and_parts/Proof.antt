@@ -4,7 +4,7 @@ use borrow.Author.Needs.{needs}
 use denote.Ref.{now}
 use Rattle.paper.specs.Map.{mapOf, formFaults, partFaults}
 use Rattle.mapfile.specs.Verdict.{verdict}
-use Rattle.mapfile.proofs.VerdictLaws.{first-none, first-some}
+use Rattle.refusallaws.specs.Refusals.{first-none, first-some}
 use Rattle.mapfile.proofs.form_and_parts.Statement.{statement}
 use Rattle.mapfile.proofs.form_and_parts.Tie as tie
 

@@ -1,5 +1,4 @@
 -- `sheet::list` meets its contract. Assumes nothing.
-use native.Mathlib.Omega.{arith}
 use borrow.Author.Needs.{needs}
 use denote.Ref.{now}
 use Rattle.paper.specs.Lent.{overlay}

@@ -1,5 +1,4 @@
 -- `bonnetewe::calls::bonnetewe_read` meets its contract. Assumes nothing.
-use native.Mathlib.Omega.{arith}
 use borrow.Author.Needs.{needs}
 use denote.Ref.{now}
 use Rattle.seq.specs.Seq.{length}

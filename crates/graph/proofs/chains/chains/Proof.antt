@@ -1,10 +1,10 @@
 -- `graph::chains::chains` meets its contract. Assumes nothing.
-use mathlib.Core.Path.{_≡_, refl, _∙_, ap}
+use mathlib.Core.Path.{_≡_, _∙_, ap}
 use Prim.Native.Nat.{_-_, _≤_, _<_}
 use native.Mathlib.Omega.{arith}
 use borrow.Author.Needs.{needs}
 use Rattle.seq.specs.Filled.{length-filled}
-use Rattle.seq.specs.Seq.{ℕ, length, getD}
+use Rattle.seq.specs.Seq.{length, getD}
 use Rattle.graph.specs.Chains.{Chaining, chain-starts, chain-turns, heads-ends, chain-ends, heads-long}
 use Rattle.graph.proofs.chains.chains.Statement.{statement}
 use Rattle.graph.proofs.chains.chains.Tie as tie

@@ -7,7 +7,7 @@ use Rattle.plane.specs.Values.{ptOf, vecOf}
 use Rattle.graph.specs.Flat.{flatGraph}
 use Rattle.graph.specs.Decode.{flat-halves}
 use Rattle.graph.specs.Look.{westOf}
-use Rattle.mapcheck.specs.Seen.{west-below}
+use Rattle.graphlaws.specs.West.{look-below}
 use Rattle.layers.proofs.label.seen_label.Statement.{statement}
 use Rattle.layers.proofs.label.seen_label.Tie as tie
 
@@ -20,7 +20,7 @@ shared-slice-read-result c =
     let n = s .args .n in
     let e = s .args .e in
     let q = sym (c .before .before .before .before .seen-half .ensures) ∙ ap westOf (c .before .before .seen .given .1) in
-    let l = west-below (flatGraph ps os cs n e) (ptOf (s .args .p)) (vecOf (s .args .d)) (c .before .before .seen .given .0 .0) q in
+    let l = look-below (flatGraph ps os cs n e) (ptOf (s .args .p)) (vecOf (s .args .d)) (c .before .before .seen .given .0 .0) q in
     omega (arith, l, flat-halves ps os cs n e, s .pre .1 .1 .0)
 
 returns : tie.Need-returns

@@ -1,5 +1,4 @@
 -- `listed::file::list` meets its contract. Assumes nothing.
-use native.Mathlib.Omega.{arith}
 use borrow.Author.Needs.{needs}
 use denote.Ref.{now}
 use Rattle.paper.specs.Reader.{read}

@@ -3,7 +3,7 @@ use mathlib.Core.Path.{_≡_, refl, sym, ap, _∙_}
 use Prim.Native.Nat.{_≤_}
 use native.Mathlib.Omega.{arith}
 use borrow.Author.Needs.{needs}
-use Rattle.seq.specs.Seq.{Bool, ℕ, _*_, _-_, least}
+use Rattle.seq.specs.Seq.{_*_, _-_, least}
 use Rattle.seq.specs.Least.{least-found, least-more}
 use Rattle.mapcheck.specs.Labels.{disagreesAt}
 use Rattle.mapcheck.proofs.labels.first_disagreeing.Statement.{statement}

@@ -1,9 +1,8 @@
 -- `mapcheck::labels::seen_label` meets its contract. Assumes nothing.
-use mathlib.Core.Path.{_≡_, sym, ap, _∙_}
-use Prim.Native.Nat.{_<_}
+use mathlib.Core.Path.{sym, ap, _∙_}
 use native.Mathlib.Omega.{arith}
 use denote.Ref.{now}
-use Rattle.seq.specs.Seq.{ℕ, _*_, getD, orZero}
+use Rattle.seq.specs.Seq.{ℕ, getD, orZero}
 use Rattle.paper.specs.Plane.{Pt, nowhere}
 use Rattle.paper.specs.Graph.{west}
 use Rattle.plane.specs.Values.{ptOf}
@@ -11,7 +10,7 @@ use Rattle.graph.specs.Flat.{flatGraph}
 use Rattle.graph.specs.Decode.{flat-halves}
 use Rattle.graph.specs.Heading.{flat-starts}
 use Rattle.graph.specs.Look.{westOf}
-use Rattle.mapcheck.specs.Seen.{west-below}
+use Rattle.graphlaws.specs.West.{look-below}
 use borrow.Author.Needs.{needs}
 use Rattle.mapcheck.proofs.labels.seen_label.Statement.{statement}
 use Rattle.mapcheck.proofs.labels.seen_label.Tie as tie
@@ -30,7 +29,7 @@ shared-slice-read-result c =
     let n = s .args .n in
     let e = s .args .e in
     let q = sym (c .before .before .before .before .seen-half .ensures) ∙ ap westOf (c .before .before .seen .given .1) in
-    let l = west-below (flatGraph ps os cs n e) (ptOf (c .before .before .before .before .before .start .result)) nowhere (c .before .before .seen .given .0 .0) q in
+    let l = look-below (flatGraph ps os cs n e) (ptOf (c .before .before .before .before .before .start .result)) nowhere (c .before .before .seen .given .0 .0) q in
     omega (arith, l, flat-halves ps os cs n e, s .pre .1 .1 .0)
 
 returns : tie.Need-returns

@@ -5,8 +5,8 @@ use native.Mathlib.Omega.{arith}
 use borrow.Author.Needs.{needs}
 use borrow.Author.Tests.{lt-ltb, le-ltb}
 use denote.Ref.{now}
-use Rattle.seq.specs.Seq.{Bool, not, _-_, ltb, least}
-use Rattle.seq.specs.Least.{least-found, least-more, least-le}
+use Rattle.seq.specs.Seq.{_-_, least}
+use Rattle.seq.specs.Least.{least-found, least-more}
 use Rattle.mapcheck.specs.Later.{laterAt, laterClashing, least-later}
 use Rattle.mapcheck.proofs.net.first_clashing.Statement.{statement}
 use Rattle.mapcheck.proofs.net.first_clashing.Tie as tie

@@ -5,7 +5,7 @@ use native.Mathlib.Omega.{arith}
 use borrow.Author.Needs.{needs}
 use borrow.Author.Tests.{lt-ltb, le-ltb}
 use denote.Ref.{now}
-use Rattle.seq.specs.Seq.{Bool, not, _-_, ltb, least}
+use Rattle.seq.specs.Seq.{not, _-_, least}
 use Rattle.seq.specs.Least.{least-found, least-more, least-le}
 use Rattle.mapcheck.specs.Net.{startsAt, lonelyAt}
 use Rattle.mapcheck.proofs.net.first_lonely.Statement.{statement}

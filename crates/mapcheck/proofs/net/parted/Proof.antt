@@ -1,7 +1,6 @@
 -- `mapcheck::net::parted` meets its contract. Assumes nothing.
 use mathlib.Core.Path.{_≡_, sym, _∙_}
 use mathlib.Core.Bool.{true, false, _||_}
-use borrow.Author.Needs.{needs}
 use lib.IntN.{_+ℤ_}
 use Rattle.exact.specs.Mach.{tr, fits, plain}
 use Rattle.plane.proofs.Machine.{back}

@@ -5,7 +5,7 @@ use Rattle.seq.specs.Least.{least-le}
 use Rattle.paper.specs.Graph.{edgeCount}
 use Rattle.paper.specs.Map.{mapOf, clashing}
 use Rattle.mapfile.proofs.KeptLaws.{kept}
-use Rattle.mapfile.proofs.MapLaws.{edges-count}
+use Rattle.graphlaws.specs.Reading.{edges-count}
 use Rattle.mapfile.proofs.VerdictLaws.{at-least}
 use Rattle.mapcheck.proofs.FoundLaws.{loaded-carriers, clashing-found}
 use native.Mathlib.Omega.{arith}

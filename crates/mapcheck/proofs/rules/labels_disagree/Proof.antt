@@ -6,7 +6,7 @@ use Rattle.seq.specs.Seq.{ℕ, _*_}
 use Rattle.paper.specs.Graph.{halfCount, followers}
 use Rattle.paper.specs.Map.{mapOf, disagrees}
 use Rattle.mapfile.proofs.KeptLaws.{kept}
-use Rattle.mapfile.proofs.MapLaws.{edges-count}
+use Rattle.graphlaws.specs.Reading.{edges-count}
 use Rattle.mapfile.proofs.VerdictLaws.{at-least}
 use Rattle.mapcheck.proofs.FoundLaws.{loaded-flat, loaded-plane, disagreeing-found}
 use native.Mathlib.Omega.{arith}

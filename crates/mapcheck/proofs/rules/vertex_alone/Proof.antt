@@ -5,7 +5,7 @@ use Rattle.seq.specs.Least.{least-le}
 use Rattle.seq.specs.Seq.{length}
 use Rattle.paper.specs.Map.{mapOf, lonely}
 use Rattle.mapfile.proofs.KeptLaws.{kept}
-use Rattle.mapfile.proofs.MapLaws.{points-count}
+use Rattle.graphlaws.specs.Reading.{points-count}
 use Rattle.mapfile.proofs.VerdictLaws.{at-least}
 use Rattle.mapcheck.proofs.FoundLaws.{lonely-found}
 use native.Mathlib.Omega.{arith}

@@ -4,7 +4,7 @@ use native.Mathlib.Omega.{arith}
 use borrow.Author.Needs.{needs}
 use denote.Ref.{now}
 use Rattle.seq.specs.Seq.{ℕ, pos, _-ℤ_}
-use Rattle.exact.specs.Mach.{tr, trn, fits, plain}
+use Rattle.exact.specs.Mach.{trn, fits, plain}
 use Rattle.mapfile.proofs.BytesLaws.{signed-low, signed-high}
 use Rattle.mapfile.proofs.bytes.i16_at.Statement.{statement}
 use Rattle.mapfile.proofs.bytes.i16_at.Tie as tie

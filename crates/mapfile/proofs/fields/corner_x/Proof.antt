@@ -2,7 +2,7 @@
 use mathlib.Core.Path.{ap, _∙_}
 use borrow.Author.Needs.{needs}
 use denote.Ref.{now}
-use Rattle.exact.specs.Mach.{tr, trs, plain}
+use Rattle.exact.specs.Mach.{trs, plain}
 use Rattle.paper.specs.Bytes.{signedAt}
 use Rattle.mapfile.proofs.fields.corner_x.Statement.{statement}
 use Rattle.mapfile.proofs.fields.corner_x.Tie as tie

@@ -3,7 +3,7 @@ use mathlib.Core.Path.{ap, _∙_}
 use borrow.Author.Needs.{needs}
 use denote.Ref.{now}
 use Rattle.seq.specs.Seq.{ℕ, _+_}
-use Rattle.exact.specs.Mach.{tr, trs, plain}
+use Rattle.exact.specs.Mach.{trs, plain}
 use Rattle.paper.specs.Bytes.{signedAt}
 use Rattle.mapfile.proofs.fields.corner_y.Statement.{statement}
 use Rattle.mapfile.proofs.fields.corner_y.Tie as tie

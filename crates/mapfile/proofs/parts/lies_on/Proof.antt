@@ -3,7 +3,7 @@ use mathlib.Core.Path.{sym, _∙_}
 use borrow.Author.Needs.{needs}
 use mir.Syntax.{w64}
 use denote.Ref.{now}
-use Rattle.exact.specs.Mach.{tr, trbits, test, eq-no, eq-yes, eqZ}
+use Rattle.exact.specs.Mach.{trbits, test, eq-no, eq-yes, eqZ}
 use Rattle.paper.specs.Map.{cornerAt}
 use Rattle.mapfile.proofs.PartsLaws.{other-y, by-x}
 use Rattle.mapfile.proofs.parts.lies_on.Statement.{statement}

@@ -6,7 +6,8 @@ use Rattle.paper.specs.Refusal.{given, firstOf}
 use Rattle.paper.specs.Ovfile.{layouts, Layout}
 use Rattle.paper.specs.Reader.{headFaults}
 use Rattle.mapfile.specs.Verdict.{verdict}
-use Rattle.mapfile.proofs.VerdictLaws.{before, first-none, first-some}
+use Rattle.mapfile.proofs.VerdictLaws.{before}
+use Rattle.refusallaws.specs.Refusals.{first-none, first-some}
 use Rattle.tables.specs.Values.{lengthsBy}
 use Rattle.ovread.proofs.ReadLaws.{layoutIn, bodyIn, right-layout, right-counts}
 use borrow.Author.Needs.{needs}
