@@ -19,7 +19,6 @@ use Rattle.paper.specs.Tables.{Counts, Tables, originOf, followerOf, plusOne}
 use Rattle.graphlaws.specs.Plane.{Plane}
 use Rattle.graphlaws.specs.Follow.{lesser, ranked, greatest-is}
 use Rattle.graphlaws.specs.Walks.{Along, along-below, along-walk, walk-along, lead-along, lead-least, hole-is as hole-at}
-use Rattle.promised.specs.Graphs.{hole-held as hole-at}
 use Rattle.graphlaws.specs.Holes.{smallest-is, smallest-first, smallest-same, hole-makes, makes-best}
 use Rattle.overlaylaws.specs.Maps.{AllKeep}
 use Rattle.overlaylaws.specs.Places.{places}

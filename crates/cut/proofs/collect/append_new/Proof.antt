@@ -12,13 +12,17 @@ returns : tie.Need-returns
 returns c = let a = c .before .args in append-full vertexRows (a .points .now) (a .n) (ptOf (a .p)) (search needs)
 
 returns-2 : tie.Need-returns-2
-returns-2 c = let a = c .before .before .before .before .args in append-old vertexRows (a .points .now) (a .n) (ptOf (a .p)) _ (omega arith) (c .before .stands .ensures) (c .if2 .taken)
+returns-2 c = let a =
+    let start : tie.Start = search needs in
+    start .args in append-old vertexRows (a .points .now) (a .n) (ptOf (a .p)) _ (omega arith) (c .before .stands .ensures) (c .if2 .taken)
 
 returns-3 : tie.Need-returns-3
 returns-3 c =
-    let s = c .before .before .before .before .before .before .before .before .before .before in
+    let after-stands : tie.After-stands = search needs in
+    let else2 : tie.Else2 = search needs in
+    let s : tie.Start = search needs in
     let a = s .args in
-    append-new vertexRows (a .points .now) (a .n) (ptOf (a .p)) _ _ _ (omega arith) (omega arith) (c .before .before .before .before .before .before .before .stands .ensures) (c .before .before .before .before .before .before .if2 .left)
+    append-new vertexRows (a .points .now) (a .n) (ptOf (a .p)) _ _ _ (omega arith) (omega arith) (after-stands .stands .ensures) (else2 .if2 .left)
     (pt-back (a .p .x) (a .p .y) (a .p .d) (s .pre .1)) (c .before .store4-i64 .ensures)
 
 pub append-new-spec : {M : Type 1} → statement M

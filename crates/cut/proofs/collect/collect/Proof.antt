@@ -14,7 +14,7 @@ use Rattle.cut.proofs.collect.collect.Tie as tie
 
 crossings-requires : tie.Need-crossings-requires
 crossings-requires c κs =
-    let s = c .before .before .before .before .before in
+    let s : tie.Start = search needs in
     let r = c .before .before .corners in (
       record {
         long = omega (arith, r .kept .1 .1 .0);
@@ -25,9 +25,11 @@ crossings-requires c κs =
 
 returns : tie.Need-returns
 returns c =
-    let a = c .before .before .before .before .before .before .before .args in
+    let start : tie.Start = search needs in
+    let after-corners : tie.After-corners = search needs in
+    let a = start .args in
     let cs = crossAll (a .carriers .now) (a .starts .now) in
-    c .before .crossings .ensures ∙ ap (λ (l : List Pt). gathered vertexRows l cs) (c .before .before .before .before .corners .ensures)
+    c .before .crossings .ensures ∙ ap (λ (l : List Pt). gathered vertexRows l cs) (after-corners .corners .ensures)
     ∙ sym (collectIn-++ equal vertexRows [] (pointsOf (a .corner-rows .now) (a .c)) cs)
 
 pub collect-spec : {M : Type 1} → statement M

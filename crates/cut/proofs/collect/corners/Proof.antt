@@ -26,16 +26,20 @@ loop-holds c = (search needs, refl, gather-starts vertexRows _ _ _ (search needs
 
 append-new-requires : tie.Need-append-new-requires Inv-loop μ-loop
 append-new-requires c κs =
-    let l = c .before .before .before .loop in
-    (record { long = omega (arith, l .inv .1); within = l .inv .2 .within }, subst Near (sym (c .before .point-at .ensures)) (c .before .before .before .before .pre .1 .near (l .v) (omega arith)))
+    let at-loop : tie.At-loop Inv-loop μ-loop = search needs in
+    let start : tie.Start Inv-loop μ-loop = search needs in
+    let l = at-loop .loop in
+    (record { long = omega (arith, l .inv .1); within = l .inv .2 .within }, subst Near (sym (c .before .point-at .ensures)) (start .pre .1 .near (l .v) (omega arith)))
 
 loop-again : tie.Need-loop-again Inv-loop μ-loop
 loop-again c =
-    let l = c .before .before .before .before .before .loop in
+    let at-loop : tie.At-loop Inv-loop μ-loop = search needs in
+    let after-point-at : tie.After-point-at Inv-loop μ-loop = search needs in
+    let l = at-loop .loop in
     let r = c .before .append-new in (
       search needs,
       r .kept .0 ∙ l .inv .1,
-      gather-turns vertexRows _ (l .inv .2) (r .last .0) (r .result) (r .ensures ∙ ap (λ (p : Pt). gathered vertexRows (pointsOf (l .points) (l .total)) (p ∷ [])) (c .before .before .before .point-at .ensures)),
+      gather-turns vertexRows _ (l .inv .2) (r .last .0) (r .result) (r .ensures ∙ ap (λ (p : Pt). gathered vertexRows (pointsOf (l .points) (l .total)) (p ∷ [])) (after-point-at .point-at .ensures)),
     )
 
 returns : tie.Need-returns Inv-loop μ-loop

@@ -29,19 +29,23 @@ carrier-at-requires c κs =
 
 cross-row-requires : tie.Need-cross-row-requires Inv-loop μ-loop
 cross-row-requires c κs =
-    let l = c .before .before .before .loop in
-    let s = c .before .before .before .before in
+    let at-loop : tie.At-loop Inv-loop μ-loop = search needs in
+    let l = at-loop .loop in
+    let s : tie.Start Inv-loop μ-loop = search needs in
     (record { long = omega (arith, l .inv .1); within = l .inv .2 .within }, (carriers-fewer (s .args .carriers .now) (s .args .from + s .args .e) (s .args .from) (omega arith) (s .pre .1), c .before .carrier-at .ensures .1))
 
 loop-again : tie.Need-loop-again Inv-loop μ-loop
 loop-again c =
-    let l = c .before .before .before .before .before .loop in
+    let at-loop : tie.At-loop Inv-loop μ-loop = search needs in
+    let start : tie.Start Inv-loop μ-loop = search needs in
+    let after-carrier-at : tie.After-carrier-at Inv-loop μ-loop = search needs in
+    let l = at-loop .loop in
     let r = c .before .cross-row in
-    let a = c .before .before .before .before .before .before .args in (
+    let a = start .args in (
       search needs,
       r .kept .1 .1 .1 .0 ∙ l .inv .1,
       gather-turns vertexRows _ (l .inv .2) (r .last .1 .1 .1 .0) (r .result)
-          (r .ensures ∙ ap (λ (s : Seg). gathered vertexRows (pointsOf (l .points) (l .total)) (crossRow (a .carriers .now) (a .from) s)) (c .before .before .before .carrier-at .ensures .0)),
+          (r .ensures ∙ ap (λ (s : Seg). gathered vertexRows (pointsOf (l .points) (l .total)) (crossRow (a .carriers .now) (a .from) s)) (after-carrier-at .carrier-at .ensures .0)),
     )
 
 returns : tie.Need-returns Inv-loop μ-loop

@@ -13,18 +13,25 @@ use Rattle.cut.proofs.collect.cross_pair.Statement.{statement}
 use Rattle.cut.proofs.collect.cross_pair.Tie as tie
 
 append-new-requires : tie.Need-append-new-requires
-append-new-requires c κs = (c .before .before .before .before .before .pre .0, subst (λ (x : Cross). NearIf (crossOf x)) (c .before .before .p .given .1) (c .before .before .before .before .crossing .ensures .1))
+append-new-requires c κs =
+    let start : tie.Start = search needs in
+    let after-crossing : tie.After-crossing = search needs in
+    (start .pre .0, subst (λ (x : Cross). NearIf (crossOf x)) (c .before .before .p .given .1) (after-crossing .crossing .ensures .1))
 
 returns : tie.Need-returns
 returns c =
-    let a = c .before .before .before .args in
+    let start : tie.Start = search needs in
+    let a = start .args in
     ap (λ (o : Option Pt). gathered vertexRows (pointsOf (a .points .now) (a .n)) (optional o)) (sym (ap crossOf (c .enum-told .given .1)) ∙ c .before .before .crossing .ensures .0)
 
 returns-2 : tie.Need-returns-2
 returns-2 c =
-    let a = c .before .before .before .before .before .before .before .args in
+    let start : tie.Start = search needs in
+    let after-p : tie.After-p = search needs in
+    let after-crossing : tie.After-crossing = search needs in
+    let a = start .args in
     c .before .append-new .ensures
-    ∙ ap (λ (o : Option Pt). gathered vertexRows (pointsOf (a .points .now) (a .n)) (optional o)) (sym (ap crossOf (c .before .before .before .before .p .given .1)) ∙ c .before .before .before .before .before .before .crossing .ensures .0)
+    ∙ ap (λ (o : Option Pt). gathered vertexRows (pointsOf (a .points .now) (a .n)) (optional o)) (sym (ap crossOf (after-p .p .given .1)) ∙ after-crossing .crossing .ensures .0)
 
 pub cross-pair-spec : {M : Type 1} → statement M
 cross-pair-spec =

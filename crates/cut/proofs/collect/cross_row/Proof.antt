@@ -28,17 +28,22 @@ carrier-at-requires c κs = let s = c .before .before in record { row = omega (a
 
 cross-pair-requires : tie.Need-cross-pair-requires Inv-loop μ-loop
 cross-pair-requires c κs =
-    let l = c .before .before .before .loop in
-    (record { long = omega (arith, l .inv .1); within = l .inv .2 .within }, (c .before .carrier-at .ensures .1, c .before .before .before .before .pre .1 .1))
+    let at-loop : tie.At-loop Inv-loop μ-loop = search needs in
+    let start : tie.Start Inv-loop μ-loop = search needs in
+    let l = at-loop .loop in
+    (record { long = omega (arith, l .inv .1); within = l .inv .2 .within }, (c .before .carrier-at .ensures .1, start .pre .1 .1))
 
 loop-again : tie.Need-loop-again Inv-loop μ-loop
 loop-again c =
-    let l = c .before .before .before .before .before .loop in
+    let at-loop : tie.At-loop Inv-loop μ-loop = search needs in
+    let start : tie.Start Inv-loop μ-loop = search needs in
+    let after-carrier-at : tie.After-carrier-at Inv-loop μ-loop = search needs in
+    let l = at-loop .loop in
     let r = c .before .cross-pair in
-    let t = segOf (c .before .before .before .before .before .before .args .t) in (
+    let t = segOf (start .args .t) in (
       search needs,
       r .kept .1 .1 .0 ∙ l .inv .1,
-      gather-turns vertexRows _ (l .inv .2) (r .last .1 .1 .0) (r .result) (r .ensures ∙ ap (λ (s : Seg). gathered vertexRows (pointsOf (l .points) (l .total)) (optional (crossing s t))) (c .before .before .before .carrier-at .ensures .0)),
+      gather-turns vertexRows _ (l .inv .2) (r .last .1 .1 .0) (r .result) (r .ensures ∙ ap (λ (s : Seg). gathered vertexRows (pointsOf (l .points) (l .total)) (optional (crossing s t))) (after-carrier-at .carrier-at .ensures .0)),
     )
 
 returns : tie.Need-returns Inv-loop μ-loop

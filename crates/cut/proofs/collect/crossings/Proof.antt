@@ -23,16 +23,22 @@ loop-holds : tie.Need-loop-holds Inv-loop μ-loop
 loop-holds c = (search needs, refl, gather-starts vertexRows _ _ _ (search needs))
 
 sub-e : tie.Need-sub-e Inv-loop μ-loop
-sub-e c = omega (arith, c .before .before .before .before .before .pre .1 .rises (c .before .before .before .loop .m) (omega arith))
+sub-e c =
+    let start : tie.Start Inv-loop μ-loop = search needs in
+    let at-loop : tie.At-loop Inv-loop μ-loop = search needs in
+    omega (arith, start .pre .1 .rises (at-loop .loop .m) (omega arith))
 
 cross-map-requires : tie.Need-cross-map-requires Inv-loop μ-loop
 cross-map-requires c κs =
-    let l = c .before .before .before .before .loop in
-    (record { long = omega (arith, l .inv .1); within = l .inv .2 .within }, part-carried (c .before .before .before .before .before .before .pre .1) (l .m) (omega arith))
+    let at-loop : tie.At-loop Inv-loop μ-loop = search needs in
+    let start : tie.Start Inv-loop μ-loop = search needs in
+    let l = at-loop .loop in
+    (record { long = omega (arith, l .inv .1); within = l .inv .2 .within }, part-carried (start .pre .1) (l .m) (omega arith))
 
 loop-again : tie.Need-loop-again Inv-loop μ-loop
 loop-again c =
-    let l = c .before .before .before .before .before .before .loop in
+    let at-loop : tie.At-loop Inv-loop μ-loop = search needs in
+    let l = at-loop .loop in
     let r = c .before .cross-map in
     (search needs, r .kept .1 .1 .1 .0 ∙ l .inv .1, gather-turns vertexRows _ (l .inv .2) (r .last .1 .1 .1 .0) (r .result) (r .ensures))
 

@@ -46,28 +46,36 @@ module _ (p : Pt) (h : Near p) (t : List ℤ) (k : ℕ) where
 
 returns : tie.Need-returns
 returns c =
-    let s = c .before .before .before .before .before .before .before .before .before .before .before in
+    let after-if12 : tie.After-if12 = search needs in
+    let then1 : tie.Then1 = search needs in
+    let after-if22 : tie.After-if22 = search needs in
+    let then2 : tie.Then2 = search needs in
+    let s : tie.Start = search needs in
     let p = ptOf (s .args .p) in
     let t = s .args .points .now in
     let k = s .args .k in
     d-test p (s .pre .1) t k (c .before .before .result .given)
-    ∙ equal-third p (pointAt t k) (x-yes p (s .pre .1) t k (c .before .before .before .before .before .before .before .before .before .before .if12 .given) (c .before .before .before .before .before .before .before .if1 .taken)) (y-yes p (s .pre .1) t k (c .before .before .before .before .before .before .if22 .given) (c .before .before .before .if2 .taken))
+    ∙ equal-third p (pointAt t k) (x-yes p (s .pre .1) t k (after-if12 .if12 .given) (then1 .if1 .taken)) (y-yes p (s .pre .1) t k (after-if22 .if22 .given) (then2 .if2 .taken))
 
 returns-2 : tie.Need-returns-2
 returns-2 c =
-    let s = c .before .before .before .before .before .before .before .before in
+    let after-if12 : tie.After-if12 = search needs in
+    let then1 : tie.Then1 = search needs in
+    let after-if22 : tie.After-if22 = search needs in
+    let s : tie.Start = search needs in
     let p = ptOf (s .args .p) in
     let t = s .args .points .now in
     let k = s .args .k in
-    equal-second p (pointAt t k) (x-yes p (s .pre .1) t k (c .before .before .before .before .before .before .before .if12 .given) (c .before .before .before .before .if1 .taken)) (y-no p (s .pre .1) t k (c .before .before .before .if22 .given) (c .if2 .left))
+    equal-second p (pointAt t k) (x-yes p (s .pre .1) t k (after-if12 .if12 .given) (then1 .if1 .taken)) (y-no p (s .pre .1) t k (after-if22 .if22 .given) (c .if2 .left))
 
 returns-3 : tie.Need-returns-3
 returns-3 c =
-    let s = c .before .before .before .before in
+    let after-if12 : tie.After-if12 = search needs in
+    let s : tie.Start = search needs in
     let p = ptOf (s .args .p) in
     let t = s .args .points .now in
     let k = s .args .k in
-    equal-first p (pointAt t k) (x-no p (s .pre .1) t k (c .before .before .before .if12 .given) (c .if1 .left))
+    equal-first p (pointAt t k) (x-no p (s .pre .1) t k (after-if12 .if12 .given) (c .if1 .left))
 
 pub is-at-spec : {M : Type 1} → statement M
 is-at-spec =

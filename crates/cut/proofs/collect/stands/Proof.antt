@@ -17,10 +17,14 @@ loop-holds : tie.Need-loop-holds Inv-loop μ-loop
 loop-holds c = look-starts _ _ _
 
 returns : tie.Need-returns Inv-loop μ-loop
-returns c = look-finds _ _ (c .before .before .before .loop .inv) (search needs) (sym (c .before .is-at .ensures) ∙ c .if1 .taken)
+returns c =
+    let at-loop : tie.At-loop Inv-loop μ-loop = search needs in
+    look-finds _ _ (at-loop .loop .inv) (search needs) (sym (c .before .is-at .ensures) ∙ c .if1 .taken)
 
 loop-again : tie.Need-loop-again Inv-loop μ-loop
-loop-again c = look-turns _ _ (c .before .before .before .loop .inv) (search needs) (sym (c .before .is-at .ensures) ∙ c .if1 .left)
+loop-again c =
+    let at-loop : tie.At-loop Inv-loop μ-loop = search needs in
+    look-turns _ _ (at-loop .loop .inv) (search needs) (sym (c .before .is-at .ensures) ∙ c .if1 .left)
 
 returns-2 : tie.Need-returns-2 Inv-loop μ-loop
 returns-2 c = look-ends _ _ (c .before .loop .inv) (search needs)

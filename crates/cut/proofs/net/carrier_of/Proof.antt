@@ -10,19 +10,23 @@ use Rattle.cut.proofs.net.carrier_of.Tie as tie
 
 returns : tie.Need-returns
 returns c =
-    let a = c .before .before .before .before .before .args in
+    let start : tie.Start = search needs in
+    let a = start .args in
     (c .nothing .ensures .0 ∙ carrier-none (a .pieces .now) (a .carriers .now) (a .starts .now) (a .k) (omega (arith, c .before .before .first-map .ensures)), c .nothing .ensures .1)
 
 sub-edge-in : tie.Need-sub-edge-in
 sub-edge-in c =
-    let a = c .before .before .before .before .before .args in
+    let start : tie.Start = search needs in
+    let a = start .args in
     let e = c .before .before .first-map .ensures in
     omega (arith, c .source-in .ensures .0, ap (sourceIn (a .pieces .now) (a .k)) e, first-has (a .pieces .now) (a .carriers .now) (a .starts .now) (a .k) (omega (arith, e)))
 
 returns-2 : tie.Need-returns-2
 returns-2 c =
-    let a = c .before .before .before .before .before .before .args in
-    let e = c .before .before .before .first-map .ensures in
+    let start : tie.Start = search needs in
+    let after-first-map : tie.After-first-map = search needs in
+    let a = start .args in
+    let e = after-first-map .first-map .ensures in
     let n : c .before .source-in .result ≡ sourceIn (a .pieces .now) (a .k) (firstMap (a .pieces .now) (a .k)) = c .before .source-in .ensures .0 ∙ ap (sourceIn (a .pieces .now) (a .k)) e in (
       c .edge-in .ensures .0 ∙ (λ i. edgeIn (a .carriers .now) (a .starts .now) (e i) (n i - 1)) ∙ carrier-some (a .pieces .now) (a .carriers .now) (a .starts .now) (a .k) (omega (arith, e)),
       c .edge-in .ensures .1,

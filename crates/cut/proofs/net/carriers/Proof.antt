@@ -22,9 +22,12 @@ loop-holds c = lay-starts 4 _ (λ k. refl) _ _ (c .before .before .pre .1 .1)
 
 loop-again : tie.Need-loop-again Inv-loop μ-loop
 loop-again c =
-    let a = c .before .before .before .before .before .before .before .before .before .before .before .before .args in
-    let l = c .before .before .before .before .before .before .before .before .before .loop in
-    let r = c .before .before .before .before .before .before .before .carrier-of in
+    let start : tie.Start Inv-loop μ-loop = search needs in
+    let at-loop : tie.At-loop Inv-loop μ-loop = search needs in
+    let after-carrier-of : tie.After-carrier-of Inv-loop μ-loop = search needs in
+    let a = start .args in
+    let l = at-loop .loop in
+    let r = after-carrier-of .carrier-of in
     let s = r .result in
     let row : ℕ → List ℤ = λ j. segRow (carrierIn (a .pieces .now) (a .carriers .now) (a .starts .now) j) in
     subst (λ (u : List ℤ). Laying 4 row (a .e) (a .out .now) u (l .k + 1)) (sym (c .before .store4-i64 .ensures))

@@ -13,19 +13,21 @@ add-row c = let s = c .before .before in omega (arith, part-carried (s .pre .0) 
 
 carrier-at-requires : tie.Need-carrier-at-requires
 carrier-at-requires c κs =
-    let s = c .before .before .before .before in
+    let s : tie.Start = search needs in
     let r = part-carried (s .pre .0) (s .args .m) (s .pre .1 .0) in
     let l : startOf (s .args .starts .now) (s .args .m) + s .args .j < startOf (s .args .starts .now) (s .args .m) + edgesFrom (s .args .starts .now) (s .args .m) = omega arith in
     record { row = omega (arith, r .long); near = r .near (startOf (s .args .starts .now) (s .args .m) + s .args .j) l }
 
 returns : tie.Need-returns
 returns c =
-    let a = c .before .before .before .before .before .args in
+    let start : tie.Start = search needs in
+    let a = start .args in
     (c .carrier-at .ensures .0 ∙ edge-there (a .carriers .now) (a .starts .now) (a .m) (a .j) (omega arith), c .carrier-at .ensures .1)
 
 returns-2 : tie.Need-returns-2
 returns-2 c =
-    let a = c .before .before .before .before .before .args in
+    let start : tie.Start = search needs in
+    let a = start .args in
     (c .nothing .ensures .0 ∙ edge-absent (a .carriers .now) (a .starts .now) (a .m) (a .j) (omega arith), c .nothing .ensures .1)
 
 pub edge-in-spec : {M : Type 1} → statement M

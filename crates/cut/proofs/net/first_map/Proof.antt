@@ -20,19 +20,24 @@ abbrev μ-loop : tie.MeasureT-loop
 
 returns : tie.Need-returns Inv-loop μ-loop
 returns c =
-    let l = c .before .before .before .loop in
-    sym (least-found (λ i. ltb 0 (sourceIn (c .before .before .before .before .before .args .pieces .now) (c .before .before .before .before .before .args .k) i)) maps (l .m) (omega arith) (l .inv .1) (lt-ltb 0 (sourceIn (c .before .before .before .before .before .args .pieces .now) (c .before .before .before .before .before .args .k) (l .m)) (omega (arith, c .before .source-in .ensures .0))))
+    let at-loop : tie.At-loop Inv-loop μ-loop = search needs in
+    let start : tie.Start Inv-loop μ-loop = search needs in
+    let l = at-loop .loop in
+    sym (least-found (λ i. ltb 0 (sourceIn (start .args .pieces .now) (start .args .k) i)) maps (l .m) (omega arith) (l .inv .1) (lt-ltb 0 (sourceIn (start .args .pieces .now) (start .args .k) (l .m)) (omega (arith, c .before .source-in .ensures .0))))
 
 loop-again : tie.Need-loop-again Inv-loop μ-loop
 loop-again c =
-    let l = c .before .before .before .loop in
-    (search needs, least-more (λ i. ltb 0 (sourceIn (c .before .before .before .before .before .args .pieces .now) (c .before .before .before .before .before .args .k) i)) (l .m) (l .inv .1) (le-ltb 0 (sourceIn (c .before .before .before .before .before .args .pieces .now) (c .before .before .before .before .before .args .k) (l .m)) (omega (arith, c .before .source-in .ensures .0))))
+    let at-loop : tie.At-loop Inv-loop μ-loop = search needs in
+    let start : tie.Start Inv-loop μ-loop = search needs in
+    let l = at-loop .loop in
+    (search needs, least-more (λ i. ltb 0 (sourceIn (start .args .pieces .now) (start .args .k) i)) (l .m) (l .inv .1) (le-ltb 0 (sourceIn (start .args .pieces .now) (start .args .k) (l .m)) (omega (arith, c .before .source-in .ensures .0))))
 
 returns-2 : tie.Need-returns-2 Inv-loop μ-loop
 returns-2 c =
+    let start : tie.Start Inv-loop μ-loop = search needs in
     let l = c .before .loop in
     let e : l .m ≡ maps = omega arith in
-    sym (ap (least (λ i. ltb 0 (sourceIn (c .before .before .before .args .pieces .now) (c .before .before .before .args .k) i))) (sym e) ∙ l .inv .1 ∙ e)
+    sym (ap (least (λ i. ltb 0 (sourceIn (start .args .pieces .now) (start .args .k) i))) (sym e) ∙ l .inv .1 ∙ e)
 
 pub first-map-spec : {M : Type 1} → statement M
 first-map-spec =

@@ -20,7 +20,10 @@ loop-holds : tie.Need-loop-holds Inv-loop μ-loop
 loop-holds c = lay-starts 2 _ (λ k. refl) _ _ (c .pre .1)
 
 loop-again : tie.Need-loop-again Inv-loop μ-loop
-loop-again c = ends-turns (c .before .before .before .before .args .pieces .now) (c .before .before .before .loop .inv) (search needs)
+loop-again c =
+    let start : tie.Start Inv-loop μ-loop = search needs in
+    let at-loop : tie.At-loop Inv-loop μ-loop = search needs in
+    ends-turns (start .args .pieces .now) (at-loop .loop .inv) (search needs)
 
 returns : tie.Need-returns Inv-loop μ-loop
 returns c = lay-ends 2 _ (λ k. refl) (c .before .loop .inv) (search needs)

@@ -30,23 +30,29 @@ loop-holds c = (refl, link-starts edgeRows _ _ _ _ _ (search needs))
 
 on-seg-requires : tie.Need-on-seg-requires Inv-loop μ-loop
 on-seg-requires c κs =
-    let s = c .before .before .before .before in
+    let s : tie.Start Inv-loop μ-loop = search needs in
     (s .pre .1 .1 .0, subst Near (sym (c .point-at .ensures)) (s .pre .1 .0 .0 .near (c .before .before .loop .v - 1) (omega arith)))
 
 -- what the test of vertex v says
 tested : (c : tie.After-on-seg Inv-loop μ-loop) → c .on-seg .result ≡ onSeg (segOf (c .before .before .before .before .before .args .s)) (pointAt (c .before .before .before .before .before .args .points .now) (c .before .before .before .loop .v - 1))
-tested c = c .on-seg .ensures ∙ ap (onSeg (segOf (c .before .before .before .before .before .args .s))) (c .before .point-at .ensures)
+tested c =
+    let start : tie.Start Inv-loop μ-loop = search needs in
+    c .on-seg .ensures ∙ ap (onSeg (segOf (start .args .s))) (c .before .point-at .ensures)
 
 loop-again : tie.Need-loop-again Inv-loop μ-loop
 loop-again c =
-    let l = c .before .before .before .before .before .before .before .before .loop in (
+    let at-loop : tie.At-loop Inv-loop μ-loop = search needs in
+    let after-on-seg : tie.After-on-seg Inv-loop μ-loop = search needs in
+    let then1 : tie.Then1 Inv-loop μ-loop = search needs in
+    let l = at-loop .loop in (
       c .before .before .link .kept .0 ∙ l .inv .0,
-      link-turns edgeRows _ _ _ (l .inv .1) (c .before .before .link .last .0) (c .before .before .link .result) (search needs) (sym (tested (c .before .before .before .before .before)) ∙ c .before .before .before .before .if1 .taken) (c .before .before .link .ensures),
+      link-turns edgeRows _ _ _ (l .inv .1) (c .before .before .link .last .0) (c .before .before .link .result) (search needs) (sym (tested after-on-seg) ∙ then1 .if1 .taken) (c .before .before .link .ensures),
     )
 
 loop-again-2 : tie.Need-loop-again-2 Inv-loop μ-loop
 loop-again-2 c =
-    let l = c .before .before .before .before .loop in
+    let at-loop : tie.At-loop Inv-loop μ-loop = search needs in
+    let l = at-loop .loop in
     (l .inv .0, link-skips edgeRows _ _ _ (l .inv .1) (search needs) (sym (tested (c .before)) ∙ c .if1 .left))
 
 returns : tie.Need-returns Inv-loop μ-loop

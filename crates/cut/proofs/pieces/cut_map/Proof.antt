@@ -25,22 +25,26 @@ loop-holds c = (search needs, refl, cut-starts edgeRows _ _ _ _ (search needs))
 
 carrier-at-requires : tie.Need-carrier-at-requires Inv-loop μ-loop
 carrier-at-requires c κs =
-    let s = c .before .before .before in
+    let s : tie.Start Inv-loop μ-loop = search needs in
     record { row = omega (arith, s .pre .1 .1 .0 .long); near = s .pre .1 .1 .0 .near (s .args .from + (c .before .loop .k - 1)) (omega arith) }
 
 cut-edge-requires : tie.Need-cut-edge-requires Inv-loop μ-loop
 cut-edge-requires c κs =
-    let s = c .before .before .before .before .before in
-    (record { long = omega (arith, c .before .before .before .loop .inv .1); within = c .before .before .before .loop .inv .2 .within }, (s .pre .1 .0, (c .before .carrier-at .ensures .1, (s .pre .1 .1 .1 .0, omega arith))))
+    let at-loop : tie.At-loop Inv-loop μ-loop = search needs in
+    let s : tie.Start Inv-loop μ-loop = search needs in
+    (record { long = omega (arith, at-loop .loop .inv .1); within = at-loop .loop .inv .2 .within }, (s .pre .1 .0, (c .before .carrier-at .ensures .1, (s .pre .1 .1 .1 .0, omega arith))))
 
 loop-again : tie.Need-loop-again Inv-loop μ-loop
 loop-again c =
-    let l = c .before .before .before .before .before .before .loop in
-    let s = c .before .before .before .before .before .before .before .before .args in (
+    let at-loop : tie.At-loop Inv-loop μ-loop = search needs in
+    let start : tie.Start Inv-loop μ-loop = search needs in
+    let after-carrier-at : tie.After-carrier-at Inv-loop μ-loop = search needs in
+    let l = at-loop .loop in
+    let s = start .args in (
       search needs,
       c .before .before .cut-edge .kept .1 .1 .1 .1 .1 .0 ∙ l .inv .1,
       cut-turns edgeRows (cutRow (s .points .now) (s .n) (s .carriers .now) (s .from) (s .m)) (l .inv .2) (c .before .before .cut-edge .last .1 .1 .1 .1 .1 .0) (c .before .before .cut-edge .result) (search needs)
-          (c .before .before .cut-edge .ensures ∙ ap (λ (q : Seg). puts edgeRows (piecesIn (l .pieces) (l .total)) (cutEdge (s .points .now) (s .n) q (s .m) (l .k - 1))) (c .before .before .before .before .carrier-at .ensures .0)),
+          (c .before .before .cut-edge .ensures ∙ ap (λ (q : Seg). puts edgeRows (piecesIn (l .pieces) (l .total)) (cutEdge (s .points .now) (s .n) q (s .m) (l .k - 1))) (after-carrier-at .carrier-at .ensures .0)),
     )
 
 returns : tie.Need-returns Inv-loop μ-loop

@@ -15,7 +15,8 @@ returns c = let a = c .before .before .args in link-none edgeRows (a .n) (a .nex
 
 returns-2 : tie.Need-returns-2
 returns-2 c =
-    let a = c .before .before .before .before .before .before .args in
+    let start : tie.Start = search needs in
+    let a = start .args in
     c .before .before .put .ensures ∙ link-one edgeRows (a .n) (a .next) (a .v) (only maps (a .m) (a .number)) (piecesIn (a .pieces .now) (a .count)) (omega arith)
 
 pub link-spec : {M : Type 1} → statement M

@@ -27,13 +27,15 @@ sub-e c = let s = c .before .before .before .before .before .before in omega (ar
 
 cut-map-requires : tie.Need-cut-map-requires Inv-loop μ-loop
 cut-map-requires c κs =
-    let s = c .before .before .before .before .before .before .before in
-    let l = c .before .before .before .before .loop in
+    let at-loop : tie.At-loop Inv-loop μ-loop = search needs in
+    let s : tie.Start Inv-loop μ-loop = search needs in
+    let l = at-loop .loop in
     (record { long = omega (arith, l .inv .1); within = l .inv .2 .within }, (s .pre .0, (part-carried (s .pre .1 .0) (l .m - 1) (omega arith), (omega arith, s .pre .1 .0 .few (l .m - 1) (omega arith)))))
 
 loop-again : tie.Need-loop-again Inv-loop μ-loop
 loop-again c =
-    let l = c .before .before .before .before .before .before .before .loop in (
+    let at-loop : tie.At-loop Inv-loop μ-loop = search needs in
+    let l = at-loop .loop in (
       search needs,
       c .before .before .cut-map .kept .1 .1 .1 .1 .1 .1 .0 ∙ l .inv .1,
       cut-turns edgeRows _ (l .inv .2) (c .before .before .cut-map .last .1 .1 .1 .1 .1 .1 .0) (c .before .before .cut-map .result) (search needs) (c .before .before .cut-map .ensures),

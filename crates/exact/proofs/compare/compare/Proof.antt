@@ -20,12 +20,13 @@ shown x d f g h e t = narrow-is x d h ((λ i. narrowOf (sym (toZ-ofZ w64 x f) i)
 
 first : (c : tie.Then2) → let s = c .before .before .before .before in Narrow (s .args .x) (s .args .d)
 first c =
-    let s = c .before .before .before .before in
-    shown (s .args .x) (s .args .d) (s .fits .x) (s .fits .d) (s .pre .first) (c .before .before .before .narrow .ensures) (c .before .before .if1 .taken)
+    let after-narrow : tie.After-narrow = search needs in
+    let s : tie.Start = search needs in
+    shown (s .args .x) (s .args .d) (s .fits .x) (s .fits .d) (s .pre .first) (after-narrow .narrow .ensures) (c .before .before .if1 .taken)
 
 second : (c : tie.Then2) → let s = c .before .before .before .before in Narrow (s .args .y) (s .args .e)
 second c =
-    let s = c .before .before .before .before in
+    let s : tie.Start = search needs in
     shown (s .args .y) (s .args .e) (s .fits .y) (s .fits .e) (s .pre .second) (c .before .narrow2 .ensures) (c .if2 .taken)
 
 -- the cross product as the machine has it
@@ -40,12 +41,13 @@ mul-order-2 c = let p = first c in let q = second c in fits (search tr depth 20)
 
 returns : tie.Need-returns
 returns c =
-    let s = c .before .before .before .before .before .args in
+    let start : tie.Start = search needs in
+    let s = start .args in
     c .order .ensures ∙ (λ i. sgn (product (s .x) (s .d) (s .y) (s .e) (first (c .before)) (second (c .before)) i -ℤ product (s .y) (s .e) (s .x) (s .d) (second (c .before)) (first (c .before)) i))
 
 returns-2 : tie.Need-returns-2
 returns-2 c =
-    let s = c .before .before .before in
+    let s : tie.Start = search needs in
     c .wide .ensures ∙ (λ i. fractions (toZ-ofZ w64 (s .args .x) (s .fits .x) i) (toZ-ofZ w64 (s .args .d) (s .fits .d) i) (toZ-ofZ w64 (s .args .y) (s .fits .y) i) (toZ-ofZ w64 (s .args .e) (s .fits .e) i))
 
 pub compare-spec : {M : Type 1} → statement M

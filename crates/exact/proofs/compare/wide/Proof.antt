@@ -48,7 +48,7 @@ quotients-requires-2 c κs = let m = c .before .before in (first-pos m, second-p
 
 returns : tie.Need-returns
 returns c =
-    let m = c .before .before .before in let s = start m in
+    let m : tie.After-magnitude4 = search needs in let s = start m in
     c .quotients .ensures
     ∙ (λ i. fractions (pos (second m i)) (pos (under-second m i)) (pos (first m i)) (pos (under-first m i)))
     ∙ fractions-negative (s .args .x) (s .args .d) (s .args .y) (s .args .e) (s .pre .first) (s .pre .second)
@@ -69,7 +69,7 @@ returns-3 c =
 
 returns-4 : tie.Need-returns-4
 returns-4 c =
-    let m = c .before .before .before in let s = start m in
+    let m : tie.After-magnitude4 = search needs in let s = start m in
     c .quotients2 .ensures
     ∙ (λ i. fractions (pos (first m i)) (pos (under-first m i)) (pos (second m i)) (pos (under-second m i)))
     ∙ fractions-magnitudes (s .args .x) (s .args .d) (s .args .y) (s .args .e) (s .pre .first) (s .pre .second)

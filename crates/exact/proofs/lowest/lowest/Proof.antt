@@ -50,9 +50,11 @@ divisor c = gcd3 (natAbs (start c .args .x)) (natAbs (start c .args .y)) (natAbs
 -- what the calls give
 calls : (c : tie.After-gcd2) → c .gcd2 .result ≡ divisor c
 calls c =
+    let after-magnitude : tie.After-magnitude = search needs in
+    let after-magnitude2 : tie.After-magnitude2 = search needs in
     let s = start c in
-    let mx = c .before .before .before .before .magnitude .ensures ∙ ap natAbs (toZ-ofZ w64 (s .args .x) (s .fits .x)) in
-    let my = c .before .before .before .magnitude2 .ensures ∙ ap natAbs (toZ-ofZ w64 (s .args .y) (s .fits .y)) in
+    let mx = after-magnitude .magnitude .ensures ∙ ap natAbs (toZ-ofZ w64 (s .args .x) (s .fits .x)) in
+    let my = after-magnitude2 .magnitude2 .ensures ∙ ap natAbs (toZ-ofZ w64 (s .args .y) (s .fits .y)) in
     let md = c .before .magnitude3 .ensures ∙ ap natAbs (toZ-ofZ w64 (s .args .d) (s .fits .d)) in
     let g = c .before .before .gcd .ensures ∙ (λ i. gcdOf (mx i) (my i)) in
     c .gcd2 .ensures ∙ (λ i. gcdOf (g i) (md i))

@@ -16,19 +16,29 @@ abbrev μ-loop : tie.MeasureT-loop
 μ-loop lead top seen numbers n m h x₀ left₀ x left = left
 
 loop-holds : tie.Need-loop-holds Inv-loop μ-loop
-loop-holds c = (c .before .before .before .before .pre .1, refl)
+loop-holds c =
+    let start : tie.Start Inv-loop μ-loop = search needs in
+    (start .pre .1, refl)
 
 mul-l : tie.Need-mul-l Inv-loop μ-loop
-mul-l c = let s = c .before .before .before .before .before .before in omega (arith, s .pre .0 .lead .long, c .before .loop .inv .0)
+mul-l c = let s =
+    let start : tie.Start Inv-loop μ-loop = search needs in
+    start in omega (arith, s .pre .0 .lead .long, c .before .loop .inv .0)
 
 shared-slice-read-l : tie.Need-shared-slice-read-l Inv-loop μ-loop
-shared-slice-read-l c = let s = c .before .before .before .before .before .before .before in omega (arith, s .pre .0 .lead .long, c .before .before .loop .inv .0)
+shared-slice-read-l c = let s =
+    let start : tie.Start Inv-loop μ-loop = search needs in
+    start in omega (arith, s .pre .0 .lead .long, c .before .before .loop .inv .0)
 
 cast-l : tie.Need-cast-l Inv-loop μ-loop
-cast-l c = let s = c .before .before .before .before .before .before .before in omega (arith, s .pre .0 .lead .named (c .before .before .loop .x) (c .before .before .loop .inv .0))
+cast-l c = let s =
+    let start : tie.Start Inv-loop μ-loop = search needs in
+    start in omega (arith, s .pre .0 .lead .named (c .before .before .loop .x) (c .before .before .loop .inv .0))
 
 is-hole-requires : tie.Need-is-hole-requires Inv-loop μ-loop
-is-hole-requires c κs = let s = c .before .before .before .before .before .before .before in faced-kinded (s .pre .0) (c .before .before .loop .x) (c .before .before .loop .inv .0)
+is-hole-requires c κs = let s =
+    let start : tie.Start Inv-loop μ-loop = search needs in
+    start in faced-kinded (s .pre .0) (c .before .before .loop .x) (c .before .before .loop .inv .0)
 
 mul-result : tie.Need-mul-result Inv-loop μ-loop
 mul-result c = let s = c .before .before .before .before .before .before .before .before .before in omega (arith, s .pre .0 .number-long, s .pre .0 .lead .named (c .before .before .before .before .loop .x) (c .before .before .before .before .loop .inv .0))
@@ -58,16 +68,20 @@ returns-2 c =
 
 cast-x : tie.Need-cast-x Inv-loop μ-loop
 cast-x c =
-    let s = c .before .before .before .before .before .before .before .before .before .before .before in
-    let l = c .before .before .before .before .before .before .loop in
+    let at-loop : tie.At-loop Inv-loop μ-loop = search needs in
+    let s : tie.Start Inv-loop μ-loop = search needs in
+    let l = at-loop .loop in
     omega (arith, s .pre .0 .seen (getD (s .args .lead .now) (l .x) 0) (s .pre .0 .lead .named (l .x) (l .inv .0)) (c .if2 .left))
 
 loop-again : tie.Need-loop-again Inv-loop μ-loop
 loop-again c =
-    let s = c .before .before .before .before .before .before .before .before .before .before .before in
-    let l = c .before .before .before .before .before .before .loop in
-    let hole = sym (c .before .before .before .is-hole .ensures) ∙ not-false _ (c .before .before .if1 .left) in
-    (s .pre .0 .seen (getD (s .args .lead .now) (l .x) 0) (s .pre .0 .lead .named (l .x) (l .inv .0)) (c .if2 .left), l .inv .1 ∙ face-on (s .args .lead .now) (s .args .top .now) (s .args .seen .now) (s .args .numbers .now) (l .x) (l .left) (c .before .before .before .before .before .loop-test .taken) hole (c .if2 .left))
+    let at-loop : tie.At-loop Inv-loop μ-loop = search needs in
+    let after-is-hole : tie.After-is-hole Inv-loop μ-loop = search needs in
+    let in-loop : tie.In-loop Inv-loop μ-loop = search needs in
+    let s : tie.Start Inv-loop μ-loop = search needs in
+    let l = at-loop .loop in
+    let hole = sym (after-is-hole .is-hole .ensures) ∙ not-false _ (c .before .before .if1 .left) in
+    (s .pre .0 .seen (getD (s .args .lead .now) (l .x) 0) (s .pre .0 .lead .named (l .x) (l .inv .0)) (c .if2 .left), l .inv .1 ∙ face-on (s .args .lead .now) (s .args .top .now) (s .args .seen .now) (s .args .numbers .now) (l .x) (l .left) (in-loop .loop-test .taken) hole (c .if2 .left))
 
 returns-3 : tie.Need-returns-3 Inv-loop μ-loop
 returns-3 c = let s = c .before .before .before .before .before .before in let l = c .before .loop in face-none (s .args .lead .now) (s .args .top .now) (s .args .seen .now) (s .args .numbers .now) (l .x) (l .left) (omega arith) ∙ sym (l .inv .1)

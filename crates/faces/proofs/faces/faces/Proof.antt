@@ -13,16 +13,24 @@ abbrev μ-loop : tie.MeasureT-loop
 μ-loop lead top seen numbers n m out₀ h₀ out h = m - h
 
 loop-holds : tie.Need-loop-holds Inv-loop μ-loop
-loop-holds c = let s = c .before .before .before .before .before in fill-starts (faceFrom (s .args .lead .now) (s .args .top .now) (s .args .seen .now) (s .args .numbers .now) (s .args .n)) _ _ (s .pre .1)
+loop-holds c = let s =
+    let start : tie.Start Inv-loop μ-loop = search needs in
+    start in fill-starts (faceFrom (s .args .lead .now) (s .args .top .now) (s .args .seen .now) (s .args .numbers .now) (s .args .n)) _ _ (s .pre .1)
 
 face-requires : tie.Need-face-requires Inv-loop μ-loop
-face-requires c κs = (c .before .before .before .before .before .before .before .pre .0, c .loop-test .taken)
+face-requires c κs =
+    let start : tie.Start Inv-loop μ-loop = search needs in
+    (start .pre .0, c .loop-test .taken)
 
 loop-again : tie.Need-loop-again Inv-loop μ-loop
-loop-again c = let s = c .before .before .before .before .before .before .before .before in fill-turns (faceFrom (s .args .lead .now) (s .args .top .now) (s .args .seen .now) (s .args .numbers .now) (s .args .n)) (c .before .before .loop .inv) _ (c .before .loop-test .taken) (c .face .ensures)
+loop-again c = let s =
+    let start : tie.Start Inv-loop μ-loop = search needs in
+    start in fill-turns (faceFrom (s .args .lead .now) (s .args .top .now) (s .args .seen .now) (s .args .numbers .now) (s .args .n)) (c .before .before .loop .inv) _ (c .before .loop-test .taken) (c .face .ensures)
 
 returns : tie.Need-returns Inv-loop μ-loop
-returns c = let s = c .before .before .before .before .before .before .before in fill-ends (faceFrom (s .args .lead .now) (s .args .top .now) (s .args .seen .now) (s .args .numbers .now) (s .args .n)) (c .before .loop .inv) (search needs)
+returns c = let s =
+    let start : tie.Start Inv-loop μ-loop = search needs in
+    start in fill-ends (faceFrom (s .args .lead .now) (s .args .top .now) (s .args .seen .now) (s .args .numbers .now) (s .args .n)) (c .before .loop .inv) (search needs)
 
 pub faces-spec : {M : Type 1} → statement M
 faces-spec =

@@ -16,52 +16,69 @@ abbrev μ-loop : tie.MeasureT-loop
 μ-loop lead top faces m out₀ f h₀ out h = m - h
 
 loop-holds : tie.Need-loop-holds Inv-loop μ-loop
-loop-holds c = let s = c .before .before .before .before .before .before .before .before in tally-starts (holeLead (s .args .lead .now) (s .args .top .now)) (λ k. getD (s .args .faces .now) k 0) (s .args .m) (s .args .f) _ (s .args .out .now) (s .pre .1 .1 .1) (c .before .before .fill .ensures)
+loop-holds c = let s =
+    let start : tie.Start Inv-loop μ-loop = search needs in
+    start in tally-starts (holeLead (s .args .lead .now) (s .args .top .now)) (λ k. getD (s .args .faces .now) k 0) (s .args .m) (s .args .f) _ (s .args .out .now) (s .pre .1 .1 .1) (c .before .before .fill .ensures)
 
 leads-hole-requires : tie.Need-leads-hole-requires Inv-loop μ-loop
-leads-hole-requires c κs = c .before .before .before .before .before .before .before .before .before .before .pre .0 (c .before .loop .h) (c .loop-test .taken)
+leads-hole-requires c κs =
+    let start : tie.Start Inv-loop μ-loop = search needs in
+    start .pre .0 (c .before .loop .h) (c .loop-test .taken)
 
 cast-v : tie.Need-cast-v Inv-loop μ-loop
 cast-v c =
-    let s = c .before .before .before .before .before .before .before .before .before .before .before .before .before in
-    let l = c .before .before .before .before .loop in
-    omega (arith, s .pre .1 .1 .0 .named (l .h) (c .before .before .before .loop-test .taken), l .inv .kept, l .inv .room)
+    let at-loop : tie.At-loop Inv-loop μ-loop = search needs in
+    let in-loop : tie.In-loop Inv-loop μ-loop = search needs in
+    let s : tie.Start Inv-loop μ-loop = search needs in
+    let l = at-loop .loop in
+    omega (arith, s .pre .1 .1 .0 .named (l .h) (in-loop .loop-test .taken), l .inv .kept, l .inv .room)
 
 mul-out : tie.Need-mul-out Inv-loop μ-loop
 mul-out c =
-    let s = c .before .before .before .before .before .before .before .before .before .before .before .before .before in
-    let l = c .before .before .before .before .loop in
-    omega (arith, s .pre .1 .1 .0 .named (l .h) (c .before .before .before .loop-test .taken), l .inv .kept, l .inv .room)
+    let at-loop : tie.At-loop Inv-loop μ-loop = search needs in
+    let in-loop : tie.In-loop Inv-loop μ-loop = search needs in
+    let s : tie.Start Inv-loop μ-loop = search needs in
+    let l = at-loop .loop in
+    omega (arith, s .pre .1 .1 .0 .named (l .h) (in-loop .loop-test .taken), l .inv .kept, l .inv .room)
 
 slice-read-out : tie.Need-slice-read-out Inv-loop μ-loop
 slice-read-out c =
-    let s = c .before .before .before .before .before .before .before .before .before .before .before .before .before .before in
-    let l = c .before .before .before .before .before .loop in
-    omega (arith, s .pre .1 .1 .0 .named (l .h) (c .before .before .before .before .loop-test .taken), l .inv .kept, l .inv .room)
+    let at-loop : tie.At-loop Inv-loop μ-loop = search needs in
+    let in-loop : tie.In-loop Inv-loop μ-loop = search needs in
+    let s : tie.Start Inv-loop μ-loop = search needs in
+    let l = at-loop .loop in
+    omega (arith, s .pre .1 .1 .0 .named (l .h) (in-loop .loop-test .taken), l .inv .kept, l .inv .room)
 
 add-out : tie.Need-add-out Inv-loop μ-loop
 add-out c =
-    let s = c .before .before .before .before .before .before .before .before .before .before .before .before .before .before in
-    let l = c .before .before .before .before .before .loop in
-    let b = c .before .before .before .before .loop-test .taken in
+    let at-loop : tie.At-loop Inv-loop μ-loop = search needs in
+    let in-loop : tie.In-loop Inv-loop μ-loop = search needs in
+    let s : tie.Start Inv-loop μ-loop = search needs in
+    let l = at-loop .loop in
+    let b = in-loop .loop-test .taken in
     omega (arith, s .pre .1 .0, tally-le (holeLead (s .args .lead .now) (s .args .top .now)) (λ k. getD (s .args .faces .now) k 0) (s .args .m) (s .args .f) _ (l .inv) (getD (s .args .faces .now) (l .h) 0) (s .pre .1 .1 .0 .named (l .h) b))
 
 mul-out-2 : tie.Need-mul-out-2 Inv-loop μ-loop
 mul-out-2 c =
-    let s = c .before .before .before .before .before .before .before .before .before .before .before .before .before .before in
-    let l = c .before .before .before .before .before .loop in
-    omega (arith, s .pre .1 .1 .0 .named (l .h) (c .before .before .before .before .loop-test .taken), l .inv .kept, l .inv .room)
+    let at-loop : tie.At-loop Inv-loop μ-loop = search needs in
+    let in-loop : tie.In-loop Inv-loop μ-loop = search needs in
+    let s : tie.Start Inv-loop μ-loop = search needs in
+    let l = at-loop .loop in
+    omega (arith, s .pre .1 .1 .0 .named (l .h) (in-loop .loop-test .taken), l .inv .kept, l .inv .room)
 
 slice-write-out : tie.Need-slice-write-out Inv-loop μ-loop
 slice-write-out c =
-    let s = c .before .before .before .before .before .before .before .before .before .before .before .before .before .before in
-    let l = c .before .before .before .before .before .loop in
-    omega (arith, s .pre .1 .1 .0 .named (l .h) (c .before .before .before .before .loop-test .taken), l .inv .kept, l .inv .room)
+    let at-loop : tie.At-loop Inv-loop μ-loop = search needs in
+    let in-loop : tie.In-loop Inv-loop μ-loop = search needs in
+    let s : tie.Start Inv-loop μ-loop = search needs in
+    let l = at-loop .loop in
+    omega (arith, s .pre .1 .1 .0 .named (l .h) (in-loop .loop-test .taken), l .inv .kept, l .inv .room)
 
 loop-again : tie.Need-loop-again Inv-loop μ-loop
 loop-again c =
-    let s = c .before .before .before .before .before .before .before .before .before .before .before .before in
-    let l = c .before .before .before .loop in
+    let at-loop : tie.At-loop Inv-loop μ-loop = search needs in
+    let s : tie.Start Inv-loop μ-loop = search needs in
+    let l = at-loop .loop in
     let b = c .before .before .loop-test .taken in
     let q = sym (c .before .leads-hole .ensures) in
     ⊎-elim (λ w. rw (w .3) (tally-takes (holeLead (s .args .lead .now) (s .args .top .now)) (λ k. getD (s .args .faces .now) k 0) (s .args .m) (s .args .f) _ (l .inv) (getD (s .args .faces .now) (l .h) 0) b (q ∙ w .0 .taken) refl (s .pre .1 .1 .0 .named (l .h) b))) (λ w. rw (w .1) (tally-leaves (holeLead (s .args .lead .now) (s .args .top .now)) (λ k. getD (s .args .faces .now) k 0) (s .args .m) (s .args .f) _ (l .inv) b (q ∙ w .0 .left))) (c .if1 .came)

@@ -9,16 +9,20 @@ use Rattle.faces.proofs.faces.leads_outer.Statement.{statement}
 use Rattle.faces.proofs.faces.leads_outer.Tie as tie
 
 cast-if1 : tie.Need-cast-if1
-cast-if1 c = omega (arith, c .shared-slice-known3 .given (c .before .before .before .args .h))
+cast-if1 c =
+    let start : tie.Start = search needs in
+    omega (arith, c .shared-slice-known3 .given (start .args .h))
 
 returns : tie.Need-returns
 returns c =
-    let a = c .before .before .before .before .before .args in
+    let start : tie.Start = search needs in
+    let a = start .args in
     ap not (c .is-hole .ensures) ∙ ap (λ (b : Bool). b && (not (holeOf (a .lead .now) (a .top .now) (a .h)))) (sym (eq-eqb (getD (a .lead .now) (a .h) 0) (a .h) (c .before .if1 .taken)))
 
 returns-2 : tie.Need-returns-2
 returns-2 c =
-    let a = c .before .before .before .before .args in
+    let start : tie.Start = search needs in
+    let a = start .args in
     ap (λ (b : Bool). b && (not (holeOf (a .lead .now) (a .top .now) (a .h)))) (sym (ne-eqb (getD (a .lead .now) (a .h) 0) (a .h) (c .if1 .left)))
 
 pub leads-outer-spec : {M : Type 1} → statement M

@@ -19,17 +19,19 @@ abbrev μ-loop : tie.MeasureT-loop
 μ-loop lead top m out₀ c₀ h₀ out c h = m - h
 
 loop-holds : tie.Need-loop-holds Inv-loop μ-loop
-loop-holds c = let s = c .before .before .before in (fill-starts (outerNumber (s .args .lead .now) (s .args .top .now)) _ _ (s .pre .1 .1), refl)
+loop-holds c = let s =
+    let start : tie.Start Inv-loop μ-loop = search needs in
+    start in (fill-starts (outerNumber (s .args .lead .now) (s .args .top .now)) _ _ (s .pre .1 .1), refl)
 
 add-out : tie.Need-add-out Inv-loop μ-loop
 add-out c =
-    let s = c .before .before .before .before .before in
+    let s : tie.Start Inv-loop μ-loop = search needs in
     let l = c .before .loop in
     omega (arith, l .inv .1, count-le (outerLead (s .args .lead .now) (s .args .top .now)) (l .h), s .pre .1 .0)
 
 cast-out : tie.Need-cast-out Inv-loop μ-loop
 cast-out c =
-    let s = c .before .before .before .before .before in
+    let s : tie.Start Inv-loop μ-loop = search needs in
     let l = c .before .loop in
     omega (arith, l .inv .1, count-le (outerLead (s .args .lead .now) (s .args .top .now)) (l .h), s .pre .1 .0)
 
@@ -37,18 +39,22 @@ slice-write-out : tie.Need-slice-write-out Inv-loop μ-loop
 slice-write-out c = omega (arith, c .before .loop .inv .0 .kept, c .before .loop .inv .0 .room)
 
 leads-outer-requires : tie.Need-leads-outer-requires Inv-loop μ-loop
-leads-outer-requires c κs = c .before .before .before .before .before .pre .0 (c .before .loop .h) (c .loop-test .taken)
+leads-outer-requires c κs =
+    let start : tie.Start Inv-loop μ-loop = search needs in
+    start .pre .0 (c .before .loop .h) (c .loop-test .taken)
 
 add-c : tie.Need-add-c Inv-loop μ-loop
 add-c c =
-    let s = c .before .before .before .before .before .before .before in
-    let l = c .before .before .before .loop in
+    let at-loop : tie.At-loop Inv-loop μ-loop = search needs in
+    let s : tie.Start Inv-loop μ-loop = search needs in
+    let l = at-loop .loop in
     omega (arith, l .inv .1, count-le (outerLead (s .args .lead .now) (s .args .top .now)) (l .h), s .pre .1 .0)
 
 loop-again : tie.Need-loop-again Inv-loop μ-loop
 loop-again c =
-    let s = c .before .before .before .before .before .before .before in
-    let l = c .before .before .before .loop in
+    let at-loop : tie.At-loop Inv-loop μ-loop = search needs in
+    let s : tie.Start Inv-loop μ-loop = search needs in
+    let l = at-loop .loop in
     let b = c .before .before .loop-test .taken in
     let p = outerLead (s .args .lead .now) (s .args .top .now) in
     let q = sym (c .before .leads-outer .ensures) in
@@ -59,7 +65,7 @@ same-length c = c .before .loop .inv .0 .kept
 
 returns : tie.Need-returns Inv-loop μ-loop
 returns c =
-    let s = c .before .before .before .before .before in
+    let s : tie.Start Inv-loop μ-loop = search needs in
     let l = c .before .loop in
     let e : l .h ≡ s .args .m = omega (arith, l .inv .0 .within) in
     (fill-ends (outerNumber (s .args .lead .now) (s .args .top .now)) (l .inv .0) (omega arith), l .inv .1 ∙ ap (count (outerLead (s .args .lead .now) (s .args .top .now))) e)

@@ -16,33 +16,41 @@ abbrev μ-loop : tie.MeasureT-loop
 μ-loop lead top m out₀ c₀ h₀ out c h = m - h
 
 loop-holds : tie.Need-loop-holds Inv-loop μ-loop
-loop-holds c = let s = c .before .before .before in select-starts (outerLead (s .args .lead .now) (s .args .top .now)) _ _ (s .pre .1 .1)
+loop-holds c = let s =
+    let start : tie.Start Inv-loop μ-loop = search needs in
+    start in select-starts (outerLead (s .args .lead .now) (s .args .top .now)) _ _ (s .pre .1 .1)
 
 leads-outer-requires : tie.Need-leads-outer-requires Inv-loop μ-loop
-leads-outer-requires c κs = c .before .before .before .before .before .pre .0 (c .before .loop .h) (c .loop-test .taken)
+leads-outer-requires c κs =
+    let start : tie.Start Inv-loop μ-loop = search needs in
+    start .pre .0 (c .before .loop .h) (c .loop-test .taken)
 
 mul-out : tie.Need-mul-out Inv-loop μ-loop
 mul-out c =
-    let s = c .before .before .before .before .before .before .before in
-    let l = c .before .before .before .loop in
+    let at-loop : tie.At-loop Inv-loop μ-loop = search needs in
+    let s : tie.Start Inv-loop μ-loop = search needs in
+    let l = at-loop .loop in
     omega (arith, select-room (outerLead (s .args .lead .now) (s .args .top .now)) (l .inv) (c .before .before .loop-test .taken), l .inv .kept, l .inv .room)
 
 slice-write-out : tie.Need-slice-write-out Inv-loop μ-loop
 slice-write-out c =
-    let s = c .before .before .before .before .before .before .before in
-    let l = c .before .before .before .loop in
+    let at-loop : tie.At-loop Inv-loop μ-loop = search needs in
+    let s : tie.Start Inv-loop μ-loop = search needs in
+    let l = at-loop .loop in
     omega (arith, select-room (outerLead (s .args .lead .now) (s .args .top .now)) (l .inv) (c .before .before .loop-test .taken), l .inv .kept, l .inv .room)
 
 add-c : tie.Need-add-c Inv-loop μ-loop
 add-c c =
-    let s = c .before .before .before .before .before .before .before in
-    let l = c .before .before .before .loop in
+    let at-loop : tie.At-loop Inv-loop μ-loop = search needs in
+    let s : tie.Start Inv-loop μ-loop = search needs in
+    let l = at-loop .loop in
     omega (arith, select-room (outerLead (s .args .lead .now) (s .args .top .now)) (l .inv) (c .before .before .loop-test .taken), l .inv .kept, l .inv .room)
 
 loop-again : tie.Need-loop-again Inv-loop μ-loop
 loop-again c =
-    let s = c .before .before .before .before .before .before .before in
-    let l = c .before .before .before .loop in
+    let at-loop : tie.At-loop Inv-loop μ-loop = search needs in
+    let s : tie.Start Inv-loop μ-loop = search needs in
+    let l = at-loop .loop in
     let b = c .before .before .loop-test .taken in
     let p = outerLead (s .args .lead .now) (s .args .top .now) in
     let q = sym (c .before .leads-outer .ensures) in
@@ -52,7 +60,9 @@ same-length : tie.Need-same-length Inv-loop μ-loop
 same-length c = c .before .loop .inv .kept
 
 returns : tie.Need-returns Inv-loop μ-loop
-returns c = let s = c .before .before .before .before .before in select-ends (outerLead (s .args .lead .now) (s .args .top .now)) (c .before .loop .inv) (omega (arith, c .before .loop .inv .within))
+returns c = let s =
+    let start : tie.Start Inv-loop μ-loop = search needs in
+    start in select-ends (outerLead (s .args .lead .now) (s .args .top .now)) (c .before .loop .inv) (omega (arith, c .before .loop .inv .within))
 
 pub outers-spec : {M : Type 1} → statement M
 outers-spec =

@@ -18,15 +18,18 @@ start-requires c κs =
 
 returns : tie.Need-returns
 returns c =
-    let s = c .before .before .before .before .before in
+    let after-start : tie.After-start = search needs in
+    let s : tie.Start = search needs in
     let g = flatGraph (s .args .points .now) (s .args .origins .now) (s .args .carriers .now) (s .args .n) (s .args .e) in
-    ap (λ (o : Option ℕ). Option·getD o absent) (sym (ap westOf (c .enum-told .given .1)) ∙ c .before .before .seen-half .ensures ∙ ap (λ (p : Pt). west g p nowhere) (c .before .before .before .start .ensures .0))
+    ap (λ (o : Option ℕ). Option·getD o absent) (sym (ap westOf (c .enum-told .given .1)) ∙ c .before .before .seen-half .ensures ∙ ap (λ (p : Pt). west g p nowhere) (after-start .start .ensures .0))
 
 returns-2 : tie.Need-returns-2
 returns-2 c =
-    let s = c .before .before .before .before .before .before in
+    let after-seen-half : tie.After-seen-half = search needs in
+    let after-start : tie.After-start = search needs in
+    let s : tie.Start = search needs in
     let g = flatGraph (s .args .points .now) (s .args .origins .now) (s .args .carriers .now) (s .args .n) (s .args .e) in
-    ap (λ (o : Option ℕ). Option·getD o absent) (sym (ap westOf (c .before .seen .given .1)) ∙ c .before .before .before .seen-half .ensures ∙ ap (λ (p : Pt). west g p nowhere) (c .before .before .before .before .start .ensures .0))
+    ap (λ (o : Option ℕ). Option·getD o absent) (sym (ap westOf (c .before .seen .given .1)) ∙ after-seen-half .seen-half .ensures ∙ ap (λ (p : Pt). west g p nowhere) (after-start .start .ensures .0))
 
 pub seen-from-spec : {M : Type 1} → statement M
 seen-from-spec =

@@ -105,49 +105,63 @@ module _ (s : tie.Start) where
 
 number-requires : tie.Need-number-requires
 number-requires c κs =
-    let s = c .before .before .before .before .before .before in
+    let s : tie.Start = search needs in
     (kinded s, (big s, omega (arith, small s)))
 
 outers-requires : tie.Need-outers-requires
 outers-requires c κs =
-    let s = c .before .before .before .before .before .before .before .before .before .before .before in
+    let s : tie.Start = search needs in
     (kinded s, (big s, omega (arith, small s)))
 
 sees-requires : tie.Need-sees-requires
 sees-requires c κs =
-    let s = c .before .before .before .before .before .before .before .before .before .before .before .before .before .before .before .before in
+    let s : tie.Start = search needs in
     (F s, (big s, (L s .long, (tops-numbers (ps s) (os s) (cs s) (n s) (e s) (F s) (P s) (big s) (lead s) (top s) (L s) (T s), omega (arith, small s)))))
 
 slice-aggregate-faces : tie.Need-slice-aggregate-faces
-slice-aggregate-faces c = lead-long (c .before .before .before .before .before .before .before .before .before .before .before .before .before .before .before .before .before .before .before)
+slice-aggregate-faces c =
+    let start : tie.Start = search needs in
+    lead-long start
 
 slice-aggregate-faces-2 : tie.Need-slice-aggregate-faces-2
-slice-aggregate-faces-2 c = top-long (c .before .before .before .before .before .before .before .before .before .before .before .before .before .before .before .before .before .before .before .before)
+slice-aggregate-faces-2 c =
+    let start : tie.Start = search needs in
+    top-long start
 
 faces-requires : tie.Need-faces-requires
 faces-requires c κs =
-    let s = c .before .before .before .before .before .before .before .before .before .before .before .before .before .before .before .before .before .before .before .before .before .before .before in
-    let number = c .before .before .before .before .before .before .before .before .before .before .before .before .before .before .before .before .number in
-    let sees = c .before .before .before .before .before .before .sees in
+    let after-number : tie.After-number = search needs in
+    let after-sees : tie.After-sees = search needs in
+    let s : tie.Start = search needs in
+    let number = after-number .number in
+    let sees = after-sees .sees in
     (all-faced s (number .last .1 .1 .1 .0) (sees .last .1 .1 .1 .1 .1 .1 .1 .0) (number .ensures .0) (sees .ensures), omega (arith, small s))
 
 slice-aggregate-holes : tie.Need-slice-aggregate-holes
-slice-aggregate-holes c = lead-long (c .before .before .before .before .before .before .before .before .before .before .before .before .before .before .before .before .before .before .before .before .before .before .before .before .before .before)
+slice-aggregate-holes c =
+    let start : tie.Start = search needs in
+    lead-long start
 
 slice-aggregate-holes-2 : tie.Need-slice-aggregate-holes-2
-slice-aggregate-holes-2 c = top-long (c .before .before .before .before .before .before .before .before .before .before .before .before .before .before .before .before .before .before .before .before .before .before .before .before .before .before .before)
+slice-aggregate-holes-2 c =
+    let start : tie.Start = search needs in
+    top-long start
 
 add-holes : tie.Need-add-holes
 add-holes c =
-    let s = c .before .before .before .before .before .before .before .before .before .before .before .before .before .before .before .before .before .before .before .before .before .before .before .before .before .before .before .before .before in
-    omega (arith, small s, c .before .before .before .before .before .before .before .before .before .before .before .before .before .before .before .before .before .before .before .before .before .before .number .ensures .1, count-le (outerLead (lead s) (top s)) (2 * e s))
+    let after-number : tie.After-number = search needs in
+    let s : tie.Start = search needs in
+    omega (arith, small s, after-number .number .ensures .1, count-le (outerLead (lead s) (top s)) (2 * e s))
 
 holes-requires : tie.Need-holes-requires
 holes-requires c κs =
-    let s = c .before .before .before .before .before .before .before .before .before .before .before .before .before .before .before .before .before .before .before .before .before .before .before .before .before .before .before .before .before in
-    let number = c .before .before .before .before .before .before .before .before .before .before .before .before .before .before .before .before .before .before .before .before .before .before .number in
-    let sees = c .before .before .before .before .before .before .before .before .before .before .before .before .sees in
-    let faces = c .before .before .before .before .before .faces in
+    let after-number : tie.After-number = search needs in
+    let after-sees : tie.After-sees = search needs in
+    let after-faces : tie.After-faces = search needs in
+    let s : tie.Start = search needs in
+    let number = after-number .number in
+    let sees = after-sees .sees in
+    let faces = after-faces .faces in
     let r = number .ensures .1 in
     let b = face-numbers s (number .last .1 .1 .1 .0) (sees .last .1 .1 .1 .1 .1 .1 .1 .0) (number .ensures .0) (sees .ensures) (faces .last .1 .1 .1 .1 .1 .1 .0) (faces .ensures) (number .result) r in
     (kinded s, (big s, (b, omega (arith, small s, r, count-le (outerLead (lead s) (top s)) (2 * e s)))))

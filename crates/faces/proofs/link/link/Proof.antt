@@ -17,7 +17,8 @@ headings-requires c κs = let s = c .before .before in (s .pre .0, (omega (arith
 
 follow-requires : tie.Need-follow-requires
 follow-requires c κs =
-    let s = c .before .before .before .before .before .before in
+    let after-headings : tie.After-headings = search needs in
+    let s : tie.Start = search needs in
     let a = s .args in
     let ps = a .points .now in
     let os = a .origins .now in
@@ -25,12 +26,14 @@ follow-requires c κs =
     let F = s .pre .0 in
     let Q = s .pre .1 .1 .1 in
     let small = s .pre .1 .1 .0 in
-    let W = c .before .before .before .headings in
+    let W = after-headings .headings in
     (F .origins, (s .pre .1 .0, (small, (ways-near ps os cs (a .n) (a .e) F Q 8000 (omega (arith, small)) (W .last .1 .1 .1 .1 .1 .0) (W .ensures), omega (arith, small)))))
 
 leads-requires : tie.Need-leads-requires
 leads-requires c κs =
-    let s = c .before .before .before .before .before .before .before .before .before .before in
+    let after-headings : tie.After-headings = search needs in
+    let after-follow : tie.After-follow = search needs in
+    let s : tie.Start = search needs in
     let a = s .args in
     let ps = a .points .now in
     let os = a .origins .now in
@@ -38,17 +41,18 @@ leads-requires c κs =
     let F = s .pre .0 in
     let Q = s .pre .1 .1 .1 in
     let small = s .pre .1 .1 .0 in
-    let W = c .before .before .before .before .before .before .before .headings in
+    let W = after-headings .headings in
     let ways = W .last .1 .1 .1 .1 .1 .0 in
     let heads = ways-heads ps os cs (a .n) (a .e) F Q 8000 (omega (arith, small)) ways (W .ensures) in
-    let N = c .before .before .before .follow in
+    let N = after-follow .follow in
     let next = N .last .1 .1 .1 .1 .0 in
     let nexts = next-holds ps os cs (a .n) (a .e) F Q ways heads 4000 (omega (arith, small)) next (N .ensures) in
     (next-permuted ps os cs (a .n) (a .e) F Q next nexts, (omega (arith, small), omega (arith, small)))
 
 greatest-requires : tie.Need-greatest-requires
 greatest-requires c κs =
-    let s = c .before .before .before .before .before .before .before .before .before .before .before .before .before .before in
+    let after-headings : tie.After-headings = search needs in
+    let s : tie.Start = search needs in
     let a = s .args in
     let ps = a .points .now in
     let os = a .origins .now in
@@ -56,12 +60,15 @@ greatest-requires c κs =
     let F = s .pre .0 in
     let Q = s .pre .1 .1 .1 in
     let small = s .pre .1 .1 .0 in
-    let W = c .before .before .before .before .before .before .before .before .before .before .before .headings in
+    let W = after-headings .headings in
     (F .origins, (omega (arith, small), (ways-near ps os cs (a .n) (a .e) F Q 8000 (omega (arith, small)) (W .last .1 .1 .1 .1 .1 .0) (W .ensures), s .pre .1 .0)))
 
 lows-requires : tie.Need-lows-requires
 lows-requires c κs =
-    let s = c .before .before .before .before .before .before .before .before .before .before .before .before .before .before .before .before .before .before in
+    let after-headings : tie.After-headings = search needs in
+    let after-follow : tie.After-follow = search needs in
+    let after-leads : tie.After-leads = search needs in
+    let s : tie.Start = search needs in
     let a = s .args in
     let ps = a .points .now in
     let os = a .origins .now in
@@ -69,13 +76,13 @@ lows-requires c κs =
     let F = s .pre .0 in
     let Q = s .pre .1 .1 .1 in
     let small = s .pre .1 .1 .0 in
-    let W = c .before .before .before .before .before .before .before .before .before .before .before .before .before .before .before .headings in
+    let W = after-headings .headings in
     let ways = W .last .1 .1 .1 .1 .1 .0 in
     let heads = ways-heads ps os cs (a .n) (a .e) F Q 8000 (omega (arith, small)) ways (W .ensures) in
-    let N = c .before .before .before .before .before .before .before .before .before .before .before .follow in
+    let N = after-follow .follow in
     let next = N .last .1 .1 .1 .1 .0 in
     let nexts = next-holds ps os cs (a .n) (a .e) F Q ways heads 4000 (omega (arith, small)) next (N .ensures) in
-    let L = c .before .before .before .before .before .before .before .leads in
+    let L = after-leads .leads in
     let lead = L .last .1 .1 .0 in
     let leads = lead-holds ps os cs (a .n) (a .e) F Q next nexts 4000 (omega (arith, small)) lead (L .ensures) in
     (flat-starts ps os cs (a .n) (a .e) F, (lead-numbers ps os cs (a .n) (a .e) F Q lead leads, (omega (arith, small), omega (arith, small))))

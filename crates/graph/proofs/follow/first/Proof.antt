@@ -20,15 +20,25 @@ returns-2 c = rw (ne-eqb (c .before .before .args .x) (c .before .before .args .
 
 returns-3 : tie.Need-returns-3
 returns-3 c =
-    let a = c .before .before .before .before .before .before .before .args in
-    by (a .headings .now) (a .t) (a .x) (a .r) (c .before .before .before .before .before .before .if1 .left) (c .before .before .before .before .before .if2 .left)
-    ((λ i. soonerOf (sym (c .before .before .before .before .heading-at .ensures .0) i) (sym (c .before .before .before .heading-at2 .ensures .0) i) (sym (c .before .before .heading-at3 .ensures .0) i)) ∙ sym (c .before .sooner .ensures) ∙ c .if3 .taken)
+    let start : tie.Start = search needs in
+    let else1 : tie.Else1 = search needs in
+    let else2 : tie.Else2 = search needs in
+    let after-heading-at : tie.After-heading-at = search needs in
+    let after-heading-at2 : tie.After-heading-at2 = search needs in
+    let a = start .args in
+    by (a .headings .now) (a .t) (a .x) (a .r) (else1 .if1 .left) (else2 .if2 .left)
+    ((λ i. soonerOf (sym (after-heading-at .heading-at .ensures .0) i) (sym (after-heading-at2 .heading-at2 .ensures .0) i) (sym (c .before .before .heading-at3 .ensures .0) i)) ∙ sym (c .before .sooner .ensures) ∙ c .if3 .taken)
 
 returns-4 : tie.Need-returns-4
 returns-4 c =
-    let a = c .before .before .before .before .before .before .before .args in
-    by (a .headings .now) (a .t) (a .x) (a .r) (c .before .before .before .before .before .before .if1 .left) (c .before .before .before .before .before .if2 .left)
-    ((λ i. soonerOf (sym (c .before .before .before .before .heading-at .ensures .0) i) (sym (c .before .before .before .heading-at2 .ensures .0) i) (sym (c .before .before .heading-at3 .ensures .0) i)) ∙ sym (c .before .sooner .ensures) ∙ c .if3 .left)
+    let start : tie.Start = search needs in
+    let else1 : tie.Else1 = search needs in
+    let else2 : tie.Else2 = search needs in
+    let after-heading-at : tie.After-heading-at = search needs in
+    let after-heading-at2 : tie.After-heading-at2 = search needs in
+    let a = start .args in
+    by (a .headings .now) (a .t) (a .x) (a .r) (else1 .if1 .left) (else2 .if2 .left)
+    ((λ i. soonerOf (sym (after-heading-at .heading-at .ensures .0) i) (sym (after-heading-at2 .heading-at2 .ensures .0) i) (sym (c .before .before .heading-at3 .ensures .0) i)) ∙ sym (c .before .sooner .ensures) ∙ c .if3 .left)
 
 pub first-spec : {M : Type 1} → statement M
 first-spec =

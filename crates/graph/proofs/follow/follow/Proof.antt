@@ -7,8 +7,10 @@ use Rattle.graph.proofs.follow.follow.Tie as tie
 
 followers-requires : tie.Need-followers-requires
 followers-requires c κs =
-    let p = c .before .before .before .before .before .before .before .before .before .before .pre in
-    let made = c .before .before .before .before .before .chains .ensures in
+    let start : tie.Start = search needs in
+    let after-chains : tie.After-chains = search needs in
+    let p = start .pre in
+    let made = after-chains .chains .ensures in
     (chained _ _ _ _ _ _ _ (p .0) (p .1 .0) (omega (arith, p .1 .1 .0)) (made .0) (made .1), (omega (arith, p .1 .1 .0), (p .1 .1 .1 .0, p .1 .1 .1 .1)))
 
 pub follow-spec : {M : Type 1} → statement M

@@ -19,12 +19,13 @@ loop-holds c = fill-starts _ _ _ (search needs)
 
 follower-requires : tie.Need-follower-requires Inv-loop μ-loop
 follower-requires c κs =
-    let s = c .before .before .before .before .before .before in
+    let s : tie.Start Inv-loop μ-loop = search needs in
     (s .pre .0, (s .pre .1 .0, (s .pre .1 .1 .0, (c .loop-test .taken, twin-under (s .args .e) (c .before .loop .h) (c .loop-test .taken)))))
 
 cast-next : tie.Need-cast-next Inv-loop μ-loop
 cast-next c =
-    let a = c .before .before .before .before .before .before .before .args in
+    let start : tie.Start Inv-loop μ-loop = search needs in
+    let a = start .args in
     omega (arith, c .follower .ensures, follower-under (a .origins .now) (a .headings .now) (a .e) (c .before .before .loop .h) (c .before .loop-test .taken))
 
 loop-again : tie.Need-loop-again Inv-loop μ-loop

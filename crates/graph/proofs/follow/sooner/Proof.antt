@@ -14,25 +14,35 @@ by t h r e f = λ i. cond (sym e i) (cond (sym f i) (lessAngle r h) true) (cond 
 
 returns : tie.Need-returns
 returns c =
-    let a = c .before .before .before .before .before .args in
+    let start : tie.Start = search needs in
+    let after-less-angle : tie.After-less-angle = search needs in
+    let then1 : tie.Then1 = search needs in
+    let a = start .args in
     c .less-angle3 .ensures
-    ∙ by (vecOf (a .t)) (vecOf (a .h)) (vecOf (a .r)) (sym (c .before .before .before .before .less-angle .ensures) ∙ c .before .before .before .if1 .taken) (sym (c .before .before .less-angle2 .ensures) ∙ c .before .if2 .taken)
+    ∙ by (vecOf (a .t)) (vecOf (a .h)) (vecOf (a .r)) (sym (after-less-angle .less-angle .ensures) ∙ then1 .if1 .taken) (sym (c .before .before .less-angle2 .ensures) ∙ c .before .if2 .taken)
 
 returns-2 : tie.Need-returns-2
 returns-2 c =
-    let a = c .before .before .before .before .args in
-    by (vecOf (a .t)) (vecOf (a .h)) (vecOf (a .r)) (sym (c .before .before .before .less-angle .ensures) ∙ c .before .before .if1 .taken) (sym (c .before .less-angle2 .ensures) ∙ c .if2 .left)
+    let start : tie.Start = search needs in
+    let after-less-angle : tie.After-less-angle = search needs in
+    let a = start .args in
+    by (vecOf (a .t)) (vecOf (a .h)) (vecOf (a .r)) (sym (after-less-angle .less-angle .ensures) ∙ c .before .before .if1 .taken) (sym (c .before .less-angle2 .ensures) ∙ c .if2 .left)
 
 returns-3 : tie.Need-returns-3
 returns-3 c =
-    let a = c .before .before .before .before .args in
-    by (vecOf (a .t)) (vecOf (a .h)) (vecOf (a .r)) (sym (c .before .before .before .less-angle .ensures) ∙ c .before .before .if1 .left) (sym (c .before .less-angle4 .ensures) ∙ c .if3 .taken)
+    let start : tie.Start = search needs in
+    let after-less-angle : tie.After-less-angle = search needs in
+    let a = start .args in
+    by (vecOf (a .t)) (vecOf (a .h)) (vecOf (a .r)) (sym (after-less-angle .less-angle .ensures) ∙ c .before .before .if1 .left) (sym (c .before .less-angle4 .ensures) ∙ c .if3 .taken)
 
 returns-4 : tie.Need-returns-4
 returns-4 c =
-    let a = c .before .before .before .before .before .args in
+    let start : tie.Start = search needs in
+    let after-less-angle : tie.After-less-angle = search needs in
+    let else1 : tie.Else1 = search needs in
+    let a = start .args in
     c .less-angle5 .ensures
-    ∙ by (vecOf (a .t)) (vecOf (a .h)) (vecOf (a .r)) (sym (c .before .before .before .before .less-angle .ensures) ∙ c .before .before .before .if1 .left) (sym (c .before .before .less-angle4 .ensures) ∙ c .before .if3 .left)
+    ∙ by (vecOf (a .t)) (vecOf (a .h)) (vecOf (a .r)) (sym (after-less-angle .less-angle .ensures) ∙ else1 .if1 .left) (sym (c .before .before .less-angle4 .ensures) ∙ c .before .if3 .left)
 
 pub sooner-spec : {M : Type 1} → statement M
 sooner-spec =

@@ -12,12 +12,15 @@ use Rattle.layers.proofs.layers.lay_carriers.Tie as tie
 
 returns : tie.Need-returns
 returns c =
-    let first = c .before .before .before .before .before .load-carriers in
-    let s = c .before .before .before .before .before .before .before .before .before .args in
+    let after-load-carriers : tie.After-load-carriers = search needs in
+    let start : tie.Start = search needs in
+    let after-edge-count : tie.After-edge-count = search needs in
+    let first = after-load-carriers .load-carriers in
+    let s = start .args in
     let z = now (s .zones) in
     let y = now (s .blocks) in
     parts-are (rows (carrierRow (mapOf z .graph)) (edgesIn z)) (rows (carrierRow (mapOf y .graph)) (edgesIn y)) (now (s .out)) _ _
-    (length-rows 4 (carrierRow (mapOf z .graph)) (edgesIn z) (λ k l. refl) ∙ ap (λ (n : ℕ). 4 * n) (sym (c .before .before .before .edge-count .ensures)))
+    (length-rows 4 (carrierRow (mapOf z .graph)) (edgesIn z) (λ k l. refl) ∙ ap (λ (n : ℕ). 4 * n) (sym (after-edge-count .edge-count .ensures)))
     (first .ensures) _ (c .before .load-carriers2 .ensures)
 
 pub lay-carriers-spec : {M : Type 1} → statement M

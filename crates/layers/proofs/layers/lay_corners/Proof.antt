@@ -12,12 +12,15 @@ use Rattle.layers.proofs.layers.lay_corners.Tie as tie
 
 returns : tie.Need-returns
 returns c =
-    let first = c .before .before .before .before .before .load-points in
-    let s = c .before .before .before .before .before .before .before .before .before .args in
+    let after-load-points : tie.After-load-points = search needs in
+    let start : tie.Start = search needs in
+    let after-vertex-count : tie.After-vertex-count = search needs in
+    let first = after-load-points .load-points in
+    let s = start .args in
     let z = now (s .zones) in
     let y = now (s .blocks) in
     parts-are (rows (pointRow (mapOf z .graph)) (vertexCount z)) (rows (pointRow (mapOf y .graph)) (vertexCount y)) (now (s .out)) _ _
-    (length-rows 4 (pointRow (mapOf z .graph)) (vertexCount z) (λ k l. refl) ∙ ap (λ (n : ℕ). 4 * n) (sym (c .before .before .before .vertex-count .ensures)))
+    (length-rows 4 (pointRow (mapOf z .graph)) (vertexCount z) (λ k l. refl) ∙ ap (λ (n : ℕ). 4 * n) (sym (after-vertex-count .vertex-count .ensures)))
     (first .ensures) _ (c .before .load-points2 .ensures)
 
 pub lay-corners-spec : {M : Type 1} → statement M

@@ -11,12 +11,15 @@ use Rattle.layers.proofs.layers.lay_labels.Tie as tie
 
 returns : tie.Need-returns
 returns c =
-    let first = c .before .before .before .before .before .before .before .load-labels in
-    let s = c .before .before .before .before .before .before .before .before .before .before .before .before .args in
+    let after-load-labels : tie.After-load-labels = search needs in
+    let start : tie.Start = search needs in
+    let after-edge-count : tie.After-edge-count = search needs in
+    let first = after-load-labels .load-labels in
+    let s = start .args in
     let z = now (s .zones) in
     let y = now (s .blocks) in
     parts-are (table (label (mapOf z)) (2 * edgesIn z)) (table (label (mapOf y)) (2 * edgesIn y)) (now (s .out)) _ _
-    (length-table (label (mapOf z)) (2 * edgesIn z) ∙ ap (λ (n : ℕ). 2 * n) (sym (c .before .before .before .before .edge-count .ensures)))
+    (length-table (label (mapOf z)) (2 * edgesIn z) ∙ ap (λ (n : ℕ). 2 * n) (sym (after-edge-count .edge-count .ensures)))
     (first .ensures) _ (c .before .before .load-labels2 .ensures)
 
 pub lay-labels-spec : {M : Type 1} → statement M

@@ -12,12 +12,15 @@ use Rattle.layers.proofs.layers.lay_origins.Tie as tie
 
 returns : tie.Need-returns
 returns c =
-    let first = c .before .before .before .before .before .before .before .load-origins in
-    let s = c .before .before .before .before .before .before .before .before .before .before .before .before .args in
+    let after-load-origins : tie.After-load-origins = search needs in
+    let start : tie.Start = search needs in
+    let after-edge-count : tie.After-edge-count = search needs in
+    let first = after-load-origins .load-origins in
+    let s = start .args in
     let z = now (s .zones) in
     let y = now (s .blocks) in
     parts-are (table (origin (mapOf z .graph)) (2 * edgesIn z)) (table (origin (mapOf y .graph)) (2 * edgesIn y)) (now (s .out)) _ _
-    (length-table (origin (mapOf z .graph)) (2 * edgesIn z) ∙ ap (λ (n : ℕ). 2 * n) (sym (c .before .before .before .before .edge-count .ensures)))
+    (length-table (origin (mapOf z .graph)) (2 * edgesIn z) ∙ ap (λ (n : ℕ). 2 * n) (sym (after-edge-count .edge-count .ensures)))
     (first .ensures) _ (c .before .before .load-origins2 .ensures)
 
 pub lay-origins-spec : {M : Type 1} → statement M

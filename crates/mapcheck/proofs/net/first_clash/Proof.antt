@@ -21,13 +21,13 @@ loop-holds c = (omega arith, search needs, later-starts (now (c .args .carriers)
 
 returns : tie.Need-returns Inv-loop μ-loop
 returns c =
-    let at = c .before .before .before in
+    let at : tie.At-loop Inv-loop μ-loop = search needs in
     let a = at .before .args in
     sym (least-found (laterAt (now (a .carriers)) (a .k)) (a .e) (at .loop .j) (omega arith) (at .loop .inv .2) (later-is (now (a .carriers)) (a .k) (at .loop .j) (at .loop .inv .0) ∙ sym (c .before .clashes .ensures) ∙ c .if1 .taken))
 
 loop-again : tie.Need-loop-again Inv-loop μ-loop
 loop-again c =
-    let at = c .before .before .before in
+    let at : tie.At-loop Inv-loop μ-loop = search needs in
     let a = at .before .args in
     (omega arith, omega arith, least-more (laterAt (now (a .carriers)) (a .k)) (at .loop .j) (at .loop .inv .2) (later-is (now (a .carriers)) (a .k) (at .loop .j) (at .loop .inv .0) ∙ sym (c .before .clashes .ensures) ∙ c .if1 .left))
 

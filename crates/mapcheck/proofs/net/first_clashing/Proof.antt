@@ -19,7 +19,7 @@ abbrev μ-loop : tie.MeasureT-loop
 
 returns : tie.Need-returns Inv-loop μ-loop
 returns c =
-    let at = c .before .before .before in
+    let at : tie.At-loop Inv-loop μ-loop = search needs in
     let a = at .before .args in
     sym (least-found (laterClashing (now (a .carriers)) (a .e)) (a .e) (at .loop .k) (omega arith) (at .loop .inv .1)
     (lt-ltb (least (laterAt (now (a .carriers)) (at .loop .k)) (a .e)) (a .e) (omega (arith, c .before .first-clash .ensures, c .if1 .taken))))
@@ -27,7 +27,7 @@ returns c =
 
 loop-again : tie.Need-loop-again Inv-loop μ-loop
 loop-again c =
-    let at = c .before .before .before in
+    let at : tie.At-loop Inv-loop μ-loop = search needs in
     let a = at .before .args in (
       omega arith,
       least-more (laterClashing (now (a .carriers)) (a .e)) (at .loop .k) (at .loop .inv .1)

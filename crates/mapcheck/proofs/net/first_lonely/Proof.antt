@@ -19,14 +19,14 @@ abbrev μ-loop : tie.MeasureT-loop
 
 returns : tie.Need-returns Inv-loop μ-loop
 returns c =
-    let at = c .before .before .before in
+    let at : tie.At-loop Inv-loop μ-loop = search needs in
     let a = at .before .before .args in
     sym (least-found (lonelyAt (now (a .origins)) (a .m)) (a .n) (at .loop .v) (omega arith) (at .loop .inv .1)
     (ap not (le-ltb (least (startsAt (now (a .origins)) (at .loop .v)) (a .m)) (a .m) (omega (arith, c .before .first-start .ensures, c .if1 .taken)))))
 
 loop-again : tie.Need-loop-again Inv-loop μ-loop
 loop-again c =
-    let at = c .before .before .before in
+    let at : tie.At-loop Inv-loop μ-loop = search needs in
     let a = at .before .before .args in (
       omega arith,
       least-more (lonelyAt (now (a .origins)) (a .m)) (at .loop .v) (at .loop .inv .1)

@@ -23,13 +23,13 @@ cast-if1 c = omega (arith, c .shared-slice-known .given (c .before .before .loop
 
 returns : tie.Need-returns Inv-loop μ-loop
 returns c =
-    let at = c .before .before .before in
+    let at : tie.At-loop Inv-loop μ-loop = search needs in
     let a = at .before .args in
     sym (least-found (startsAt (now (a .origins)) (a .v)) (a .m) (at .loop .h) (omega arith) (at .loop .inv .1) (eq-eqb (getD (now (a .origins)) (at .loop .h) 0) (a .v) (c .if1 .taken)))
 
 loop-again : tie.Need-loop-again Inv-loop μ-loop
 loop-again c =
-    let at = c .before .before .before in
+    let at : tie.At-loop Inv-loop μ-loop = search needs in
     let a = at .before .args in
     (omega arith, least-more (startsAt (now (a .origins)) (a .v)) (at .loop .h) (at .loop .inv .1) (ne-eqb (getD (now (a .origins)) (at .loop .h) 0) (a .v) (c .if1 .left)))
 

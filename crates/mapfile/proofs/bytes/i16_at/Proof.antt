@@ -11,12 +11,14 @@ use Rattle.mapfile.proofs.bytes.i16_at.Tie as tie
 
 returns : tie.Need-returns
 returns c =
-    let a = c .before .before .before .args in
+    let start : tie.Start = search needs in
+    let a = start .args in
     plain (search trn depth 20) tt ∙ ap pos (c .before .u16-at .ensures) ∙ sym (signed-low (now (a .file)) (a .at) (omega arith))
 
 returns-2 : tie.Need-returns-2
 returns-2 c =
-    let a = c .before .before .before .args in
+    let start : tie.Start = search needs in
+    let a = start .args in
     plain (search trn depth 20) tt
     ∙ ap (λ (n : ℕ). pos n -ℤ pos 65536) (c .before .u16-at .ensures)
     ∙ sym (signed-high (now (a .file)) (a .at) (omega arith) (omega arith))

@@ -8,7 +8,9 @@ use Rattle.mapfile.proofs.fields.corner_x.Statement.{statement}
 use Rattle.mapfile.proofs.fields.corner_x.Tie as tie
 
 returns : tie.Need-returns
-returns c = plain (search trs depth 20) tt ∙ c .i16-at .ensures ∙ ap (signedAt 2 (now (c .before .before .before .args .file))) (c .before .vertex-place .ensures)
+returns c =
+    let start : tie.Start = search needs in
+    plain (search trs depth 20) tt ∙ c .i16-at .ensures ∙ ap (signedAt 2 (now (start .args .file))) (c .before .vertex-place .ensures)
 
 pub corner-x-spec : {M : Type 1} → statement M
 corner-x-spec = tie.close (tie.spec (λ c κs. search needs) (λ c κs. search needs) returns)

@@ -11,7 +11,8 @@ use Rattle.mapfile.proofs.parts.lies_on.Tie as tie
 
 returns : tie.Need-returns
 returns c =
-    let a = c .before .before .before .before .args in
+    let start : tie.Start = search needs in
+    let a = start .args in
     let s = now (a .file) in
     other-y (cornerAt s (a .v)) (cornerAt s (a .u))
     (λ e. eq-no w64 (c .if1 .taken) (search trbits depth 20) (search trbits depth 20) tt (c .before .before .corner-y .ensures ∙ e ∙ sym (c .before .corner-y2 .ensures)))

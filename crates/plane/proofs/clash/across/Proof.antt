@@ -9,7 +9,8 @@ use Rattle.plane.proofs.clash.across.Tie as tie
 
 returns : tie.Need-returns
 returns c =
-    let a = c .before .before .before .args in
+    let start : tie.Start = search needs in
+    let a = start .args in
     c .apart2 .ensures ∙ (λ i. (sym (c .before .if1 .taken) ∙ c .before .before .apart .ensures) i && apart (segOf (a .t)) (segOf (a .s)))
 
 returns-2 : tie.Need-returns-2

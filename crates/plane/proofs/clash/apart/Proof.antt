@@ -18,20 +18,24 @@ small r s p e = subst (λ (z : ℤ). natAbs z ≤ 1) (sym e) (number-bound (sgn 
 
 mul-result : tie.Need-mul-result
 mul-result c =
-    let a = c .before .before .before .before .args in
-    let foot = small (c .before .before .side .result) (segOf (a .s)) (ptOf (c .before .before .before .foot .result)) (c .before .before .side .ensures) in
+    let start : tie.Start = search needs in
+    let after-foot : tie.After-foot = search needs in
+    let a = start .args in
+    let foot = small (c .before .before .side .result) (segOf (a .s)) (ptOf (after-foot .foot .result)) (c .before .before .side .ensures) in
     let head = small (c .side2 .result) (segOf (a .s)) (ptOf (c .before .head .result)) (c .side2 .ensures) in
     fits (search tr depth 20) tt
 
 returns : tie.Need-returns
 returns c =
-    let s = segOf (c .before .before .before .before .args .s) in
-    let t = segOf (c .before .before .before .before .args .t) in
-    let p = ptOf (c .before .before .before .foot .result) in
+    let start : tie.Start = search needs in
+    let after-foot : tie.After-foot = search needs in
+    let s = segOf (start .args .s) in
+    let t = segOf (start .args .t) in
+    let p = ptOf (after-foot .foot .result) in
     let q = ptOf (c .before .head .result) in
     let foot = small (c .before .before .side .result) s p (c .before .before .side .ensures) in
     let head = small (c .side2 .result) s q (c .side2 .ensures) in
-    test (search trb depth 20) tt ∙ (λ i. ltZ (c .before .before .side .ensures i *ℤ c .side2 .ensures i) (pos 0)) ∙ opposed-number (sgn (leftBy s p)) (sgn (leftBy s q)) ∙ (λ i. opposed (sgn (leftBy s (c .before .before .before .foot .ensures .0 i))) (sgn (leftBy s (c .before .head .ensures .0 i))))
+    test (search trb depth 20) tt ∙ (λ i. ltZ (c .before .before .side .ensures i *ℤ c .side2 .ensures i) (pos 0)) ∙ opposed-number (sgn (leftBy s p)) (sgn (leftBy s q)) ∙ (λ i. opposed (sgn (leftBy s (after-foot .foot .ensures .0 i))) (sgn (leftBy s (c .before .head .ensures .0 i))))
 
 pub apart-spec : {M : Type 1} → statement M
 apart-spec =

@@ -24,18 +24,29 @@ returns c =
 
 returns-2 : tie.Need-returns-2
 returns-2 c =
-    let a = c .before .before .before .before .args in
-    by (segOf (a .s)) (segOf (a .t)) (sym (c .before .before .if1 .left) ∙ c .before .before .before .tee .ensures) (sym (c .if2 .taken) ∙ c .before .tee2 .ensures) refl
+    let start : tie.Start = search needs in
+    let after-tee : tie.After-tee = search needs in
+    let a = start .args in
+    by (segOf (a .s)) (segOf (a .t)) (sym (c .before .before .if1 .left) ∙ after-tee .tee .ensures) (sym (c .if2 .taken) ∙ c .before .tee2 .ensures) refl
 
 returns-3 : tie.Need-returns-3
 returns-3 c =
-    let a = c .before .before .before .before .before .before .args in
-    by (segOf (a .s)) (segOf (a .t)) (sym (c .before .before .before .before .if1 .left) ∙ c .before .before .before .before .before .tee .ensures) (sym (c .before .before .if2 .left) ∙ c .before .before .before .tee2 .ensures) (sym (c .if3 .taken) ∙ c .before .across .ensures)
+    let start : tie.Start = search needs in
+    let else1 : tie.Else1 = search needs in
+    let after-tee : tie.After-tee = search needs in
+    let after-tee2 : tie.After-tee2 = search needs in
+    let a = start .args in
+    by (segOf (a .s)) (segOf (a .t)) (sym (else1 .if1 .left) ∙ after-tee .tee .ensures) (sym (c .before .before .if2 .left) ∙ after-tee2 .tee2 .ensures) (sym (c .if3 .taken) ∙ c .before .across .ensures)
 
 returns-4 : tie.Need-returns-4
 returns-4 c =
-    let a = c .before .before .before .before .before .before .before .args in
-    c .equal .ensures ∙ by (segOf (a .s)) (segOf (a .t)) (sym (c .before .before .before .before .before .if1 .left) ∙ c .before .before .before .before .before .before .tee .ensures) (sym (c .before .before .before .if2 .left) ∙ c .before .before .before .before .tee2 .ensures) (sym (c .before .if3 .left) ∙ c .before .before .across .ensures)
+    let start : tie.Start = search needs in
+    let else1 : tie.Else1 = search needs in
+    let after-tee : tie.After-tee = search needs in
+    let else2 : tie.Else2 = search needs in
+    let after-tee2 : tie.After-tee2 = search needs in
+    let a = start .args in
+    c .equal .ensures ∙ by (segOf (a .s)) (segOf (a .t)) (sym (else1 .if1 .left) ∙ after-tee .tee .ensures) (sym (else2 .if2 .left) ∙ after-tee2 .tee2 .ensures) (sym (c .before .if3 .left) ∙ c .before .before .across .ensures)
 
 pub clash-spec : {M : Type 1} → statement M
 clash-spec =

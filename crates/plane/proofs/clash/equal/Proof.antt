@@ -13,13 +13,20 @@ by s t e = λ i. e i && same (whole (head s)) (whole (head t))
 
 returns : tie.Need-returns
 returns c =
-    let a = c .before .before .before .before .before .before .before .args in
-    c .same2 .ensures ∙ (λ i. same (c .before .before .head .ensures .0 i) (c .before .head2 .ensures .0 i)) ∙ by (segOf (a .s)) (segOf (a .t)) (sym (c .before .before .before .if1 .taken) ∙ c .before .before .before .before .same .ensures ∙ (λ i. same (c .before .before .before .before .before .before .foot .ensures .0 i) (c .before .before .before .before .before .foot2 .ensures .0 i)))
+    let start : tie.Start = search needs in
+    let then1 : tie.Then1 = search needs in
+    let after-same : tie.After-same = search needs in
+    let after-foot : tie.After-foot = search needs in
+    let after-foot2 : tie.After-foot2 = search needs in
+    let a = start .args in
+    c .same2 .ensures ∙ (λ i. same (c .before .before .head .ensures .0 i) (c .before .head2 .ensures .0 i)) ∙ by (segOf (a .s)) (segOf (a .t)) (sym (then1 .if1 .taken) ∙ after-same .same .ensures ∙ (λ i. same (after-foot .foot .ensures .0 i) (after-foot2 .foot2 .ensures .0 i)))
 
 returns-2 : tie.Need-returns-2
 returns-2 c =
-    let a = c .before .before .before .before .args in
-    by (segOf (a .s)) (segOf (a .t)) (sym (c .if1 .left) ∙ c .before .same .ensures ∙ (λ i. same (c .before .before .before .foot .ensures .0 i) (c .before .before .foot2 .ensures .0 i)))
+    let start : tie.Start = search needs in
+    let after-foot : tie.After-foot = search needs in
+    let a = start .args in
+    by (segOf (a .s)) (segOf (a .t)) (sym (c .if1 .left) ∙ c .before .same .ensures ∙ (λ i. same (after-foot .foot .ensures .0 i) (c .before .before .foot2 .ensures .0 i)))
 
 pub equal-spec : {M : Type 1} → statement M
 equal-spec =

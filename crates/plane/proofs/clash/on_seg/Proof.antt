@@ -18,10 +18,13 @@ by s p e f = λ i. e i && (not (f i) && not (before (whole (head s)) p))
 
 returns : tie.Need-returns
 returns c =
-    let s = segOf (c .before .before .before .before .before .args .s) in
-    let p = ptOf (c .before .before .before .before .before .args .p) in
-    let left = c .before .before .before .before .left-by in
-    let on : left .result ≡ pos 0 = eq-yes w64 (c .before .before .before .if1 .taken) (search trbits depth 20) (search trbits depth 20) tt in
+    let start : tie.Start = search needs in
+    let after-left-by : tie.After-left-by = search needs in
+    let then1 : tie.Then1 = search needs in
+    let s = segOf (start .args .s) in
+    let p = ptOf (start .args .p) in
+    let left = after-left-by .left-by in
+    let on : left .result ≡ pos 0 = eq-yes w64 (then1 .if1 .taken) (search trbits depth 20) (search trbits depth 20) tt in
     let foot = ap (before p) (c .before .before .foot .ensures .0) in
     by s p (sym (zer-yes (leftBy s p) (sym (left .ensures .0) ∙ on))) (sym (c .if2 .taken) ∙ c .before .before2 .ensures ∙ foot)
 

@@ -13,16 +13,20 @@ by s t e = λ i. e i || inside s (whole (head t))
 
 returns : tie.Need-returns
 returns c =
-    let a = c .before .before .before .args in
+    let start : tie.Start = search needs in
+    let a = start .args in
     let foot = ap (inside (segOf (a .s))) (c .before .before .foot .ensures .0) in
     by (segOf (a .s)) (segOf (a .t)) (sym (c .if1 .taken) ∙ c .before .inside .ensures ∙ foot)
 
 returns-2 : tie.Need-returns-2
 returns-2 c =
-    let a = c .before .before .before .before .before .args in
-    let foot = ap (inside (segOf (a .s))) (c .before .before .before .before .foot .ensures .0) in
+    let start : tie.Start = search needs in
+    let after-foot : tie.After-foot = search needs in
+    let after-inside : tie.After-inside = search needs in
+    let a = start .args in
+    let foot = ap (inside (segOf (a .s))) (after-foot .foot .ensures .0) in
     let head = ap (inside (segOf (a .s))) (c .before .head .ensures .0) in
-    c .inside2 .ensures ∙ head ∙ by (segOf (a .s)) (segOf (a .t)) (sym (c .before .before .if1 .left) ∙ c .before .before .before .inside .ensures ∙ foot)
+    c .inside2 .ensures ∙ head ∙ by (segOf (a .s)) (segOf (a .t)) (sym (c .before .before .if1 .left) ∙ after-inside .inside .ensures ∙ foot)
 
 pub tee-spec : {M : Type 1} → statement M
 tee-spec =

@@ -11,7 +11,8 @@ use Rattle.plane.proofs.crossing.crossing.Tie as tie
 
 cross-by-requires : tie.Need-cross-by-requires
 cross-by-requires c κs =
-    (c .before .before .before .pre .0, atmost (search tru depth 20) tt, atmost (search tru depth 20) tt, atmost (search tru depth 20) tt)
+    let start : tie.Start = search needs in
+    (start .pre .0, atmost (search tru depth 20) tt, atmost (search tru depth 20) tt, atmost (search tru depth 20) tt)
 
 returns : tie.Need-returns
 returns c =

@@ -10,7 +10,7 @@ use Rattle.plane.proofs.crossing.over.Tie as tie
 
 returns : tie.Need-returns
 returns c =
-    let st = c .before .before .before .before .before in
+    let st : tie.Start = search needs in
     let s = st .args .s in
     let t = st .args .t in
     let r : back (c .cross-of .result) ≡ cross (segOf s .up) (segOf t .up) = plain (search tr depth 20) tt ∙ c .cross-of .ensures .0 ∙ (λ i. cross (vec-back (s .u) (s .v) (st .pre .0 .up-is) i) (vec-back (t .u) (t .v) (st .pre .1 .up-is) i)) in

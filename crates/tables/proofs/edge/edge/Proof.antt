@@ -17,13 +17,19 @@ within : (c : tie.Else1) → c .before .before .before .before .args .k < edgeRo
 within c = omega (arith, c .before .edge-room .ensures, c .if1 .left)
 
 in-halves : (c : tie.Else1) → 5 * (2 * c .before .before .before .before .args .k) + 10 ≤ length (now (c .before .before .before .before .args .halves))
-in-halves c = let a = c .before .before .before .before .args in room-halves (now (a .halves)) (now (a .sources)) (a .k) (within c)
+in-halves c = let a =
+    let start : tie.Start = search needs in
+    start .args in room-halves (now (a .halves)) (now (a .sources)) (a .k) (within c)
 
 in-sources : (c : tie.Else1) → 2 * c .before .before .before .before .args .k + 2 ≤ length (now (c .before .before .before .before .args .sources))
-in-sources c = let a = c .before .before .before .before .args in room-sources (now (a .halves)) (now (a .sources)) (a .k) (within c)
+in-sources c = let a =
+    let start : tie.Start = search needs in
+    start .args in room-sources (now (a .halves)) (now (a .sources)) (a .k) (within c)
 
 returns : tie.Need-returns
-returns c = let a = c .before .before .before .before .args in record-not (now (a .halves)) (now (a .sources)) (a .k) (omega (arith, c .before .edge-room .ensures, c .if1 .taken))
+returns c = let a =
+    let start : tie.Start = search needs in
+    start .args in record-not (now (a .halves)) (now (a .sources)) (a .k) (omega (arith, c .before .edge-room .ensures, c .if1 .taken))
 
 mul-at : tie.Need-mul-at
 mul-at c = omega (arith, in-halves c)
@@ -53,16 +59,24 @@ mul-record-by : tie.Need-mul-record-by
 mul-record-by c = omega (arith, in-sources (c .before .before))
 
 shared-slice-read-record-by : tie.Need-shared-slice-read-record-by
-shared-slice-read-record-by c = omega (arith, in-sources (c .before .before .before))
+shared-slice-read-record-by c =
+    let else1 : tie.Else1 = search needs in
+    omega (arith, in-sources (else1))
 
 add-record-by : tie.Need-add-record-by
-add-record-by c = omega (arith, in-sources (c .before .before .before))
+add-record-by c =
+    let else1 : tie.Else1 = search needs in
+    omega (arith, in-sources (else1))
 
 mul-record-by-2 : tie.Need-mul-record-by-2
-mul-record-by-2 c = omega (arith, in-sources (c .before .before .before))
+mul-record-by-2 c =
+    let else1 : tie.Else1 = search needs in
+    omega (arith, in-sources (else1))
 
 shared-slice-read-record-by-2 : tie.Need-shared-slice-read-record-by-2
-shared-slice-read-record-by-2 c = omega (arith, in-sources (c .before .before .before .before))
+shared-slice-read-record-by-2 c =
+    let else1 : tie.Else1 = search needs in
+    omega (arith, in-sources (else1))
 
 returns-2 : tie.Need-returns-2
 returns-2 c = let a = c .before .before .before .before .before .before .before .before .before .args in c .record-by .ensures ∙ record-there (now (a .halves)) (now (a .sources)) (a .k) (within (c .before .before .before .before .before))

@@ -20,11 +20,13 @@ loop-holds c = lay-starts 4 (faceBy (c .before .args .t2)) (λ k. refl) (c .befo
 
 loop-again : tie.Need-loop-again Inv-loop μ-loop
 loop-again c =
-    let at = c .before .before .before .before .before .before .before .before .before in
+    let at : tie.At-loop Inv-loop μ-loop = search needs in
     rw (c .before .before .store4-u16 .ensures) (lay-turns 4 (faceBy (at .before .before .args .t2)) (λ k. refl) (at .loop .inv) _ (omega arith) refl)
 
 returns : tie.Need-returns Inv-loop μ-loop
-returns c = lay-ends 4 (faceBy (c .before .before .before .args .t2)) (λ k. refl) (c .before .loop .inv) (omega arith)
+returns c =
+    let start : tie.Start Inv-loop μ-loop = search needs in
+    lay-ends 4 (faceBy (start .args .t2)) (λ k. refl) (c .before .loop .inv) (omega arith)
 
 pub lay-spec : {M : Type 1} → statement M
 lay-spec =

@@ -22,22 +22,27 @@ loop-holds : tie.Need-loop-holds Inv-loop μ-loop
 loop-holds c = lay-starts 5 (halfOf (c .before .args .t2)) (λ k. refl) (2 * c .before .args .t2 .edges) (now (c .before .args .halves)) (c .before .pre .1)
 
 twin-requires : tie.Need-twin-requires Inv-loop μ-loop
-twin-requires c κs = omega (arith, c .before .before .before .pre .0)
+twin-requires c κs =
+    let start : tie.Start Inv-loop μ-loop = search needs in
+    omega (arith, start .pre .0)
 
 cast-other : tie.Need-cast-other Inv-loop μ-loop
 cast-other c = omega (arith, twin-le (c .before .before .loop .h), c .twin .ensures)
 
 loop-again : tie.Need-loop-again Inv-loop μ-loop
 loop-again c =
-    let at = c .before .before .before .before .before .before .before .before .before .before in
+    let after-twin : tie.After-twin Inv-loop μ-loop = search needs in
+    let at : tie.At-loop Inv-loop μ-loop = search needs in
     let t = at .before .before .args .t2 in
     let h = at .loop .h in
     rw (c .before .before .store5-u16 .ensures)
     (lay-turns 5 (halfOf t) (λ k. refl) (at .loop .inv) _ (omega arith)
-    (λ i. getD (t .origins) h 0 ∷ c .before .before .before .before .before .before .before .before .twin .ensures i ∷ getD (t .next) h 0 ∷ getD (t .prev) h 0 ∷ getD (t .face) h 0 ∷ []))
+    (λ i. getD (t .origins) h 0 ∷ after-twin .twin .ensures i ∷ getD (t .next) h 0 ∷ getD (t .prev) h 0 ∷ getD (t .face) h 0 ∷ []))
 
 returns : tie.Need-returns Inv-loop μ-loop
-returns c = lay-ends 5 (halfOf (c .before .before .before .args .t2)) (λ k. refl) (c .before .loop .inv) (omega arith)
+returns c =
+    let start : tie.Start Inv-loop μ-loop = search needs in
+    lay-ends 5 (halfOf (start .args .t2)) (λ k. refl) (c .before .loop .inv) (omega arith)
 
 pub lay-spec : {M : Type 1} → statement M
 lay-spec =

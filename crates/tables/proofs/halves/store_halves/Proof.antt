@@ -10,9 +10,10 @@ use Rattle.tables.proofs.halves.store_halves.Tie as tie
 
 returns : tie.Need-returns
 returns c =
-    let s = c .before .before .before .before .before .before .before .before .before .before in
+    let after-lay : tie.After-lay = search needs in
+    let s : tie.Start = search needs in
     let t = s .args .t in
-    laid-wiped 0 5 (2 * t .edges) (halfOf t) (now (s .args .halves)) (λ k. refl) (s .pre .1) (c .before .before .before .before .before .before .before .lay .ensures) (c .before .before .wipe-from-u16 .ensures)
+    laid-wiped 0 5 (2 * t .edges) (halfOf t) (now (s .args .halves)) (λ k. refl) (s .pre .1) (after-lay .lay .ensures) (c .before .before .wipe-from-u16 .ensures)
 
 pub store-halves-spec : {M : Type 1} → statement M
 store-halves-spec =

@@ -20,12 +20,14 @@ loop-holds c = lay-starts 2 (sourceOf (c .before .args .t2)) (λ k. refl) (c .be
 
 loop-again : tie.Need-loop-again Inv-loop μ-loop
 loop-again c =
-    let at = c .before .before .before .before .before .before .before in
+    let at : tie.At-loop Inv-loop μ-loop = search needs in
     let t = at .before .before .args .t2 in
     rw (c .before .before .store2-u32 .ensures) (lay-turns 2 (sourceOf t) (λ k. refl) (at .loop .inv) _ (omega arith) refl)
 
 returns : tie.Need-returns Inv-loop μ-loop
-returns c = lay-ends 2 (sourceOf (c .before .before .before .args .t2)) (λ k. refl) (c .before .loop .inv) (omega arith)
+returns c =
+    let start : tie.Start Inv-loop μ-loop = search needs in
+    lay-ends 2 (sourceOf (start .args .t2)) (λ k. refl) (c .before .loop .inv) (omega arith)
 
 pub lay-spec : {M : Type 1} → statement M
 lay-spec =

@@ -9,9 +9,10 @@ use Rattle.tables.proofs.sources.store_sources.Tie as tie
 
 returns : tie.Need-returns
 returns c =
-    let s = c .before .before .before .before .before .before .before .before .before .before in
+    let after-lay : tie.After-lay = search needs in
+    let s : tie.Start = search needs in
     let t = s .args .t in
-    laid-wiped 0 2 (t .edges) (sourceOf t) (now (s .args .sources)) (λ k. refl) (s .pre .1) (c .before .before .before .before .before .before .before .lay .ensures) (c .before .before .wipe-from-u32 .ensures)
+    laid-wiped 0 2 (t .edges) (sourceOf t) (now (s .args .sources)) (λ k. refl) (s .pre .1) (after-lay .lay .ensures) (c .before .before .wipe-from-u32 .ensures)
 
 pub store-sources-spec : {M : Type 1} → statement M
 store-sources-spec =

@@ -25,15 +25,19 @@ loop-holds c = lay-starts 4 (vertexOf (c .args .t2)) (λ k. refl) (c .args .t2 .
 
 loop-again : tie.Need-loop-again Inv-loop μ-loop
 loop-again c =
-    let at = c .before .before .before .before .before .before .before .before .before in
+    let after-of-u16 : tie.After-of-u16 Inv-loop μ-loop = search needs in
+    let after-x : tie.After-x Inv-loop μ-loop = search needs in
+    let after-y : tie.After-y Inv-loop μ-loop = search needs in
+    let after-d : tie.After-d Inv-loop μ-loop = search needs in
+    let at : tie.At-loop Inv-loop μ-loop = search needs in
     let t = at .before .args .t2 in
     let v = at .loop .v in
-    let h = c .before .before .before .of-u16 in
+    let h = after-of-u16 .of-u16 in
     rw (c .before .store4-i64 .ensures)
     (lay-turns 4 (vertexOf t) (λ k. refl) (at .loop .inv) _ (omega arith)
-    (λ i. read-first 4 (t .points) v (c .before .before .before .before .before .before .before .x .given) i
-    ∷ read (t .points) (4 * v + 1) (c .before .before .before .before .before .before .y .given) i
-    ∷ read (t .points) (4 * v + 2) (c .before .before .before .before .before .d .given) i
+    (λ i. read-first 4 (t .points) v (after-x .x .given) i
+    ∷ read (t .points) (4 * v + 1) (after-y .y .given) i
+    ∷ read (t .points) (4 * v + 2) (after-d .d .given) i
     ∷ (toZ-ofZ w64 _ (record { sfits = h .ok }) ∙ h .ensures) i
     ∷ []))
 

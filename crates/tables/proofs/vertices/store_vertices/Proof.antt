@@ -10,9 +10,10 @@ use Rattle.tables.proofs.vertices.store_vertices.Tie as tie
 
 returns : tie.Need-returns
 returns c =
-    let s = c .before .before .before .before .before .before .before in
+    let after-lay : tie.After-lay = search needs in
+    let s : tie.Start = search needs in
     let t = s .args .t in
-    laid-wiped (pos 0) 4 (t .count) (vertexOf t) (now (s .args .vertices)) (λ k. refl) (s .pre .1) (c .before .before .before .before .before .lay .ensures) (c .before .wipe-from-i64 .ensures)
+    laid-wiped (pos 0) 4 (t .count) (vertexOf t) (now (s .args .vertices)) (λ k. refl) (s .pre .1) (after-lay .lay .ensures) (c .before .wipe-from-i64 .ensures)
 
 pub store-vertices-spec : {M : Type 1} → statement M
 store-vertices-spec =
