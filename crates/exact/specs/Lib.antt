@@ -1,3 +1,4 @@
+pub mod Exact
 pub mod Ring
 pub mod Poly
 pub mod Solve

@@ -12,6 +12,7 @@ use lib.Signed.{_≤ℤ_, _<ℤ_}
 use Rattle.exact.specs.Abs.{abs-*}
 pub use Rattle.exact.specs.Parts.{pp, np, ≤-to, ≤-of, <-to, <-of, ≡-to, ≡-of, pos-≤, ≤-pos, pos-<, <-pos, 0≤pos, pos≮0, Is, is-+, is-neg, is-*}
 pub use Rattle.exact.specs.Linear.{is-sum, pC, nC, pM, nM, pT, nT, P, N, Sq, ≤to, ≤of, <to, <of, ≡to, ≡of, sq≤, sq<, sq≡, sq→, sq×, sq⊥, sq, zomega}
+pub use Rattle.exact.specs.Exact.{Sign, neg, zer, plus, sgn}
 
 -- ---- by `zomega`
 pub ≤-trans : {a b c : ℤ} → a ≤ℤ b → b ≤ℤ c → a ≤ℤ c
@@ -120,15 +121,7 @@ pub ≤-or-< : (a b : ℤ) → (a ≤ℤ b) ⊎ (b <ℤ a)
     go (eq e) = inl (≤-of-≡ e)
     go (gt h) = inr h
 
--- the sign of an integer, as data
-pub data Sign : Type 0 where
-  neg zer plus : Sign
-
-abbrev pub sgn : ℤ → Sign
-sgn (pos zero) = zer
-sgn (pos (suc n)) = plus
-sgn (negsuc n) = neg
-
+-- the sign of an integer
 pub sgn-plus : {z : ℤ} → pos 0 <ℤ z → sgn z ≡ plus
 sgn-plus {z = pos zero} h = absurd (h .lt)
 sgn-plus {z = pos (suc n)} h = refl
