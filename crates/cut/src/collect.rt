@@ -1,9 +1,10 @@
 // The overlay's vertices collected: "all corners", and where edges of different maps meet, each point once. All are in lowest terms, so that a point is one that
 // stands there already exactly if its three numbers are the same.
-use crate::limits::MAPS;
-use crate::limits::VERTEX_ROWS;
 use graph::heading::carrier_at;
 use graph::heading::point_at;
+use limits::MAPS;
+use limits::POINT_WIDTH;
+use limits::VERTEX_ROWS;
 use plane::crossing::Cross;
 use plane::crossing::crossing;
 use plane::point::Point;
@@ -29,7 +30,7 @@ fn is_at(points: &[i64], k: usize, p: Point) -> bool
     requires { ⌜ 4 * k + 4 ≤ length (now points) ⌝ ∗ ⌜ Near (ptOf p) ⌝ }
     ensures { λ b. ⌜ b ≡ equal (ptOf p) (pointAt (now (points .entry)) k) ⌝ }
 {
-    let at = 4 * k;
+    let at = POINT_WIDTH * k;
     if p.x == points[at] {
         if p.y == points[at + 1] {
             p.d == points[at + 2]

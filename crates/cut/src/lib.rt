@@ -1,5 +1,4 @@
 // The overlay's vertices, collected and ordered, and the pieces of the input edges, from all maps' edges in one table.
-pub mod limits; // the numbers of 01
 pub mod rows; // cells of a table moved
 pub mod collect; // corners and crossings, each point once
 pub mod order; // points put in order

@@ -1,6 +1,8 @@
 // The overlay's graph in tables, from the table of pieces.
-use crate::limits::MAPS;
 use graph::heading::carrier_at;
+use limits::MAPS;
+use limits::PIECE_SOURCES;
+use limits::PIECE_WIDTH;
 use plane::point::Seg;
 use seq::store4_i64;
 ghost use mathlib.Core.Path.{_≡_};
@@ -21,7 +23,7 @@ pub fn origins(pieces: &[u16], e: usize, out: &mut [u16])
 {
     let mut k = 0;
     while k < e {
-        let at = 4 * k;
+        let at = PIECE_WIDTH * k;
         let half = 2 * k;
         out[half] = pieces[at];
         out[half + 1] = pieces[at + 1];
@@ -35,7 +37,7 @@ fn source_in(pieces: &[u16], k: usize, m: usize) -> usize
     ensures is { λ r. ⌜ r ≡ sourceIn (now (pieces .entry)) k m ⌝ }
     ensures bound { λ r. ⌜ r < 2 ^ 16 ⌝ }
 {
-    pieces[4 * k + 2 + m] as usize
+    pieces[PIECE_WIDTH * k + PIECE_SOURCES + m] as usize
 }
 
 // The first map that the piece in row k comes from, or MAPS.

@@ -1,9 +1,9 @@
 // "Edges are the pieces of input edges between neighbouring overlay vertices on them": each edge's pieces put in order into a table, from the last map, edge and
 // vertex down, so that each turn does what the definition does.
-use crate::limits::MAPS;
 use crate::put::put;
 use graph::heading::carrier_at;
 use graph::heading::point_at;
+use limits::MAPS;
 use plane::clash::on_seg;
 use plane::point::Seg;
 ghost use mathlib.Core.Path.{_≡_};

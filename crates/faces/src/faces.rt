@@ -2,8 +2,8 @@
 use graph::heading::start;
 use graph::look::West;
 use graph::look::seen_half;
-use graph::places::ABSENT;
 use graph::places::fill;
+use limits::ABSENT;
 use plane::point::Vector;
 ghost use mathlib.Core.Path.{_≡_};
 ghost use Prim.Native.Nat.{ℕ, _+_, _*_, _≤_, _<_};

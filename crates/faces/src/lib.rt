@@ -1,5 +1,4 @@
 // Walks and faces of a graph in flat tables.
-pub mod limits; // the numbers of 01
 pub mod walks; // the least half-edge of each walk, its smallest vertex, hole walk or outer walk
 pub mod link; // all of it at once
 pub mod faces; // faces and their hole walks

@@ -4,16 +4,16 @@ use super::faces::holes;
 use super::faces::number;
 use super::faces::outers;
 use super::faces::sees;
-use super::limits::FACES;
-use super::limits::HALVES;
-use super::limits::HEADINGS;
-use super::limits::VERTICES;
 use super::walks::greatest;
 use super::walks::leads;
 use super::walks::lows;
 use super::walks::tops;
 use graph::follow::follow;
 use graph::heading::headings;
+use limits::FACE_ROWS;
+use limits::HALVES;
+use limits::HEADING_CELLS;
+use limits::VERTICES;
 ghost use mathlib.Core.Path.{_≡_};
 ghost use Prim.Native.Nat.{_*_, _≤_};
 ghost use Rattle.paper.specs.Limits.{overlayVertices, overlayEdges};
@@ -34,7 +34,7 @@ pub fn link(points: &[i64], origins: &[u16], carriers: &[i64], n: usize, e: usiz
     ensures { λ r. ⌜ Linked (flatGraph (now (points .entry)) (now (origins .entry)) (now (carriers .entry)) n e) (r .next) (r .lead) (r .top) ⌝ }
 {
     let m = 2 * e;
-    let mut ways = [0i64; HEADINGS];
+    let mut ways = [0i64; HEADING_CELLS];
     headings(points, origins, carriers, n, e, &mut ways);
     let mut next = [0u16; HALVES];
     follow(origins, &ways, n, e, &mut next);
@@ -53,7 +53,7 @@ pub fn link(points: &[i64], origins: &[u16], carriers: &[i64], n: usize, e: usiz
 pub struct Faces {
     pub face: [u16; HALVES],
     pub outers: [u16; HALVES],
-    pub holes: [u16; FACES],
+    pub holes: [u16; FACE_ROWS],
     pub count: usize,
 }
 
@@ -80,7 +80,7 @@ pub fn enclose(
     sees(points, origins, carriers, n, e, &lead, &top, &mut seen);
     let mut face = [0u16; HALVES];
     faces(&lead, &top, &seen, &numbers, n, m, &mut face);
-    let mut inside = [0u16; FACES];
+    let mut inside = [0u16; FACE_ROWS];
     holes(&lead, &top, &face, m, &mut inside, count + 1);
     Faces {
         face,

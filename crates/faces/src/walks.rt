@@ -1,8 +1,8 @@
 // Walks: the least half-edge of each, its smallest vertex, hole walk or outer walk.
 use graph::follow::heading_at;
 use graph::heading::start;
-use graph::places::ABSENT;
 use graph::places::fill;
+use limits::ABSENT;
 use plane::angle::less_angle;
 use plane::order::before;
 ghost use mathlib.Core.Path.{_≡_};

@@ -1,6 +1,9 @@
 // "The follower of a half-edge arriving at p is the first outgoing half-edge clockwise from its twin; with one edge at p it is the twin."
 use super::chains::chains;
 use super::heading::twin;
+use limits::HALVES;
+use limits::HEADING_WIDTH;
+use limits::VERTICES;
 use plane::angle::less_angle;
 use plane::point::Vector;
 ghost use mathlib.Core.Path.{_≡_};
@@ -19,18 +22,13 @@ ghost use Rattle.graph.specs.Pick.{better};
 ghost use Rattle.graph.specs.Follow.{soonerOf, soonerAt, followerAt, Headed, Headings};
 ghost use Rattle.graph.specs.Chains.{Chained};
 
-// "The overlay has at most 1,000 vertices, 2,000 edges (4,000 half-edges)"
-const VERTICES: usize = 1000;
-
-const HALVES: usize = 4000;
-
 // The heading in row h.
 pub fn heading_at(headings: &[i64], h: usize) -> Vector
     requires { ⌜ Headed (now headings) h ⌝ }
     ensures is { λ r. ⌜ vecOf r ≡ vecAt (now (headings .entry)) h ⌝ }
     ensures near { λ r. ⌜ Direction (vecOf r) ⌝ }
 {
-    let at = 2 * h;
+    let at = HEADING_WIDTH * h;
     Vector {
         x: headings[at],
         y: headings[at + 1],

@@ -4,6 +4,8 @@ use graph::heading::twin;
 use graph::look::West;
 use graph::look::east_side;
 use graph::look::seen_half;
+use limits::CARRIER_WIDTH;
+use limits::POINT_WIDTH;
 use plane::point::Point;
 use plane::point::Vector;
 ghost use mathlib.Core.Path.{_≡_};
@@ -108,10 +110,10 @@ pub fn label_at(
     requires { ⌜ Stands (now corners) (now origins) (now carriers) (now labels) v w a b ⌝ ∗ ⌜ source ≤ b - a ⌝ ∗ ⌜ Near (ptOf p) × Direction (vecOf d) ⌝ }
     ensures { λ r. ⌜ r ≡ labelBy (standing (now (corners .entry)) (now (origins .entry)) (now (carriers .entry)) (now (labels .entry)) v w a b) h (ptOf p) (vecOf d) source ⌝ }
 {
-    let from = 4 * v;
-    let to = 4 * w;
-    let foot = 4 * a;
-    let head = 4 * b;
+    let from = POINT_WIDTH * v;
+    let to = POINT_WIDTH * w;
+    let foot = CARRIER_WIDTH * a;
+    let head = CARRIER_WIDTH * b;
     let first = 2 * a;
     let last = 2 * b;
     label_in(

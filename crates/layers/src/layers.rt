@@ -1,4 +1,10 @@
 // Both maps in one set of tables, one after the other, with where each map's vertices and edges start.
+use limits::CARRIER_WIDTH;
+use limits::LAYER_CARRIER_CELLS;
+use limits::LAYER_HALVES;
+use limits::LAYER_POINT_CELLS;
+use limits::LAYER_STARTS;
+use limits::POINT_WIDTH;
 use mapfile::fields::edge_count;
 use mapfile::fields::vertex_count;
 use mapfile::load::load_carriers;
@@ -18,12 +24,12 @@ ghost use Rattle.mapfile.specs.Rows.{pointRow, carrierRow};
 ghost use Rattle.layers.specs.Layers.{Layered};
 
 pub struct Layers {
-    pub vertices: [usize; 3],
-    pub edges: [usize; 3],
-    pub corners: [i64; 1600],
-    pub origins: [u16; 1200],
-    pub carriers: [i64; 2400],
-    pub labels: [u16; 1200],
+    pub vertices: [usize; LAYER_STARTS],
+    pub edges: [usize; LAYER_STARTS],
+    pub corners: [i64; LAYER_POINT_CELLS],
+    pub origins: [u16; LAYER_HALVES],
+    pub carriers: [i64; LAYER_CARRIER_CELLS],
+    pub labels: [u16; LAYER_HALVES],
 }
 
 // The corners of both maps.
@@ -32,7 +38,7 @@ fn lay_corners(zones: &[u8], blocks: &[u8], out: &mut [i64])
     ensures { λ _. ⌜ now (out .exit) ≡ over (rows (pointRow (mapOf (now (zones .entry)) .graph)) (vertexCount (now (zones .entry))) ++ rows (pointRow (mapOf (now (blocks .entry)) .graph)) (vertexCount (now (blocks .entry)))) (now (out .entry)) ⌝ }
 {
     load_points(zones, out);
-    let at = 4 * vertex_count(zones) as usize;
+    let at = POINT_WIDTH * vertex_count(zones) as usize;
     load_points(blocks, &mut out[at..]);
 }
 
@@ -52,7 +58,7 @@ fn lay_carriers(zones: &[u8], blocks: &[u8], out: &mut [i64])
     ensures { λ _. ⌜ now (out .exit) ≡ over (rows (carrierRow (mapOf (now (zones .entry)) .graph)) (edgesIn (now (zones .entry))) ++ rows (carrierRow (mapOf (now (blocks .entry)) .graph)) (edgesIn (now (blocks .entry)))) (now (out .entry)) ⌝ }
 {
     load_carriers(zones, out);
-    let at = 4 * edge_count(zones) as usize;
+    let at = CARRIER_WIDTH * edge_count(zones) as usize;
     load_carriers(blocks, &mut out[at..]);
 }
 
@@ -71,13 +77,13 @@ pub fn read_layers(zones: &[u8], blocks: &[u8]) -> Layers
     requires { ⌜ firstOf (formFaults (now zones) ++ partFaults (mapOf (now zones) .graph)) ≡ none ⌝ ∗ ⌜ firstOf (formFaults (now blocks) ++ partFaults (mapOf (now blocks) .graph)) ≡ none ⌝ }
     ensures { λ r. ⌜ Layered (now (zones .entry)) (now (blocks .entry)) r ⌝ }
 {
-    let mut corners = [0i64; 1600];
+    let mut corners = [0i64; LAYER_POINT_CELLS];
     lay_corners(zones, blocks, &mut corners);
-    let mut origins = [0u16; 1200];
+    let mut origins = [0u16; LAYER_HALVES];
     lay_origins(zones, blocks, &mut origins);
-    let mut carriers = [0i64; 2400];
+    let mut carriers = [0i64; LAYER_CARRIER_CELLS];
     lay_carriers(zones, blocks, &mut carriers);
-    let mut labels = [0u16; 1200];
+    let mut labels = [0u16; LAYER_HALVES];
     lay_labels(zones, blocks, &mut labels);
     let v = vertex_count(zones) as usize;
     let vertices = [0, v, v + vertex_count(blocks) as usize];

@@ -2,7 +2,7 @@
 // has one more.
 use crate::bytes::i16_at;
 use crate::bytes::u16_at;
-use crate::limits::MAP_HEAD;
+use limits::MAP_HEAD;
 use plane::point::Vector;
 ghost use mathlib.Core.Path.{_≡_};
 ghost use Rattle.plane.specs.Values.{vecOf};

@@ -1,12 +1,12 @@
 // The form of an overlay file: "1 (under 11 bytes or wrong mark), 2 (version), 3 (a count over its number above), 4 (length)".
 use crate::stored::counts;
+use limits::OVERLAY_HEAD;
+use limits::VERSION;
 use mapfile::bytes::byte_at;
 use mapfile::bytes::u16_at;
 use mapfile::refusal::Check;
 use mapfile::refusal::first;
 use mapfile::refusal::given;
-use ovfile::limits::OVERLAY_HEAD;
-use ovfile::limits::VERSION;
 use ovfile::places::file_length;
 use ovfile::room::numbers;
 use ovfile::room::over;

@@ -6,6 +6,8 @@ use crate::fill::fill_sources;
 use crate::fill::fill_vertices;
 use crate::head::head;
 use crate::stored::counts;
+use limits::HALF_CELLS;
+use limits::SOURCE_CELLS;
 use mapfile::refusal::Check;
 use mapfile::refusal::first;
 use mapfile::refusal::given;
@@ -44,8 +46,8 @@ fn unsound(file: &[u8]) -> u16
     requires { ⌜ Within (countsIn (now file)) ⌝ }
     ensures { λ r. ⌜ r ≡ least (λ k. not (soundEdge maps (countsIn (now (file .entry))) (tablesIn maps layout (now (file .entry))) k)) (countsIn (now (file .entry)) .edges) ⌝ }
 {
-    let mut halves = [0u16; 20000];
-    let mut sources = [0u32; 4000];
+    let mut halves = [0u16; HALF_CELLS];
+    let mut sources = [0u32; SOURCE_CELLS];
     unsound_by(file, &mut halves, &mut sources)
 }
 

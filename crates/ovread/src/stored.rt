@@ -1,7 +1,7 @@
 // The stored fields of an overlay file. A byte past the end counts as 0.
+use limits::EDGE_SIZE;
+use limits::FACE_SIZE;
 use mapfile::bytes::u16_at;
-use ovfile::limits::EDGE_SIZE;
-use ovfile::limits::FACE_SIZE;
 use ovfile::places::edges_at;
 use ovfile::places::faces_at;
 use tables::room::Counts;

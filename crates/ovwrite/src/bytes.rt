@@ -1,4 +1,9 @@
 // The bytes of the file, each part stored in the buffer at its place: "mark `ZOV`, 16-bit version 1, three counts; vertices ..; edges ..; faces ..".
+use limits::COORDINATE_BYTES;
+use limits::DENOMINATOR_BYTES;
+use limits::EDGE_SIZE;
+use limits::FACE_SIZE;
+use limits::VERSION;
 use ovfile::bytes::put;
 use ovfile::bytes::put_fields;
 use ovfile::bytes::twos;
@@ -6,11 +11,6 @@ use ovfile::cells::face_cell;
 use ovfile::cells::half_cell;
 use ovfile::cells::source_cell;
 use ovfile::cells::vertex_cell;
-use ovfile::limits::COORDINATE_BYTES;
-use ovfile::limits::DENOMINATOR_BYTES;
-use ovfile::limits::EDGE_SIZE;
-use ovfile::limits::FACE_SIZE;
-use ovfile::limits::VERSION;
 use ovfile::places::edges_at;
 use ovfile::places::faces_at;
 use ovfile::places::vertex_place;

@@ -1,13 +1,14 @@
 // Refusal 5: "a vertex's X, Y or D does not fit its bytes", or a vertex "whose outgoing entry is not the least half-edge with that origin (65,535 if none)".
 use exact::cast::magnitude;
 use exact::cast::of_u16;
+use limits::ABSENT;
+use limits::COORDINATE_BYTES;
+use limits::DENOMINATOR_BYTES;
+use limits::VERTICES;
 use ovfile::bytes::numbers;
 use ovfile::cells::u16_at;
 use ovfile::cells::vertex_cell;
-use ovfile::limits::COORDINATE_BYTES;
-use ovfile::limits::DENOMINATOR_BYTES;
 use ovfile::sound::first_places;
-use tables::limits::ABSENT;
 use tables::room::Counts;
 ghost use mathlib.Core.Path.{_≡_};
 ghost use mathlib.Core.List.{[]};
@@ -71,11 +72,11 @@ fn first_bad_vertex_by(n: u16, vertices: &[i64], starts: &[u16]) -> u16
 }
 
 // The least outgoing half-edge of each vertex.
-fn least_starts(edges: u16, halves: &[u16]) -> [u16; 1000]
+fn least_starts(edges: u16, halves: &[u16]) -> [u16; VERTICES]
     requires { ⌜ edges ≤ overlayEdges ⌝ }
     ensures { λ r. ⌜ LeastStarts (now (halves .entry)) (2 * edges) r ⌝ }
 {
-    let mut starts = [ABSENT; 1000];
+    let mut starts = [ABSENT; VERTICES];
     first_places(halves, 0, 2 * edges as u32, &mut starts);
     starts
 }

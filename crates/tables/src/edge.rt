@@ -1,5 +1,7 @@
 // The overlay edge record: "it is handed out by edge number, and a number with no edge is answered as absent".
 use crate::room::edge_room;
+use limits::HALF_WIDTH;
+use limits::SOURCE_WIDTH;
 ghost use mathlib.Core.Path.{_≡_};
 ghost use mathlib.Core.List.{[]};
 ghost use Rattle.paper.specs.Lent.{edgeRecord};
@@ -71,9 +73,9 @@ pub fn edge(halves: &[u16], sources: &[u32], k: usize) -> Found
     if edge_room(halves.len(), sources.len()) <= k {
         return Found::Absent;
     }
-    let at = 5 * (2 * k);
+    let at = HALF_WIDTH * (2 * k);
     let lower = halves[at];
-    let upper = halves[at + 5];
-    let first = 2 * k;
+    let upper = halves[at + HALF_WIDTH];
+    let first = SOURCE_WIDTH * k;
     record_by(lower, upper, sources[first], sources[first + 1])
 }

@@ -1,4 +1,6 @@
 // The face table: "A face holds the pair of its least outer half-edge, that number (65,535 for face 0), and its count of hole walks".
+use limits::FACE_WIDTH;
+use limits::FACES;
 use seq::store4_u16;
 use seq::wipe_from_u16;
 ghost use mathlib.Core.Path.{_≡_};
@@ -12,10 +14,10 @@ ghost use Rattle.tables.specs.Rows.{faceBy};
 // Of each face its label in each map, its least outer half-edge, and its count of hole walks.
 pub struct FaceRows {
     pub count: u16,
-    pub first: [u16; 1334],
-    pub second: [u16; 1334],
-    pub outer: [u16; 1334],
-    pub holes: [u16; 1334],
+    pub first: [u16; FACES],
+    pub second: [u16; FACES],
+    pub outer: [u16; FACES],
+    pub holes: [u16; FACES],
 }
 
 // Stores a row for each face.
@@ -38,5 +40,5 @@ pub fn store_faces(faces: &mut [u16], t: FaceRows)
 {
     lay(faces, t);
     let n = t.count as usize;
-    wipe_from_u16(faces, 4 * n);
+    wipe_from_u16(faces, FACE_WIDTH * n);
 }

@@ -1,5 +1,7 @@
 // The half-edge table: "A half-edge holds origin, twin, follower, predecessor, face".
 use graph::heading::twin;
+use limits::HALF_WIDTH;
+use limits::HALVES;
 use seq::store5_u16;
 use seq::wipe_from_u16;
 ghost use mathlib.Core.Path.{_≡_};
@@ -12,10 +14,10 @@ ghost use Rattle.tables.specs.Rows.{halfOf};
 
 pub struct HalfRows {
     pub edges: u16,
-    pub origins: [u16; 4000],
-    pub next: [u16; 4000],
-    pub prev: [u16; 4000],
-    pub face: [u16; 4000],
+    pub origins: [u16; HALVES],
+    pub next: [u16; HALVES],
+    pub prev: [u16; HALVES],
+    pub face: [u16; HALVES],
 }
 
 // Stores a row for each half-edge.
@@ -47,5 +49,5 @@ pub fn store_halves(halves: &mut [u16], t: HalfRows)
 {
     lay(halves, t);
     let m = 2 * t.edges as usize;
-    wipe_from_u16(halves, 5 * m);
+    wipe_from_u16(halves, HALF_WIDTH * m);
 }

@@ -1,6 +1,5 @@
 // The lent tables (01, "Overlay tables" and "When a map is refused"): the three counts and the room for them, the rows that are stored with zeros past the
 // counts, all four tables wiped, and the overlay edge record.
-pub mod limits; // the numbers of 01
 pub mod room; // the three counts, and room for them
 pub mod answer; // the three counts or a refusal
 pub mod vertices; // rows of vertices

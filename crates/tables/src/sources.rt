@@ -1,4 +1,8 @@
 // The source table: "whether it came from the first map, the second or both, with the edge number in each", as a number + 1 or 0 for each map.
+use limits::PIECE_CELLS;
+use limits::PIECE_SOURCES;
+use limits::PIECE_WIDTH;
+use limits::SOURCE_WIDTH;
 use seq::store2_u32;
 use seq::wipe_from_u32;
 ghost use mathlib.Core.Path.{_≡_};
@@ -8,10 +12,15 @@ ghost use Rattle.seq.specs.Seq.{rows, padded, laid};
 ghost use Rattle.paper.specs.Limits.{maps, overlayEdges};
 ghost use Rattle.tables.specs.Rows.{sourceOf};
 
+// Where a piece's row has its source in the first map, and in the second.
+const FIRST: usize = PIECE_SOURCES;
+
+const SECOND: usize = PIECE_SOURCES + 1;
+
 // The pieces, rows of lower, upper, and for each map the source + 1 or 0.
 pub struct SourceRows {
     pub edges: u16,
-    pub pieces: [u16; 8004],
+    pub pieces: [u16; PIECE_CELLS],
 }
 
 // Stores a row for each edge.
@@ -22,9 +31,9 @@ fn lay(sources: &mut [u32], t: SourceRows)
     let n = t.edges as usize;
     let mut k: usize = 0;
     while k < n {
-        let at = 4 * k;
-        let first = t.pieces[at + 2] as u32;
-        let second = t.pieces[at + 3] as u32;
+        let at = PIECE_WIDTH * k;
+        let first = t.pieces[at + FIRST] as u32;
+        let second = t.pieces[at + SECOND] as u32;
         store2_u32(sources, k, first, second);
         k += 1;
     }
@@ -37,5 +46,5 @@ pub fn store_sources(sources: &mut [u32], t: SourceRows)
 {
     lay(sources, t);
     let n = t.edges as usize;
-    wipe_from_u32(sources, 2 * n);
+    wipe_from_u32(sources, SOURCE_WIDTH * n);
 }

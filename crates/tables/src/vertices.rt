@@ -1,5 +1,9 @@
 // The vertex table: "Vertices stand in point order, numbered from 0, each with its least outgoing half-edge".
 use exact::cast::of_u16;
+use limits::POINT_CELLS;
+use limits::POINT_WIDTH;
+use limits::VERTEX_WIDTH;
+use limits::VERTICES;
 use seq::store4_i64;
 use seq::wipe_from_i64;
 ghost use mathlib.Core.Path.{_≡_};
@@ -14,8 +18,8 @@ ghost use Rattle.tables.specs.Rows.{vertexOf};
 // The points, rows of X, Y, D and a spare cell, and of each vertex the least outgoing half-edge.
 pub struct VertexRows {
     pub count: u16,
-    pub points: [i64; 4004],
-    pub least: [u16; 1000],
+    pub points: [i64; POINT_CELLS],
+    pub least: [u16; VERTICES],
 }
 
 // Stores a row for each vertex.
@@ -26,7 +30,7 @@ fn lay(vertices: &mut [i64], t: VertexRows)
     let n = t.count as usize;
     let mut v: usize = 0;
     while v < n {
-        let at = 4 * v;
+        let at = POINT_WIDTH * v;
         let x = t.points[at];
         let y = t.points[at + 1];
         let d = t.points[at + 2];
@@ -43,5 +47,5 @@ pub fn store_vertices(vertices: &mut [i64], t: VertexRows)
 {
     lay(vertices, t);
     let n = t.count as usize;
-    wipe_from_i64(vertices, 4 * n);
+    wipe_from_i64(vertices, VERTEX_WIDTH * n);
 }
