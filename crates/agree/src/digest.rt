@@ -1,15 +1,15 @@
 // The digest of an overlay's tables, as the second program reckons it (second/README.md): FNV-1a of 64 bits.
-use exact::cast::magnitude;
+use exact::magnitude;
 use limits::EDGE_WIDTH;
 use limits::FACE_WIDTH;
 use limits::SOURCE_WIDTH;
 use limits::VERTEX_WIDTH;
-use ovfile::cells::i64_at;
-use ovfile::cells::u16_at;
-use ovfile::cells::u32_at;
+use ovfile::i64_at;
+use ovfile::u16_at;
+use ovfile::u32_at;
 use std::num::wrapping_add_u64;
 use std::num::wrapping_sub_u64;
-use tables::room::Counts;
+use tables::Counts;
 
 const START: u64 = 14695981039346656037;
 

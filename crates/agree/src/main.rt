@@ -17,8 +17,8 @@ use limits::SOURCE_CELLS;
 use limits::SOURCE_WIDTH;
 use limits::VERTEX_CELLS;
 use limits::VERTEX_WIDTH;
-use tables::answer::Answer;
-use tables::room::Counts;
+use tables::Answer;
+use tables::Counts;
 
 fn say_done(c: Counts, digest: u64) {
     say(b"done ");

@@ -1,14 +1,14 @@
 // The overlay's vertices collected: "all corners", and where edges of different maps meet, each point once. All are in lowest terms, so that a point is one that
 // stands there already exactly if its three numbers are the same.
-use graph::heading::carrier_at;
-use graph::heading::point_at;
+use graph::carrier_at;
+use graph::point_at;
 use limits::MAPS;
 use limits::POINT_WIDTH;
 use limits::VERTEX_ROWS;
+use plane::Point;
+use plane::Seg;
 use plane::crossing::Cross;
 use plane::crossing::crossing;
-use plane::point::Point;
-use plane::point::Seg;
 use seq::store4_i64;
 ghost use mathlib.Core.Path.{_≡_};
 ghost use mathlib.Core.List.{[], _∷_, _++_};

@@ -1,9 +1,9 @@
 // The overlay's graph in tables, from the table of pieces.
-use graph::heading::carrier_at;
+use graph::carrier_at;
 use limits::MAPS;
 use limits::PIECE_SOURCES;
 use limits::PIECE_WIDTH;
-use plane::point::Seg;
+use plane::Seg;
 use seq::store4_i64;
 ghost use mathlib.Core.Path.{_≡_};
 ghost use Prim.Native.Nat.{_+_, _*_, _^_, _≤_, _<_};

@@ -1,11 +1,11 @@
 // "Edges are the pieces of input edges between neighbouring overlay vertices on them": each edge's pieces put in order into a table, from the last map, edge and
 // vertex down, so that each turn does what the definition does.
 use crate::put::put;
-use graph::heading::carrier_at;
-use graph::heading::point_at;
+use graph::carrier_at;
+use graph::point_at;
 use limits::MAPS;
+use plane::Seg;
 use plane::clash::on_seg;
-use plane::point::Seg;
 ghost use mathlib.Core.Path.{_≡_};
 ghost use mathlib.Core.List.{[]};
 ghost use Prim.Native.Nat.{_+_, _≤_, _<_};

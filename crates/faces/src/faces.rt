@@ -1,10 +1,10 @@
 // Faces: "Each outer walk makes one face, numbered from 1 by the walk's least half-edge number." A hole belongs to the face of the half-edge that it sees.
-use graph::heading::start;
-use graph::look::West;
-use graph::look::seen_half;
-use graph::places::fill;
+use graph::West;
+use graph::fill;
+use graph::seen_half;
+use graph::start;
 use limits::ABSENT;
-use plane::point::Vector;
+use plane::Vector;
 ghost use mathlib.Core.Path.{_≡_};
 ghost use Prim.Native.Nat.{ℕ, _+_, _*_, _≤_, _<_};
 ghost use lib.ListN.{length, getD};

@@ -1,4 +1,4 @@
 // Walks and faces of a graph in flat tables.
-pub mod walks; // the least half-edge of each walk, its smallest vertex, hole walk or outer walk
+mod walks; // the least half-edge of each walk, its smallest vertex, hole walk or outer walk
 pub mod link; // all of it at once
-pub mod faces; // faces and their hole walks
+mod faces; // faces and their hole walks

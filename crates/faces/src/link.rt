@@ -9,7 +9,7 @@ use super::walks::leads;
 use super::walks::lows;
 use super::walks::tops;
 use graph::follow::follow;
-use graph::heading::headings;
+use graph::headings;
 use limits::FACE_ROWS;
 use limits::HALVES;
 use limits::HEADING_CELLS;

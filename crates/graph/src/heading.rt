@@ -2,10 +2,10 @@
 use limits::CARRIER_WIDTH;
 use limits::HEADING_WIDTH;
 use limits::POINT_WIDTH;
-use plane::order::before;
-use plane::point::Point;
-use plane::point::Seg;
-use plane::point::Vector;
+use plane::Point;
+use plane::Seg;
+use plane::Vector;
+use plane::before;
 ghost use mathlib.Core.Path.{_≡_};
 ghost use mathlib.Core.List.{[], _∷_};
 ghost use Prim.Native.Nat.{_+_, _*_, _/_, _≤_, _<_};

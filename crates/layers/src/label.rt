@@ -1,13 +1,13 @@
 // "The label of a half-edge in a map: if it lies along an edge of that map, the label of that edge on that side; otherwise the label of what is seen looking
 // west in that map from its lower end along it."
-use graph::heading::twin;
-use graph::look::West;
-use graph::look::east_side;
-use graph::look::seen_half;
+use graph::West;
+use graph::east_side;
+use graph::seen_half;
+use graph::twin;
 use limits::CARRIER_WIDTH;
 use limits::POINT_WIDTH;
-use plane::point::Point;
-use plane::point::Vector;
+use plane::Point;
+use plane::Vector;
 ghost use mathlib.Core.Path.{_≡_};
 ghost use Prim.Native.Nat.{_*_, _-_, _≤_, _<_};
 ghost use lib.ListN.{length};

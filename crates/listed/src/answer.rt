@@ -1,6 +1,6 @@
 // The text of an answer: the listing of the counts and the face table, or the line of a refusal.
 use limits::LISTING;
-use tables::answer::Answer;
+use tables::Answer;
 ghost use Rattle.paper.specs.Limits.{maps};
 ghost use Rattle.paper.specs.Listing.{listingBy};
 ghost use Rattle.tables.specs.Values.{answerOf};

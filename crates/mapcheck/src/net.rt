@@ -1,7 +1,7 @@
 // Rules 8 and 9: edges that share more than ends, and vertices without an edge, each a search for its least place.
-use graph::heading::carrier_at;
+use graph::carrier_at;
+use plane::Seg;
 use plane::clash::clash;
-use plane::point::Seg;
 ghost use mathlib.Core.Path.{_≡_};
 ghost use Prim.Native.Nat.{_≤_, _<_};
 ghost use lib.ListN.{length};

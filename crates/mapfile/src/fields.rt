@@ -3,7 +3,7 @@
 use crate::bytes::i16_at;
 use crate::bytes::u16_at;
 use limits::MAP_HEAD;
-use plane::point::Vector;
+use plane::Vector;
 ghost use mathlib.Core.Path.{_≡_};
 ghost use Rattle.plane.specs.Values.{vecOf};
 ghost use Rattle.paper.specs.Map.{vertexCount, edgesIn, vertexPlace, cornerAt, halfPlace, originAt, labelAt};

@@ -7,7 +7,7 @@ use crate::fields::vertex_count;
 use crate::refusal::Check;
 use crate::refusal::first;
 use crate::refusal::given;
-use exact::cast::magnitude;
+use exact::magnitude;
 use limits::REACH;
 ghost use mathlib.Core.Path.{_≡_};
 ghost use Rattle.seq.specs.Seq.{least};

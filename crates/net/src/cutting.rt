@@ -2,7 +2,7 @@
 use cut::collect::collect;
 use cut::order::order;
 use cut::pieces::pieces;
-use layers::layers::Layers;
+use layers::Layers;
 use limits::MAPS;
 use limits::PIECE_CELLS;
 use limits::POINT_CELLS;

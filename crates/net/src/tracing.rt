@@ -1,11 +1,11 @@
 // Half-edges, walks and faces.
 use crate::cutting::Cut;
-use cut::net::carriers;
-use cut::net::origins;
+use cut::carriers;
+use cut::origins;
 use faces::link::enclose;
 use faces::link::link;
-use graph::places::first_places;
-use layers::layers::Layers;
+use graph::first_places;
+use layers::Layers;
 use limits::ABSENT;
 use limits::CARRIER_CELLS;
 use limits::FACE_ROWS;

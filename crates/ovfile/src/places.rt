@@ -3,7 +3,7 @@ use limits::EDGE_SIZE;
 use limits::FACE_SIZE;
 use limits::OVERLAY_HEAD;
 use limits::VERTEX_SIZE;
-use tables::room::Counts;
+use tables::Counts;
 ghost use mathlib.Core.Path.{_≡_};
 ghost use Prim.Native.Nat.{_+_, _*_};
 ghost use Rattle.paper.specs.Limits.{overlayHead};

@@ -2,7 +2,7 @@
 use limits::OVERLAY_EDGES;
 use limits::OVERLAY_FACES;
 use limits::OVERLAY_VERTICES;
-use tables::room::Counts;
+use tables::Counts;
 ghost use mathlib.Core.Path.{_≡_};
 ghost use Rattle.paper.specs.Ovfile.{over};
 ghost use Rattle.paper.specs.Reader.{numbers};

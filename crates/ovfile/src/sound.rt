@@ -4,7 +4,7 @@ use crate::cells::half_cell;
 use crate::cells::source_cell;
 use crate::cells::u16_at;
 use limits::HALVES;
-use tables::room::Counts;
+use tables::Counts;
 ghost use mathlib.Core.Path.{_≡_};
 ghost use mathlib.Core.Bool.{not};
 ghost use mathlib.Core.List.{[]};

@@ -1,10 +1,10 @@
 // The stored fields of an overlay file. A byte past the end counts as 0.
 use limits::EDGE_SIZE;
 use limits::FACE_SIZE;
-use mapfile::bytes::u16_at;
-use ovfile::places::edges_at;
-use ovfile::places::faces_at;
-use tables::room::Counts;
+use mapfile::u16_at;
+use ovfile::edges_at;
+use ovfile::faces_at;
+use tables::Counts;
 ghost use mathlib.Core.Path.{_≡_};
 ghost use Rattle.paper.specs.Reader.{countsIn, edgeField, faceField, storedOrigin, storedFollower, storedFace};
 ghost use Rattle.tables.specs.Values.{countsOf};

@@ -1,10 +1,10 @@
 // "A face holds the pair of its least outer half-edge": one label of the pair, in one map.
-use graph::heading::carrier_at;
-use graph::heading::start;
-use layers::label::label_at;
+use graph::carrier_at;
+use graph::start;
+use layers::label_at;
 use limits::PIECE_SOURCES;
 use limits::PIECE_WIDTH;
-use plane::point::Vector;
+use plane::Vector;
 ghost use mathlib.Core.Path.{_≡_};
 ghost use Prim.Native.Nat.{ℕ, _+_, _*_, _-_, _≤_, _<_};
 ghost use lib.ListN.{length, getD};

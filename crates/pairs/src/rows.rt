@@ -1,12 +1,12 @@
 // The rows of the faces: "A face holds the pair of its least outer half-edge, that number (65,535 for face 0), and its count of hole walks".
 use crate::label::face_labels;
 use crate::label::outer_of;
-use layers::layers::Layers;
+use layers::Layers;
 use limits::ABSENT;
 use limits::FACES;
-use net::cutting::Cut;
-use net::tracing::Traced;
-use tables::faces::FaceRows;
+use net::Cut;
+use net::Traced;
+use tables::FaceRows;
 ghost use mathlib.Core.Path.{_≡_};
 ghost use Prim.Native.Nat.{_+_, _≤_, _<_};
 ghost use lib.ListN.{length, getD};

@@ -9,7 +9,7 @@ use limits::FACE_CELLS;
 use limits::HALF_CELLS;
 use limits::SOURCE_CELLS;
 use limits::VERTEX_CELLS;
-use tables::answer::Answer;
+use tables::Answer;
 ghost use Prim.Native.Nat.{_≤_};
 
 fn say_answer(answer: Answer) {

@@ -1,5 +1,5 @@
 // The half-edge table: "A half-edge holds origin, twin, follower, predecessor, face".
-use graph::heading::twin;
+use graph::twin;
 use limits::HALF_WIDTH;
 use limits::HALVES;
 use seq::store5_u16;

@@ -1,5 +1,5 @@
 // The vertex table: "Vertices stand in point order, numbered from 0, each with its least outgoing half-edge".
-use exact::cast::of_u16;
+use exact::of_u16;
 use limits::POINT_CELLS;
 use limits::POINT_WIDTH;
 use limits::VERTEX_WIDTH;

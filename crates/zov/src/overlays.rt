@@ -3,7 +3,7 @@ use console::load_arg;
 use console::say;
 use limits::LISTING;
 use ovwrite::WriteAnswer;
-use tables::answer::Answer;
+use tables::Answer;
 
 // A refusal in a sentence, under its line.
 fn explain(answer: Answer) {
@@ -18,7 +18,7 @@ pub fn list_arg(i: usize) {
     let mut file = io::large_buffer();
     let n = load_arg(i, &mut file);
     let mut out = [0u8; LISTING];
-    let listed = listed::file::list(&file[..n], &mut out);
+    let listed = listed::list(&file[..n], &mut out);
     let length = listed.length;
     say(&out[..length]);
     let answer = listed.answer;
