@@ -7,6 +7,10 @@
 pub const MAPS: usize = 2;
 // "the bytes before the first vertex": mark, version and the two counts
 pub const MAP_HEAD: usize = 9;
+// "Length is 9 + 4V + 8E": the bytes of one vertex and edge
+pub const MAP_VERTEX_SIZE: usize = 4;
+
+pub const MAP_EDGE_SIZE: usize = 8;
 // "V ≤ 200, E ≤ 300, coordinates from −2,000 to 2,000"
 pub const MAP_VERTICES: u16 = 200;
 
@@ -43,6 +47,10 @@ pub const VERTEX_SIZE: usize = 2 * COORDINATE_BYTES + DENOMINATOR_BYTES;
 pub const EDGE_SIZE: usize = 12 + 2 * MAPS;
 
 pub const FACE_SIZE: usize = 4 + 2 * MAPS;
+// where the 16-bit numbers of an edge are, behind lower, upper and for each map the source + 1 or 0: both followers, and both faces
+pub const EDGE_FOLLOWERS: u32 = 2 + MAPS as u32;
+
+pub const EDGE_FACES: u32 = EDGE_FOLLOWERS + 2;
 
 // Cells of a row. The first four are the rows of the lent tables.
 

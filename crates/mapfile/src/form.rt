@@ -5,6 +5,7 @@ use crate::reader::read_header;
 use crate::refusal::Check;
 use crate::refusal::first;
 use crate::refusal::given;
+use limits::MAP_EDGE_SIZE;
 use limits::MAP_EDGES;
 use limits::MAP_HEAD;
 use limits::MAP_VERTICES;
@@ -49,7 +50,7 @@ pub fn over_limits(vertices: u16, edges: u16) -> bool
 pub fn map_length(vertices: u16, edges: u16) -> usize
     ensures { λ r. ⌜ r ≡ vertexPlace vertices + 8 * edges ⌝ }
 {
-    vertex_place(vertices) + 8 * edges as usize
+    vertex_place(vertices) + MAP_EDGE_SIZE * edges as usize
 }
 
 // The first of rules 1 to 4 that the file breaks.

@@ -11,6 +11,7 @@ use exact::of_u64;
 use limits::ABSENT;
 use limits::COORDINATE_BYTES;
 use limits::DENOMINATOR_BYTES;
+use limits::EDGE_FOLLOWERS;
 use limits::EDGE_WIDTH;
 use limits::FACE_WIDTH;
 use limits::HALVES;
@@ -42,6 +43,9 @@ ghost use Rattle.ovfile.specs.Values.{layout};
 ghost use Rattle.ovfile.specs.Firsts.{FirstPlaces};
 ghost use Rattle.ovread.specs.Filled.{storedField, followersIn, vertexBy, Within, Predecessors, LeastStarts};
 
+// The field of an edge from which on its followers are.
+const FOLLOWERS: u16 = EDGE_FOLLOWERS as u16;
+
 // In each cell of `out` the first of n half-edges that has its number as field j of its edge, or as the one after it. From the last half-edge down.
 fn first_stored(file: &[u8], j: u16, n: u32, out: &mut [u16])
     requires { ⌜ n ≤ 65536 ⌝ }
@@ -65,7 +69,7 @@ fn predecessors(file: &[u8]) -> [u16; HALVES]
 {
     let n = 2 * counts(file).edges as u32;
     let mut first = [n as u16; HALVES];
-    first_stored(file, 4, n, &mut first);
+    first_stored(file, FOLLOWERS, n, &mut first);
     first
 }
 

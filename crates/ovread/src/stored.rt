@@ -1,4 +1,6 @@
 // The stored fields of an overlay file. A byte past the end counts as 0.
+use limits::EDGE_FACES;
+use limits::EDGE_FOLLOWERS;
 use limits::EDGE_SIZE;
 use limits::FACE_SIZE;
 use mapfile::u16_at;
@@ -49,11 +51,11 @@ pub fn origin(file: &[u8], h: u32) -> u16
 pub fn follower(file: &[u8], h: u32) -> u16
     ensures { λ r. ⌜ r ≡ storedFollower layout (now (file .entry)) h ⌝ }
 {
-    edge_field(file, h / 2, 4 + h % 2)
+    edge_field(file, h / 2, EDGE_FOLLOWERS + h % 2)
 }
 
 pub fn face(file: &[u8], h: u32) -> u16
     ensures { λ r. ⌜ r ≡ storedFace layout (now (file .entry)) h ⌝ }
 {
-    edge_field(file, h / 2, 6 + h % 2)
+    edge_field(file, h / 2, EDGE_FACES + h % 2)
 }
