@@ -1,6 +1,6 @@
 // Walks: the least half-edge of each, its smallest vertex, hole walk or outer walk.
 use graph::fill;
-use graph::follow::heading_at;
+use graph::heading_at;
 use graph::start;
 use limits::ABSENT;
 use plane::before;

@@ -2,9 +2,11 @@
 mod places; // the first place of each number in a table
 mod heading; // which way a half-edge goes
 mod chains; // the half-edges out of each vertex
-pub mod follow; // the follower of every half-edge
+mod followers; // the follower of every half-edge
 mod look; // looking west
 
+pub use followers::follow;
+pub use followers::heading_at;
 pub use heading::carrier_at;
 pub use heading::headings;
 pub use heading::point_at;

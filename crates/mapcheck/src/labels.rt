@@ -1,6 +1,6 @@
 // Rule 10: half-edges at which labels disagree, a search for the least, over the tables of a map with its headings and followers.
 use graph::West;
-use graph::follow::heading_at;
+use graph::heading_at;
 use graph::seen_half;
 use graph::start;
 use plane::Vector;

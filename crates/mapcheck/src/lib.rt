@@ -1,5 +1,5 @@
 // The check of one map (01, "When a map is refused"): rules 8 to 10 over the map's flat tables, and the whole check of a file.
-mod net; // rules 8 and 9
+mod edges; // rules 8 and 9
 mod labels; // rule 10
 mod rules; // rules 8 to 10 of a file, and the chain
 mod answer; // what is answered

@@ -1,8 +1,8 @@
 // Rules 8 to 10 of a file that passes rules 1 to 7, each from tables of its own: a table holds as many vertices or edges as a map has at most.
+use super::edges::first_clashing;
+use super::edges::first_lonely;
 use super::labels::first_disagreeing;
-use super::net::first_clashing;
-use super::net::first_lonely;
-use graph::follow::follow;
+use graph::follow;
 use graph::headings;
 use limits::MAP_CARRIER_CELLS;
 use limits::MAP_HALVES;

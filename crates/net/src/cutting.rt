@@ -1,7 +1,7 @@
 // Vertices and edges: "Vertices stand in point order", edges are "the pieces of input edges between neighbouring overlay vertices on them".
-use cut::collect::collect;
-use cut::order::order;
-use cut::pieces::pieces;
+use cut::collect;
+use cut::order;
+use cut::pieces;
 use layers::Layers;
 use limits::MAPS;
 use limits::PIECE_CELLS;

@@ -2,8 +2,8 @@
 use crate::cutting::Cut;
 use cut::carriers;
 use cut::origins;
-use faces::link::enclose;
-use faces::link::link;
+use faces::enclose;
+use faces::link;
 use graph::first_places;
 use layers::Layers;
 use limits::ABSENT;

@@ -5,12 +5,16 @@ mod order; // order.rt: which of two points comes first
 mod edge; // edge.rt: an edge's ends, and the edge between two corners
 mod side; // side.rt: on which side of an edge a point lies
 mod angle; // angle.rt: the order of directions
-pub mod clash; // clash.rt: a point on an edge, and two edges that may not stand in one map
-pub mod crossing; // crossing.rt: where two edges meet
+mod clashes; // clashes.rt: a point on an edge, and two edges that may not stand in one map
+mod crossings; // crossings.rt: where two edges meet
 
 pub use angle::cross_of;
 pub use angle::less_angle;
 pub use angle::rises;
+pub use clashes::clash;
+pub use clashes::on_seg;
+pub use crossings::Cross;
+pub use crossings::crossing;
 pub use edge::between;
 pub use order::before;
 pub use order::below;

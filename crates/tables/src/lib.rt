@@ -2,22 +2,26 @@
 // counts, all four tables wiped, and the overlay edge record.
 mod room; // the three counts, and room for them
 mod answer; // the three counts or a refusal
-mod vertices; // rows of vertices
-mod halves; // rows of half-edges
-mod sources; // rows of sources
-mod faces; // rows of faces
+mod vertex_rows; // rows of vertices
+mod half_rows; // rows of half-edges
+mod source_rows; // rows of sources
+mod face_rows; // rows of faces
 mod wipe; // all lent tables zero
-pub mod edge; // the overlay edge record
+mod edge_record; // the overlay edge record
 
 pub use answer::Answer;
-pub use faces::FaceRows;
-pub use faces::store_faces;
-pub use halves::HalfRows;
-pub use halves::store_halves;
+pub use edge_record::Found;
+pub use edge_record::OverlayEdge;
+pub use edge_record::Source;
+pub use edge_record::edge;
+pub use face_rows::FaceRows;
+pub use face_rows::store_faces;
+pub use half_rows::HalfRows;
+pub use half_rows::store_halves;
 pub use room::Counts;
 pub use room::room_in;
-pub use sources::SourceRows;
-pub use sources::store_sources;
-pub use vertices::VertexRows;
-pub use vertices::store_vertices;
+pub use source_rows::SourceRows;
+pub use source_rows::store_sources;
+pub use vertex_rows::VertexRows;
+pub use vertex_rows::store_vertices;
 pub use wipe::wipe_all;
