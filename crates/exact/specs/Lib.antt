@@ -18,9 +18,7 @@ pub mod Range
 pub mod Mach
 pub mod Gcd
 pub mod Lowest
-pub mod Cast
 pub mod Compare
-pub mod Quotients
 pub mod Digits
 pub mod Floor
 pub mod Worked
