@@ -1,7 +1,7 @@
 -- Melting at a sheet, so that no premise is empty and a wrong definition shows. Two squares of side 2 side by side, both with label 1: over an empty map, the line between them separates nothing. The overlay has
 -- 6 vertices, 7 edges and 3 faces; melted, 6, 6 and 2, and the pair stored for face 1 is (1, 0). Assumes nothing.
 use mathlib.Core.Path.{_≡_, refl}
-use Rattle.exact.specs.Gcd.{gcdOf}
+use Rattle.exact.specs.Exact.{gcdOf}
 use Rattle.seq.specs.Seq.{List, _∷_, none, ℕ, table, []}
 use Rattle.paper.specs.Limits.{maps}
 use Rattle.paper.specs.Map.{Map, mapOf, fault}
