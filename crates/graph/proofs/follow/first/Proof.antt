@@ -4,7 +4,7 @@ use borrow.Author.Needs.{needs}
 use borrow.Author.Tests.{eq-eqb, ne-eqb}
 use Rattle.seq.specs.Seq.{Bool, cond, List, ℕ, eqb, ℤ}
 use Rattle.graph.specs.Follow.{soonerOf, soonerAt}
-use Rattle.graph.specs.Pick.{better}
+use Rattle.seq.specs.Pick.{better}
 use Rattle.graph.proofs.follow.first.Statement.{statement}
 use Rattle.graph.proofs.follow.first.Tie as tie
 
