@@ -1,4 +1,3 @@
-pub mod Cells
 pub mod Lifted
 pub mod RowInserted
 pub mod Placed

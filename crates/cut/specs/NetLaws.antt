@@ -17,7 +17,7 @@ use Rattle.paper.specs.Plane.{Seg}
 use Rattle.paper.specs.Tables.{plusOne}
 use Rattle.plane.specs.Values.{seg}
 use Rattle.graph.specs.Flat.{carrierAt}
-use Rattle.graph.specs.Filling.{Laying, lay-turns}
+use Rattle.seq.specs.Loops.Storing.{Laying, lay-turns}
 use Rattle.cut.specs.PieceRows.{pieceWidth, minusOne, pieceAt}
 use Rattle.cut.specs.Cuts.{startOf}
 use Rattle.cut.specs.Net.{endsOf, sourceIn, firstMap, noSeg, edgeIn, carrierIn, segRow}
@@ -30,7 +30,7 @@ ends-turns t {e} {d} {u} {k} r h =
     let b = getD t (pieceWidth * k + 1) 0 in
     let f : a ≡ pieceAt t k .lo = ap (λ (i : ℕ). getD t i 0) (sym (add-zero (pieceWidth * k))) in
     subst (λ (i : ℕ). Laying 2 (endsOf t) e d (set (set u (2 * k) a) i b) (k + 1)) (sym (add-one (2 * k)))
-    (lay-turns 2 (endsOf t) (λ j. refl) r (a ∷ b ∷ []) h (ap (λ (x : ℕ). x ∷ b ∷ []) f))
+    (lay-turns r {vs = a ∷ b ∷ []} (λ j. refl) h refl (ap (λ (x : ℕ). x ∷ b ∷ []) f))
 
 module _ (cs : List ℤ) (st : List ℕ) (m j : ℕ) where
   pub edge-there : startOf st m + j < startOf st (m + 1) → carrierAt cs (startOf st m + j) ≡ edgeIn cs st m j

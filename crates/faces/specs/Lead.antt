@@ -12,10 +12,9 @@ use Rattle.seq.specs.Seq.{Bool, true, false, cond, List, [], _∷_, ℕ, suc, _
 use Rattle.seq.specs.Terms.{Among, Injects, step}
 use Rattle.seq.specs.Tests.{bool-ext}
 use Rattle.seq.specs.Perm.{iter-into}
-use Rattle.seq.specs.Filled.{filled-at, filled-past, length-filled}
+use Rattle.seq.specs.Filled.{filled-at, filled-past, length-filled, filled-is, filled-twice}
 use Rattle.seq.specs.Walks.{walk-done, walk-next, on-walk, walk-on, leader-reach, leader-le, leader-below, leader-same, leader-one}
 use Rattle.paper.specs.Limits.{absent}
-use Rattle.graph.specs.Filling.{filled-is, filled-twice}
 
 -- ── one walk ──
 

@@ -1,9 +1,7 @@
 pub mod Lead
-pub mod Chosen
 pub mod Turns
 pub mod Walked
 pub mod Linked
 pub mod Linking
 pub mod Kinds
-pub mod Selecting
 pub mod Numbered

@@ -5,7 +5,7 @@ use native.Mathlib.Omega.{arith}
 use lib.ListN.{length-replicate}
 use Rattle.seq.specs.Seq.{List, Option·getD, ℕ, _*_, length, getD, take, replicate, table, leader, filled, laid, padded, ℤ, pos}
 use Rattle.seq.specs.Table.{table-ext}
-use Rattle.seq.specs.Filled.{length-filled, filled-ext}
+use Rattle.seq.specs.Filled.{length-filled, filled-ext, Holds, filled-holds, holds-ext}
 use Rattle.seq.specs.Wiped.{over-zeros}
 use Rattle.paper.specs.Limits.{overlayEdges, absent}
 use Rattle.paper.specs.Graph.{Graph, halfCount, follower, followers, heading, greatestOut}
@@ -14,7 +14,6 @@ use Rattle.graphlaws.specs.Plane.{Plane}
 use Rattle.graphlaws.specs.Walks.{lead-is, lead-below}
 use Rattle.graph.specs.Flat.{flatGraph, Flat, Numbers}
 use Rattle.graph.specs.Decode.{flat-halves}
-use Rattle.graph.specs.Filling.{Holds, filled-holds, holds-ext}
 use Rattle.graph.specs.Heading.{row}
 use Rattle.graph.specs.Follow.{Headings, Heads, followerAt, heads-laid, headings-laid, followers-flat}
 use Rattle.faces.specs.Lead.{Permutes}

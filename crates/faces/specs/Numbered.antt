@@ -10,7 +10,7 @@ use Rattle.seq.specs.Tests.{and-both}
 use Rattle.seq.specs.Count.{count-ext}
 use Rattle.seq.specs.Select.{select-ext, length-select}
 use Rattle.seq.specs.Table.{table-at}
-use Rattle.seq.specs.Filled.{filled-ext}
+use Rattle.seq.specs.Filled.{filled-ext, Holds}
 use Rattle.seq.specs.Wiped.{over-zeros}
 use Rattle.paper.specs.Limits.{absent}
 use Rattle.paper.specs.Plane.{Pt, nowhere}
@@ -23,7 +23,6 @@ use Rattle.graphlaws.specs.Holes.{smallest-same, holeAt-same}
 use Rattle.graphlaws.specs.Faces.{face-below}
 use Rattle.graph.specs.Flat.{startAt, flatGraph, Flat, Numbers}
 use Rattle.graph.specs.Decode.{flat-points, flat-halves, flat-start}
-use Rattle.graph.specs.Filling.{Holds}
 use Rattle.faces.specs.Walked.{topOf, top-below, top-origin, top-hole}
 use Rattle.faces.specs.Linked.{facesOf}
 use Rattle.faces.specs.Kinds.{Kinded, Faced, holeOf, outerLead, holeLead, outerNumber, seenAt, seenBy, faceFrom, holesIn}

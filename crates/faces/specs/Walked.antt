@@ -14,6 +14,7 @@ use Rattle.seq.specs.Best.{best-top}
 use Rattle.seq.specs.BestLoop.{best-ext}
 use Rattle.seq.specs.Position.{among-elem, elem-among}
 use Rattle.seq.specs.Members.{among-one}
+use Rattle.seq.specs.Loops.Choosing.{hasKey}
 use Rattle.paper.specs.Limits.{absent}
 use Rattle.paper.specs.Plane.{lessAngle, before}
 use Rattle.paper.specs.Graph.{Graph, halfCount, origin, follower, followers, walk, smallest, leaves, heading, greatestOut, makesHole}
@@ -25,10 +26,9 @@ use Rattle.graphlaws.specs.Walks.{Along, lead-is, lead-below, lead-same, lead-o
 use Rattle.graphlaws.specs.Holes.{smallest-start, smallest-is, smallest-below}
 use Rattle.graph.specs.Flat.{originAt, startAt, flatGraph, Flat}
 use Rattle.graph.specs.Decode.{flat-points, flat-halves, flat-origin, flat-start}
-use Rattle.graph.specs.Filling.{Holds, front-table}
+use Rattle.seq.specs.Filled.{Holds, front-table}
 use Rattle.graph.specs.Follow.{Heads}
 use Rattle.faces.specs.Lead.{Permutes}
-use Rattle.faces.specs.Chosen.{hasKey}
 use Rattle.faces.specs.Turns.{greaterAt, greatestAt, earlierAt, lowAt, topAt}
 
 -- the half-edge of greatest angle out of the smallest vertex of h's walk

@@ -10,10 +10,9 @@ use borrow.Author.Tests.{ltb-false, lt-ltb, le-ltb, eqb-true, eq-eqb, ne-eqb, no
 use Rattle.seq.specs.Seq.{Bool, true, false, cond, not, _&&_, List, ℕ, _+_, _-_, eqb, ltb, length, getD, least, filled, ℤ}
 use Rattle.seq.specs.Tests.{clash, and-both, and-parts}
 use Rattle.seq.specs.Least.{least-le, least-holds, least-min, least-is, least-none, least-ext}
-use Rattle.seq.specs.Filled.{length-filled, filled-at, filled-ext}
+use Rattle.seq.specs.Filled.{length-filled, filled-at, filled-ext, Holds, filled-is, filled-set, filled-twice, filled-holds}
 use Rattle.graph.specs.Flat.{originAt, Numbers}
-use Rattle.graph.specs.Filling.{Holds, filled-is, filled-set, filled-twice, filled-holds}
-use Rattle.graph.specs.Pick.{better, pick-over}
+use Rattle.seq.specs.Pick.{better, pick-over}
 use Rattle.graph.specs.Follow.{besides, soonerAt, firstFrom, turn-out}
 
 -- half-edge k leaves from v, and is not below x

@@ -15,7 +15,7 @@ use Rattle.graphlaws.specs.Plane.{Plane}
 use Rattle.graphlaws.specs.Follow.{followers-length, followers-at, predecessor-below}
 use Rattle.graph.specs.Flat.{originAt, flatGraph}
 use Rattle.graph.specs.Decode.{flat-halves, flat-origin}
-use Rattle.graph.specs.Filling.{Holds}
+use Rattle.seq.specs.Filled.{Holds}
 use Rattle.graph.specs.Places.{firstPlace}
 
 -- "its least outgoing half-edge", "65,535 if none"

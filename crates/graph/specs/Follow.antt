@@ -15,7 +15,7 @@ use Rattle.plane.specs.Bounds.{Direction}
 use Rattle.graph.specs.Flat.{originAt, carrierAt, flatGraph, Flat, EdgeAt}
 use Rattle.graph.specs.Decode.{flat-halves, flat-origin}
 use Rattle.graph.specs.Heading.{upAt, row, vecAt, twin-under, flat-heading}
-use Rattle.graph.specs.Pick.{pick, better, Away, pick-turn, pick-below}
+use Rattle.seq.specs.Pick.{pick, better, Away, pick-turn, pick-below}
 
 -- ── a table of headings ──
 

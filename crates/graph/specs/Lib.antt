@@ -1,6 +1,5 @@
 pub mod Flat
 pub mod Decode
-pub mod Filling
 pub mod Places
 pub mod Firsts
 pub mod Heading

@@ -1,6 +1,6 @@
 -- Looking west in flat tables: what the code computes, and that it is the definition's. What a look answers, in the definition's terms. Assumes nothing.
 use mathlib.Core.Path.{_≡_, sym, _∙_, ap}
-use Prim.Native.Nat.{_≤_, _<_}
+use Prim.Native.Nat.{_<_}
 use native.Mathlib.Omega.{arith}
 use lib.Signed.{_<ℤ_}
 use Rattle.seq.specs.Seq.{Bool, cond, not, _&&_, List, Option, none, some, Option·map, ℕ, _+_, _*_, ℤ, pos, negℤ, _-ℤ_, _*ℤ_, best}
@@ -14,7 +14,6 @@ use Rattle.plane.specs.Bounds.{Near}
 use Rattle.graph.specs.Flat.{carrierAt, originAt, startAt, flatGraph, Flat}
 use Rattle.graph.specs.Decode.{flat-edges, flat-start, flat-upward, flat-left}
 use Rattle.graph.specs.Heading.{upAt, flat-up}
-use Rattle.graph.specs.Pick.{pick, Away, pick-below}
 use Rattle.graph.specs.declared.look.Seen.{Seen}
 use Rattle.graph.specs.declared.look.Seen.the-variants.{Edge, Nothing}
 use Rattle.graph.specs.declared.look.West.{West}
@@ -54,18 +53,6 @@ nearerAt cs p k r = nearerOf (carrierAt cs k) (carrierAt cs r) p
 
 abbrev pub eastAt : List ℤ → List ℕ → ℕ → ℕ
 eastAt ps os k = cond (upAt ps os (2 * k)) (2 * k + 1) (2 * k)
-
--- ── the search: e where there is no candidate yet ──
-
-module _ (ps : List ℤ) (os : List ℕ) (cs : List ℤ) (e : ℕ) (p : Pt) (d : Vec) where
-  abbrev pub nearestBelow : ℕ → ℕ
-  nearestBelow k = pick (candidateAt ps os cs p d) (nearerAt cs p) e k
-
-  pub edges-away : (k : ℕ) → k ≤ e → Away (candidateAt ps os cs p d) (nearerAt cs p) e k
-  edges-away k l j h q = omega (arith, h .below)
-
-  pub nearest-le : (k r : ℕ) → k ≤ e → r ≡ nearestBelow k → r ≤ e
-  nearest-le k r l q = omega (arith, pick-below (candidateAt ps os cs p d) (nearerAt cs p) e k (e + 1) (omega arith) (omega arith))
 
 -- ── the definition's ──
 

@@ -13,7 +13,7 @@ use Rattle.graphlaws.specs.Follow.{followers-at, followers-length}
 use Rattle.graphlaws.specs.Walks.{along-below, walk-along}
 use Rattle.graph.specs.Flat.{flatGraph, Flat}
 use Rattle.graph.specs.Decode.{flat-halves, flat-origin, flat-start}
-use Rattle.graph.specs.Filling.{Holds}
+use Rattle.seq.specs.Filled.{Holds}
 use Rattle.graph.specs.Follow.{Heads}
 use Rattle.mapcheck.specs.Labels.{noneOf, greaterAt, earlierAt, makesHoleAt, seenLabel, disagreesAt}
 use Rattle.mapcheck.specs.Makers.{none-of-ext, greater, earlier, after, maker-is, makes-smallest}

@@ -3,7 +3,7 @@
 use mathlib.Core.Path.{_≡_, sym, ap, _∙_, subst}
 use Prim.Native.Nat.{_≤_, _<_}
 use native.Mathlib.Omega.{arith}
-use Rattle.seq.specs.Filled.{length-filled, filled-at}
+use Rattle.seq.specs.Filled.{length-filled, filled-at, Holds, filled-holds, holds-ext}
 use Rattle.seq.specs.Least.{least-ext}
 use Rattle.seq.specs.Seq.{List, ℕ, _*_, length, getD, ℤ, least, filled, laid}
 use Rattle.paper.specs.Limits.{mapEdges}
@@ -12,7 +12,6 @@ use Rattle.paper.specs.Map.{disagrees}
 use Rattle.graphlaws.specs.Plane.{Plane}
 use Rattle.graph.specs.Flat.{flatGraph, Flat, Numbers}
 use Rattle.graph.specs.Heading.{row}
-use Rattle.graph.specs.Filling.{Holds, filled-holds, holds-ext}
 use Rattle.graph.specs.Follow.{Headings, followerAt, follower-under, flat-follower, heads-laid, headings-laid}
 use Rattle.mapcheck.specs.Labels.{disagreesAt, Linked}
 use Rattle.mapcheck.specs.Held.{heldMap}

@@ -12,9 +12,9 @@ pub record Walking (p : ℕ → Bool) (nx : List ℕ) (h m x left : ℕ) : Type 
   pub below : x < m
   pub rest : noneOf p (walkFrom nx h left x) ≡ noneOf p (walkFrom nx h m (getD nx h 0))
 
-module _ (p : ℕ → Bool) (nx : List ℕ) (h m : ℕ) where
-  pub walking-starts : getD nx h 0 < m → Walking p nx h m (getD nx h 0) m
-  walking-starts l = record { below = l; rest = refl }
+module _ {p : ℕ → Bool} {nx : List ℕ} {h m : ℕ} where
+  pub walk-starts : getD nx h 0 < m → Walking p nx h m (getD nx h 0) m
+  walk-starts l = record { below = l; rest = refl }
 
   module _ {x left : ℕ} (r : Walking p nx h m x left) where
     -- x is not h, and there is a step left
@@ -24,15 +24,15 @@ module _ (p : ℕ → Bool) (nx : List ℕ) (h m : ℕ) where
         ap (λ (b : Bool). not b && noneOf p (walkFrom nx h (left - 1) (getD nx x 0))) (sym e) ∙ ap (noneOf p) (sym (walk-next nx h (left - 1) x f))
         ∙ ap (λ (k : ℕ). noneOf p (walkFrom nx h k x)) (sym s) ∙ r .rest
 
-    pub walking-turns : 0 < left → (x ≡ h → ⊥) → p x ≡ false → getD nx x 0 < m → Walking p nx h m (getD nx x 0) (left - 1)
-    walking-turns l f e b = record { below = b; rest = on l f false e }
+    pub walk-turns : 0 < left → (x ≡ h → ⊥) → p x ≡ false → getD nx x 0 < m → Walking p nx h m (getD nx x 0) (left - 1)
+    walk-turns l f e b = record { below = b; rest = on l f false e }
 
-    pub walking-finds : 0 < left → (x ≡ h → ⊥) → p x ≡ true → false ≡ noneOf p (walkFrom nx h m (getD nx h 0))
-    walking-finds l f e = on l f true e
+    pub walk-finds : 0 < left → (x ≡ h → ⊥) → p x ≡ true → false ≡ noneOf p (walkFrom nx h m (getD nx h 0))
+    walk-finds l f e = on l f true e
 
     -- back at h, or with no step left
-    pub walking-back : x ≡ h → true ≡ noneOf p (walkFrom nx h m (getD nx h 0))
-    walking-back e = ap (noneOf p) (sym (walk-done nx h left x e)) ∙ r .rest
+    pub walk-back : x ≡ h → true ≡ noneOf p (walkFrom nx h m (getD nx h 0))
+    walk-back e = ap (noneOf p) (sym (walk-done nx h left x e)) ∙ r .rest
 
-    pub walking-ends : left ≤ 0 → true ≡ noneOf p (walkFrom nx h m (getD nx h 0))
-    walking-ends l = let z : 0 ≡ left = omega arith in ap (λ (k : ℕ). noneOf p (walkFrom nx h k x)) z ∙ r .rest
+    pub walk-ends : left ≤ 0 → true ≡ noneOf p (walkFrom nx h m (getD nx h 0))
+    walk-ends l = let z : 0 ≡ left = omega arith in ap (λ (k : ℕ). noneOf p (walkFrom nx h k x)) z ∙ r .rest

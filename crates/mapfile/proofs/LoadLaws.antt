@@ -1,8 +1,8 @@
 -- The tables that a loop fills from the bytes are those of the map: below the counts the rows and cells are the same. Assumes nothing.
-use mathlib.Core.Path.{_≡_, refl, sym, ap}
+use mathlib.Core.Path.{_≡_, sym, ap}
 use Rattle.seq.specs.Filled.{filled-ext}
 use Rattle.seq.specs.Laid.{laid-ext}
-use Rattle.seq.specs.Seq.{List, [], _∷_, ℕ, _*_, length, ℤ, pos, filled, laid}
+use Rattle.seq.specs.Seq.{List, [], _∷_, ℕ, _*_, ℤ, pos, filled, laid}
 use Rattle.paper.specs.Graph.{origin}
 use Rattle.paper.specs.Map.{vertexCount, edgesIn, cornerAt, originAt, labelAt, mapOf, label}
 use Rattle.paper.specs.Plane.{Pt}
@@ -12,9 +12,6 @@ use Rattle.graphlaws.specs.Reading.{point-at, origin-at, label-at}
 -- the row of a corner
 abbrev pub cornerRow : List ℕ → ℕ → List ℤ
 cornerRow s v = let a = cornerAt s v in a .x ∷ a .y ∷ pos 1 ∷ pos 0 ∷ []
-
-pub four-cells : (s : List ℕ) (v : ℕ) → length (cornerRow s v) ≡ 4
-four-cells s v = refl
 
 module _ (s : List ℕ) where
   pub rows-of-points : (d : List ℤ) → laid (vertexCount s) (cornerRow s) d ≡ laid (vertexCount s) (pointRow (mapOf s .graph)) d

@@ -5,7 +5,7 @@ use Prim.Native.Nat.{_≤_, _<_}
 use native.Mathlib.Omega.{arith}
 use lib.ListN.{length-replicate}
 use Rattle.seq.specs.Seq.{List, ℕ, suc, _*_, length, getD, replicate, table, position, filled, laid, padded, ℤ, pos}
-use Rattle.seq.specs.Filled.{filled-at}
+use Rattle.seq.specs.Filled.{filled-at, Holds}
 use Rattle.seq.specs.Laid.{length-laid}
 use Rattle.seq.specs.Wiped.{length-padded, padded-at}
 use Rattle.paper.specs.Limits.{overlayVertices, overlayEdges, absent}
@@ -20,7 +20,6 @@ use Rattle.overlaylaws.specs.Places.{places}
 use Rattle.overlaylaws.specs.NetPlane.{net-plane}
 use Rattle.graph.specs.Flat.{Numbers, Flat, flatGraph}
 use Rattle.graph.specs.Decode.{flat-points, flat-halves, flat-origin}
-use Rattle.graph.specs.Filling.{Holds}
 use Rattle.graph.specs.Places.{firstPlace}
 use Rattle.graph.specs.Firsts.{place-least, place-predecessor}
 use Rattle.faces.specs.Linked.{halfRows, Linked, facesOf, Numbered}

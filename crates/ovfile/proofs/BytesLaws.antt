@@ -29,25 +29,25 @@ pub record Reading (w : ℕ) (s : List ℕ) (at i n : ℕ) : Type 0 where
   pub within : i ≤ w
   pub is : n ≡ number (w - i) s (at + i)
 
-module _ (w : ℕ) (s : List ℕ) (at : ℕ) where
-  pub reading-starts : Reading w s at w 0
-  reading-starts = let e : w - w ≡ 0 = omega arith in record { within = omega arith; is = rw e }
+module _ {w : ℕ} {s : List ℕ} {at : ℕ} where
+  pub read-starts : Reading w s at w 0
+  read-starts = let e : w - w ≡ 0 = omega arith in record { within = omega arith; is = rw e }
 
-  pub reading-turns : {i n : ℕ} → Reading w s at i n → (b : ℕ) → 0 < i → b ≡ byteAt s (at + (i - 1)) → Reading w s at (i - 1) (b + 256 * n)
-  reading-turns {i} {n} r b l e =
+  pub read-turns : {i n : ℕ} → Reading w s at i n → (b : ℕ) → 0 < i → b ≡ byteAt s (at + (i - 1)) → Reading w s at (i - 1) (b + 256 * n)
+  read-turns {i} {n} r b l e =
       let more : w - (i - 1) ≡ suc (w - i) = omega (arith, r .within) in
       let next : suc (at + (i - 1)) ≡ at + i = omega arith in
       record { within = omega (arith, r .within); is = rw (more, next, e, r .is) }
 
-  pub reading-ends : {i n : ℕ} → Reading w s at i n → i ≤ 0 → n ≡ number w s at
-  reading-ends {i} {n} r l =
+  pub read-ends : {i n : ℕ} → Reading w s at i n → i ≤ 0 → n ≡ number w s at
+  read-ends {i} {n} r l =
       let e : w - i ≡ w = omega arith in
       let g : at + i ≡ at = omega arith in
       rw (e, g) at (r .is)
 
   -- one byte more still fits
-  pub reading-small : {i n : ℕ} → Reading w s at i n → Bytes s → w < 8 → 0 < i → n < 256 ^ 6
-  reading-small {i} {n} r h l m =
+  pub read-small : {i n : ℕ} → Reading w s at i n → Bytes s → w < 8 → 0 < i → n < 256 ^ 6
+  read-small {i} {n} r h l m =
       omega (arith, r .is, number-below (w - i) s (at + i) h, pow-le-pow-right {n = 256} (omega arith) {i = w - i} {j = 6} (omega (arith, r .within)))
 
 pub number-small : (w : ℕ) (s : List ℕ) (at : ℕ) → Bytes s → w < 8 → number w s at < 256 ^ 7
@@ -61,20 +61,20 @@ below-zero n (suc p) l = ≡-of (pos n -ℤ pos (suc p)) (negsuc (suc p - suc n)
 -- ── storing ──
 
 -- t with what is left of the number stored from byte i on is d with the number stored
-pub record Putting (d : List ℕ) (at w n : ℕ) (t : List ℕ) (rest i : ℕ) : Type 0 where
+pub record Writing (d : List ℕ) (at w n : ℕ) (t : List ℕ) (rest i : ℕ) : Type 0 where
   pub within : i ≤ w
   pub kept : length t ≡ length d
   pub is : sets t (at + i) (le (w - i) rest) ≡ sets d at (le w n)
 
 module _ {d : List ℕ} {at w n : ℕ} where
-  pub putting-starts : Putting d at w n d n 0
-  putting-starts =
+  pub write-starts : Writing d at w n d n 0
+  write-starts =
       let e : w - 0 ≡ w = omega arith in
       let g : at + 0 ≡ at = omega arith in
       record { within = omega arith; kept = refl; is = rw (e, g) }
 
-  pub putting-turns : {t : List ℕ} {rest i : ℕ} → Putting d at w n t rest i → i < w → Putting d at w n (set t (at + i) (rest % 256)) (rest / 256) (i + 1)
-  putting-turns {t} {rest} {i} r l =
+  pub write-turns : {t : List ℕ} {rest i : ℕ} → Writing d at w n t rest i → i < w → Writing d at w n (set t (at + i) (rest % 256)) (rest / 256) (i + 1)
+  write-turns {t} {rest} {i} r l =
       let more : w - i ≡ suc (w - (i + 1)) = omega arith in
       let next : at + (i + 1) ≡ suc (at + i) = omega arith in
       record {
@@ -83,8 +83,8 @@ module _ {d : List ℕ} {at w n : ℕ} where
         is = rw next (ap (λ (k : ℕ). sets t (at + i) (le k rest)) (sym more) ∙ r .is);
       }
 
-  pub putting-ends : {t : List ℕ} {rest i : ℕ} → Putting d at w n t rest i → w ≤ i → t ≡ sets d at (le w n)
-  putting-ends {t} {rest} {i} r l = let e : w - i ≡ 0 = omega arith in ap (λ (k : ℕ). sets t (at + i) (le k rest)) (sym e) ∙ r .is
+  pub write-ends : {t : List ℕ} {rest i : ℕ} → Writing d at w n t rest i → w ≤ i → t ≡ sets d at (le w n)
+  write-ends {t} {rest} {i} r l = let e : w - i ≡ 0 = omega arith in ap (λ (k : ℕ). sets t (at + i) (le k rest)) (sym e) ∙ r .is
 
 -- ── signed numbers, by their magnitude ──
 

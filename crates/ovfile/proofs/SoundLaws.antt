@@ -1,64 +1,14 @@
--- Sound edge records as the code judges them: the first half-edge with each follower, by a loop from the last half-edge down, and one test of it in place
--- of a search. Assumes nothing.
+-- Sound edge records as the code judges them: the first half-edge with each follower, and one test of it in place of a search. Assumes nothing.
 use mathlib.Core.Path.{_≡_, refl, sym, _∙_, ap}
 use Prim.Native.Nat.{_≤_, _<_}
-use native.Mathlib.Decide.{decLt, ℕ-discrete}
-use native.Mathlib.Nat.{add-suc, suc-add}
+use native.Mathlib.Decide.{ℕ-discrete}
 use native.Mathlib.Omega.{arith}
 use borrow.Author.Tests.{ltb-true, lt-ltb, eq-eqb, ne-eqb}
-use lib.ListN.{set, length-set}
-use lib.Seq.{set-out}
-use Rattle.seq.specs.Seq.{Bool, true, false, cond, not, _&&_, _||_, List, ℕ, suc, _+_, _-_, ltb, eqb, length, getD, least, someBelow, firstOr, firsts}
+use Rattle.seq.specs.Seq.{Bool, true, false, cond, not, _&&_, _||_, List, ℕ, _+_, _-_, ltb, eqb, length, getD, least, someBelow}
 use Rattle.seq.specs.Least.{least-at-most, least-holds, least-min, some-has, no-some}
-use Rattle.seq.specs.Table.{table-ext}
-use Rattle.seq.specs.Firsts.{length-firsts, firsts-none, firsts-more, firsts-all}
+use Rattle.seq.specs.Firsts.{length-firsts, firsts-all}
 use Rattle.paper.specs.Graph.{even, twin}
 use Rattle.ovfile.specs.Firsts.{column, firstFollowed, FirstPlaces, Followed}
-
--- ── the loop from the last place down ──
-
-module _ (key : ℕ → ℕ) where
-  -- a number whose cell is not there is left out
-  firsts-skip : (i m : ℕ) (d : List ℕ) → length d ≤ key i → firsts key (suc i) m d ≡ firsts key i (suc m) d
-  firsts-skip i m d h =
-      table-ext (firstOr key (suc i) m d) (firstOr key i (suc m) d) (length d)
-      (λ v l. rw (ne-eqb (key i) v (λ e. omega arith), add-suc i m, suc-add i m))
-
-  stored : (i m : ℕ) (d : List ℕ) → set (firsts key (suc i) m d) (key i) i ≡ firsts key i (suc m) d
-  stored i m d =
-      elim (decLt (key i) (length d)) [
-        | yes q ↦ firsts-more key i m d q
-        | no q ↦ set-out (firsts key (suc i) m d) (key i) i (omega (arith, length-firsts key (suc i) m d)) ∙ firsts-skip i m d (omega arith)
-      ]
-
-  -- t is what the loop has made of d where it is down to place i
-  pub record Placing (m : ℕ) (d t : List ℕ) (i : ℕ) : Type 0 where
-    pub within : i ≤ m
-    pub kept : length t ≡ length d
-    pub is : t ≡ firsts key i (m - i) d
-
-  pub places-start : (m : ℕ) (d : List ℕ) → Placing m d d m
-  places-start m d =
-      let z : m - m ≡ 0 = omega arith in
-      record { within = omega arith; kept = refl; is = firsts-none key m d ∙ ap (λ (j : ℕ). firsts key m j d) (sym z) }
-
-  pub places-turn : {m : ℕ} {d t : List ℕ} {i : ℕ} → Placing m d t i → (u : List ℕ) → 0 < i → u ≡ set t (key (i - 1)) (i - 1) → Placing m d u (i - 1)
-  places-turn {m} {d} {t} {i} r u l e =
-      let s : i ≡ suc (i - 1) = omega arith in
-      let more : suc (m - i) ≡ m - (i - 1) = omega (arith, r .within) in
-      record {
-        within = omega (arith, r .within);
-        kept = ap length e ∙ length-set t (key (i - 1)) (i - 1) ∙ r .kept;
-        is = e ∙ ap (λ (x : List ℕ). set x (key (i - 1)) (i - 1)) (r .is)
-            ∙ ap (λ (j : ℕ). set (firsts key j (m - i) d) (key (i - 1)) (i - 1)) s
-            ∙ stored (i - 1) (m - i) d ∙ ap (λ (j : ℕ). firsts key (i - 1) j d) more;
-      }
-
-  pub places-end : {m : ℕ} {d t : List ℕ} {i : ℕ} → Placing m d t i → i ≤ 0 → t ≡ firsts key 0 m d
-  places-end {m} {d} {t} {i} r l =
-      let z : i ≡ 0 = omega arith in
-      let w : m - 0 ≡ m = omega arith in
-      r .is ∙ ap (λ (j : ℕ). firsts key j (m - j) d) z ∙ ap (λ (j : ℕ). firsts key 0 j d) w
 
 -- a cell of a table of first places
 pub first-at : (key : ℕ → ℕ) {n : ℕ} {d t : List ℕ} → FirstPlaces key n d t → (v none : ℕ) → v < length t → getD d v 0 ≡ none

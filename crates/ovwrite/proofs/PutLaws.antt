@@ -11,7 +11,8 @@ use Rattle.paper.specs.Tables.{vertexCell, Counts, Tables}
 use Rattle.paper.specs.Ovfile.{edgesAt, facesAt, fileLength, vertexBytes, edgeFields, faceFields, overlayFile}
 use Rattle.filelaws.specs.Bytes.{wrapped, length-leSigned, leSigned-wrapped}
 use Rattle.ovfile.specs.Values.{layout}
-use Rattle.ovfile.proofs.StoringLaws.{stored-behind, stored-wiped}
+use Rattle.seq.specs.Over.{stored-behind}
+use Rattle.seq.specs.Wiped.{stored-wiped}
 use Rattle.ovwrite.specs.Judged.{headFields}
 
 -- the bytes of an edge and of a face

@@ -3,11 +3,11 @@
 use mathlib.Core.Path.{_≡_, refl, sym, _∙_, ap}
 use Prim.Native.Nat.{_≤_, _<_}
 use native.Mathlib.Nat.{add-suc, suc-add, zero-add}
-use native.Mathlib.Decide.{ℕ-discrete}
+use native.Mathlib.Decide.{decLt, ℕ-discrete}
 use native.Mathlib.Omega.{arith}
 use borrow.Author.Tests.{lt-ltb, le-ltb, eq-eqb, ne-eqb}
 use lib.ListN.{set, length-set}
-use lib.Seq.{getD-set-same, getD-set-other}
+use lib.Seq.{getD-set-same, getD-set-other, set-out}
 use Rattle.seq.specs.Seq.{Bool, true, false, cond, List, ℕ, zero, suc, _+_, ltb, eqb, length, getD, least, leastFrom, firstOr, firsts}
 use Rattle.seq.specs.Least.{least-by}
 use Rattle.seq.specs.Table.{length-table, table-at, table-is, table-of, table-ext}
@@ -66,7 +66,7 @@ module _ (key : ℕ → ℕ) where
   there i m v d e = rw (e, add-suc i m, suc-add i m)
 
   -- a store of i in the cell of its key
-  pub firsts-more : (i m : ℕ) (d : List ℕ) → key i < length d → set (firsts key (suc i) m d) (key i) i ≡ firsts key i (suc m) d
+  firsts-more : (i m : ℕ) (d : List ℕ) → key i < length d → set (firsts key (suc i) m d) (key i) i ≡ firsts key i (suc m) d
   firsts-more i m d h =
       let t : List ℕ = firsts key (suc i) m d in
       table-is (firstOr key i (suc m) d) (length d) (set t (key i) i) 0 (length-set t (key i) i ∙ length-firsts (suc i) m d)
@@ -75,6 +75,17 @@ module _ (key : ℕ → ℕ) where
             ∙ sym (here i m v d (eq-eqb (key i) v (sym s)))
         | no s ↦ getD-set-other t (key i) v i 0 s ∙ firsts-at (suc i) m v d l ∙ there i m v d (ne-eqb (key i) v (λ e. s (sym e)))
       ])
+
+  -- a number whose cell is not there is left out
+  skipped : (i m : ℕ) (d : List ℕ) → length d ≤ key i → firsts key (suc i) m d ≡ firsts key i (suc m) d
+  skipped i m d h = table-ext (firstOr key (suc i) m d) (firstOr key i (suc m) d) (length d) (λ v l. there i m v d (ne-eqb (key i) v (λ e. omega arith)))
+
+  pub firsts-stored : (i m : ℕ) (d : List ℕ) → set (firsts key (suc i) m d) (key i) i ≡ firsts key i (suc m) d
+  firsts-stored i m d =
+      elim (decLt (key i) (length d)) [
+        | yes q ↦ firsts-more i m d q
+        | no q ↦ set-out (firsts key (suc i) m d) (key i) i (omega (arith, length-firsts (suc i) m d)) ∙ skipped i m d (omega arith)
+      ]
 
   -- all of them: in cell v the least number of key v
   pub firsts-all : (n v : ℕ) (d : List ℕ) → v < length d

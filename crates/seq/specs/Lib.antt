@@ -13,8 +13,10 @@ pub mod Rows
 pub mod Best
 pub mod BestLoop
 pub mod BestOf
+pub mod Pick
 pub mod Position
 pub mod Over
+pub mod Cells
 pub mod Filled
 pub mod Laid
 pub mod Wiped
@@ -52,3 +54,4 @@ pub mod Search
 pub mod HowMany
 pub mod Total
 pub mod PairOrder
+pub mod Loops

@@ -1,12 +1,13 @@
--- `over xs d`, a list laid over the start of a table, is what every loop has made of its table so far. Laid over it: nothing, one more cell, one
--- more row, all of it; then its cells. `Filled`, `Laid` and `Wiped` say it for a table by a function, for rows, and for zeros. Assumes nothing.
+-- `over xs d`, a list laid over the start of a table, is what every loop has made of its table so far. Laid over it: nothing, one more cell,
+-- all of it; then its cells; then lists stored in a table from a place on. `Filled`, `Laid` and `Wiped` say it for a table by a function, for rows, and for zeros. Assumes nothing.
 use mathlib.Core.Path.{_≡_, refl, sym, _∙_, ap}
 use mathlib.Core.List.{append-assoc, append-nil}
 use Prim.Native.Nat.{_≤_, _<_, _-_}
+use native.Mathlib.Nat.{add-zero, add-suc, suc-add, zero-add}
 use native.Mathlib.Numerals.{add-one}
 use native.Mathlib.Omega.{arith}
 use lib.ListN.{set, length-append, length-drop, drop-of-length-le, List·getD-append}
-use lib.Seq.{drop-cons, set-at, sets, sets-eq, take-at, take-append-seam, drop-at, drop-drop, getD-append-add, getD-drop}
+use lib.Seq.{drop-cons, set-at, sets, sets-eq, take-append-seam, getD-append-add, getD-drop}
 use Rattle.seq.specs.Seq.{List, [], _∷_, _++_, ℕ, suc, _+_, length, getD, take, drop, over}
 
 module _ {A : Type 0} where
@@ -27,20 +28,6 @@ module _ {A : Type 0} where
       ∙ set-at xs (getD d (length xs) v) (drop (suc (length xs)) d) v (length xs) refl
       ∙ sym (append-assoc xs (v ∷ []) (drop (suc (length xs)) d))
       ∙ rw (length-append xs (v ∷ []), add-one (length xs))
-
-  -- a row stored at the end of xs: one more row
-  pub over-row : (xs d vs : List A) → length xs + length vs ≤ length d → sets (over xs d) (length xs) vs ≡ over (xs ++ vs) d
-  unfolding over
-  over-row xs d vs h =
-      let room : length xs + length vs ≤ length (xs ++ drop (length xs) d) = rw (length-append, length-drop) (omega arith) in
-      sets-eq vs (xs ++ drop (length xs) d) (length xs) room
-      ∙ rw (
-        take-at xs (drop (length xs) d) (length xs) refl,
-        ← drop-drop (length vs) (length xs) (xs ++ drop (length xs) d),
-        drop-at xs (drop (length xs) d) (length xs) refl,
-        drop-drop (length vs) (length xs) d,
-        length-append xs vs,
-      )
 
   -- all of it
   pub over-all : (xs d : List A) → length d ≤ length xs → over xs d ≡ xs
@@ -65,3 +52,17 @@ module _ {A : Type 0} where
       let e : length xs + (i - length xs) ≡ i = omega arith in
       ap (λ (k : ℕ). getD (xs ++ drop (length xs) d) k z) (sym e) ∙ getD-append-add xs (drop (length xs) d) (i - length xs) z
       ∙ getD-drop (length xs) d (i - length xs) z ∙ ap (λ (k : ℕ). getD d k z) e
+
+  -- ── stored from a place on ──
+
+  -- what is stored behind something stored is stored with it
+  pub stored-behind : (d : List A) (at : ℕ) (xs ys : List A) → sets (sets d at xs) (at + length xs) ys ≡ sets d at (xs ++ ys)
+  stored-behind d at [] ys = ap (λ (k : ℕ). sets d k ys) (add-zero at)
+  stored-behind d at (x ∷ xs) ys =
+      ap (λ (k : ℕ). sets (sets (set d at x) (suc at) xs) k ys) (add-suc at (length xs) ∙ sym (suc-add at (length xs)))
+      ∙ stored-behind (set d at x) (suc at) xs ys
+
+  -- stored from the start on it is laid over
+  pub stored-first : (d xs : List A) → length xs ≤ length d → sets d 0 xs ≡ over xs d
+  unfolding over
+  stored-first d xs h = sets-eq xs d 0 (omega arith) ∙ ap (λ (k : ℕ). xs ++ drop k d) (zero-add (length xs))

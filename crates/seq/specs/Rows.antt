@@ -5,12 +5,12 @@ use mathlib.Core.Logic.{inl, inr, ⊎-elim}
 use mathlib.Core.List.{append-assoc, append-nil, map-append}
 use Prim.Native.Nat.{_<_, _*_}
 use native.Mathlib.Nat.{add-suc, add-zero, mul-zero, mul-suc, not-suc-le-zero, mul-le-mul-left}
-use native.Mathlib.Numerals.{add-one}
+use native.Mathlib.Numerals.{add-one, one-add}
 use native.Mathlib.Decide.{decLt}
 use native.Mathlib.Omega.{arith}
 use lib.ListN.{length-append, List·getD-append}
 use lib.Seq.{getD-append-add}
-use Rattle.seq.specs.Seq.{List, [], _∷_, _++_, ℕ, zero, suc, _+_, length, getD, table, rows, cell, map}
+use Rattle.seq.specs.Seq.{List, [], _∷_, _++_, ℕ, zero, suc, _+_, length, getD, table, rows, cell, map, gather}
 use Rattle.seq.specs.Terms.{Among}
 use Rattle.seq.specs.Members.{among-++, ++-among}
 
@@ -74,3 +74,12 @@ module _ {A : Type 0} where
 pub map-rows : {A : Type 0} {B : Type 0} (f : A → B) (g : ℕ → List A) (n : ℕ) → map f (rows g n) ≡ rows (λ i. map f (g i)) n
 map-rows f g zero = refl
 map-rows {A} {B} f g (suc n) = map-append f (rows g n) (g n) ∙ ap (λ (r : List B). r ++ map f (g n)) (map-rows f g n)
+
+-- lists gathered are rows
+pub gather-rows : (g : ℕ → List ℕ) (xs : List ℕ) → rows (λ i. g (getD xs i 0)) (length xs) ≡ gather g xs
+gather-rows g [] = refl
+gather-rows g (x ∷ xs) =
+    ap (rows (λ i. g (getD (x ∷ xs) i 0))) (sym (one-add (length xs)))
+    ∙ rows-+ (λ i. g (getD (x ∷ xs) i 0)) 1 (length xs)
+    ∙ ap (λ (r : List ℕ). g x ++ r)
+    (rows-ext (λ i. g (getD (x ∷ xs) (1 + i) 0)) (λ i. g (getD xs i 0)) (length xs) (λ k l. ap (λ (j : ℕ). g (getD (x ∷ xs) j 0)) (one-add k)) ∙ gather-rows g xs)

@@ -4,14 +4,13 @@
 --   Has, Strict, Order, Best         a candidate below a bound, what a comparison has to be, what is best
 --   Ranked, previous                 groups of numbers in cyclic order
 --   iter, orbit, steps, Injects      a function step by step, and one that takes no value twice
---   Wiping                           how far a loop has wiped a table
 --   sum, upto, ind                   sums in ℤ
 -- A list rises if each element is before all that come after it, not before the next alone: so a law on lists needs no transitivity.
 -- Assumes nothing.
 use mathlib.Core.Path.{_≡_}
 use mathlib.Core.Logic.{_⊎_}
-use Prim.Native.Nat.{_≤_, _<_}
-use Rattle.seq.specs.Seq.{Bool, true, false, cond, not, _&&_, List, [], _∷_, Option, none, some, Option·getD, ℕ, zero, suc, eqb, length, getD, least, best, wiping, ℤ, pos, _+ℤ_}
+use Prim.Native.Nat.{_<_}
+use Rattle.seq.specs.Seq.{Bool, true, false, cond, not, _&&_, List, [], _∷_, Option, none, some, Option·getD, ℕ, zero, suc, eqb, length, getD, least, best, ℤ, pos, _+ℤ_}
 
 -- ── members ──
 
@@ -189,15 +188,6 @@ step nx x = getD nx x 0
 
 abbrev pub turns : List ℕ → ℕ → ℕ
 turns nx h = steps (step nx) (length nx) h
-
--- ── a loop that wipes ──
-
--- the table d is t where the loop that wipes it from cell n on has reached cell i
-pub record Wiping {A : Type 0} (z : A) (n : ℕ) (d t : List A) (i : ℕ) : Type 0 where
-  pub past : n ≤ i
-  pub within : i ≤ length d
-  pub kept : length t ≡ length d
-  pub is : t ≡ wiping z n i d
 
 -- ── sums in ℤ ──
 

@@ -5,13 +5,12 @@ use mathlib.Core.List.{append-assoc, append-nil}
 use Prim.Native.Nat.{_≤_, _<_, _-_, _*_}
 use native.Mathlib.Nat.{zero-sub, sub-zero, suc-sub-suc}
 use native.Mathlib.Omega.{arith}
-use lib.ListN.{set, length-set, take-append-drop, length-drop, length-append, length-replicate, getD-replicate, replicate-append-replicate, List·getD-append}
+use lib.ListN.{set, take-append-drop, length-drop, length-append, length-replicate, getD-replicate, replicate-append-replicate, List·getD-append}
 use lib.Seq.{length-take-le, take-at, getD-append-add}
-use Rattle.seq.specs.Seq.{List, [], _∷_, _++_, ℕ, zero, suc, _+_, length, getD, replicate, take, drop, table, rows, over, filled, laid, padded, wiping, wiped}
-use Rattle.seq.specs.Terms.{Wiping}
+use Rattle.seq.specs.Seq.{List, [], _∷_, _++_, ℕ, zero, suc, _+_, length, getD, replicate, take, drop, sets, table, rows, over, filled, laid, padded, wiping, wiped}
 use Rattle.seq.specs.Table.{length-table}
 use Rattle.seq.specs.Rows.{length-rows}
-use Rattle.seq.specs.Over.{length-over, over-more, over-all}
+use Rattle.seq.specs.Over.{length-over, over-more, over-all, stored-first}
 
 module _ {A : Type 0} (z : A) where
   -- ── padded ──
@@ -42,7 +41,7 @@ module _ {A : Type 0} (z : A) where
   unfolding over
   over-zeros n xs = rw (drop-replicate (length xs) n)
 
-  -- ── a loop that wipes from cell n on has reached cell i ──
+  -- ── wiped from cell n as far as cell i ──
 
   reached : (n i : ℕ) (d : List A) → n ≤ i → i ≤ length d → length (take n d ++ replicate (i - n) z) ≡ i
   reached n i d h l = rw (length-append, length-take-le n d (omega arith), length-replicate) (omega arith)
@@ -70,23 +69,6 @@ module _ {A : Type 0} (z : A) where
       over-all (take n d ++ replicate (length d - n) z) d (omega (arith, reached n (length d) d h (omega arith)))
       ∙ ap (λ (k : ℕ). take n d ++ replicate (length d - k) z) (sym (length-take-le n d h))
 
-  -- the loop starts, goes on, ends
-  pub wipe-starts : (n : ℕ) (d : List A) → n ≤ length d → Wiping z n d d n
-  wipe-starts n d h = record { past = omega arith; within = h; kept = refl; is = wiping-none n d h }
-
-  pub wipe-steps : {n : ℕ} {d t : List A} {i : ℕ} → Wiping z n d t i → i < length t → Wiping z n d (set t i z) (i + 1)
-  wipe-steps {n} {d} {t} {i} w h = record {
-    past = omega arith;
-    within = omega arith;
-    kept = length-set t i z ∙ w .kept;
-    is = rw (w .is) (wiping-more n i d (w .past) (omega arith));
-  }
-
-  pub wipe-ends : {n : ℕ} {d t : List A} {i : ℕ} → Wiping z n d t i → length t ≤ i → t ≡ wiped z n d
-  wipe-ends {n} {d} {t} {i} w h =
-      let e : i ≡ length d = omega arith in
-      w .is ∙ ap (λ (k : ℕ). wiping z n k d) e ∙ wiping-all n d (omega arith)
-
   -- ── wiped ──
 
   pub length-wiped : (n : ℕ) (d : List A) → n ≤ length d → length (wiped z n d) ≡ length d
@@ -103,6 +85,11 @@ module _ {A : Type 0} (z : A) where
     where
       rest : (m n : ℕ) → m ≤ n → m + (n - m) - m ≡ n - m
       rest m n h = omega arith
+
+  -- the same of a list that is stored
+  pub stored-wiped : (d xs t u : List A) (k : ℕ) → length xs ≤ length d → t ≡ sets d 0 xs → u ≡ wiped z k t → k ≡ length xs → u ≡ padded z (length d) xs
+  stored-wiped d xs t u k h e g q =
+      g ∙ ap (λ (j : ℕ). wiped z j t) q ∙ ap (wiped z (length xs)) (e ∙ stored-first d xs h) ∙ wiped-over xs d h
 
   pub wiped-filled : (n : ℕ) (f : ℕ → A) (d : List A) → n ≤ length d → wiped z n (filled n f d) ≡ padded z (length d) (table f n)
   wiped-filled n f d h = ap (λ (k : ℕ). wiped z k (filled n f d)) (sym (length-table f n)) ∙ wiped-over (table f n) d (rw (length-table f n) h)

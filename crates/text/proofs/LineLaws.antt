@@ -1,51 +1,20 @@
--- Text put into a line: byte by byte, and text behind text. Assumes nothing.
+-- Text put into a line behind text. Assumes nothing.
 use mathlib.Core.Path.{_≡_, refl, sym, _∙_, ap}
 use mathlib.Core.List.{append-assoc}
-use Prim.Native.Nat.{_≤_, _<_}
-use native.Mathlib.Nat.{zero-add, add-zero, add-suc, suc-add}
-use native.Mathlib.Numerals.{add-one}
+use Prim.Native.Nat.{_≤_}
+use native.Mathlib.Nat.{zero-add}
 use native.Mathlib.Omega.{arith}
-use lib.ListN.{set, length-append, length-take}
-use lib.Seq.{length-sets, take-suc, take-all, sets-eq, take-at}
+use lib.ListN.{length-append}
+use lib.Seq.{sets-eq, take-at}
 use borrow.Author.Tests.{eq-eqb, ne-eqb}
-use Rattle.seq.specs.Seq.{Bool, cond, List, [], _∷_, _++_, ℕ, suc, _+_, _*_, eqb, length, getD, take, drop, sets, rows}
+use Rattle.seq.specs.Seq.{Bool, cond, List, [], _++_, ℕ, _+_, _*_, eqb, length, getD, take, drop, sets, rows}
+use Rattle.seq.specs.Over.{stored-behind}
 use Rattle.seq.specs.Rows.{rows-more}
 use Rattle.paper.specs.Bytes.{ascii}
 use Rattle.paper.specs.Tables.{Counts}
 use Rattle.paper.specs.Listing.{decimal, countsLine}
 use Rattle.text.specs.Line.{Put}
 use Rattle.text.specs.Lines.{Line, leastText, labelsText, faceText, gapsIn, gapsText, listingText}
-
--- what is stored behind something stored is stored with it
-stored-behind : (d : List ℕ) (at : ℕ) (xs ys : List ℕ) → sets (sets d at xs) (at + length xs) ys ≡ sets d at (xs ++ ys)
-stored-behind d at [] ys = ap (λ (k : ℕ). sets d k ys) (add-zero at)
-stored-behind d at (x ∷ xs) ys =
-    ap (λ (k : ℕ). sets (sets (set d at x) (suc at) xs) k ys) (add-suc at (length xs) ∙ sym (suc-add at (length xs)))
-    ∙ stored-behind (set d at x) (suc at) xs ys
-
--- ── byte by byte ──
-
--- t is what the loop that puts a text from a place on has made of d before turn i
-pub record Putting (text d : List ℕ) (at : ℕ) (t : List ℕ) (i : ℕ) : Type 0 where
-  pub within : i ≤ length text
-  pub kept : length t ≡ length d
-  pub is : t ≡ sets d at (take i text)
-
-pub putting-starts : (text d : List ℕ) (at : ℕ) → Putting text d at d 0
-putting-starts text d at = record { within = omega arith; kept = refl; is = refl }
-
-pub putting-turns : {text d t : List ℕ} {at i : ℕ} → Putting text d at t i → i < length text → Putting text d at (set t (at + i) (getD text i 0)) (i + 1)
-putting-turns {text} {d} {t} {at} {i} r h =
-    let x = getD text i 0 in
-    let e : length (take i text) ≡ i = length-take i text ∙ omega arith in
-    let s : set t (at + i) x ≡ sets d at (take (i + 1) text) =
-    ap (λ (u : List ℕ). set u (at + i) x) (r .is) ∙ ap (λ (k : ℕ). set (sets d at (take i text)) (at + k) x) (sym e)
-    ∙ stored-behind d at (take i text) (x ∷ []) ∙ ap (sets d at) (sym (take-suc text i 0 h)) ∙ ap (λ (k : ℕ). sets d at (take k text)) (sym (add-one i)) in
-    record { within = omega arith; kept = ap length s ∙ length-sets d at (take (i + 1) text); is = s }
-
-pub putting-ends : {text d t : List ℕ} {at i : ℕ} → Putting text d at t i → length text ≤ i → Put text (length text) d at t (at + length text)
-putting-ends {text} {d} {t} {at} {i} r h =
-    record { is = r .is ∙ ap (sets d at) (take-all i text h); end = refl; kept = r .kept; within = omega arith }
 
 -- ── text behind text ──
 

@@ -1,10 +1,7 @@
 -- `cut::collecting::crossings` meets its contract. Assumes nothing.
-use mathlib.Core.Path.{_≡_, refl, _∙_}
-use Prim.Native.Nat.{_-_, _≤_}
-use lib.ListN.{length}
+use Prim.Native.Nat.{_-_}
 use Rattle.paper.specs.Limits.{maps}
 use Rattle.cut.specs.Rooms.{vertexRows}
-use Rattle.cut.specs.Points.{pointsOf}
 use Rattle.cut.specs.Cuts.{part-carried}
 use Rattle.cut.specs.Crossed.{crossPart}
 use Rattle.cut.specs.Collecting.{Gathering, gather-starts, gather-turns, gather-ends}
@@ -14,13 +11,10 @@ use Rattle.cut.proofs.collecting.crossings.Statement.{statement}
 use Rattle.cut.proofs.collecting.crossings.Tie as tie
 
 abbrev Inv-loop : tie.InvT-loop
-Inv-loop carriers starts points₀ n total₀ m₀ points total m = (m ≤ maps) × (length points ≡ length points₀) × Gathering vertexRows (crossPart carriers starts) (pointsOf points₀ n) points total m
+Inv-loop carriers starts points₀ n total₀ m₀ points total m = Gathering vertexRows (crossPart carriers starts) maps points₀ n points total m
 
 abbrev μ-loop : tie.MeasureT-loop
 μ-loop carriers starts points₀ n total₀ m₀ points total m = maps - m
-
-loop-holds : tie.Need-loop-holds Inv-loop μ-loop
-loop-holds c = (search needs, refl, gather-starts vertexRows _ _ _ (search needs))
 
 sub-e : tie.Need-sub-e Inv-loop μ-loop
 sub-e c =
@@ -33,17 +27,14 @@ cross-map-requires c κs =
     let at-loop : tie.At-loop Inv-loop μ-loop = search needs in
     let start : tie.Start Inv-loop μ-loop = search needs in
     let l = at-loop .loop in
-    (record { long = omega (arith, l .inv .1); within = l .inv .2 .within }, part-carried (start .pre .1) (l .m) (omega arith))
+    (record { long = omega (arith, l .inv .kept); within = l .inv .within }, part-carried (start .pre .1) (l .m) (omega arith))
 
 loop-again : tie.Need-loop-again Inv-loop μ-loop
 loop-again c =
     let at-loop : tie.At-loop Inv-loop μ-loop = search needs in
     let l = at-loop .loop in
     let r = c .before .cross-map in
-    (search needs, r .kept .1 .1 .1 .0 ∙ l .inv .1, gather-turns vertexRows _ (l .inv .2) (r .last .1 .1 .1 .0) (r .result) (r .ensures))
-
-returns : tie.Need-returns Inv-loop μ-loop
-returns c = gather-ends vertexRows _ (c .before .loop .inv .2) maps (omega arith)
+    gather-turns (l .inv) (omega arith) (r .kept .1 .1 .1 .0) (r .ensures)
 
 pub crossings-spec : {M : Type 1} → statement M
 crossings-spec =
@@ -51,7 +42,7 @@ crossings-spec =
     (tie.spec
     Inv-loop
     μ-loop
-    loop-holds
+    (λ c. gather-starts (search needs))
     (λ c. search needs)
     (λ c. search needs)
     (λ c. search needs)
@@ -63,4 +54,4 @@ crossings-spec =
     (λ c. search needs)
     loop-again
     (λ c. search needs)
-    returns)
+    (λ c. gather-ends (c .before .loop .inv) (omega arith)))

@@ -1,7 +1,7 @@
 -- `cut::rows::lift_i64` meets its contract. Assumes nothing.
 use Prim.Native.Nat.{_-_}
 use lib.IntN.{pos}
-use Rattle.cut.specs.Lifted.{Lifting, lift-starts, lift-turns, lift-ends}
+use Rattle.seq.specs.Loops.Lifting.{Lifting, lift-starts, lift-turns, lift-ends}
 use borrow.Author.Needs.{needs}
 use Rattle.graph.proofs.Rows.{read}
 use Rattle.cut.proofs.rows.lift_i64.Statement.{statement}
@@ -13,22 +13,13 @@ Inv-loop t₀ from to by i₀ t i = Lifting from to by t₀ t i
 abbrev μ-loop : tie.MeasureT-loop
 μ-loop t₀ from to by i₀ t i = i
 
-loop-holds : tie.Need-loop-holds Inv-loop μ-loop
-loop-holds c = lift-starts _ _ _ _ (search needs) (search needs)
-
-loop-again : tie.Need-loop-again Inv-loop μ-loop
-loop-again c = lift-turns (c .before .before .loop .inv) _ (pos 0) (search needs) (read (c .before .before .loop .t) (c .before .before .loop .i - 1) (c .t .given))
-
-returns : tie.Need-returns Inv-loop μ-loop
-returns c = lift-ends (c .before .loop .inv) (search needs)
-
 pub lift-i64-spec : {M : Type 1} → statement M
 lift-i64-spec =
     tie.close
     (tie.spec
     Inv-loop
     μ-loop
-    loop-holds
+    (λ c. lift-starts (search needs) (search needs))
     (λ c. search needs)
     (λ c. search needs)
     (λ c. search needs)
@@ -36,6 +27,6 @@ lift-i64-spec =
     (λ c. search needs)
     (λ c. search needs)
     (λ c. search needs)
-    loop-again
+    (λ c. lift-turns (c .before .before .loop .inv) (pos 0) (search needs) (read (c .before .before .loop .t) (c .before .before .loop .i - 1) (c .t .given)))
     (λ c. search needs)
-    returns)
+    (λ c. lift-ends (c .before .loop .inv) (search needs)))

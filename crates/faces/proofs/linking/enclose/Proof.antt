@@ -11,7 +11,7 @@ use Rattle.paper.specs.Graph.{Graph}
 use Rattle.paper.specs.Faces.{walksOf, leadAt, faceIn}
 use Rattle.graphlaws.specs.Plane.{Plane}
 use Rattle.graph.specs.Flat.{flatGraph, Flat, Numbers}
-use Rattle.graph.specs.Filling.{Holds}
+use Rattle.seq.specs.Filled.{Holds}
 use Rattle.faces.specs.Kinds.{Kinded, Faced, outerLead, outerNumber, seenBy, faceFrom}
 use Rattle.faces.specs.Linked.{halfRows, Linked}
 use Rattle.faces.specs.Linking.{made, over-zeros-is, lead-numbers, linked-lead, linked-top, length-lead, length-top}

@@ -3,7 +3,7 @@ use mathlib.Core.Path.{sym, _∙_}
 use borrow.Author.Needs.{needs}
 use Rattle.paper.specs.Limits.{absent}
 use Rattle.paper.specs.Plane.{before}
-use Rattle.graph.specs.Pick.{better-none, better-by}
+use Rattle.seq.specs.Pick.{better-none, better-by}
 use Rattle.faces.specs.Turns.{earlierAt}
 use Rattle.faces.proofs.walks.earlier.Statement.{statement}
 use Rattle.faces.proofs.walks.earlier.Tie as tie

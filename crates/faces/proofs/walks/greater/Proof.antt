@@ -3,7 +3,7 @@ use mathlib.Core.Path.{sym, _∙_}
 use borrow.Author.Needs.{needs}
 use Rattle.paper.specs.Limits.{absent}
 use Rattle.paper.specs.Plane.{lessAngle}
-use Rattle.graph.specs.Pick.{better-none, better-by}
+use Rattle.seq.specs.Pick.{better-none, better-by}
 use Rattle.faces.specs.Turns.{greaterAt}
 use Rattle.faces.proofs.walks.greater.Statement.{statement}
 use Rattle.faces.proofs.walks.greater.Tie as tie

@@ -1,9 +1,10 @@
 -- `faces::walks::tops` meets its contract. Assumes nothing.
 use mathlib.Core.Path.{refl}
+use Prim.Native.Nat.{_<_}
 use native.Mathlib.Omega.{arith}
 use borrow.Author.Needs.{needs}
-use Rattle.seq.specs.Seq.{getD, _-_}
-use Rattle.graph.specs.Filling.{Filling, fill-starts, fill-turns, fill-ends}
+use Rattle.seq.specs.Seq.{ℕ, getD, _-_, length}
+use Rattle.seq.specs.Loops.Filling.{Filling, fill-starts, fill-turns, fill-ends}
 use Rattle.faces.specs.Turns.{topAt}
 use Rattle.faces.proofs.walks.tops.Statement.{statement}
 use Rattle.faces.proofs.walks.tops.Tie as tie
@@ -14,91 +15,28 @@ Inv-loop origins lead low greatest m top₀ h₀ top h = Filling (topAt origins 
 abbrev μ-loop : tie.MeasureT-loop
 μ-loop origins lead low greatest m top₀ h₀ top h = m - h
 
-loop-holds : tie.Need-loop-holds Inv-loop μ-loop
-loop-holds c = fill-starts _ _ _ (c .pre .1 .1 .1 .1)
+abbrev started : tie.In-loop Inv-loop μ-loop → tie.Start Inv-loop μ-loop
+started c = c .before .before
 
-cast-l : tie.Need-cast-l Inv-loop μ-loop
-cast-l c =
-    let s : tie.Start Inv-loop μ-loop = search needs in
-    let h = c .before .before .loop .h in
-    let b = c .before .loop-test .taken in
-    omega (arith, s .pre .0 .named h b)
+-- the leader, the lowest of its walk, and where that starts
+module _ (c : tie.In-loop Inv-loop μ-loop) where
+  abbrev low : ℕ
+  low = getD (started c .args .low .now) (getD (started c .args .lead .now) (c .before .loop .h) 0) 0
 
-mul-x : tie.Need-mul-x Inv-loop μ-loop
-mul-x c =
-    let s : tie.Start Inv-loop μ-loop = search needs in
-    let h = c .before .before .loop .h in
-    let b = c .before .loop-test .taken in
-    omega (arith, s .pre .0 .named h b)
+  lead-fits : getD (started c .args .lead .now) (c .before .loop .h) 0 < length (started c .args .low .now)
+  lead-fits = omega (arith, started c .pre .0 .named (c .before .loop .h) (c .loop-test .taken))
 
-shared-slice-read-x : tie.Need-shared-slice-read-x Inv-loop μ-loop
-shared-slice-read-x c =
-    let at-loop : tie.At-loop Inv-loop μ-loop = search needs in
-    let s : tie.Start Inv-loop μ-loop = search needs in
-    let h = at-loop .loop .h in
-    let b = c .before .before .loop-test .taken in
-    omega (arith, s .pre .0 .named h b)
+  low-fits : low < length (started c .args .origins .now)
+  low-fits = omega (arith, started c .pre .1 .1 .0 (c .before .loop .h) (c .loop-test .taken), started c .pre .1 .1 .1 .0 .long)
 
-cast-x : tie.Need-cast-x Inv-loop μ-loop
-cast-x c =
-    let at-loop : tie.At-loop Inv-loop μ-loop = search needs in
-    let s : tie.Start Inv-loop μ-loop = search needs in
-    let h = at-loop .loop .h in
-    let b = c .before .before .loop-test .taken in
-    omega (arith, s .pre .1 .1 .0 h b, s .pre .1 .1 .1 .0 .long)
-
-mul-v : tie.Need-mul-v Inv-loop μ-loop
-mul-v c =
-    let at-loop : tie.At-loop Inv-loop μ-loop = search needs in
-    let s : tie.Start Inv-loop μ-loop = search needs in
-    let h = at-loop .loop .h in
-    let b = c .before .before .loop-test .taken in
-    omega (arith, s .pre .1 .1 .0 h b, s .pre .1 .1 .1 .0 .long)
-
-shared-slice-read-v : tie.Need-shared-slice-read-v Inv-loop μ-loop
-shared-slice-read-v c =
-    let at-loop : tie.At-loop Inv-loop μ-loop = search needs in
-    let in-loop : tie.In-loop Inv-loop μ-loop = search needs in
-    let s : tie.Start Inv-loop μ-loop = search needs in
-    let h = at-loop .loop .h in
-    let b = in-loop .loop-test .taken in
-    omega (arith, s .pre .1 .1 .0 h b, s .pre .1 .1 .1 .0 .long)
-
-cast-v : tie.Need-cast-v Inv-loop μ-loop
-cast-v c =
-    let at-loop : tie.At-loop Inv-loop μ-loop = search needs in
-    let in-loop : tie.In-loop Inv-loop μ-loop = search needs in
-    let s : tie.Start Inv-loop μ-loop = search needs in
-    let h = at-loop .loop .h in
-    let b = in-loop .loop-test .taken in
-    omega (arith, s .pre .1 .1 .1 .0 .named (getD (s .args .low .now) (getD (s .args .lead .now) h 0) 0) (s .pre .1 .1 .0 h b))
-
-mul-top : tie.Need-mul-top Inv-loop μ-loop
-mul-top c =
-    let at-loop : tie.At-loop Inv-loop μ-loop = search needs in
-    let in-loop : tie.In-loop Inv-loop μ-loop = search needs in
-    let s : tie.Start Inv-loop μ-loop = search needs in
-    let h = at-loop .loop .h in
-    let b = in-loop .loop-test .taken in
-    omega (arith, s .pre .1 .1 .1 .0 .named (getD (s .args .low .now) (getD (s .args .lead .now) h 0) 0) (s .pre .1 .1 .0 h b))
-
-shared-slice-read-top : tie.Need-shared-slice-read-top Inv-loop μ-loop
-shared-slice-read-top c =
-    let at-loop : tie.At-loop Inv-loop μ-loop = search needs in
-    let in-loop : tie.In-loop Inv-loop μ-loop = search needs in
-    let s : tie.Start Inv-loop μ-loop = search needs in
-    let h = at-loop .loop .h in
-    let b = in-loop .loop-test .taken in
-    omega (arith, s .pre .1 .1 .1 .0 .named (getD (s .args .low .now) (getD (s .args .lead .now) h 0) 0) (s .pre .1 .1 .0 h b))
+  start-fits : getD (started c .args .origins .now) low 0 < length (started c .args .greatest .now)
+  start-fits = omega (arith, started c .pre .1 .1 .1 .0 .named low (started c .pre .1 .1 .0 (c .before .loop .h) (c .loop-test .taken)))
 
 loop-again : tie.Need-loop-again Inv-loop μ-loop
 loop-again c =
     let at-loop : tie.At-loop Inv-loop μ-loop = search needs in
     let in-loop : tie.In-loop Inv-loop μ-loop = search needs in
-    fill-turns _ (at-loop .loop .inv) _ (in-loop .loop-test .taken) refl
-
-returns : tie.Need-returns Inv-loop μ-loop
-returns c = fill-ends _ (c .before .loop .inv) (search needs)
+    fill-turns (at-loop .loop .inv) (in-loop .loop-test .taken) refl
 
 pub tops-spec : {M : Type 1} → statement M
 tops-spec =
@@ -106,22 +44,22 @@ tops-spec =
     (tie.spec
     Inv-loop
     μ-loop
-    loop-holds
+    (λ c. fill-starts (c .pre .1 .1 .1 .1))
     (λ c. search needs)
     (λ c. search needs)
-    cast-l
-    mul-x
-    shared-slice-read-x
-    cast-x
-    mul-v
-    shared-slice-read-v
-    cast-v
-    mul-top
-    shared-slice-read-top
+    (λ c. omega (arith, lead-fits (search needs)))
+    (λ c. omega (arith, lead-fits (search needs)))
+    (λ c. omega (arith, lead-fits (search needs)))
+    (λ c. omega (arith, low-fits (search needs)))
+    (λ c. omega (arith, low-fits (search needs)))
+    (λ c. omega (arith, low-fits (search needs)))
+    (λ c. omega (arith, start-fits (search needs)))
+    (λ c. omega (arith, start-fits (search needs)))
+    (λ c. omega (arith, start-fits (search needs)))
     (λ c. search needs)
     (λ c. search needs)
     (λ c. search needs)
     (λ c. search needs)
     loop-again
     (λ c. search needs)
-    returns)
+    (λ c. fill-ends (c .before .loop .inv) (search needs)))

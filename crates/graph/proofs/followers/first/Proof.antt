@@ -4,9 +4,9 @@ use borrow.Author.Needs.{needs}
 use borrow.Author.Tests.{eq-eqb, ne-eqb}
 use Rattle.seq.specs.Seq.{Bool, cond, List, ℕ, eqb, ℤ}
 use Rattle.graph.specs.Follow.{soonerOf, soonerAt}
-use Rattle.graph.specs.Pick.{better}
 use Rattle.graph.proofs.followers.first.Statement.{statement}
 use Rattle.graph.proofs.followers.first.Tie as tie
+use Rattle.seq.specs.Pick.{better}
 
 -- the definition, where it is known that neither is t, and which comes first
 by : (hs : List ℤ) (t x r : ℕ) {c : Bool} → (x ≡ t → ⊥) → (r ≡ t → ⊥) → soonerAt hs t x r ≡ c → cond c x r ≡ cond (eqb x t) r (better (soonerAt hs t) t x r)

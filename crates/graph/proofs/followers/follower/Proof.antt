@@ -6,7 +6,7 @@ use borrow.Author.Needs.{needs}
 use Rattle.seq.specs.Seq.{ℕ, _+_, _-_, getD}
 use Rattle.graph.specs.Flat.{originAt}
 use Rattle.graph.specs.Follow.{firstFrom, besides, soonerAt, headed}
-use Rattle.graph.specs.Pick.{pick-below}
+use Rattle.seq.specs.Pick.{pick-below}
 use Rattle.graph.specs.Chains.{onward, later, onward-le, later-past, Along, along-starts, along-turns, along-ends}
 use Rattle.graph.proofs.followers.follower.Statement.{statement}
 use Rattle.graph.proofs.followers.follower.Tie as tie

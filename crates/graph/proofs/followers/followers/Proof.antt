@@ -2,7 +2,7 @@
 use native.Mathlib.Omega.{arith}
 use borrow.Author.Needs.{needs}
 use Rattle.seq.specs.Seq.{_*_, _-_}
-use Rattle.graph.specs.Filling.{Filling, fill-starts, fill-turns, fill-ends}
+use Rattle.seq.specs.Loops.Filling.{Filling, fill-starts, fill-turns, fill-ends}
 use Rattle.graph.specs.Follow.{followerAt, follower-under}
 use Rattle.graph.specs.Heading.{twin-under}
 use Rattle.graph.proofs.followers.followers.Statement.{statement}
@@ -13,9 +13,6 @@ Inv-loop origins headings heads chain n e next₀ m h₀ next h = Filling (follo
 
 abbrev μ-loop : tie.MeasureT-loop
 μ-loop origins headings heads chain n e next₀ m h₀ next h = 2 * e - h
-
-loop-holds : tie.Need-loop-holds Inv-loop μ-loop
-loop-holds c = fill-starts _ _ _ (search needs)
 
 follower-requires : tie.Need-follower-requires Inv-loop μ-loop
 follower-requires c κs =
@@ -28,12 +25,6 @@ cast-next c =
     let a = start .args in
     omega (arith, c .follower .ensures, follower-under (a .origins .now) (a .headings .now) (a .e) (c .before .before .loop .h) (c .before .loop-test .taken))
 
-loop-again : tie.Need-loop-again Inv-loop μ-loop
-loop-again c = fill-turns _ (c .before .before .loop .inv) _ (c .before .loop-test .taken) (c .follower .ensures)
-
-returns : tie.Need-returns Inv-loop μ-loop
-returns c = fill-ends _ (c .before .loop .inv) (search needs)
-
 pub followers-spec : {M : Type 1} → statement M
 followers-spec =
     tie.close
@@ -41,13 +32,13 @@ followers-spec =
     Inv-loop
     μ-loop
     (λ c. search needs)
-    loop-holds
+    (λ c. fill-starts (search needs))
     follower-requires
     cast-next
     (λ c. search needs)
     (λ c. search needs)
     (λ c. search needs)
     (λ c. search needs)
-    loop-again
+    (λ c. fill-turns (c .before .before .loop .inv) (c .before .loop-test .taken) (c .follower .ensures))
     (λ c. search needs)
-    returns)
+    (λ c. fill-ends (c .before .loop .inv) (search needs)))

@@ -7,7 +7,7 @@ use Rattle.seq.specs.Seq.{List, ℕ, _*_, _/_, _-_, ℤ}
 use Rattle.paper.specs.Graph.{twin, heading}
 use Rattle.paper.specs.Limits.{absent}
 use Rattle.paper.specs.Plane.{Vec}
-use Rattle.graph.specs.Filling.{Laying, lay-starts, lay-turns, lay-ends}
+use Rattle.seq.specs.Loops.Storing.{Laying, lay-starts, lay-turns, lay-ends}
 use Rattle.graph.specs.Flat.{flatGraph, Flat, Starts, Carried}
 use Rattle.graph.specs.Heading.{row, headingAt, flat-starts, flat-carried, flat-heading, twin-under}
 use Rattle.graph.proofs.heading.headings.Statement.{statement}
@@ -27,9 +27,6 @@ Inv-loop points origins carriers n e out₀ m h₀ out h = Laying 2 (λ j. row (
 abbrev μ-loop : tie.MeasureT-loop
 μ-loop points origins carriers n e out₀ m h₀ out h = 2 * e - h
 
-loop-holds : tie.Need-loop-holds Inv-loop μ-loop
-loop-holds c = lay-starts 2 _ (λ k. refl) _ _ (search needs)
-
 heading-requires : tie.Need-heading-requires Inv-loop μ-loop
 heading-requires c κs =
     let s : tie.Start Inv-loop μ-loop = search needs in
@@ -42,10 +39,7 @@ loop-again c =
     let s : tie.Start Inv-loop μ-loop = search needs in
     let l = at-loop .loop in
     let e = stored (s .args .points .now) (s .args .origins .now) (s .args .carriers .now) (s .args .n) (s .args .e) (l .h) (s .pre .0) (in-loop .loop-test .taken) (c .before .before .heading .ensures) in
-    rw (c .before .store .ensures) (lay-turns 2 _ (λ k. refl) (l .inv) _ (in-loop .loop-test .taken) e)
-
-returns : tie.Need-returns Inv-loop μ-loop
-returns c = lay-ends 2 _ (λ k. refl) (c .before .loop .inv) (search needs)
+    lay-turns (l .inv) (λ k. refl) (in-loop .loop-test .taken) (c .before .store .ensures) e
 
 pub headings-spec : {M : Type 1} → statement M
 headings-spec =
@@ -54,11 +48,11 @@ headings-spec =
     Inv-loop
     μ-loop
     (λ c. search needs)
-    loop-holds
+    (λ c. lay-starts (search needs))
     heading-requires
     (λ c κs. search needs)
     (λ c. search needs)
     (λ c. search needs)
     loop-again
     (λ c. search needs)
-    returns)
+    (λ c. lay-ends (c .before .loop .inv) (λ k. refl) (search needs)))

@@ -4,7 +4,7 @@ use native.Mathlib.Omega.{arith}
 use borrow.Author.Needs.{needs}
 use Rattle.plane.specs.Values.{ptOf}
 use Rattle.graph.specs.Look.{nearerOf, nearerAt}
-use Rattle.graph.specs.Pick.{better-none, better-by}
+use Rattle.seq.specs.Pick.{better-none, better-by}
 use Rattle.graph.proofs.look.nearest.Statement.{statement}
 use Rattle.graph.proofs.look.nearest.Tie as tie
 

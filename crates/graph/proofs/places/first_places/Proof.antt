@@ -1,11 +1,12 @@
 -- `graph::places::first_places` meets its contract. Assumes nothing.
-use mathlib.Core.Path.{_≡_, refl, _∙_, ap, subst}
+use mathlib.Core.Path.{_≡_, refl, _∙_, ap}
 use Prim.Native.Nat.{_-_, _<_}
 use native.Mathlib.Omega.{arith}
 use borrow.Author.Needs.{needs}
 use Rattle.seq.specs.Filled.{length-filled}
-use Rattle.seq.specs.Seq.{List, ℕ, getD, length}
-use Rattle.graph.specs.Places.{Placing, places-start, places-turn, places-end}
+use Rattle.seq.specs.Seq.{getD, length, firsts}
+use Rattle.seq.specs.Loops.Placing.{Placing, place-starts, place-turns, place-ends}
+use Rattle.graph.specs.Places.{places-filled}
 use Rattle.graph.proofs.places.first_places.Statement.{statement}
 use Rattle.graph.proofs.places.first_places.Tie as tie
 
@@ -14,9 +15,6 @@ Inv-loop xs m none out₀ n i₀ out i = Placing (λ k. getD xs k 0) m out₀ ou
 
 abbrev μ-loop : tie.MeasureT-loop
 μ-loop xs m none out₀ n i₀ out i = i
-
-loop-holds : tie.Need-loop-holds Inv-loop μ-loop
-loop-holds c = places-start _ _ _
 
 -- the number at the place that the loop is at
 below : (c : tie.After-shared-slice-known2 Inv-loop μ-loop) → getD (c .before .before .before .before .before .before .before .before .before .args .xs .now) (c .before .before .loop .i - 1) 0 < c .before .before .before .before .before .before .before .before .before .args .n
@@ -39,18 +37,14 @@ mul-out c = omega (arith, below c)
 slice-write-out : tie.Need-slice-write-out Inv-loop μ-loop
 slice-write-out c = omega (arith, below c, kept c)
 
-loop-again : tie.Need-loop-again Inv-loop μ-loop
-loop-again c = places-turn _ (c .before .before .loop .inv) _ (omega arith) refl (omega (arith, below c, kept c))
-
 returns : tie.Need-returns Inv-loop μ-loop
 returns c =
     let after-fill : tie.After-fill Inv-loop μ-loop = search needs in
     let s : tie.Start Inv-loop μ-loop = search needs in
-    let i = c .before .loop .inv in
-    places-end (s .args .xs .now) (s .args .m) (s .args .none) (s .args .n) (s .args .out .now) (s .pre .0) (s .pre .1 .1)
-    (subst (λ (d : List ℕ). Placing (λ k. getD (s .args .xs .now) k 0) (s .args .m) d (c .before .loop .out) (c .before .loop .i)) (after-fill .fill .ensures) i) (omega arith)
+    place-ends (c .before .loop .inv) (omega arith) ∙ ap (firsts (λ k. getD (s .args .xs .now) k 0) 0 (s .args .m)) (after-fill .fill .ensures)
+    ∙ places-filled (s .args .xs .now) (s .args .m) (s .args .none) (s .args .n) (s .args .out .now) (s .pre .0) (s .pre .1 .1)
 
 pub first-places-spec : {M : Type 1} → statement M
 first-places-spec =
     tie.close
-    (tie.spec Inv-loop μ-loop (λ c κs. search needs) loop-holds (λ c. search needs) (λ c. search needs) (λ c. search needs) cast-x (λ c. search needs) mul-out slice-write-out (λ c. search needs) loop-again (λ c. search needs) returns)
+    (tie.spec Inv-loop μ-loop (λ c κs. search needs) (λ c. place-starts) (λ c. search needs) (λ c. search needs) (λ c. search needs) cast-x (λ c. search needs) mul-out slice-write-out (λ c. search needs) (λ c. place-turns (c .before .before .loop .inv) (omega arith) refl) (λ c. search needs) returns)

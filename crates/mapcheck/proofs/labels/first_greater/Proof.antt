@@ -1,18 +1,17 @@
 -- `mapcheck::labels::first_greater` meets its contract: nothing below the counter has been found. Assumes nothing.
-use mathlib.Core.Path.{_≡_, refl, sym, ap, _∙_}
-use Prim.Native.Nat.{_≤_}
+use mathlib.Core.Path.{sym, _∙_}
 use native.Mathlib.Omega.{arith}
 use borrow.Author.Needs.{needs}
 use denote.Ref.{now}
-use Rattle.seq.specs.Seq.{_-_, least}
-use Rattle.seq.specs.Least.{least-found, least-more}
+use Rattle.seq.specs.Seq.{_-_}
+use Rattle.seq.specs.Loops.Searching.{Searching, search-starts, search-turns, search-finds, search-ends}
 use Rattle.graph.specs.Follow.{headed}
 use Rattle.mapcheck.specs.Labels.{greaterAt}
 use Rattle.mapcheck.proofs.labels.first_greater.Statement.{statement}
 use Rattle.mapcheck.proofs.labels.first_greater.Tie as tie
 
 abbrev Inv-loop : tie.InvT-loop
-Inv-loop origins headings m h x₀ x = (x ≤ m) × (least (greaterAt origins headings h) x ≡ x)
+Inv-loop origins headings m h x₀ x = Searching (greaterAt origins headings h) m x
 
 abbrev μ-loop : tie.MeasureT-loop
 μ-loop origins headings m h x₀ x = m - x
@@ -28,21 +27,12 @@ greater-requires c κs =
 returns : tie.Need-returns Inv-loop μ-loop
 returns c =
     let at : tie.At-loop Inv-loop μ-loop = search needs in
-    let a = at .before .before .args in
-    sym (least-found (greaterAt (now (a .origins)) (now (a .headings)) (a .h)) (a .m) (at .loop .x) (omega arith) (at .loop .inv .1) (sym (c .before .greater .ensures) ∙ c .if1 .taken))
+    search-finds (at .loop .inv) (omega arith) (sym (c .before .greater .ensures) ∙ c .if1 .taken)
 
 loop-again : tie.Need-loop-again Inv-loop μ-loop
 loop-again c =
     let at : tie.At-loop Inv-loop μ-loop = search needs in
-    let a = at .before .before .args in
-    (omega arith, least-more (greaterAt (now (a .origins)) (now (a .headings)) (a .h)) (at .loop .x) (at .loop .inv .1) (sym (c .before .greater .ensures) ∙ c .if1 .left))
-
-returns-2 : tie.Need-returns-2 Inv-loop μ-loop
-returns-2 c =
-    let at = c .before in
-    let a = at .before .before .args in
-    let q : at .loop .x ≡ a .m = omega arith in
-    sym (ap (least (greaterAt (now (a .origins)) (now (a .headings)) (a .h))) (sym q) ∙ at .loop .inv .1 ∙ q)
+    search-turns (at .loop .inv) (omega arith) (sym (c .before .greater .ensures) ∙ c .if1 .left)
 
 pub first-greater-spec : {M : Type 1} → statement M
 first-greater-spec =
@@ -50,10 +40,10 @@ first-greater-spec =
     (tie.spec
     Inv-loop
     μ-loop
-    (λ c. (search needs, refl))
+    (λ c. search-starts)
     greater-requires
     returns
     (λ c. search needs)
     (λ c. search needs)
     loop-again
-    returns-2)
+    (λ c. search-ends (c .before .loop .inv) (omega arith)))

@@ -3,7 +3,7 @@ use mathlib.Core.Path.{sym, _∙_}
 use native.Mathlib.Omega.{arith}
 use borrow.Author.Needs.{needs}
 use Rattle.mapcheck.specs.Labels.{earlierAt}
-use Rattle.mapcheck.specs.Walking.{Walking, walking-starts, walking-turns, walking-finds, walking-back, walking-ends}
+use Rattle.mapcheck.specs.Walking.{Walking, walk-starts, walk-turns, walk-finds, walk-back, walk-ends}
 use Rattle.mapcheck.proofs.labels.is_smallest.Statement.{statement}
 use Rattle.mapcheck.proofs.labels.is_smallest.Tie as tie
 
@@ -30,13 +30,7 @@ loop-holds : tie.Need-loop-holds Inv-loop μ-loop
 loop-holds c =
     let s : tie.Start Inv-loop μ-loop = search needs in
     let a = s .args in
-    walking-starts (earlierAt (a .points .now) (a .origins .now) (a .h)) (a .next .now) (a .h) (a .m) (s .pre .0 .next .named (a .h) (s .pre .1))
-
-returns : tie.Need-returns Inv-loop μ-loop
-returns c =
-    let start : tie.Start Inv-loop μ-loop = search needs in
-    let a = start .args in
-    walking-back (earlierAt (a .points .now) (a .origins .now) (a .h)) (a .next .now) (a .h) (a .m) (c .before .before .loop .inv) (c .if1 .taken)
+    walk-starts (s .pre .0 .next .named (a .h) (s .pre .1))
 
 earlier-requires : tie.Need-earlier-requires Inv-loop μ-loop
 earlier-requires c κs =
@@ -46,11 +40,9 @@ earlier-requires c κs =
 
 returns-2 : tie.Need-returns-2 Inv-loop μ-loop
 returns-2 c =
-    let start : tie.Start Inv-loop μ-loop = search needs in
     let at-loop : tie.At-loop Inv-loop μ-loop = search needs in
     let in-loop : tie.In-loop Inv-loop μ-loop = search needs in
-    let a = start .args in
-    walking-finds (earlierAt (a .points .now) (a .origins .now) (a .h)) (a .next .now) (a .h) (a .m) (at-loop .loop .inv)
+    walk-finds (at-loop .loop .inv)
     (in-loop .loop-test .taken) (c .before .before .if1 .left) (sym (c .before .earlier .ensures) ∙ c .if2 .taken)
 
 mul-x-2 : tie.Need-mul-x-2 Inv-loop μ-loop
@@ -78,16 +70,12 @@ loop-again c =
     let in-loop : tie.In-loop Inv-loop μ-loop = search needs in
     let else1 : tie.Else1 Inv-loop μ-loop = search needs in
     let s : tie.Start Inv-loop μ-loop = search needs in
-    let a = s .args in
     let l = at-loop .loop in
-    walking-turns (earlierAt (a .points .now) (a .origins .now) (a .h)) (a .next .now) (a .h) (a .m) (l .inv)
+    walk-turns (l .inv)
     (in-loop .loop-test .taken) (else1 .if1 .left) (sym (c .before .before .earlier .ensures) ∙ c .before .if2 .left) (s .pre .0 .next .named (l .x) (l .inv .below))
 
 returns-3 : tie.Need-returns-3 Inv-loop μ-loop
-returns-3 c =
-    let start : tie.Start Inv-loop μ-loop = search needs in
-    let a = start .args in
-    walking-ends (earlierAt (a .points .now) (a .origins .now) (a .h)) (a .next .now) (a .h) (a .m) (c .before .loop .inv) (omega arith)
+returns-3 c = walk-ends (c .before .loop .inv) (omega arith)
 
 pub is-smallest-spec : {M : Type 1} → statement M
 is-smallest-spec =
@@ -99,7 +87,7 @@ is-smallest-spec =
     shared-slice-read-x
     cast-x
     loop-holds
-    returns
+    (λ c. walk-back (c .before .before .loop .inv) (c .if1 .taken))
     earlier-requires
     returns-2
     mul-x-2

@@ -1,44 +1,24 @@
 -- `mapfile::load::load_origins` meets its contract: below the counter the cells are those of the file, and the others as they were. Assumes nothing.
-use mathlib.Core.Path.{_≡_, refl, ap, _∙_}
-use Prim.Native.Nat.{_≤_}
+use mathlib.Core.Path.{_∙_}
 use native.Mathlib.Omega.{arith}
 use borrow.Author.Needs.{needs}
-use lib.ListN.{length-set}
-use denote.Ref.{now}
-use Rattle.seq.specs.Filled.{filled-none, filled-more}
-use Rattle.seq.specs.Seq.{ℕ, _*_, _-_, length, filled}
+use Rattle.seq.specs.Loops.Filling.{Filling, fill-starts, fill-turns, fill-ends}
+use Rattle.seq.specs.Seq.{_*_, _-_}
 use Rattle.paper.specs.Map.{edgesIn, originAt}
 use Rattle.mapfile.proofs.LoadLaws.{cells-of-origins}
 use Rattle.mapfile.proofs.load.load_origins.Statement.{statement}
 use Rattle.mapfile.proofs.load.load_origins.Tie as tie
 
 abbrev Inv-loop : tie.InvT-loop
-Inv-loop file origins₀ n h₀ origins h = (h ≤ n) × (length origins ≡ length origins₀) × (origins ≡ filled h (originAt file) origins₀)
+Inv-loop file origins₀ n h₀ origins h = Filling (originAt file) (2 * edgesIn file) origins₀ origins h
 
 abbrev μ-loop : tie.MeasureT-loop
 μ-loop file origins₀ n h₀ origins h = n - h
 
-loop-holds : tie.Need-loop-holds Inv-loop μ-loop
-loop-holds c =
-    let start : tie.Start Inv-loop μ-loop = search needs in
-    (search needs, refl, filled-none (originAt (now (start .args .file))) (now (start .args .origins)))
-
-loop-again : tie.Need-loop-again Inv-loop μ-loop
-loop-again c =
-    let at = c .before .before in
-    let a = at .before .before .before .before .args in (
-      omega arith,
-      simp length-set (omega arith),
-      rw (at .loop .inv .2) (filled-more (originAt (now (a .file))) (at .loop .h) (now (a .origins)) (c .origin-at .result) (omega arith) (c .origin-at .ensures)),
-    )
-
 returns : tie.Need-returns Inv-loop μ-loop
 returns c =
-    let at = c .before in
-    let a = at .before .before .before .before .args in
-    let s = now (a .file) in
-    let e : at .loop .h ≡ 2 * edgesIn s = omega arith in
-    at .loop .inv .2 ∙ ap (λ (h : ℕ). filled h (originAt s) (now (a .origins))) e ∙ cells-of-origins s (now (a .origins))
+    let start : tie.Start Inv-loop μ-loop = search needs in
+    fill-ends (c .before .loop .inv) (omega arith) ∙ cells-of-origins (start .args .file .now) (start .args .origins .now)
 
 pub load-origins-spec : {M : Type 1} → statement M
 load-origins-spec =
@@ -49,13 +29,13 @@ load-origins-spec =
     (λ c κs. search needs)
     (λ c. search needs)
     (λ c. search needs)
-    loop-holds
+    (λ c. fill-starts (search needs))
     (λ c. search needs)
     (λ c κs. search needs)
     (λ c. search needs)
     (λ c. search needs)
     (λ c. search needs)
     (λ c. search needs)
-    loop-again
+    (λ c. fill-turns (c .before .before .loop .inv) (omega arith) (c .origin-at .ensures))
     (λ c. search needs)
     returns)

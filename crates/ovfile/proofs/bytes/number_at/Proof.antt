@@ -3,7 +3,7 @@ use mathlib.Core.Path.{sym}
 use native.Mathlib.Omega.{arith}
 use borrow.Author.Needs.{needs}
 use denote.Ref.{now}
-use Rattle.ovfile.proofs.BytesLaws.{Reading, number-past, reading-starts, reading-turns, reading-ends, reading-small}
+use Rattle.ovfile.proofs.BytesLaws.{Reading, number-past, read-starts, read-turns, read-ends, read-small}
 use Rattle.ovfile.proofs.bytes.number_at.Statement.{statement}
 use Rattle.ovfile.proofs.bytes.number_at.Tie as tie
 
@@ -16,27 +16,18 @@ abbrev μ-loop : tie.MeasureT-loop
 returns : tie.Need-returns Inv-loop μ-loop
 returns c = let a = c .before .before .args in sym (number-past (a .width) (now (a .file)) (a .at) (c .if1 .taken))
 
-loop-holds : tie.Need-loop-holds Inv-loop μ-loop
-loop-holds c = let a = c .before .before .args in reading-starts (a .width) (now (a .file)) (a .at)
-
 add-byte-at : tie.Need-add-byte-at Inv-loop μ-loop
 add-byte-at c = omega (arith, c .before .loop .inv .within)
 
 mul-n : tie.Need-mul-n Inv-loop μ-loop
 mul-n c =
     let at = c .before .before in
-    omega (arith, reading-small _ _ _ (at .loop .inv) (λ i. at .before .before .shared-slice-known .given i .fits) (omega arith) (c .before .loop-test .taken))
+    omega (arith, read-small (at .loop .inv) (λ i. at .before .before .shared-slice-known .given i .fits) (omega arith) (c .before .loop-test .taken))
 
 add-n : tie.Need-add-n Inv-loop μ-loop
 add-n c =
     let at = c .before .before in
-    omega (arith, reading-small _ _ _ (at .loop .inv) (λ i. at .before .before .shared-slice-known .given i .fits) (omega arith) (c .before .loop-test .taken))
-
-loop-again : tie.Need-loop-again Inv-loop μ-loop
-loop-again c = reading-turns _ _ _ (c .before .before .loop .inv) (c .byte-at .result) (c .before .loop-test .taken) (c .byte-at .ensures)
-
-returns-2 : tie.Need-returns-2 Inv-loop μ-loop
-returns-2 c = reading-ends _ _ _ (c .before .loop .inv) (c .loop-test .left)
+    omega (arith, read-small (at .loop .inv) (λ i. at .before .before .shared-slice-known .given i .fits) (omega arith) (c .before .loop-test .taken))
 
 pub number-at-spec : {M : Type 1} → statement M
 number-at-spec =
@@ -45,7 +36,7 @@ number-at-spec =
     Inv-loop
     μ-loop
     returns
-    loop-holds
+    (λ c. read-starts)
     (λ c. search needs)
     add-byte-at
     (λ c κs. search needs)
@@ -53,5 +44,5 @@ number-at-spec =
     mul-n
     add-n
     (λ c. search needs)
-    loop-again
-    returns-2)
+    (λ c. read-turns (c .before .before .loop .inv) (c .byte-at .result) (c .before .loop-test .taken) (c .byte-at .ensures))
+    (λ c. read-ends (c .before .loop .inv) (c .loop-test .left)))

@@ -6,7 +6,8 @@ use denote.Ref.{now}
 use Rattle.seq.specs.Seq.{List, ℕ, _-_, length, getD, sets}
 use Rattle.paper.specs.Bytes.{le}
 use Rattle.filelaws.specs.Bytes.{length-le}
-use Rattle.ovfile.proofs.StoringLaws.{Storing, storing-starts, storing-turns, storing-ends, gather-rows}
+use Rattle.seq.specs.Loops.Storing.{Storing, store-starts, store-turns, store-ends}
+use Rattle.seq.specs.Rows.{gather-rows}
 use Rattle.ovfile.proofs.bytes.put_fields.Statement.{statement}
 use Rattle.ovfile.proofs.bytes.put_fields.Tie as tie
 
@@ -22,9 +23,6 @@ Inv-loop buffer₀ at fields i₀ buffer i = Storing 2 (field fields) at (length
 abbrev μ-loop : tie.MeasureT-loop
 μ-loop buffer₀ at fields i₀ buffer i = length fields - i
 
-loop-holds : tie.Need-loop-holds Inv-loop μ-loop
-loop-holds c = let a = c .before .before .args in storing-starts 2 (field (now (a .fields))) (two (now (a .fields))) _ _ _ (omega arith)
-
 cast-put : tie.Need-cast-put Inv-loop μ-loop
 cast-put c =
     let at-loop : tie.At-loop Inv-loop μ-loop = search needs in
@@ -39,14 +37,15 @@ loop-again : tie.Need-loop-again Inv-loop μ-loop
 loop-again c =
     let in-loop : tie.In-loop Inv-loop μ-loop = search needs in
     let at : tie.At-loop Inv-loop μ-loop = search needs in
-    let fields = now (at .before .before .before .args .fields) in
-    storing-turns 2 (field fields) (two fields) (at .loop .inv) _ (in-loop .loop-test .taken) (c .before .before .put .ensures)
+    let start : tie.Start Inv-loop μ-loop = search needs in
+    let fields = now (start .args .fields) in
+    store-turns (at .loop .inv) (two fields) (in-loop .loop-test .taken) (c .before .before .put .ensures)
 
 returns : tie.Need-returns Inv-loop μ-loop
 returns c =
     let start : tie.Start Inv-loop μ-loop = search needs in
     let a = start .args in
-    storing-ends 2 (field (now (a .fields))) (two (now (a .fields))) (c .before .loop .inv) (c .loop-test .left)
+    store-ends (c .before .loop .inv) (c .loop-test .left)
     ∙ ap (sets (now (a .buffer)) (a .at)) (gather-rows (le 2) (now (a .fields)))
 
 pub put-fields-spec : {M : Type 1} → statement M
@@ -55,7 +54,7 @@ put-fields-spec =
     (tie.spec
     Inv-loop
     μ-loop
-    loop-holds
+    (λ c. store-starts (omega arith))
     (λ c. search needs)
     (λ c. search needs)
     (λ c. search needs)

@@ -1,11 +1,10 @@
 -- `ovfile::sound::first_places` meets its contract. Assumes nothing.
 use mathlib.Core.Path.{ap, _∙_}
 use native.Mathlib.Omega.{arith}
-use denote.Ref.{now}
 use lib.ListN.{set}
 use Rattle.seq.specs.Seq.{ℕ, _-_}
 use Rattle.ovfile.specs.Firsts.{column}
-use Rattle.ovfile.proofs.SoundLaws.{Placing, places-start, places-turn, places-end}
+use Rattle.seq.specs.Loops.Placing.{Placing, place-starts, place-turns, place-ends}
 use borrow.Author.Needs.{needs}
 use Rattle.ovfile.proofs.sound.first_places.Statement.{statement}
 use Rattle.ovfile.proofs.sound.first_places.Tie as tie
@@ -15,9 +14,6 @@ Inv-loop halves j n out₀ h₀ out h = Placing (column halves j) n out₀ out h
 
 abbrev μ-loop : tie.MeasureT-loop
 μ-loop halves j n out₀ h₀ out h = h
-
-loop-holds : tie.Need-loop-holds Inv-loop μ-loop
-loop-holds c = let a = c .before .before .args in places-start (column (now (a .halves)) (a .j)) _ _
 
 cast-store-2 : tie.Need-cast-store-2 Inv-loop μ-loop
 cast-store-2 c =
@@ -29,15 +25,8 @@ loop-again c =
     let in-loop : tie.In-loop Inv-loop μ-loop = search needs in
     let after-half-cell : tie.After-half-cell Inv-loop μ-loop = search needs in
     let at : tie.At-loop Inv-loop μ-loop = search needs in
-    let a = at .before .before .before .args in
-    places-turn (column (now (a .halves)) (a .j)) (at .loop .inv) _ (in-loop .loop-test .taken)
+    place-turns (at .loop .inv) (in-loop .loop-test .taken)
     (c .before .before .store .ensures ∙ ap (λ (x : ℕ). set (at .loop .out) x (at .loop .h - 1)) (after-half-cell .half-cell .ensures))
-
-same-length : tie.Need-same-length Inv-loop μ-loop
-same-length c = c .before .loop .inv .kept
-
-returns : tie.Need-returns Inv-loop μ-loop
-returns c = let a = c .before .before .before .before .args in record { is = places-end (column (now (a .halves)) (a .j)) (c .before .loop .inv) (c .loop-test .left) }
 
 pub first-places-spec : {M : Type 1} → statement M
 first-places-spec =
@@ -45,7 +34,7 @@ first-places-spec =
     (tie.spec
     Inv-loop
     μ-loop
-    loop-holds
+    (λ c. place-starts)
     (λ c. search needs)
     (λ c κs. search needs)
     (λ c. search needs)
@@ -53,5 +42,5 @@ first-places-spec =
     (λ c κs. search needs)
     (λ c. search needs)
     loop-again
-    same-length
-    returns)
+    (λ c. c .before .loop .inv .kept)
+    (λ c. record { is = place-ends (c .before .loop .inv) (c .loop-test .left) }))

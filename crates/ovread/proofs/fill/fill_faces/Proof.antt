@@ -7,7 +7,7 @@ use Rattle.paper.specs.Limits.{maps}
 use Rattle.paper.specs.Tables.{Counts}
 use Rattle.paper.specs.Reader.{countsIn, faceRead, tablesIn}
 use Rattle.ovfile.specs.Values.{layout}
-use Rattle.ovfile.proofs.StoringLaws.{laid-wiped}
+use Rattle.seq.specs.Loops.Storing.{laid-wiped}
 use borrow.Author.Needs.{needs}
 use Rattle.ovread.proofs.fill.fill_faces.Statement.{statement}
 use Rattle.ovread.proofs.fill.fill_faces.Tie as tie
@@ -27,7 +27,7 @@ returns c =
     let l = d .before .before .before .before .before .before in
     let a = l .before .before .before .before .args in
     let s = now (a .file) in
-    laid-wiped 4 (faceRead maps layout (now (a .file))) (λ k. refl) 0 (countsIn s .faces) _ (now (a .faces)) _ _ (omega (arith, l .before .before .before .before .pre))
+    laid-wiped 0 4 (faceRead maps layout (now (a .file))) (λ k. refl) (countsIn s .faces) (now (a .faces)) (omega (arith, l .before .before .before .before .pre))
     (l .lay-faces .ensures) (d .wipe-from-u16 .ensures) (ap (λ (n : ℕ). 4 * n) (counted (d .before .before .before)))
 
 pub fill-faces-spec : {M : Type 1} → statement M

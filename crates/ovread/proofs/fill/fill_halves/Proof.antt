@@ -7,7 +7,7 @@ use Rattle.paper.specs.Tables.{Counts}
 use Rattle.paper.specs.Reader.{countsIn, halfRead, tablesIn}
 use Rattle.ovfile.specs.Values.{layout}
 use Rattle.ovread.specs.Filled.{followersIn}
-use Rattle.ovfile.proofs.StoringLaws.{laid-wiped}
+use Rattle.seq.specs.Loops.Storing.{laid-wiped}
 use borrow.Author.Needs.{needs}
 use Rattle.ovread.proofs.fill.fill_halves.Statement.{statement}
 use Rattle.ovread.proofs.fill.fill_halves.Tie as tie
@@ -28,7 +28,7 @@ returns c =
     let start = l .before .before .before .before .before .before in
     let s = now (start .args .file) in
     let k : 10 * d .before .before .before .counts .result .edges ≡ 5 * (2 * countsIn s .edges) = omega (arith, counted (d .before .before .before)) in
-    laid-wiped 5 (halfRead layout s (followersIn s)) (λ k. refl) 0 (2 * countsIn s .edges) _ (now (start .args .halves)) _ _ (start .pre .1)
+    laid-wiped 0 5 (halfRead layout s (followersIn s)) (λ k. refl) (2 * countsIn s .edges) (now (start .args .halves)) (start .pre .1)
     (l .lay-halves .ensures) (d .wipe-from-u16 .ensures) k
 
 pub fill-halves-spec : {M : Type 1} → statement M

@@ -7,7 +7,7 @@ use Rattle.paper.specs.Limits.{maps}
 use Rattle.paper.specs.Tables.{Counts}
 use Rattle.paper.specs.Reader.{countsIn, storedSource, tablesIn}
 use Rattle.ovfile.specs.Values.{layout}
-use Rattle.ovfile.proofs.StoringLaws.{laid-wiped}
+use Rattle.seq.specs.Loops.Storing.{laid-wiped}
 use borrow.Author.Needs.{needs}
 use Rattle.ovread.proofs.fill.fill_sources.Statement.{statement}
 use Rattle.ovread.proofs.fill.fill_sources.Tie as tie
@@ -27,7 +27,7 @@ returns c =
     let l = d .before .before .before .before .before .before in
     let a = l .before .before .before .before .args in
     let s = now (a .file) in
-    laid-wiped 2 (λ k. table (storedSource layout (now (a .file)) k) maps) (λ k. refl) 0 (countsIn s .edges) _ (now (a .sources)) _ _ (omega (arith, l .before .before .before .before .pre))
+    laid-wiped 0 2 (λ k. table (storedSource layout (now (a .file)) k) maps) (λ k. refl) (countsIn s .edges) (now (a .sources)) (omega (arith, l .before .before .before .before .pre))
     (l .lay-sources .ensures) (d .wipe-from-u32 .ensures) (ap (λ (n : ℕ). 2 * n) (counted (d .before .before .before)))
 
 pub fill-sources-spec : {M : Type 1} → statement M

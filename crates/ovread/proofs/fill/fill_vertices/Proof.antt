@@ -7,7 +7,7 @@ use Rattle.paper.specs.Tables.{Counts}
 use Rattle.paper.specs.Reader.{countsIn, vertexRead, tablesIn}
 use Rattle.ovfile.specs.Values.{layout}
 use Rattle.ovread.specs.Filled.{startsIn}
-use Rattle.ovfile.proofs.StoringLaws.{laid-wiped}
+use Rattle.seq.specs.Loops.Storing.{laid-wiped}
 use Rattle.ovread.proofs.FillLaws.{vertices-are}
 use borrow.Author.Needs.{needs}
 use Rattle.ovread.proofs.fill.fill_vertices.Statement.{statement}
@@ -28,7 +28,7 @@ returns c =
     let l = d .before .before .before .before .before in
     let start = l .before .before .before .before .before in
     let s = now (start .args .file) in
-    laid-wiped 4 (vertexRead layout s (startsIn s)) (λ k. refl) (pos 0) (countsIn s .vertices) _ (now (start .args .vertices)) _ _ (start .pre .1)
+    laid-wiped (pos 0) 4 (vertexRead layout s (startsIn s)) (λ k. refl) (countsIn s .vertices) (now (start .args .vertices)) (start .pre .1)
     (l .lay-vertices .ensures ∙ ap (sets (now (start .args .vertices)) 0) (vertices-are s (l .before .before .before .least-starts .ensures)))
     (d .wipe-from-i64 .ensures) (ap (λ (n : ℕ). 4 * n) (counted (d .before .before .before)))
 

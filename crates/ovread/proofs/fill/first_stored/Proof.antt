@@ -1,11 +1,10 @@
 -- `ovread::fill::first_stored` meets its contract. Assumes nothing.
 use mathlib.Core.Path.{ap, _∙_}
 use native.Mathlib.Omega.{arith}
-use denote.Ref.{now}
 use lib.ListN.{set}
 use Rattle.seq.specs.Seq.{ℕ, _-_}
 use Rattle.ovread.specs.Filled.{storedField}
-use Rattle.ovfile.proofs.SoundLaws.{Placing, places-start, places-turn, places-end}
+use Rattle.seq.specs.Loops.Placing.{Placing, place-starts, place-turns, place-ends}
 use borrow.Author.Needs.{needs}
 use Rattle.ovread.proofs.fill.first_stored.Statement.{statement}
 use Rattle.ovread.proofs.fill.first_stored.Tie as tie
@@ -15,9 +14,6 @@ Inv-loop file j n out₀ h₀ out h = Placing (storedField file j) n out₀ out 
 
 abbrev μ-loop : tie.MeasureT-loop
 μ-loop file j n out₀ h₀ out h = h
-
-loop-holds : tie.Need-loop-holds Inv-loop μ-loop
-loop-holds c = let a = c .before .before .args in places-start (storedField (now (a .file)) (a .j)) _ _
 
 cast-store-2 : tie.Need-cast-store-2 Inv-loop μ-loop
 cast-store-2 c =
@@ -29,15 +25,8 @@ loop-again c =
     let in-loop : tie.In-loop Inv-loop μ-loop = search needs in
     let after-edge-field : tie.After-edge-field Inv-loop μ-loop = search needs in
     let at : tie.At-loop Inv-loop μ-loop = search needs in
-    let a = at .before .before .before .args in
-    places-turn (storedField (now (a .file)) (a .j)) (at .loop .inv) _ (in-loop .loop-test .taken)
+    place-turns (at .loop .inv) (in-loop .loop-test .taken)
     (c .before .before .store .ensures ∙ ap (λ (x : ℕ). set (at .loop .out) x (at .loop .h - 1)) (after-edge-field .edge-field .ensures))
-
-same-length : tie.Need-same-length Inv-loop μ-loop
-same-length c = c .before .loop .inv .kept
-
-returns : tie.Need-returns Inv-loop μ-loop
-returns c = let a = c .before .before .before .before .args in record { is = places-end (storedField (now (a .file)) (a .j)) (c .before .loop .inv) (c .loop-test .left) }
 
 pub first-stored-spec : {M : Type 1} → statement M
 first-stored-spec =
@@ -45,7 +34,7 @@ first-stored-spec =
     (tie.spec
     Inv-loop
     μ-loop
-    loop-holds
+    (λ c. place-starts)
     (λ c. search needs)
     (λ c. search needs)
     (λ c κs. search needs)
@@ -54,5 +43,5 @@ first-stored-spec =
     (λ c κs. search needs)
     (λ c. search needs)
     loop-again
-    same-length
-    returns)
+    (λ c. c .before .loop .inv .kept)
+    (λ c. record { is = place-ends (c .before .loop .inv) (c .loop-test .left) }))

@@ -3,7 +3,7 @@ use mathlib.Core.Path.{ap, _∙_}
 use denote.Ref.{now}
 use Rattle.seq.specs.Seq.{ℕ, _-_, sets, rows}
 use Rattle.ovfile.specs.Values.{edgeTables}
-use Rattle.ovfile.proofs.StoringLaws.{Storing, storing-starts, storing-turns, storing-ends}
+use Rattle.seq.specs.Loops.Storing.{Storing, store-starts, store-turns, store-ends}
 use Rattle.ovwrite.proofs.PutLaws.{edgeBytes, edge-long}
 use native.Mathlib.Omega.{arith}
 use borrow.Author.Needs.{needs}
@@ -19,8 +19,7 @@ abbrev μ-loop : tie.MeasureT-loop
 loop-holds : tie.Need-loop-holds Inv-loop μ-loop
 loop-holds c =
     let s : tie.Start Inv-loop μ-loop = search needs in
-    let t = edgeTables (now (s .args .halves)) (now (s .args .sources)) in
-    storing-starts 16 (edgeBytes t) (edge-long t) (c .edges-at .result) (s .args .c .edges) (now (s .args .buffer)) (omega (arith, c .edges-at .ensures, s .pre))
+    store-starts (omega (arith, c .edges-at .ensures, s .pre))
 
 put-edge-requires : tie.Need-put-edge-requires Inv-loop μ-loop
 put-edge-requires c κs = let at = c .before .before in omega (arith, at .loop .inv .room, at .loop .inv .kept, c .before .loop-test .taken)
@@ -29,19 +28,17 @@ loop-again : tie.Need-loop-again Inv-loop μ-loop
 loop-again c =
     let in-loop : tie.In-loop Inv-loop μ-loop = search needs in
     let at : tie.At-loop Inv-loop μ-loop = search needs in
-    let a = at .before .before .before .before .before .args in
+    let start : tie.Start Inv-loop μ-loop = search needs in
+    let a = start .args in
     let t = edgeTables (now (a .halves)) (now (a .sources)) in
-    storing-turns 16 (edgeBytes t) (edge-long t) (at .loop .inv) _ (in-loop .loop-test .taken) (c .before .before .put-edge .ensures)
-
-same-length : tie.Need-same-length Inv-loop μ-loop
-same-length c = c .before .loop .inv .kept
+    store-turns (at .loop .inv) (edge-long t) (in-loop .loop-test .taken) (c .before .before .put-edge .ensures)
 
 returns : tie.Need-returns Inv-loop μ-loop
 returns c =
     let start : tie.Start Inv-loop μ-loop = search needs in
     let a = start .args in
     let t = edgeTables (now (a .halves)) (now (a .sources)) in
-    storing-ends 16 (edgeBytes t) (edge-long t) (c .before .loop .inv) (c .loop-test .left)
+    store-ends (c .before .loop .inv) (c .loop-test .left)
     ∙ ap (λ (p : ℕ). sets (now (a .buffer)) p (rows (edgeBytes t) (a .c .edges))) (c .before .before .edges-at .ensures)
 
 pub put-edges-spec : {M : Type 1} → statement M
@@ -59,5 +56,5 @@ put-edges-spec =
     (λ c. search needs)
     (λ c. search needs)
     loop-again
-    same-length
+    (λ c. c .before .loop .inv .kept)
     returns)

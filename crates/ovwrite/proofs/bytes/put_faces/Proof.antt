@@ -3,7 +3,7 @@ use mathlib.Core.Path.{ap, _∙_}
 use denote.Ref.{now}
 use Rattle.seq.specs.Seq.{[], ℕ, _-_, sets, rows}
 use Rattle.tables.specs.Values.{tablesBy}
-use Rattle.ovfile.proofs.StoringLaws.{Storing, storing-starts, storing-turns, storing-ends}
+use Rattle.seq.specs.Loops.Storing.{Storing, store-starts, store-turns, store-ends}
 use Rattle.ovwrite.proofs.PutLaws.{faceBytes, face-long}
 use native.Mathlib.Omega.{arith}
 use borrow.Author.Needs.{needs}
@@ -19,8 +19,7 @@ abbrev μ-loop : tie.MeasureT-loop
 loop-holds : tie.Need-loop-holds Inv-loop μ-loop
 loop-holds c =
     let s : tie.Start Inv-loop μ-loop = search needs in
-    let t = tablesBy [] [] [] (now (s .args .faces)) in
-    storing-starts 8 (faceBytes t) (face-long t) (c .faces-at .result) (s .args .c .faces) (now (s .args .buffer)) (omega (arith, c .faces-at .ensures, s .pre))
+    store-starts (omega (arith, c .faces-at .ensures, s .pre))
 
 put-face-requires : tie.Need-put-face-requires Inv-loop μ-loop
 put-face-requires c κs = let at = c .before .before in omega (arith, at .loop .inv .room, at .loop .inv .kept, c .before .loop-test .taken)
@@ -29,18 +28,16 @@ loop-again : tie.Need-loop-again Inv-loop μ-loop
 loop-again c =
     let in-loop : tie.In-loop Inv-loop μ-loop = search needs in
     let at : tie.At-loop Inv-loop μ-loop = search needs in
-    let t = tablesBy [] [] [] (now (at .before .before .before .before .args .faces)) in
-    storing-turns 8 (faceBytes t) (face-long t) (at .loop .inv) _ (in-loop .loop-test .taken) (c .before .before .put-face .ensures)
-
-same-length : tie.Need-same-length Inv-loop μ-loop
-same-length c = c .before .loop .inv .kept
+    let start : tie.Start Inv-loop μ-loop = search needs in
+    let t = tablesBy [] [] [] (now (start .args .faces)) in
+    store-turns (at .loop .inv) (face-long t) (in-loop .loop-test .taken) (c .before .before .put-face .ensures)
 
 returns : tie.Need-returns Inv-loop μ-loop
 returns c =
     let start : tie.Start Inv-loop μ-loop = search needs in
     let a = start .args in
     let t = tablesBy [] [] [] (now (a .faces)) in
-    storing-ends 8 (faceBytes t) (face-long t) (c .before .loop .inv) (c .loop-test .left)
+    store-ends (c .before .loop .inv) (c .loop-test .left)
     ∙ ap (λ (p : ℕ). sets (now (a .buffer)) p (rows (faceBytes t) (a .c .faces))) (c .before .before .faces-at .ensures)
 
 pub put-faces-spec : {M : Type 1} → statement M
@@ -58,5 +55,5 @@ put-faces-spec =
     (λ c. search needs)
     (λ c. search needs)
     loop-again
-    same-length
+    (λ c. c .before .loop .inv .kept)
     returns)

@@ -1,13 +1,12 @@
 -- `ovwrite::edges::first_bad_edge_by` meets its contract: nothing below the counter has been found. Assumes nothing.
 use mathlib.Core.Path.{sym, _∙_}
-use denote.Ref.{now}
 use Rattle.seq.specs.Seq.{Bool, List, ℕ, _-_}
 use Rattle.paper.specs.Limits.{maps}
 use Rattle.paper.specs.Ovfile.{badEdge}
 use Rattle.tables.specs.Values.{countsOf}
 use Rattle.tables.specs.declared.room.Counts.{Counts}
 use Rattle.ovfile.specs.Values.{edgeTables}
-use Rattle.ovfile.proofs.SearchLaws.{Searching, search-starts, search-turns, search-finds, search-ends}
+use Rattle.seq.specs.Loops.Searching.{Searching, search-starts, search-turns, search-finds, search-ends}
 use borrow.Author.Needs.{needs}
 use Rattle.ovwrite.proofs.edges.first_bad_edge_by.Statement.{statement}
 use Rattle.ovwrite.proofs.edges.first_bad_edge_by.Tie as tie
@@ -21,26 +20,15 @@ Inv-loop c halves sources first n k₀ k = Searching (bad c halves sources) n k
 abbrev μ-loop : tie.MeasureT-loop
 μ-loop c halves sources first n k₀ k = n - k
 
-abbrev test : (c : tie.At-loop Inv-loop μ-loop) → ℕ → Bool
-test c = let a = c .before .before .before .before .args in bad (a .c) (now (a .halves)) (now (a .sources))
-
-loop-holds : tie.Need-loop-holds Inv-loop μ-loop
-loop-holds c = let a =
-    let start : tie.Start Inv-loop μ-loop = search needs in
-    start .args in search-starts (bad (a .c) (now (a .halves)) (now (a .sources))) (a .c .edges)
-
 returns : tie.Need-returns Inv-loop μ-loop
 returns c =
     let at : tie.At-loop Inv-loop μ-loop = search needs in
-    search-finds (test at) (at .loop .inv) (c .before .before .loop-test .taken) (sym (c .before .bad-edge .ensures) ∙ c .if1 .taken)
+    search-finds (at .loop .inv) (c .before .before .loop-test .taken) (sym (c .before .bad-edge .ensures) ∙ c .if1 .taken)
 
 loop-again : tie.Need-loop-again Inv-loop μ-loop
 loop-again c =
     let at : tie.At-loop Inv-loop μ-loop = search needs in
-    search-turns (test at) (at .loop .inv) (c .before .before .loop-test .taken) (sym (c .before .bad-edge .ensures) ∙ c .if1 .left)
-
-returns-2 : tie.Need-returns-2 Inv-loop μ-loop
-returns-2 c = let at = c .before in search-ends (test at) (at .loop .inv) (c .loop-test .left)
+    search-turns (at .loop .inv) (c .before .before .loop-test .taken) (sym (c .before .bad-edge .ensures) ∙ c .if1 .left)
 
 pub first-bad-edge-by-spec : {M : Type 1} → statement M
 first-bad-edge-by-spec =
@@ -48,10 +36,10 @@ first-bad-edge-by-spec =
     (tie.spec
     Inv-loop
     μ-loop
-    loop-holds
+    (λ c. search-starts)
     (λ c κs. search needs)
     returns
     (λ c. search needs)
     (λ c. search needs)
     loop-again
-    returns-2)
+    (λ c. search-ends (c .before .loop .inv) (c .loop-test .left)))

@@ -2,7 +2,7 @@
 use Prim.Native.Nat.{_-_}
 use native.Mathlib.Omega.{arith}
 use borrow.Author.Needs.{needs}
-use Rattle.graph.specs.Filling.{Filling, fill-starts, fill-turns, fill-ends}
+use Rattle.seq.specs.Loops.Filling.{Filling, fill-starts, fill-turns, fill-ends}
 use Rattle.layers.specs.Standing.{standing}
 use Rattle.pairs.specs.Labels.{faceLabel}
 use Rattle.pairs.proofs.label.face_labels.Statement.{statement}
@@ -18,7 +18,7 @@ abbrev μ-loop : tie.MeasureT-loop
 loop-holds : tie.Need-loop-holds Inv-loop μ-loop
 loop-holds c =
     let start : tie.Start Inv-loop μ-loop = search needs in
-    fill-starts _ _ _ (start .pre .1 .1 .1)
+    fill-starts (start .pre .1 .1 .1)
 
 face-label-requires : tie.Need-face-label-requires Inv-loop μ-loop
 face-label-requires c κs = let s =
@@ -29,12 +29,6 @@ mul-out : tie.Need-mul-out Inv-loop μ-loop
 mul-out c =
     let start : tie.Start Inv-loop μ-loop = search needs in
     omega (arith, c .before .loop-test .taken, start .pre .1 .1 .0)
-
-loop-again : tie.Need-loop-again Inv-loop μ-loop
-loop-again c = fill-turns _ (c .before .before .loop .inv) _ (c .before .loop-test .taken) (c .face-label .ensures)
-
-returns : tie.Need-returns Inv-loop μ-loop
-returns c = fill-ends _ (c .before .loop .inv) (search needs)
 
 pub face-labels-spec : {M : Type 1} → statement M
 face-labels-spec =
@@ -48,6 +42,6 @@ face-labels-spec =
     (λ c. search needs)
     (λ c. search needs)
     (λ c. search needs)
-    loop-again
+    (λ c. fill-turns (c .before .before .loop .inv) (c .before .loop-test .taken) (c .face-label .ensures))
     (λ c. search needs)
-    returns)
+    (λ c. fill-ends (c .before .loop .inv) (search needs)))

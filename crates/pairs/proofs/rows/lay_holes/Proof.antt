@@ -3,7 +3,7 @@ use mathlib.Core.Path.{refl}
 use Prim.Native.Nat.{ℕ, _-_}
 use lib.ListN.{getD}
 use borrow.Author.Needs.{needs}
-use Rattle.graph.specs.Filling.{Filling, fill-starts, fill-turns, fill-ends}
+use Rattle.seq.specs.Loops.Filling.{Filling, fill-starts, fill-turns, fill-ends}
 use Rattle.pairs.proofs.rows.lay_holes.Statement.{statement}
 use Rattle.pairs.proofs.rows.lay_holes.Tie as tie
 
@@ -13,28 +13,19 @@ Inv-loop holes n out₀ f₀ out f = Filling (λ (i : ℕ). getD holes i 0) n ou
 abbrev μ-loop : tie.MeasureT-loop
 μ-loop holes n out₀ f₀ out f = n - f
 
-loop-holds : tie.Need-loop-holds Inv-loop μ-loop
-loop-holds c = fill-starts _ _ _ (search needs)
-
-loop-again : tie.Need-loop-again Inv-loop μ-loop
-loop-again c = fill-turns _ (c .before .before .loop .inv) _ (c .before .loop-test .taken) refl
-
-returns : tie.Need-returns Inv-loop μ-loop
-returns c = fill-ends _ (c .before .loop .inv) (search needs)
-
 pub lay-holes-spec : {M : Type 1} → statement M
 lay-holes-spec =
     tie.close
     (tie.spec
     Inv-loop
     μ-loop
-    loop-holds
+    (λ c. fill-starts (search needs))
     (λ c. search needs)
     (λ c. search needs)
     (λ c. search needs)
     (λ c. search needs)
     (λ c. search needs)
     (λ c. search needs)
-    loop-again
+    (λ c. fill-turns (c .before .before .loop .inv) (c .before .loop-test .taken) refl)
     (λ c. search needs)
-    returns)
+    (λ c. fill-ends (c .before .loop .inv) (search needs)))

@@ -2,8 +2,7 @@
 use Prim.Native.Nat.{_-_}
 use borrow.Author.Needs.{needs}
 use lib.ListN.{length}
-use Rattle.seq.specs.Terms.{Wiping}
-use Rattle.seq.specs.Wiped.{wipe-starts, wipe-steps, wipe-ends}
+use Rattle.seq.specs.Loops.Wiping.{Wiping, wipe-starts, wipe-turns, wipe-ends}
 use Rattle.seq.proofs.u32s.wipe_from_u32.Statement.{statement}
 use Rattle.seq.proofs.u32s.wipe_from_u32.Tie as tie
 
@@ -13,14 +12,5 @@ Inv-loop t₀ n i₀ t i = Wiping 0 n t₀ t i
 abbrev μ-loop : tie.MeasureT-loop
 μ-loop t₀ n i₀ t i = length t₀ - i
 
-loop-holds : tie.Need-loop-holds Inv-loop μ-loop
-loop-holds c = wipe-starts 0 _ _ (search needs)
-
-loop-again : tie.Need-loop-again Inv-loop μ-loop
-loop-again c = wipe-steps 0 (c .before .loop .inv) (search needs)
-
-returns : tie.Need-returns Inv-loop μ-loop
-returns c = wipe-ends 0 (c .before .loop .inv) (search needs)
-
 pub wipe-from-u32-spec : {M : Type 1} → statement M
-wipe-from-u32-spec = tie.close (tie.spec Inv-loop μ-loop loop-holds (λ c. search needs) (λ c. search needs) (λ c. search needs) (λ c. search needs) loop-again (λ c. search needs) returns)
+wipe-from-u32-spec = tie.close (tie.spec Inv-loop μ-loop (λ c. wipe-starts (search needs)) (λ c. search needs) (λ c. search needs) (λ c. search needs) (λ c. search needs) (λ c. wipe-turns (c .before .loop .inv) (search needs)) (λ c. search needs) (λ c. wipe-ends (c .before .loop .inv) (search needs)))

@@ -1,11 +1,10 @@
 -- `tables::half_rows::lay` meets its contract: before turn h the first h rows are stored. Assumes nothing.
 use mathlib.Core.Path.{refl}
 use mathlib.Core.List.{[], _∷_}
-use Prim.Native.Nat.{_*_, _-_}
+use Prim.Native.Nat.{_-_}
 use native.Mathlib.Omega.{arith}
 use borrow.Author.Needs.{needs}
-use denote.Ref.{now}
-use Rattle.graph.specs.Filling.{Laying, lay-starts, lay-turns, lay-ends}
+use Rattle.seq.specs.Loops.Storing.{Laying, lay-starts, lay-turns, lay-ends}
 use Rattle.seq.specs.Seq.{getD}
 use Rattle.tables.specs.Rows.{halfOf}
 use Rattle.tables.proofs.RowLaws.{twin-le}
@@ -17,9 +16,6 @@ Inv-loop halves₀ t m h₀ halves h = Laying 5 (halfOf t) m halves₀ halves h
 
 abbrev μ-loop : tie.MeasureT-loop
 μ-loop halves₀ t m h₀ halves h = m - h
-
-loop-holds : tie.Need-loop-holds Inv-loop μ-loop
-loop-holds c = lay-starts 5 (halfOf (c .before .args .t2)) (λ k. refl) (2 * c .before .args .t2 .edges) (now (c .before .args .halves)) (c .before .pre .1)
 
 twin-requires : tie.Need-twin-requires Inv-loop μ-loop
 twin-requires c κs =
@@ -35,14 +31,8 @@ loop-again c =
     let at : tie.At-loop Inv-loop μ-loop = search needs in
     let t = at .before .before .args .t2 in
     let h = at .loop .h in
-    rw (c .before .before .store5-u16 .ensures)
-    (lay-turns 5 (halfOf t) (λ k. refl) (at .loop .inv) _ (omega arith)
-    (λ i. getD (t .origins) h 0 ∷ after-twin .twin .ensures i ∷ getD (t .next) h 0 ∷ getD (t .prev) h 0 ∷ getD (t .face) h 0 ∷ []))
-
-returns : tie.Need-returns Inv-loop μ-loop
-returns c =
-    let start : tie.Start Inv-loop μ-loop = search needs in
-    lay-ends 5 (halfOf (start .args .t2)) (λ k. refl) (c .before .loop .inv) (omega arith)
+    lay-turns (at .loop .inv) (λ k. refl) (omega arith) (c .before .before .store5-u16 .ensures)
+    (λ i. getD (t .origins) h 0 ∷ after-twin .twin .ensures i ∷ getD (t .next) h 0 ∷ getD (t .prev) h 0 ∷ getD (t .face) h 0 ∷ [])
 
 pub lay-spec : {M : Type 1} → statement M
 lay-spec =
@@ -52,7 +42,7 @@ lay-spec =
     μ-loop
     (λ c. search needs)
     (λ c. search needs)
-    loop-holds
+    (λ c. lay-starts (c .before .pre .1))
     twin-requires
     cast-other
     (λ c. search needs)
@@ -68,4 +58,4 @@ lay-spec =
     (λ c. search needs)
     loop-again
     (λ c. search needs)
-    returns)
+    (λ c. lay-ends (c .before .loop .inv) (λ k. refl) (omega arith)))

@@ -3,8 +3,7 @@ use mathlib.Core.Path.{refl}
 use Prim.Native.Nat.{_-_}
 use native.Mathlib.Omega.{arith}
 use borrow.Author.Needs.{needs}
-use denote.Ref.{now}
-use Rattle.graph.specs.Filling.{Laying, lay-starts, lay-turns, lay-ends}
+use Rattle.seq.specs.Loops.Storing.{Laying, lay-starts, lay-turns, lay-ends}
 use Rattle.tables.specs.Rows.{sourceOf}
 use Rattle.tables.proofs.source_rows.lay.Statement.{statement}
 use Rattle.tables.proofs.source_rows.lay.Tie as tie
@@ -15,19 +14,10 @@ Inv-loop sources₀ t n k₀ sources k = Laying 2 (sourceOf t) n sources₀ sour
 abbrev μ-loop : tie.MeasureT-loop
 μ-loop sources₀ t n k₀ sources k = n - k
 
-loop-holds : tie.Need-loop-holds Inv-loop μ-loop
-loop-holds c = lay-starts 2 (sourceOf (c .before .args .t2)) (λ k. refl) (c .before .args .t2 .edges) (now (c .before .args .sources)) (c .before .pre .1)
-
 loop-again : tie.Need-loop-again Inv-loop μ-loop
 loop-again c =
     let at : tie.At-loop Inv-loop μ-loop = search needs in
-    let t = at .before .before .args .t2 in
-    rw (c .before .before .store2-u32 .ensures) (lay-turns 2 (sourceOf t) (λ k. refl) (at .loop .inv) _ (omega arith) refl)
-
-returns : tie.Need-returns Inv-loop μ-loop
-returns c =
-    let start : tie.Start Inv-loop μ-loop = search needs in
-    lay-ends 2 (sourceOf (start .args .t2)) (λ k. refl) (c .before .loop .inv) (omega arith)
+    lay-turns (at .loop .inv) (λ k. refl) (omega arith) (c .before .before .store2-u32 .ensures) refl
 
 pub lay-spec : {M : Type 1} → statement M
 lay-spec =
@@ -36,7 +26,7 @@ lay-spec =
     Inv-loop
     μ-loop
     (λ c. search needs)
-    loop-holds
+    (λ c. lay-starts (c .before .pre .1))
     (λ c. search needs)
     (λ c. search needs)
     (λ c. search needs)
@@ -51,4 +41,4 @@ lay-spec =
     (λ c. search needs)
     loop-again
     (λ c. search needs)
-    returns)
+    (λ c. lay-ends (c .before .loop .inv) (λ k. refl) (omega arith)))

@@ -4,8 +4,7 @@ use mathlib.Core.List.{[], _∷_}
 use Prim.Native.Nat.{_+_, _*_, _-_}
 use native.Mathlib.Omega.{arith}
 use borrow.Author.Needs.{needs}
-use denote.Ref.{now}
-use Rattle.graph.specs.Filling.{Laying, lay-starts, lay-turns, lay-ends}
+use Rattle.seq.specs.Loops.Storing.{Laying, lay-starts, lay-turns, lay-ends}
 use mir.Syntax.{w64}
 use mir.ValLaws.{toZ-ofZ}
 use Rattle.graph.proofs.Rows.{read, read-first}
@@ -20,9 +19,6 @@ Inv-loop vertices₀ t n v₀ vertices v = Laying 4 (vertexOf t) n vertices₀ v
 abbrev μ-loop : tie.MeasureT-loop
 μ-loop vertices₀ t n v₀ vertices v = n - v
 
-loop-holds : tie.Need-loop-holds Inv-loop μ-loop
-loop-holds c = lay-starts 4 (vertexOf (c .args .t2)) (λ k. refl) (c .args .t2 .count) (now (c .args .vertices)) (c .pre .1)
-
 loop-again : tie.Need-loop-again Inv-loop μ-loop
 loop-again c =
     let after-of-u16 : tie.After-of-u16 Inv-loop μ-loop = search needs in
@@ -33,16 +29,12 @@ loop-again c =
     let t = at .before .args .t2 in
     let v = at .loop .v in
     let h = after-of-u16 .of-u16 in
-    rw (c .before .store4-i64 .ensures)
-    (lay-turns 4 (vertexOf t) (λ k. refl) (at .loop .inv) _ (omega arith)
+    lay-turns (at .loop .inv) (λ k. refl) (omega arith) (c .before .store4-i64 .ensures)
     (λ i. read-first 4 (t .points) v (after-x .x .given) i
     ∷ read (t .points) (4 * v + 1) (after-y .y .given) i
     ∷ read (t .points) (4 * v + 2) (after-d .d .given) i
     ∷ (toZ-ofZ w64 _ (record { sfits = h .ok }) ∙ h .ensures) i
-    ∷ []))
-
-returns : tie.Need-returns Inv-loop μ-loop
-returns c = lay-ends 4 (vertexOf (c .before .before .args .t2)) (λ k. refl) (c .before .loop .inv) (omega arith)
+    ∷ [])
 
 pub lay-spec : {M : Type 1} → statement M
 lay-spec =
@@ -51,7 +43,7 @@ lay-spec =
     Inv-loop
     μ-loop
     (λ c. search needs)
-    loop-holds
+    (λ c. lay-starts (c .pre .1))
     (λ c. search needs)
     (λ c. search needs)
     (λ c. search needs)
@@ -69,4 +61,4 @@ lay-spec =
     (λ c. search needs)
     loop-again
     (λ c. search needs)
-    returns)
+    (λ c. lay-ends (c .before .loop .inv) (λ k. refl) (omega arith)))
