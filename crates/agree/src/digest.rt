@@ -1,11 +1,15 @@
 // The digest of an overlay's tables, as the second program reckons it (second/README.md): FNV-1a of 64 bits.
-use exact::cast::magnitude;
-use ovfile::cells::i64_at;
-use ovfile::cells::u16_at;
-use ovfile::cells::u32_at;
+use exact::magnitude;
+use limits::EDGE_WIDTH;
+use limits::FACE_WIDTH;
+use limits::SOURCE_WIDTH;
+use limits::VERTEX_WIDTH;
+use ovfile::i64_at;
+use ovfile::u16_at;
+use ovfile::u32_at;
 use std::num::wrapping_add_u64;
 use std::num::wrapping_sub_u64;
-use tables::room::Counts;
+use tables::Counts;
 
 const START: u64 = 14695981039346656037;
 
@@ -74,8 +78,8 @@ pub fn of(c: Counts, vertices: &[i64], halves: &[u16], sources: &[u32], faces: &
     let sum = add(START, c.vertices as u64, 2);
     let sum = add(sum, c.edges as u64, 2);
     let sum = add(sum, c.faces as u64, 2);
-    let sum = add_i64s(sum, vertices, 4 * c.vertices as usize);
-    let sum = add_u16s(sum, halves, 10 * c.edges as usize);
-    let sum = add_u32s(sum, sources, 2 * c.edges as usize);
-    add_u16s(sum, faces, 4 * c.faces as usize)
+    let sum = add_i64s(sum, vertices, VERTEX_WIDTH * c.vertices as usize);
+    let sum = add_u16s(sum, halves, EDGE_WIDTH * c.edges as usize);
+    let sum = add_u32s(sum, sources, SOURCE_WIDTH * c.edges as usize);
+    add_u16s(sum, faces, FACE_WIDTH * c.faces as usize)
 }

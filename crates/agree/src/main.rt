@@ -5,8 +5,20 @@ mod pack; // the numbers and files of a pack
 
 use console::say;
 use console::say_number;
-use tables::answer::Answer;
-use tables::room::Counts;
+use limits::FACE_CELLS;
+use limits::FACE_WIDTH;
+use limits::HALF_CELLS;
+use limits::HALF_WIDTH;
+use limits::OVERLAY_EDGES;
+use limits::OVERLAY_FACES;
+use limits::OVERLAY_HALVES;
+use limits::OVERLAY_VERTICES;
+use limits::SOURCE_CELLS;
+use limits::SOURCE_WIDTH;
+use limits::VERTEX_CELLS;
+use limits::VERTEX_WIDTH;
+use tables::Answer;
+use tables::Counts;
 
 fn say_done(c: Counts, digest: u64) {
     say(b"done ");
@@ -45,14 +57,14 @@ fn next(fd: i32) {
     let n = pack::fetch(fd, n, &mut zones);
     let mut blocks = io::large_buffer();
     let m = pack::fetch(fd, m, &mut blocks);
-    let mut vertices = [0i64; 4000];
-    let mut halves = [0u16; 20000];
-    let mut sources = [0u32; 4000];
-    let mut faces = [0u16; 5336];
-    let v = 4 * pack::least(rows.vertices, 1000);
-    let h = 5 * pack::least(rows.halves, 4000);
-    let s = 2 * pack::least(rows.sources, 2000);
-    let f = 4 * pack::least(rows.faces, 1334);
+    let mut vertices = [0i64; VERTEX_CELLS];
+    let mut halves = [0u16; HALF_CELLS];
+    let mut sources = [0u32; SOURCE_CELLS];
+    let mut faces = [0u16; FACE_CELLS];
+    let v = VERTEX_WIDTH * pack::least(rows.vertices, OVERLAY_VERTICES);
+    let h = HALF_WIDTH * pack::least(rows.halves, OVERLAY_HALVES);
+    let s = SOURCE_WIDTH * pack::least(rows.sources, OVERLAY_EDGES);
+    let f = FACE_WIDTH * pack::least(rows.faces, OVERLAY_FACES);
     answer(
         &zones[..n],
         &blocks[..m],

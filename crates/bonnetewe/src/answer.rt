@@ -1,8 +1,8 @@
 // "The answer is either the three counts or a refusal with number, map and place": four numbers of 16 bits in one of 64, the lowest first. The first is 0
 // where it is done, and the counts follow; otherwise it is the refusal's number, and map and place follow.
-use mapcheck::answer::Checked;
+use mapcheck::Checked;
 use ovwrite::WriteAnswer;
-use tables::answer::Answer;
+use tables::Answer;
 ghost use mathlib.Core.Path.{_≡_};
 ghost use Rattle.tables.specs.Values.{answerOf};
 ghost use Rattle.mapcheck.specs.Answer.{answerOf as checkedOf};

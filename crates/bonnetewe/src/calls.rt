@@ -2,7 +2,7 @@
 use crate::answer::of_answer;
 use crate::answer::of_checked;
 use crate::answer::of_written;
-use tables::room::Counts;
+use tables::Counts;
 ghost use mathlib.Core.Path.{_≡_};
 ghost use lib.ListN.{length};
 ghost use Rattle.paper.specs.Map.{check};

@@ -1,6 +1,6 @@
 // Checks map files: a line for each file named as an argument, `ok V E` or `refused N map 0 place P`.
 use libc::STDOUT_FILENO;
-use mapcheck::answer::Checked;
+use mapcheck::Checked;
 ghost use Rattle.io.specs.Counts.{Counts};
 
 // The file's bytes at the start of buf; a file that cannot be opened has none. The buffer is longer than the longest map, so that a file that does not fit in it is

@@ -5,7 +5,7 @@ use Prim.Native.Nat.{_≤_, _<_}
 use native.Mathlib.Omega.{arith}
 use lib.IntN.{ℤ, pos}
 use Rattle.exact.specs.Lowest.{Pt}
-use Rattle.seq.specs.Seq.{Bool, true, false, List, [], _∷_, _++_, ℕ, _+_, _*_, length, getD, cell, table, rows, someBelow, least, rowStored, isIn, fresh}
+use Rattle.seq.specs.Seq.{Bool, true, false, List, [], _∷_, _++_, ℕ, _+_, _*_, length, getD, cell, rows, someBelow, least, rowStored, isIn, fresh}
 use Rattle.seq.specs.Least.{some-ext, some-has, some-none, least-more}
 use Rattle.seq.specs.Collected.{in-some, fresh-old, fresh-new}
 use Rattle.seq.specs.Table.{length-table, table-at, table-more, table-ext}

@@ -12,6 +12,7 @@ use Rattle.seq.specs.Seq.{List, [], _∷_, map, none, some, ℕ, zero, suc, _+_
 use Rattle.seq.specs.Least.{least-min, least-le}
 use Rattle.seq.specs.Table.{length-table, table-at, table-ext, table-map}
 use Rattle.seq.specs.Laid.{laid-at}
+use Rattle.seq.specs.Options.{none-some}
 use Rattle.paper.specs.Limits.{maps}
 use Rattle.paper.specs.Graph.{Edge, edge, noEdge}
 use Rattle.paper.specs.Map.{Map}
@@ -25,23 +26,20 @@ use Rattle.cut.specs.NetLaws.{row-stored, edge-there, edge-absent, carri
 
 -- ── the first source in a list ──
 
-none-some : {A : Type 0} {k : ℕ} → none ≡ some k → A
-none-some e = let z : _≡_ {A = ℕ} 0 1 = cc in absurd (omega arith)
-
 carrier-at : (ms : List Map) (ss : List (Option ℕ)) (i k : ℕ) → i < length ms → getD ss i none ≡ some k → ((j : ℕ) → j < i → getD ss j none ≡ none)
     → carrierOf ms ss ≡ edge (layer ms i .graph) k .carrier
 carrier-at [] ss i k h e f = absurd (not-suc-le-zero h)
-carrier-at (m ∷ ms) [] i k h e f = none-some e
-carrier-at (m ∷ ms) (none ∷ ss) zero k h e f = none-some e
+carrier-at (m ∷ ms) [] i k h e f = absurd (none-some e)
+carrier-at (m ∷ ms) (none ∷ ss) zero k h e f = absurd (none-some e)
 carrier-at (m ∷ ms) (some r ∷ ss) zero k h e f = let q : r ≡ k = cc in ap (λ (j : ℕ). edge (m .graph) j .carrier) q
 carrier-at (m ∷ ms) (none ∷ ss) (suc i) k h e f = carrier-at ms ss i k (le-of-suc-le-suc h) e (λ j l. f (suc j) (suc-le-suc l))
-carrier-at (m ∷ ms) (some r ∷ ss) (suc i) k h e f = none-some (sym (f 0 (suc-le-suc zero-le)))
+carrier-at (m ∷ ms) (some r ∷ ss) (suc i) k h e f = absurd (none-some (sym (f 0 (suc-le-suc zero-le))))
 
 carrier-absent : (ms : List Map) (ss : List (Option ℕ)) → ((j : ℕ) → getD ss j none ≡ none) → carrierOf ms ss ≡ noSeg
 carrier-absent [] ss f = refl
 carrier-absent (m ∷ ms) [] f = refl
 carrier-absent (m ∷ ms) (none ∷ ss) f = carrier-absent ms ss (λ j. f (suc j))
-carrier-absent (m ∷ ms) (some r ∷ ss) f = none-some (sym (f 0))
+carrier-absent (m ∷ ms) (some r ∷ ss) f = absurd (none-some (sym (f 0)))
 
 -- ── of a row of the table of pieces ──
 

@@ -10,6 +10,7 @@ use Rattle.seq.specs.Seq.{Bool, true, false, not, _&&_, List, [], _∷_, ℕ, _
 use Rattle.seq.specs.Terms.{Every, Distinct, Transitive, Asymmetric}
 use Rattle.seq.specs.Least.{least-le}
 use Rattle.seq.specs.Members.{every-in}
+use Rattle.seq.specs.ByHalves.{Clear}
 use Rattle.paper.specs.Plane.{before, whole, nowhere}
 use Rattle.paper.specs.Pieces.{inOrder}
 use Rattle.planelaws.specs.Points.{before-asym, before-trans, same-point}
@@ -17,7 +18,7 @@ use Rattle.graph.specs.Flat.{pointAt, Points}
 use Rattle.cut.specs.Lifted.{lifted, putAt}
 use Rattle.cut.specs.RowInserted.{rowInserted, read-inserted, read-past}
 use Rattle.cut.specs.Placed.{placeBy, putIn, place-table}
-use Rattle.cut.specs.Sorting.{Clear, sorting, sorting-is}
+use Rattle.cut.specs.Sorting.{sorting, sorting-is}
 
 -- the points in the first n rows
 abbrev pub pointsOf : List ℤ → ℕ → List Pt

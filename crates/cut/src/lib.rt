@@ -1,8 +1,13 @@
 // The overlay's vertices, collected and ordered, and the pieces of the input edges, from all maps' edges in one table.
-pub mod limits; // the numbers of 01
-pub mod rows; // cells of a table moved
-pub mod collect; // corners and crossings, each point once
-pub mod order; // points put in order
-pub mod put; // a piece put in order
-pub mod pieces; // the edges cut into pieces
-pub mod net; // the overlay's graph in tables
+mod rows; // cells of a table moved
+mod collecting; // corners and crossings, each point once
+mod ordering; // points put in order
+mod put; // a piece put in order
+mod cutting; // the edges cut into pieces
+mod edges; // the overlay's graph in tables
+
+pub use collecting::collect;
+pub use cutting::pieces;
+pub use edges::carriers;
+pub use edges::origins;
+pub use ordering::order;

@@ -10,7 +10,8 @@ use Rattle.paper.specs.Map.{fault}
 use Rattle.paper.specs.Faces.{overlayOf}
 use Rattle.paper.specs.Tables.{Counts, Tables, tablesOf}
 use Rattle.paper.specs.Lent.{Lengths, roomIn, roomFaults, paddedTables, zeroTables, mapFaults, Outcome, overlay}
-use Rattle.potential.specs.Done.{Fits, done-passes, done-fits, done-counts, done-tables}
+use Rattle.refusallaws.specs.Room.{Fits}
+use Rattle.potential.specs.Done.{done-passes, done-fits, done-counts, done-tables}
 use Rattle.potential.specs.Demand3.{Agrees, both, pairOf, counted, demand-3, labels-agree}
 use Rattle.tables.specs.declared.answer.Answer as code
 use Rattle.tables.specs.Values.{answerOf, outcomeOf}

@@ -14,16 +14,7 @@ use Rattle.exact.specs.Ring.{neg-*ℤ}
 use Rattle.exact.specs.Solve.{ring, reify}
 use mathlib.Core.List.{[], _∷_}
 use lib.Signed.{quotZ}
-
--- with fuel that bounds the second number
-unfoldable pub gcdF : ℕ → ℕ → ℕ → ℕ
-gcdF zero a b = a
-gcdF (suc f) a zero = a
-gcdF (suc f) a (suc b) = gcdF f (suc b) (a % suc b)
-
-unfoldable pub gcdOf : ℕ → ℕ → ℕ
-unfolding gcdF
-gcdOf a b = gcdF b a b
+pub use Rattle.exact.specs.Exact.{gcdF, gcdOf, gcd3}
 
 -- it computes
 twelve : gcdOf 123456789012 9876543210 ≡ 6
@@ -97,9 +88,6 @@ gcd-mul c l = gcd-ind (λ a b. gcdOf (a * c) (b * c) ≡ gcdOf a b * c)
     pos-times b c h l = native.Mathlib.Nat.mul-pos h l
 
 -- ---- a triple in lowest terms
-abbrev pub gcd3 : ℕ → ℕ → ℕ → ℕ
-gcd3 x y d = gcdOf (gcdOf x y) d
-
 pub gcd3-mul : (c : ℕ) → 0 < c → (x y d : ℕ) → gcd3 (x * c) (y * c) (d * c) ≡ gcd3 x y d * c
 gcd3-mul c l x y d = ap (λ (g : ℕ). gcdOf g (d * c)) (gcd-mul c l x y) ∙ gcd-mul c l (gcdOf x y) d
 

@@ -1,3 +1,4 @@
+pub mod Exact
 pub mod Ring
 pub mod Poly
 pub mod Solve
@@ -6,8 +7,10 @@ pub mod Abs
 pub mod Linear
 pub mod Order
 pub mod Mul
+pub mod Mean
 pub mod Sign
 pub mod Tests
+pub mod Signs
 pub mod Terms
 pub mod Flags
 pub mod Bits
@@ -15,7 +18,7 @@ pub mod Range
 pub mod Mach
 pub mod Gcd
 pub mod Lowest
-pub mod Cast
 pub mod Compare
-pub mod Quotients
+pub mod Digits
+pub mod Floor
 pub mod Worked

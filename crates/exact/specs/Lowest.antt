@@ -18,27 +18,10 @@ use Rattle.exact.specs.Order.{pos-<, <→≢}
 use Rattle.exact.specs.Mul.{*-cancel-≡, ≡-by₂}
 pub use Rattle.exact.specs.Abs.{abs-pos}
 use Rattle.exact.specs.Abs.{bd-quot}
-use Rattle.exact.specs.Gcd.{gcd3, gcdOf, gcd-step, gcd-zero, reduce-lowest, reduce-x, reduce-y, quot-exact}
+use Rattle.exact.specs.Gcd.{gcd-step, gcd-zero, reduce-lowest, reduce-x, reduce-y, quot-exact}
 use Rattle.exact.specs.Gcd as Gcd
-
--- "(X, Y, D) with D > 0, meaning the point X/D, Y/D"
-pub record Pt : Type 0 where
-  pub X : ℤ
-  pub Y : ℤ
-  pub D : ℤ
-
-abbrev pub pt : ℤ → ℤ → ℤ → Pt
-pt X Y D = record { X = X; Y = Y; D = D }
-
--- "divided by the greatest common divisor of the three"
-abbrev pub lowest : ℤ → ℤ → ℤ → Pt
-lowest X Y D =
-    let g = pos (gcd3 (natAbs X) (natAbs Y) (natAbs D)) in record { X = quotZ X g; Y = quotZ Y g; D = quotZ D g }
-
--- a triple in lowest terms
-pub record Lowest (p : Pt) : Type 0 where
-  pub positive : pos 0 <ℤ p .D
-  pub coprime : gcd3 (natAbs (p .X)) (natAbs (p .Y)) (natAbs (p .D)) ≡ 1
+use Rattle.exact.specs.Exact.{gcd3, gcdOf}
+pub use Rattle.exact.specs.Exact.{Pt, pt, lowest, Lowest}
 
 -- ---- dividing gives lowest terms of the same point
 module _ (X Y : ℤ) where

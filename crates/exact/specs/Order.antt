@@ -1,4 +1,4 @@
--- The order of ℤ (`lib.Signed`) and its laws, in which order: transitive, antisymmetric, monotone; a ≤ b as 0 ≤ b - a; three ways, `Tri`; the sign of a number;
+-- The order of ℤ (`lib.Signed`) and its laws, in which order: transitive, antisymmetric, monotone; a ≤ b as 0 ≤ b - a; signs of differences and negations; three ways, `Tri`; the sign of a number;
 -- products of what is positive, and no zero divisors. The names of Parts and Linear (`zomega`) are passed on.
 -- The fixity of _≤ℤ_ and _<ℤ_ is 50, so a sum beside one stands in parentheses. Assumes nothing.
 use mathlib.Core.Path.{_≡_, refl, sym, _∙_, ap}
@@ -12,6 +12,7 @@ use lib.Signed.{_≤ℤ_, _<ℤ_}
 use Rattle.exact.specs.Abs.{abs-*}
 pub use Rattle.exact.specs.Parts.{pp, np, ≤-to, ≤-of, <-to, <-of, ≡-to, ≡-of, pos-≤, ≤-pos, pos-<, <-pos, 0≤pos, pos≮0, Is, is-+, is-neg, is-*}
 pub use Rattle.exact.specs.Linear.{is-sum, pC, nC, pM, nM, pT, nT, P, N, Sq, ≤to, ≤of, <to, <of, ≡to, ≡of, sq≤, sq<, sq≡, sq→, sq×, sq⊥, sq, zomega}
+pub use Rattle.exact.specs.Exact.{Sign, neg, zer, plus, sgn}
 
 -- ---- by `zomega`
 pub ≤-trans : {a b c : ℤ} → a ≤ℤ b → b ≤ℤ c → a ≤ℤ c
@@ -22,6 +23,9 @@ pub <-trans : {a b c : ℤ} → a <ℤ b → b <ℤ c → a <ℤ c
 
 pub ≤-<-trans : {a b c : ℤ} → a ≤ℤ b → b <ℤ c → a <ℤ c
 ≤-<-trans {a} {b} {c} = zomega (a ∷ b ∷ c ∷ []) (search sq depth 20) (omega arith)
+
+pub <-≤-trans : {a b c : ℤ} → a <ℤ b → b ≤ℤ c → a <ℤ c
+<-≤-trans {a} {b} {c} = zomega (a ∷ b ∷ c ∷ []) (search sq depth 20) (omega arith)
 
 pub <→≤ : {a b : ℤ} → a <ℤ b → a ≤ℤ b
 <→≤ {a} {b} = zomega (a ∷ b ∷ []) (search sq depth 20) (omega arith)
@@ -60,6 +64,35 @@ pub <→0< : {a b : ℤ} → a <ℤ b → pos 0 <ℤ (b -ℤ a)
 pub 0<→< : (a b : ℤ) → pos 0 <ℤ (b -ℤ a) → a <ℤ b
 0<→< a b = zomega (a ∷ b ∷ []) (search sq depth 20) (omega arith)
 
+-- there is no number between a and b = a + 1
+pub less-gap : (a b : ℤ) → a <ℤ b → pos 0 ≤ℤ (b -ℤ a -ℤ pos 1)
+less-gap a b = zomega (a ∷ b ∷ []) (search sq depth 20) (omega arith)
+
+-- ---- the sign of a difference and of a negation
+pub less-neg : (a b : ℤ) → a <ℤ b → (a -ℤ b) <ℤ pos 0
+less-neg a b = zomega (a ∷ b ∷ []) (search sq depth 20) (omega arith)
+
+pub neg-less : (a b : ℤ) → (a -ℤ b) <ℤ pos 0 → a <ℤ b
+neg-less a b = zomega (a ∷ b ∷ []) (search sq depth 20) (omega arith)
+
+pub sub-back : (a b : ℤ) → b -ℤ a ≡ negℤ (a -ℤ b)
+sub-back a b = zomega (a ∷ b ∷ []) (search sq depth 20) (omega arith)
+
+pub 0<-neg : (a : ℤ) → a <ℤ pos 0 → pos 0 <ℤ negℤ a
+0<-neg a = zomega (a ∷ []) (search sq depth 20) (omega arith)
+
+pub neg-<0 : (a : ℤ) → pos 0 <ℤ negℤ a → a <ℤ pos 0
+neg-<0 a = zomega (a ∷ []) (search sq depth 20) (omega arith)
+
+pub zero-neg : (a : ℤ) → a ≡ pos 0 → negℤ a ≡ pos 0
+zero-neg a = zomega (a ∷ []) (search sq depth 20) (omega arith)
+
+pub neg-zero : (a : ℤ) → negℤ a ≡ pos 0 → a ≡ pos 0
+neg-zero a = zomega (a ∷ []) (search sq depth 20) (omega arith)
+
+pub pos-once : (a b : ℕ) → pos a ≡ pos b → a ≡ b
+pos-once a b e = cc
+
 -- ---- three ways
 pub data Tri (a b : ℤ) : Type 0 where
   lt : a <ℤ b → Tri a b
@@ -88,15 +121,7 @@ pub ≤-or-< : (a b : ℤ) → (a ≤ℤ b) ⊎ (b <ℤ a)
     go (eq e) = inl (≤-of-≡ e)
     go (gt h) = inr h
 
--- the sign of an integer, as data
-pub data Sign : Type 0 where
-  neg zer plus : Sign
-
-abbrev pub sgn : ℤ → Sign
-sgn (pos zero) = zer
-sgn (pos (suc n)) = plus
-sgn (negsuc n) = neg
-
+-- the sign of an integer
 pub sgn-plus : {z : ℤ} → pos 0 <ℤ z → sgn z ≡ plus
 sgn-plus {z = pos zero} h = absurd (h .lt)
 sgn-plus {z = pos (suc n)} h = refl

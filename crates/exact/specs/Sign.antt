@@ -16,33 +16,13 @@ use lib.Signed.{_≤ℤ_, _<ℤ_}
 use Rattle.exact.specs.Solve.{ring, reify}
 use Rattle.exact.specs.Order.{zomega, sq, ≤-of, pos-<, 0≤pos, 0≤-*, 0<-*}
 use Rattle.exact.specs.Mul.{≡-by₁, ≡-by₂}
-pub use Rattle.exact.specs.Order.{Sign, neg, zer, plus, sgn, sgn-plus, sgn-neg}
-
--- ---- tests on signs
-abbrev pub isNeg : Sign → Bool
-isNeg neg = true
-isNeg zer = false
-isNeg plus = false
-
-abbrev pub isZer : Sign → Bool
-isZer neg = false
-isZer zer = true
-isZer plus = false
-
-abbrev pub isPlus : Sign → Bool
-isPlus neg = false
-isPlus zer = false
-isPlus plus = true
+pub use Rattle.exact.specs.Order.{sgn-plus, sgn-neg}
+pub use Rattle.exact.specs.Exact.{Sign, neg, zer, plus, sgn, isNeg, isZer, isPlus, negS, pick, lexS}
 
 abbrev pub same : Sign → Sign → Bool
 same neg s = isNeg s
 same zer s = isZer s
 same plus s = isPlus s
-
-abbrev pub negS : Sign → Sign
-negS neg = plus
-negS zer = zer
-negS plus = neg
 
 -- ---- a number's sign, as evidence
 pub data Sg (z : ℤ) : Sign → Type 0 where
@@ -127,15 +107,6 @@ plus-both x y a b n = go (sg x) (sg y)
     go (is-plus p) (is-neg q) = absurd (n .pn p q)
     go (is-plus p) (is-zer q) = absurd (b q)
     go (is-plus p) (is-plus q) = refl
-
--- ---- the sign of a pair
-abbrev pub pick : Sign → Sign → Sign
-pick neg s = neg
-pick zer s = s
-pick plus s = plus
-
-abbrev pub lexS : ℤ → ℤ → Sign
-lexS y x = pick (sgn y) (sgn x)
 
 -- ---- one number for a pair
 pub mix : (N y x : ℤ) → negℤ N <ℤ x → x <ℤ N → sgn (N *ℤ y +ℤ x) ≡ lexS y x

@@ -72,6 +72,9 @@ pub or-false : (a b : Bool) → (a || b) ≡ false → (a ≡ false) × (b ≡ f
 or-false true b e = absurd (clash refl e)
 or-false false b e = (refl, e)
 
+pub false-or : {a b : Bool} → a ≡ false → b ≡ false → (a || b) ≡ false
+false-or e f = rw (e, f)
+
 pub and-both : {a b : Bool} → a ≡ true → b ≡ true → (a && b) ≡ true
 and-both e f = rw (e, f)
 

@@ -4,7 +4,7 @@ use Prim.Native.Nat.{_≤_, _<_}
 use native.Mathlib.Omega.{arith}
 use borrow.Author.Tests.{eqb-true, eq-eqb, ne-eqb}
 use lib.ListN.{set, length-set}
-use Rattle.seq.specs.Seq.{Bool, true, false, cond, List, Option, none, some, ℕ, _+_, eqb, length, getD, best, filled}
+use Rattle.seq.specs.Seq.{Bool, List, ℕ, _+_, eqb, length, getD, filled}
 use Rattle.seq.specs.Best.{best-has}
 use Rattle.seq.specs.Filled.{filled-at, length-filled}
 use Rattle.paper.specs.Limits.{absent}

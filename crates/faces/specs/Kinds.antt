@@ -7,7 +7,7 @@ use borrow.Author.Tests.{eq-eqb, ne-eqb}
 use Rattle.seq.specs.Seq.{Bool, true, false, cond, not, _&&_, List, Option·getD, ℕ, zero, suc, _-_, eqb, length, getD, count, ℤ}
 use Rattle.paper.specs.Limits.{absent}
 use Rattle.paper.specs.Plane.{nowhere}
-use Rattle.paper.specs.Graph.{Graph, west}
+use Rattle.paper.specs.Graph.{west}
 use Rattle.graph.specs.Flat.{startAt, flatGraph, Numbers}
 
 -- what is read of half-edge h is there

@@ -3,14 +3,13 @@
 use mathlib.Core.Path.{_≡_, refl, sym, _∙_, ap, subst}
 use mathlib.Core.Logic.{inl, inr}
 use Prim.Native.Nat.{_≤_, _<_}
-use native.Mathlib.Nat.{le-antisymm}
 use native.Mathlib.Decide.{ℕ-discrete}
 use native.Mathlib.Omega.{arith}
 use borrow.Author.Tests.{lt-ltb, le-ltb, ltb-true, ltb-false}
 use lib.ListN.{set, length-set}
 use lib.Seq.{getD-set-same, getD-set-other, getD-take, length-take-le}
 use Rattle.seq.specs.Seq.{Bool, true, false, cond, List, [], _∷_, ℕ, suc, _+_, _-_, ltb, length, getD, take, walkFrom, walk, leader, filled}
-use Rattle.seq.specs.Terms.{Among, Reach, Injects, step, iter}
+use Rattle.seq.specs.Terms.{Among, Injects, step}
 use Rattle.seq.specs.Tests.{bool-ext}
 use Rattle.seq.specs.Perm.{iter-into}
 use Rattle.seq.specs.Filled.{filled-at, filled-past, length-filled}

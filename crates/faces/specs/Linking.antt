@@ -1,5 +1,5 @@
 -- From one table to the next: what each stage of linking makes, as the definition's. Each stage takes the equation that its function promises. Assumes nothing.
-use mathlib.Core.Path.{_≡_, refl, sym, _∙_, ap, subst}
+use mathlib.Core.Path.{_≡_, sym, _∙_, ap, subst}
 use Prim.Native.Nat.{_≤_, _<_}
 use native.Mathlib.Omega.{arith}
 use lib.ListN.{length-replicate}
@@ -20,7 +20,7 @@ use Rattle.graph.specs.Follow.{Headings, Heads, followerAt, heads-laid, heading
 use Rattle.faces.specs.Lead.{Permutes}
 use Rattle.faces.specs.Turns.{greatestAt, lowAt, topAt}
 use Rattle.faces.specs.Linked.{halfRows, Linked}
-use Rattle.faces.specs.Walked.{topOf, front-followers, next-permutes, front-leader, flat-greatest, flat-top, low-cell}
+use Rattle.faces.specs.Walked.{topOf, next-permutes, front-leader, flat-greatest, flat-top, low-cell}
 
 module _ (ps : List ℤ) (os : List ℕ) (cs : List ℤ) (n e : ℕ) (F : Flat ps os cs n e) (P : Plane (flatGraph ps os cs n e)) where
   abbrev g : Graph

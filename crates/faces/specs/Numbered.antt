@@ -4,41 +4,29 @@ use mathlib.Core.Path.{_≡_, refl, sym, _∙_, ap, subst}
 use Prim.Native.Nat.{_≤_, _<_}
 use native.Mathlib.Numerals.{add-one}
 use native.Mathlib.Omega.{arith}
-use borrow.Author.Tests.{eqb-true, eq-eqb, ne-eqb}
-use Rattle.seq.specs.Seq.{Bool, true, false, cond, not, _&&_, List, Option, none, some, Option·getD, Option·map, ℕ, zero, suc, _+_, _*_, eqb, length, getD, replicate, count, select, table, best, over, filled, padded, orZero, ℤ}
+use borrow.Author.Tests.{eq-eqb, ne-eqb}
+use Rattle.seq.specs.Seq.{Bool, true, false, cond, not, _&&_, List, Option, none, some, Option·getD, ℕ, zero, suc, _+_, _*_, eqb, length, getD, replicate, count, select, table, over, filled, padded, orZero, ℤ}
 use Rattle.seq.specs.Tests.{and-both}
-use Rattle.seq.specs.Best.{best-has}
 use Rattle.seq.specs.Count.{count-ext}
 use Rattle.seq.specs.Select.{select-ext, length-select}
 use Rattle.seq.specs.Table.{table-at}
 use Rattle.seq.specs.Filled.{filled-ext}
 use Rattle.seq.specs.Wiped.{over-zeros}
 use Rattle.paper.specs.Limits.{absent}
-use Rattle.paper.specs.Plane.{Pt, Vec, nowhere}
-use Rattle.paper.specs.Graph.{Graph, halfCount, edgeCount, point, start, followers, smallest, nearer, eastSide, west, holeLook}
+use Rattle.paper.specs.Plane.{Pt, nowhere}
+use Rattle.paper.specs.Graph.{Graph, halfCount, point, followers, smallest, west, holeLook}
 use Rattle.paper.specs.Faces.{walksOf, leadAt, holeAt, leadsHole, leadsOuter, faceIn, holesOf}
 use Rattle.graphlaws.specs.Plane.{Plane}
-use Rattle.graphlaws.specs.East.{east-below}
-use Rattle.graphlaws.specs.West.{candidate}
+use Rattle.graphlaws.specs.West.{look-below}
 use Rattle.graphlaws.specs.Walks.{lead-along, lead-below, lead-lead}
 use Rattle.graphlaws.specs.Holes.{smallest-same, holeAt-same}
 use Rattle.graphlaws.specs.Faces.{face-below}
-use Rattle.graph.specs.Flat.{startAt, originAt, flatGraph, Flat, Numbers}
+use Rattle.graph.specs.Flat.{startAt, flatGraph, Flat, Numbers}
 use Rattle.graph.specs.Decode.{flat-points, flat-halves, flat-start}
 use Rattle.graph.specs.Filling.{Holds}
 use Rattle.faces.specs.Walked.{topOf, top-below, top-origin, top-hole}
 use Rattle.faces.specs.Linked.{facesOf}
 use Rattle.faces.specs.Kinds.{Kinded, Faced, holeOf, outerLead, holeLead, outerNumber, seenAt, seenBy, faceFrom, holesIn}
-
--- what is seen is a half-edge
-pub west-below : (g : Graph) (p : Pt) (d : Vec) (y : ℕ) → west g p d ≡ some y → y < halfCount g
-west-below g p d y q = go (best (candidate g p d) (nearer g p) (edgeCount g)) refl q
-  where
-    go : (o : Option ℕ) → best (candidate g p d) (nearer g p) (edgeCount g) ≡ o → Option·map (eastSide g) o ≡ some y → y < halfCount g
-    go none e f = absurd (let z : _≡_ {A = ℕ} 0 1 = cc in omega arith)
-    go (some k) e f =
-        let i : eastSide g k ≡ y = cc in
-        subst (λ (x : ℕ). x < halfCount g) i (east-below g k (best-has (candidate g p d) (nearer g p) (edgeCount g) k e .below))
 
 module _ (ps : List ℤ) (os : List ℕ) (cs : List ℤ) (n e : ℕ) (F : Flat ps os cs n e) (P : Plane (flatGraph ps os cs n e)) (small : 2 * e ≤ absent) where
   abbrev g : Graph
@@ -121,7 +109,7 @@ module _ (ps : List ℤ) (os : List ℕ) (cs : List ℤ) (n e : ℕ) (F : Flat p
       half-by (some y) b f = b y refl
 
       seen-by : (c : Bool) (t : ℕ) → (cond c (seenAt ps os cs n e t) absent ≡ absent → ⊥) → cond c (seenAt ps os cs n e t) absent < 2 * e
-      seen-by true t f = half-by (west g (startAt ps os t) nowhere) (λ y q. omega (arith, halves, west-below g (startAt ps os t) nowhere y q)) f
+      seen-by true t f = half-by (west g (startAt ps os t) nowhere) (λ y q. omega (arith, halves, look-below g (startAt ps os t) nowhere y q)) f
       seen-by false t f = absurd (f refl)
 
       pub seen-half : (h : ℕ) → h < 2 * e → (getD ss h 0 ≡ absent → ⊥) → getD ss h 0 < 2 * e
@@ -141,7 +129,7 @@ module _ (ps : List ℤ) (os : List ℕ) (cs : List ℤ) (n e : ℕ) (F : Flat p
             ap (λ (c : Bool). cond c 0 (faceFrom ls ts ss ns k y)) (ne-eqb y absent (λ q. omega (arith, b y refl, small))) ∙ ih y refl
 
         seen-under : (h y : ℕ) → holeLook g (followers g) h ≡ some y → y < 2 * e
-        seen-under h y q = omega (arith, halves, west-below g (point g (smallest g (followers g) h)) nowhere y q)
+        seen-under h y q = omega (arith, halves, look-below g (point g (smallest g (followers g) h)) nowhere y q)
 
         -- one look, by the kind of h's walk
         face-by : (k h : ℕ) → h < 2 * e → ((y : ℕ) → y < 2 * e → faceFrom ls ts ss ns k y ≡ faceIn (walksOf g) k y) → (c : Bool) → holeAt (walksOf g) h ≡ c

@@ -2,35 +2,33 @@
 -- greatest angle out of each vertex; the low half-edge of a walk starts at its smallest vertex; so `topOf`, the half-edge of greatest angle out of the smallest
 -- vertex of h's walk, says what that vertex is, whether the walk is a hole walk and which half-edge makes it one. Assumes nothing.
 use mathlib.Core.Path.{_≡_, refl, sym, _∙_, ap, subst}
-use mathlib.Core.Logic.{inl, inr}
-use Prim.Native.Nat.{_≤_, _<_}
+use mathlib.Core.Logic.{inl}
+use Prim.Native.Nat.{_<_}
 use native.Mathlib.Omega.{arith}
 use lib.Signed.{_<ℤ_}
 use borrow.Author.Tests.{eqb-true, eq-eqb}
-use Rattle.seq.specs.Seq.{Bool, true, false, List, [], _∷_, Option, none, some, Option·getD, ℕ, _*_, eqb, length, getD, take, among, leader, best, ℤ, pos}
-use Rattle.seq.specs.Terms.{Among, Has, Top, TopIs, Best, BestIs, Strict, Injects, step}
+use Rattle.seq.specs.Seq.{Bool, true, List, [], _∷_, Option, none, some, Option·getD, ℕ, _*_, eqb, length, getD, take, among, leader, best, ℤ, pos}
+use Rattle.seq.specs.Terms.{Has, TopIs, BestIs, Strict, Injects, step}
 use Rattle.seq.specs.Tests.{bool-ext}
 use Rattle.seq.specs.Best.{best-top}
 use Rattle.seq.specs.BestLoop.{best-ext}
-use Rattle.seq.specs.Position.{among-elem, among-some, elem-among}
+use Rattle.seq.specs.Position.{among-elem, elem-among}
 use Rattle.seq.specs.Members.{among-one}
 use Rattle.paper.specs.Limits.{absent}
 use Rattle.paper.specs.Plane.{lessAngle, before}
-use Rattle.paper.specs.Graph.{Graph, halfCount, point, origin, start, follower, followers, walk, smallest, leaves, heading, greatestOut, holeWalk, makesHole}
+use Rattle.paper.specs.Graph.{Graph, halfCount, origin, follower, followers, walk, smallest, leaves, heading, greatestOut, makesHole}
 use Rattle.paper.specs.Faces.{walksOf, leadAt, holeAt}
 use Rattle.planelaws.specs.Points.{before-irr, before-trans}
-use Rattle.graphlaws.specs.Plane.{Plane, real-at}
-use Rattle.graphlaws.specs.Follow.{followers-inject, followers-length, lesser, greatest-is}
-use Rattle.graphlaws.specs.Walks.{Along, lead-is, lead-below, lead-same, lead-one, lead-along, along-walk, walk-along, along-below, along-sym, along-trans, hole-is}
-use Rattle.graphlaws.specs.Holes.{smallest-start, smallest-first, smallest-is, smallest-below, smallest-same}
+use Rattle.graphlaws.specs.Plane.{Plane}
+use Rattle.graphlaws.specs.Follow.{followers-inject, lesser, greatest-is}
+use Rattle.graphlaws.specs.Walks.{Along, lead-is, lead-below, lead-same, lead-one, along-walk, walk-along, along-below, hole-is}
+use Rattle.graphlaws.specs.Holes.{smallest-start, smallest-is, smallest-below}
 use Rattle.graph.specs.Flat.{originAt, startAt, flatGraph, Flat}
 use Rattle.graph.specs.Decode.{flat-points, flat-halves, flat-origin, flat-start}
 use Rattle.graph.specs.Filling.{Holds, front-table}
-use Rattle.graph.specs.Heading.{vecAt}
-use Rattle.graph.specs.Pick.{pick, pick-some}
 use Rattle.graph.specs.Follow.{Heads}
 use Rattle.faces.specs.Lead.{Permutes}
-use Rattle.faces.specs.Chosen.{hasKey, chosen}
+use Rattle.faces.specs.Chosen.{hasKey}
 use Rattle.faces.specs.Turns.{greaterAt, greatestAt, earlierAt, lowAt, topAt}
 
 -- the half-edge of greatest angle out of the smallest vertex of h's walk

@@ -1,5 +1,9 @@
 // Walks and faces of a graph in flat tables.
-pub mod limits; // the numbers of 01
-pub mod walks; // the least half-edge of each walk, its smallest vertex, hole walk or outer walk
-pub mod link; // all of it at once
-pub mod faces; // faces and their hole walks
+mod walks; // the least half-edge of each walk, its smallest vertex, hole walk or outer walk
+mod linking; // all of it at once
+mod numbering; // faces and their hole walks
+
+pub use linking::Faces;
+pub use linking::Walks;
+pub use linking::enclose;
+pub use linking::link;

@@ -1,10 +1,10 @@
 // Walks: the least half-edge of each, its smallest vertex, hole walk or outer walk.
-use graph::follow::heading_at;
-use graph::heading::start;
-use graph::places::ABSENT;
-use graph::places::fill;
-use plane::angle::less_angle;
-use plane::order::before;
+use graph::fill;
+use graph::heading_at;
+use graph::start;
+use limits::ABSENT;
+use plane::before;
+use plane::less_angle;
 ghost use mathlib.Core.Path.{_≡_};
 ghost use Prim.Native.Nat.{ℕ, _≤_, _<_};
 ghost use lib.ListN.{length, getD, take};

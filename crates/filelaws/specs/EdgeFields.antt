@@ -1,7 +1,7 @@
 -- The fields of an edge record, by name: origins, sources, followers and faces, each at its place among the 16-bit numbers of the record. Of n maps, with b the
 -- lower (0) or the upper (1) half-edge. Assumes nothing.
 use mathlib.Core.Path.{_≡_, refl, sym, _∙_, ap}
-use Prim.Native.Nat.{_<_, _≤_}
+use Prim.Native.Nat.{_<_}
 use native.Mathlib.Nat.{add-zero}
 use native.Mathlib.Decide.{decLt}
 use native.Mathlib.Omega.{arith}

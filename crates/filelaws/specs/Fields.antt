@@ -1,9 +1,9 @@
 -- What the reader's fields give of bytes in which an overlay file stands: each number that fits its bytes, as it was written. Over any version's layout. Assumes nothing.
-use mathlib.Core.Path.{_≡_, refl, sym, _∙_, ap}
+use mathlib.Core.Path.{_≡_, refl, _∙_, ap}
 use Prim.Native.Nat.{_<_}
 use native.Mathlib.Omega.{arith}
 use borrow.Author.Tests.{ltb-true, lt-ltb, eq-eqb, eqb-true}
-use Rattle.seq.specs.Seq.{Bool, true, false, cond, List, [], _∷_, ℕ, suc, _+_, _*_, _/_, _%_, _^_, eqb, getD, ℤ, pos, negsuc}
+use Rattle.seq.specs.Seq.{Bool, true, cond, List, [], _∷_, ℕ, suc, _+_, _*_, _/_, _%_, _^_, eqb, getD, ℤ, pos, negsuc}
 use Rattle.seq.specs.Tests.{and-both, and-parts, never}
 use Rattle.paper.specs.Limits.{denominatorBytes}
 use Rattle.paper.specs.Bytes.{ascii, byteAt, marked, number, u16, signedAt, leSigned, fitsSigned, fitsUnsigned}

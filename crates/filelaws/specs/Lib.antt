@@ -1,6 +1,5 @@
 pub mod Bytes
 pub mod Stands
-pub mod Refusals
 pub mod Agree
 pub mod Placed
 pub mod EdgeFields

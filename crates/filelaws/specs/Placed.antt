@@ -1,6 +1,6 @@
 -- Where each number of an overlay file stands, over any version's layout: the file stands at the start of a list of bytes exactly where its mark, its counts and the
 -- fields of every vertex, edge and face stand at their places (`file-placed`, `placed-file`). And how long it is. Assumes nothing.
-use mathlib.Core.Path.{_≡_, refl, sym, _∙_, ap}
+use mathlib.Core.Path.{_≡_, _∙_}
 use Prim.Native.Nat.{_<_}
 use native.Mathlib.Omega.{arith}
 use lib.ListN.{length-append}
@@ -9,7 +9,7 @@ use Rattle.seq.specs.Rows.{length-rows}
 use Rattle.seq.specs.Table.{length-table, table-at}
 use Rattle.paper.specs.Limits.{overlayHead, denominatorBytes}
 use Rattle.paper.specs.Bytes.{ascii, le, leSigned}
-use Rattle.paper.specs.Tables.{faceWidth, vertexCell, originOf, followerOf, faceOf, sourceCell, faceCell, Counts, Tables}
+use Rattle.paper.specs.Tables.{faceWidth, vertexCell, followerOf, faceOf, sourceCell, faceCell, Counts, Tables}
 use Rattle.paper.specs.Ovfile.{Layout, vertexSize, edgeSize, faceSize, edgesAt, facesAt, fileLength, vertexBytes, edgeFields, faceFields, overlayFile}
 use Rattle.filelaws.specs.Bytes.{Stands, length-leSigned}
 use Rattle.filelaws.specs.Stands.{front-stands, back-stands, both-stand, row-stands, rows-stand, field-stands, fields-stand, length-fields}

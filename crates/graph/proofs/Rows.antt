@@ -7,7 +7,7 @@ use mir.Syntax.{w64}
 use mir.Val.{hbits}
 use lib.Signed.{mag}
 use mir.ValLaws.{toZ-ofZ}
-use Rattle.seq.specs.Seq.{List, ℕ, _+_, _*_, _^_, getD, ℤ, pos, negℤ, _-ℤ_, cell}
+use Rattle.seq.specs.Seq.{List, ℕ, _*_, _^_, getD, ℤ, pos, negℤ, _-ℤ_, cell}
 use Rattle.exact.specs.Solve.{ring, reify}
 use Rattle.plane.proofs.Machine.{back}
 

@@ -1,11 +1,11 @@
 -- What a graph in flat tables holds, cell by cell: `flatGraph` at each vertex, edge and half-edge is what stands in its row. Assumes nothing.
-use mathlib.Core.Path.{_≡_, refl, sym, _∙_, ap}
+use mathlib.Core.Path.{_≡_, sym, _∙_, ap}
 use Prim.Native.Nat.{_<_}
 use native.Mathlib.Omega.{arith}
-use Rattle.seq.specs.Seq.{Bool, cond, List, ℕ, _+_, _*_, _/_, length, ℤ}
+use Rattle.seq.specs.Seq.{List, ℕ, _*_, _/_, length, ℤ}
 use Rattle.seq.specs.Table.{length-table, table-at}
-use Rattle.paper.specs.Plane.{Pt, Vec, Seg, whole, nowhere, leftBy}
-use Rattle.paper.specs.Graph.{Graph, Edge, edgeCount, halfCount, point, edge, noEdge, twin, origin, start, upward, leftOf}
+use Rattle.paper.specs.Plane.{Pt, Seg, whole, nowhere, leftBy}
+use Rattle.paper.specs.Graph.{Edge, edgeCount, halfCount, point, edge, noEdge, origin, start, upward, leftOf}
 use Rattle.graphlaws.specs.Halves.{Which, first, second, which, origin-first, origin-second}
 use Rattle.graph.specs.Flat.{pointAt, carrierAt, originAt, edgeAt, flatGraph, Origins}
 

@@ -8,7 +8,7 @@ use native.Mathlib.Decide.{decLt, ℕ-discrete}
 use native.Mathlib.Omega.{arith}
 use lib.ListN.{set, length-set}
 use lib.Seq.{length-sets, ext-getD, getD-set-same, getD-set-other, getD-take, length-take-le}
-use Rattle.seq.specs.Seq.{List, ℕ, _+_, _*_, length, getD, take, table, sets, filled, laid, rowStored}
+use Rattle.seq.specs.Seq.{List, ℕ, _+_, _*_, length, getD, take, table, filled, laid, rowStored}
 use Rattle.seq.specs.Table.{table-is}
 use Rattle.seq.specs.Filled.{filled-none, filled-more, length-filled, filled-at, filled-past}
 use Rattle.seq.specs.Laid.{laid-none, laid-more}

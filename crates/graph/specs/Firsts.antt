@@ -2,10 +2,10 @@
 use mathlib.Core.Path.{_≡_, sym, _∙_, ap}
 use Prim.Native.Nat.{_<_}
 use native.Mathlib.Omega.{arith}
-use borrow.Author.Tests.{lt-ltb, eqb-true, eq-eqb}
+use borrow.Author.Tests.{lt-ltb}
 use Rattle.seq.specs.Seq.{Bool, cond, List, ℕ, _*_, eqb, ltb, length, getD, least, position, ℤ}
 use Rattle.seq.specs.Terms.{standsAt}
-use Rattle.seq.specs.Tests.{bool-ext}
+use Rattle.seq.specs.Tests.{eqb-swap}
 use Rattle.seq.specs.Least.{least-ext}
 use Rattle.seq.specs.Position.{position-least}
 use Rattle.paper.specs.Limits.{absent}
@@ -26,9 +26,6 @@ place-least ps os cs n e v =
     let s : least (λ k. eqb (originAt os k) v) (2 * e) ≡ least (leaves g v) (2 * e) =
     least-ext (λ k. eqb (originAt os k) v) (leaves g v) (2 * e) (λ k l. ap (λ (x : ℕ). eqb x v) (sym (flat-origin ps os cs n e k l))) in
     ap (λ (h : ℕ). cond (ltb h (2 * e)) h absent) s ∙ ap (λ (j : ℕ). leastHalf (leaves g v) j) (sym m)
-
-eqb-swap : (x y : ℕ) → eqb x y ≡ eqb y x
-eqb-swap x y = bool-ext (eqb x y) (eqb y x) (λ e. eq-eqb y x (sym (eqb-true x y e))) (λ e. eq-eqb x y (sym (eqb-true y x e)))
 
 -- of what stands in a list, in a table that begins with the list: its position
 pub place-position : (ys t : List ℕ) (none x : ℕ) → Holds (λ i. getD ys i 0) t (length ys) → position x ys < length ys → firstPlace t (length ys) none x ≡ position x ys

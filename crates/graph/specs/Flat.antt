@@ -2,7 +2,7 @@
 -- numbers (X, Y, D and a spare cell), an origin one number for each half-edge, a carrier a row of four (foot and direction).
 -- Then how large the numbers are, by document 01's limits. Assumes nothing.
 use Prim.Native.Nat.{_<_, _≤_}
-use Rattle.seq.specs.Seq.{List, [], _∷_, ℕ, _+_, _*_, length, getD, ℤ, pos, cell, table}
+use Rattle.seq.specs.Seq.{List, ℕ, _+_, _*_, length, getD, ℤ, pos, cell, table}
 use Rattle.exact.specs.Lowest.{pt}
 use Rattle.paper.specs.Plane.{Pt, Seg}
 use Rattle.paper.specs.Graph.{Graph, Edge}

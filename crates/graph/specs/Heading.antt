@@ -2,7 +2,7 @@
 use mathlib.Core.Path.{_≡_}
 use Prim.Native.Nat.{_<_}
 use native.Mathlib.Omega.{arith}
-use Rattle.seq.specs.Seq.{Bool, cond, List, [], _∷_, ℕ, _+_, _*_, _/_, length, ℤ, pos, cell}
+use Rattle.seq.specs.Seq.{Bool, cond, List, [], _∷_, ℕ, _+_, _*_, _/_, ℤ, pos, cell}
 use Rattle.paper.specs.Plane.{Vec, vec, opposite, before}
 use Rattle.paper.specs.Graph.{twin, goesUp, heading}
 use Rattle.graphlaws.specs.Halves.{twin-below}

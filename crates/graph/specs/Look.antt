@@ -1,18 +1,18 @@
 -- Looking west in flat tables: what the code computes, and that it is the definition's. What a look answers, in the definition's terms. Assumes nothing.
-use mathlib.Core.Path.{_≡_, refl, sym, _∙_, ap}
+use mathlib.Core.Path.{_≡_, sym, _∙_, ap}
 use Prim.Native.Nat.{_≤_, _<_}
 use native.Mathlib.Omega.{arith}
 use lib.Signed.{_<ℤ_}
-use Rattle.seq.specs.Seq.{Bool, true, false, cond, not, _&&_, List, Option, none, some, Option·map, ℕ, _+_, _*_, ℤ, pos, negℤ, _-ℤ_, _*ℤ_, best}
+use Rattle.seq.specs.Seq.{Bool, cond, not, _&&_, List, Option, none, some, Option·map, ℕ, _+_, _*_, ℤ, pos, negℤ, _-ℤ_, _*ℤ_, best}
 use Rattle.seq.specs.Best.{best-has}
 use Rattle.seq.specs.BestLoop.{best-ext}
 use Rattle.paper.specs.Plane.{Pt, Vec, Seg, vec, cross, rises, below, leftBy}
-use Rattle.paper.specs.Graph.{edgeCount, start, upward, atHeight, leftOf, westward, nearer, eastSide, west, goesUp}
+use Rattle.paper.specs.Graph.{atHeight, nearer, eastSide, west}
 use Rattle.graphlaws.specs.West.{candidate}
 use Rattle.graphlaws.specs.Across.{height-between}
 use Rattle.plane.specs.Bounds.{Near}
 use Rattle.graph.specs.Flat.{carrierAt, originAt, startAt, flatGraph, Flat}
-use Rattle.graph.specs.Decode.{flat-edges, flat-start, flat-carrier, flat-upward, flat-left}
+use Rattle.graph.specs.Decode.{flat-edges, flat-start, flat-upward, flat-left}
 use Rattle.graph.specs.Heading.{upAt, flat-up}
 use Rattle.graph.specs.Pick.{pick, Away, pick-below}
 use Rattle.graph.specs.declared.look.Seen.{Seen}

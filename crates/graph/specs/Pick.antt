@@ -2,13 +2,13 @@
 -- candidates passed over; that it is the default or a candidate; and the best from it. Assumes nothing.
 use mathlib.Core.Path.{_≡_, refl, sym, _∙_, ap}
 use Prim.Native.Nat.{_≤_, _<_}
-use native.Mathlib.Nat.{add-zero}
 use native.Mathlib.Omega.{arith}
 use borrow.Author.Tests.{eq-eqb, ne-eqb}
-use Rattle.seq.specs.Seq.{Bool, true, false, cond, Option, none, some, Option·getD, ℕ, zero, suc, _+_, _-_, eqb, best, improve}
+use Rattle.seq.specs.Seq.{Bool, true, false, cond, Option, none, some, Option·getD, ℕ, _+_, eqb, best}
 use Rattle.seq.specs.Terms.{Has}
 use Rattle.seq.specs.Best.{best-has}
 use Rattle.seq.specs.BestLoop.{best-skip, best-first, best-better, best-stays}
+use Rattle.seq.specs.Early.{prefix-best}
 
 -- the best below n, or d
 abbrev pub pick : (ℕ → Bool) → (ℕ → ℕ → Bool) → ℕ → ℕ → ℕ
@@ -52,16 +52,8 @@ module _ (p : ℕ → Bool) (b : ℕ → ℕ → Bool) (d : ℕ) where
   turn-no n r s a q e f = f ∙ e ∙ ap (λ (c : Bool). cond c (better b d n (pick p b d n)) (pick p b d n)) (sym q) ∙ sym (pick-turn n a)
 
   -- numbers that are no candidates, passed over at once
-  over : (k n : ℕ) → ((j : ℕ) → n ≤ j → j < n + k → p j ≡ false) → best p b (n + k) ≡ best p b n
-  over zero n f = ap (best p b) (add-zero n)
-  over (suc k) n f =
-      let e : n + suc k ≡ (n + k) + 1 = omega arith in
-      ap (best p b) e ∙ best-skip p b (n + k) (f (n + k) (omega arith) (omega arith)) ∙ over k n (λ j l h. f j l (omega arith))
-
   pub pick-over : (n m : ℕ) → n ≤ m → ((j : ℕ) → n ≤ j → j < m → p j ≡ false) → pick p b d m ≡ pick p b d n
-  pick-over n m l f =
-      let e : m ≡ n + (m - n) = omega arith in
-      ap (λ (o : Option ℕ). Option·getD o d) (ap (best p b) e ∙ over (m - n) n (λ j a h. f j a (omega arith)))
+  pick-over n m l f = ap (λ (o : Option ℕ). Option·getD o d) (sym (prefix-best p b n m l f))
 
   -- it is the default where there is no candidate; otherwise it is the best
   none-by : (n : ℕ) → Away n → (o : Option ℕ) → best p b n ≡ o → Option·getD o d ≡ d → o ≡ none

@@ -3,12 +3,11 @@
 use mathlib.Core.Path.{_≡_, refl, sym, _∙_, ap}
 use Prim.Native.Nat.{_≤_, _<_}
 use native.Mathlib.Decide.{decLt}
-use native.Mathlib.Nat.{zero-add}
 use native.Mathlib.Omega.{arith}
 use lib.ListN.{set, length-set}
 use lib.Seq.{ext-getD}
 use borrow.Author.Tests.{le-ltb, ne-eqb}
-use Rattle.seq.specs.Seq.{Bool, cond, List, ℕ, suc, _+_, _-_, eqb, ltb, length, getD, least, filled, firsts}
+use Rattle.seq.specs.Seq.{Bool, cond, List, ℕ, suc, _-_, eqb, ltb, length, getD, least, filled, firsts}
 use Rattle.seq.specs.Least.{least-none}
 use Rattle.seq.specs.Filled.{length-filled, filled-at, filled-past}
 use Rattle.seq.specs.Firsts.{length-firsts, firsts-none, firsts-more, firsts-all}

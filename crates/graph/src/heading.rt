@@ -1,8 +1,11 @@
 // Which way a half-edge goes.
-use plane::order::before;
-use plane::point::Point;
-use plane::point::Seg;
-use plane::point::Vector;
+use limits::CARRIER_WIDTH;
+use limits::HEADING_WIDTH;
+use limits::POINT_WIDTH;
+use plane::Point;
+use plane::Seg;
+use plane::Vector;
+use plane::before;
 ghost use mathlib.Core.Path.{_≡_};
 ghost use mathlib.Core.List.{[], _∷_};
 ghost use Prim.Native.Nat.{_+_, _*_, _/_, _≤_, _<_};
@@ -30,7 +33,7 @@ pub fn point_at(points: &[i64], v: usize) -> Point
     requires { ⌜ 4 * v + 4 ≤ length (now points) ⌝ }
     ensures { λ r. ⌜ ptOf r ≡ pointAt (now (points .entry)) v ⌝ }
 {
-    let at = 4 * v;
+    let at = POINT_WIDTH * v;
     Point {
         x: points[at],
         y: points[at + 1],
@@ -44,7 +47,7 @@ pub fn carrier_at(carriers: &[i64], k: usize) -> Seg
     ensures is { λ r. ⌜ segOf r ≡ carrierAt (now (carriers .entry)) k ⌝ }
     ensures near { λ r. ⌜ Edge (segOf r) ⌝ }
 {
-    let at = 4 * k;
+    let at = CARRIER_WIDTH * k;
     Seg {
         x: carriers[at],
         y: carriers[at + 1],
@@ -97,7 +100,7 @@ fn store(out: &mut [i64], h: usize, u: Vector)
     requires { ⌜ 2 * h + 2 ≤ length (now out) ⌝ }
     ensures { λ _. ⌜ now (out .exit) ≡ rowStored 2 (now (out .entry)) h (row (vecOf u)) ⌝ }
 {
-    let at = 2 * h;
+    let at = HEADING_WIDTH * h;
     let x = u.x;
     let y = u.y;
     out[at] = x;

@@ -1,6 +1,19 @@
 // Followers and looks of a graph in flat tables.
-pub mod places; // the first place of each number in a table
-pub mod heading; // which way a half-edge goes
-pub mod chains; // the half-edges out of each vertex
-pub mod follow; // the follower of every half-edge
-pub mod look; // looking west
+mod places; // the first place of each number in a table
+mod heading; // which way a half-edge goes
+mod chains; // the half-edges out of each vertex
+mod followers; // the follower of every half-edge
+mod look; // looking west
+
+pub use followers::follow;
+pub use followers::heading_at;
+pub use heading::carrier_at;
+pub use heading::headings;
+pub use heading::point_at;
+pub use heading::start;
+pub use heading::twin;
+pub use look::West;
+pub use look::east_side;
+pub use look::seen_half;
+pub use places::fill;
+pub use places::first_places;

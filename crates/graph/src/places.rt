@@ -7,9 +7,6 @@ ghost use Rattle.paper.specs.Limits.{absent};
 ghost use Rattle.graph.specs.Flat.{Numbers};
 ghost use Rattle.graph.specs.Places.{firstPlace};
 
-// "65,535 if none": no half-edge.
-pub const ABSENT: u16 = 65535;
-
 // Stores one value in the first n cells.
 pub fn fill(out: &mut [u16], n: usize, value: u16)
     requires { ⌜ n ≤ length (now out) ⌝ }

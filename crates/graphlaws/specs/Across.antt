@@ -8,7 +8,8 @@ use Rattle.seq.specs.Seq.{Bool, true, false, cond, not, _&&_, _||_, [], _∷_, 
 use Rattle.seq.specs.Tests.{clash, not-true}
 use Rattle.exact.specs.Solve.{ring, reify}
 use Rattle.exact.specs.Order.{0<-*}
-use Rattle.exact.specs.Sign.{Sign, neg, zer, plus, sgn, isNeg, isZer, isPlus, negS, pick, lexS, sgn-is, sg-scale, sg, sgn-negℤ}
+use Rattle.exact.specs.Sign.{Sign, neg, zer, plus, sgn, isNeg, isZer, isPlus, negS, pick, lexS, sgn-negℤ}
+use Rattle.exact.specs.Signs.{sgn-scale}
 use Rattle.paper.specs.Plane.{Pt, Vec, dir, cross, rises, order, before, same, below, lessAngle}
 use Rattle.paper.specs.Graph.{Graph, edge, start, upward, atHeight, leftOf, westward, nearer}
 use Rattle.planelaws.specs.Ends.{below-before, before-below, below-level}
@@ -63,12 +64,9 @@ across-level g p k = go (p .Y) (p .D) (upward g k .y)
 
 -- ── the tests, of these points ──
 
-sgn-scaled : (c z : ℤ) → pos 0 <ℤ c → sgn (c *ℤ z) ≡ sgn z
-sgn-scaled c z h = sgn-is (c *ℤ z) (sg-scale c z h (sg z))
-
 -- how the point of k stands to p
 pub across-order : (g : Graph) (p : Pt) (k : ℕ) → pos 0 <ℤ p .D → order (across g p k) p ≡ sgn (leftOf g p k)
-across-order g p k h = (λ i. lexS (across-level g p k i) (go (p .X) (p .D) (upward g k .y) (leftOf g p k) i)) ∙ sgn-scaled (p .D) (leftOf g p k) h
+across-order g p k h = (λ i. lexS (across-level g p k i) (go (p .X) (p .D) (upward g k .y) (leftOf g p k) i)) ∙ sgn-scale (leftOf g p k) (p .D) h
   where
     go : (x d u l : ℤ) → (x *ℤ u +ℤ l) *ℤ d -ℤ x *ℤ (d *ℤ u) ≡ d *ℤ l
     go x d u l = ring (x ∷ d ∷ u ∷ l ∷ []) (search reify depth 20) tt
@@ -77,7 +75,7 @@ across-order g p k h = (λ i. lexS (across-level g p k i) (go (p .X) (p .D) (upw
 pub across-orders : (g : Graph) (p : Pt) (k r : ℕ) → pos 0 <ℤ p .D → order (across g p r) (across g p k) ≡ negS (sgn (ahead g p k r))
 across-orders g p k r h =
     (λ i. lexS (level (p .Y) (p .D) (upward g k .y) (upward g r .y) i) (go (p .X) (p .D) (upward g k .y) (upward g r .y) (leftOf g p k) (leftOf g p r) i))
-    ∙ sgn-scaled (p .D) (negℤ (ahead g p k r)) h ∙ sgn-negℤ (ahead g p k r)
+    ∙ sgn-scale (negℤ (ahead g p k r)) (p .D) h ∙ sgn-negℤ (ahead g p k r)
   where
     level : (y d u v : ℤ) → (y *ℤ v) *ℤ (d *ℤ u) -ℤ (y *ℤ u) *ℤ (d *ℤ v) ≡ pos 0
     level y d u v = ring (y ∷ d ∷ u ∷ v ∷ []) (search reify depth 20) tt

@@ -1,4 +1,4 @@
--- The half-edge on the east side of an edge of a plane graph: it is the one that goes down, from the upper end to the lower. Assumes nothing.
+-- The half-edges on the two sides of an edge of a plane graph: on its east side is the one that goes down, from the upper end to the lower; on its west side the one that goes up. Assumes nothing.
 use mathlib.Core.Path.{_≡_, refl, sym, _∙_, ap}
 use Prim.Native.Nat.{_<_}
 use native.Mathlib.Omega.{arith}
@@ -6,7 +6,7 @@ use Rattle.seq.specs.Seq.{Bool, true, false, cond, not, ℕ, _+_, _*_, _/_}
 use Rattle.seq.specs.Tests.{clash}
 use Rattle.paper.specs.Plane.{opposite}
 use Rattle.paper.specs.Graph.{Graph, edgeCount, halfCount, twin, start, low, high, goesUp, upward, heading, eastSide}
-use Rattle.graphlaws.specs.Halves.{half-below, half-first, half-second, twin-first, first-below, Which, first, second, which}
+use Rattle.graphlaws.specs.Halves.{twin-half, twin-below, half-below, half-first, half-second, twin-first, first-below, Which, first, second, which}
 use Rattle.graphlaws.specs.Plane.{Plane, goesUp-twin, down-ends}
 
 half-by : (k : ℕ) (c : Bool) → cond c (2 * k + 1) (2 * k) / 2 ≡ k
@@ -61,3 +61,25 @@ module _ (g : Graph) (P : Plane g) (h : ℕ) (l : h < halfCount g) (d : goesUp g
 
   pub east-is : eastSide g (h / 2) ≡ h
   east-is = is-by (which h) (goesUp g (2 * (h / 2))) refl
+
+-- ── the west side ──
+
+abbrev pub westSide : Graph → ℕ → ℕ
+westSide g k = twin (eastSide g k)
+
+module _ (g : Graph) (k : ℕ) where
+  pub west-half : westSide g k / 2 ≡ k
+  west-half = twin-half (eastSide g k) ∙ east-half g k
+
+  pub west-below : k < edgeCount g → westSide g k < halfCount g
+  west-below l = twin-below g (eastSide g k) (east-below g k l)
+
+module _ (g : Graph) (P : Plane g) (k : ℕ) (l : k < edgeCount g) where
+  pub west-up : goesUp g (westSide g k) ≡ true
+  west-up = goesUp-twin g P (eastSide g k) (east-below g k l) ∙ ap not (east-down g P k l)
+
+  pub west-start : start g (westSide g k) ≡ low g k
+  west-start = east-end g P k l
+
+  pub west-heading : heading g (westSide g k) ≡ upward g k
+  west-heading = λ i. cond (west-up i) (upward g (west-half g k i)) (opposite (upward g (west-half g k i)))

@@ -5,10 +5,9 @@ use mathlib.Core.Path.{_≡_, refl, sym, _∙_, ap}
 use Prim.Native.Nat.{_≤_, _<_, zero-le}
 use native.Mathlib.Nat.{not-suc-le-zero}
 use native.Mathlib.Omega.{arith}
-use borrow.Author.Tests as Author
 use borrow.Author.Tests.{eqb-true, eq-eqb}
 use Rattle.seq.specs.Seq.{Bool, true, false, cond, not, Option, none, some, ℕ, zero, suc, eqb, length, getD, count, select, orZero}
-use Rattle.seq.specs.Tests.{and-both, and-parts}
+use Rattle.seq.specs.Tests.{and-both, and-parts, was-false}
 use Rattle.seq.specs.Count.{count-below, count-once}
 use Rattle.seq.specs.Select.{length-select, select-at, select-nth}
 use Rattle.paper.specs.Plane.{nowhere}
@@ -147,4 +146,4 @@ module _ (g : Graph) (P : Plane g) where
       go : (h < halfCount g) × (leadsOuter (walksOf g) h ≡ true) × (count (leadsOuter (walksOf g)) h ≡ f) → (h < halfCount g) × (faceOf g h ≡ suc f)
       go (m, o, c) =
           let r = and-parts (eqb (leadAt (walksOf g) h) h) (not (holeAt (walksOf g) h)) o in
-          (m, outer-face h m (Author.not-true (holeAt (walksOf g) h) (r .1)) ∙ ap (λ (x : ℕ). suc (count (leadsOuter (walksOf g)) x)) (eqb-true (leadAt (walksOf g) h) h (r .0)) ∙ ap suc c)
+          (m, outer-face h m (was-false (holeAt (walksOf g) h) (r .1)) ∙ ap (λ (x : ℕ). suc (count (leadsOuter (walksOf g)) x)) (eqb-true (leadAt (walksOf g) h) h (r .0)) ∙ ap suc c)

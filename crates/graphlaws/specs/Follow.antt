@@ -13,12 +13,12 @@ use Rattle.seq.specs.Table.{length-table, table-at}
 use Rattle.seq.specs.Cyclic.{prev-group, prev-below, prev-inj}
 use Rattle.seq.specs.Perm.{onto}
 use Rattle.seq.specs.Position.{position-is}
+use Rattle.seq.specs.Downward.{Downward, previous-downward}
 use Rattle.paper.specs.Plane.{lessAngle}
 use Rattle.paper.specs.Graph.{Graph, halfCount, twin, origin, heading, follower, followers, leaves, greatestOut}
 use Rattle.planelaws.specs.Angles.{angle-irr, angle-trans, neither-less}
 use Rattle.graphlaws.specs.Halves.{twin-once, twin-below}
 use Rattle.graphlaws.specs.Plane.{Plane, heading-moves}
-use Rattle.graphlaws.specs.Downward.{Downward, previous-downward}
 
 -- the angle of h is less than that of r
 abbrev pub lesser : Graph → ℕ → ℕ → Bool

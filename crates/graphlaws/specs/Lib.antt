@@ -1,6 +1,5 @@
 pub mod Halves
 pub mod Plane
-pub mod Downward
 pub mod Follow
 pub mod Walks
 pub mod Holes
@@ -11,5 +10,7 @@ pub mod Across
 pub mod Seen
 pub mod Rank
 pub mod Faces
+pub mod Reading
+pub mod Laid
 pub mod Corners
 pub mod Rules

@@ -3,19 +3,19 @@
 use mathlib.Core.Path.{_≡_, refl, sym, _∙_}
 use Prim.Native.Nat.{_<_}
 use lib.Signed.{_<ℤ_}
-use Rattle.seq.specs.Seq.{true, false, [], _∷_, Option, none, some, Option·map, ℕ, ℤ, pos, negℤ, _+ℤ_, _-ℤ_, _*ℤ_, best}
+use Rattle.seq.specs.Seq.{true, false, [], _∷_, Option, none, some, Option·map, ℕ, ℤ, pos, _+ℤ_, _-ℤ_, _*ℤ_, best}
 use Rattle.seq.specs.Terms.{Has, Order, Best, BestIs}
 use Rattle.seq.specs.Tests.{clash, and-parts}
 use Rattle.seq.specs.Best.{best-is}
 use Rattle.exact.specs.Solve.{ring, reify}
-use Rattle.exact.specs.Order.{0<-*}
+use Rattle.exact.specs.Order.{0<-*, sub-back}
 use Rattle.exact.specs.Sign.{Sign}
+use Rattle.exact.specs.Mul.{zero-cancel}
 use Rattle.paper.specs.Plane.{Pt, Vec, Seg, cross, before, leftBy}
 use Rattle.paper.specs.Graph.{Graph, edgeCount, edge, low, high, upward, atHeight, leftOf, westward, nearer, eastSide, west}
 use Rattle.planelaws.specs.Cone.{Way, up, nil, down, which, up-by}
 use Rattle.planelaws.specs.Ends.{below-before}
 use Rattle.planelaws.specs.Angles.{cross-swap}
-use Rattle.planelaws.specs.Sides.{zero-cancel}
 use Rattle.graphlaws.specs.Plane.{Plane, ends-on}
 use Rattle.graphlaws.specs.West.{candidate, ahead, up-nearer, nearer-trans, height-below, height-steep}
 
@@ -41,9 +41,6 @@ one-line s t p q =
 all-zero : (a b c : ℤ) → a *ℤ pos 0 +ℤ b *ℤ pos 0 +ℤ c *ℤ pos 0 ≡ pos 0
 all-zero a b c = ring (a ∷ b ∷ c ∷ []) (search reify depth 20) tt
 
-back : (x y : ℤ) → y -ℤ x ≡ negℤ (x -ℤ y)
-back x y = ring (x ∷ y ∷ []) (search reify depth 20) tt
-
 module _ (g : Graph) (P : Plane g) (p : Pt) (hp : pos 0 <ℤ p .D) where
   on-line : (k r : ℕ) → r < edgeCount g → atHeight g p r ≡ true → cross (upward g k) (upward g r) ≡ pos 0 → ahead g p k r ≡ pos 0 → leftOf g (low g r) k ≡ pos 0
   on-line k r l e c a =
@@ -65,7 +62,7 @@ module _ (g : Graph) (P : Plane g) (p : Pt) (hp : pos 0 <ℤ p .D) where
             absurd (d (C k r lk lr c (on-line k r lr f c a)
             (below-before (low g k) (high g r) (height-below g P p hp k r e f)) (below-before (low g r) (high g k) (height-below g P p hp r k f e))))
         go (down h) =
-            up-nearer g p r k (up-by (sym (cross-swap (upward g k) (upward g r))) (sym (back (leftOf g p k *ℤ upward g r .y) (leftOf g p r *ℤ upward g k .y))) h)
+            up-nearer g p r k (up-by (sym (cross-swap (upward g k) (upward g r))) (sym (sub-back (leftOf g p k *ℤ upward g r .y) (leftOf g p r *ℤ upward g k .y))) h)
 
     module _ (d : Vec) where
       height : {k : ℕ} → Has (candidate g p d) (edgeCount g) k → atHeight g p k ≡ true

@@ -12,7 +12,7 @@ use Rattle.seq.specs.Seq.{Bool, true, false, cond, not, ℕ, _+_, _*_, _/_, len
 use Rattle.seq.specs.Tests.{clash, not-true, not-false, way}
 use Rattle.paper.specs.Plane.{Pt, whole, nowhere, dir, cross, opposite, rises, before, same, lower, upper}
 use Rattle.paper.specs.Graph.{Graph, edgeCount, halfCount, point, edge, twin, origin, start, low, high, goesUp, upward, heading, leftOf}
-use Rattle.planelaws.specs.Cone.{NonZero, rises-up, up-nonzero, opposite-nonzero, rises-opposite}
+use Rattle.planelaws.specs.Cone.{UpV, NonZero, rises-up, up-nonzero, opposite-nonzero, rises-opposite}
 use Rattle.planelaws.specs.Points.{after, before-asym, neither}
 use Rattle.planelaws.specs.Ends.{0<1, lower-is, upper-is, lower-flip, upper-flip, lower-upper, lower-before}
 use Rattle.planelaws.specs.Angles.{cross-swap, cross-back, SameWay}
@@ -52,6 +52,9 @@ module _ (g : Graph) where
   up-ends h u = up-by h u (which h)
 
 module _ (g : Graph) (P : Plane g) where
+  pub upward-up : (k : ℕ) → k < edgeCount g → UpV (upward g k)
+  upward-up k l = rises-up (upward g k) (P .rising k l)
+
   pub real-at : (v : ℕ) → pos 0 <ℤ point g v .D
   real-at v =
       elim (decLt v (length (g .points))) [
@@ -122,7 +125,7 @@ module _ (g : Graph) (P : Plane g) where
 
   module _ (h : ℕ) (l : h < halfCount g) where
     up-moves : NonZero (upward g (h / 2))
-    up-moves = up-nonzero (upward g (h / 2)) (rises-up (upward g (h / 2)) (P .rising (h / 2) (half-below g h l)))
+    up-moves = up-nonzero (upward g (h / 2)) (upward-up (h / 2) (half-below g h l))
 
     pub heading-moves : NonZero (heading g h)
     heading-moves = go (goesUp g h)

@@ -2,13 +2,12 @@
 -- hole walk, and following what is seen comes to an end. Assumes nothing.
 use mathlib.Core.Path.{_≡_, sym, _∙_, ap, subst}
 use Prim.Native.Nat.{_<_}
-use native.Mathlib.Omega.{arith}
 use lib.Signed.{_<ℤ_}
 use Rattle.seq.specs.Seq.{true, false, [], _∷_, some, ℕ, ℤ, pos, negsuc, negℤ, _-ℤ_, _*ℤ_}
 use Rattle.seq.specs.Tests.{never, and-parts}
 use Rattle.exact.specs.Solve.{ring, reify}
-use Rattle.exact.specs.Order.{zomega, sq, 0<-*}
-use Rattle.exact.specs.Mul.{≡-by₁, ≡-by₂, 0<-by, 0<-cancel}
+use Rattle.exact.specs.Order.{0<-*, 0<-neg}
+use Rattle.exact.specs.Mul.{≡-by₂, 0<-by, 0<-cancel, drop-zero}
 use Rattle.exact.specs.Sign.{Sign, isNeg, Sg, is-neg, is-zer, is-plus, sg}
 use Rattle.paper.specs.Plane.{Pt, Vec, nowhere, dir, cross, before, below}
 use Rattle.paper.specs.Graph.{Graph, edgeCount, halfCount, point, edge, twin, origin, start, low, upward, follower, followers, smallest, atHeight, leftOf, westward, west, holeLook}
@@ -23,12 +22,6 @@ use Rattle.graphlaws.specs.East.{east-below, east-end}
 use Rattle.graphlaws.specs.West.{Sees, height-is, height-steep, nowhere-westward, west-sees}
 
 -- ── strictly west of p ──
-
-flip : (z : ℤ) → z <ℤ pos 0 → pos 0 <ℤ negℤ z
-flip z = zomega (z ∷ []) (search sq depth 20) (omega arith)
-
-drop-zero : (a b l m : ℤ) → m ≡ pos 0 → a *ℤ l -ℤ b *ℤ m ≡ a *ℤ l
-drop-zero a b l m e = ≡-by₁ e (negℤ b) (ring (a ∷ b ∷ l ∷ m ∷ []) (search reify depth 20) tt)
 
 -- where (dx, dy) is level only one of the two products is left
 level-turn : (ux uy dx dy c : ℤ) → ux *ℤ dy -ℤ uy *ℤ dx ≡ c → dy ≡ pos 0 → uy *ℤ dx ≡ negℤ c
@@ -47,7 +40,7 @@ module _ (g : Graph) (P : Plane g) where
     east f =
         0<-cancel (upward g k .y) (way .x) (height-steep g P p hp k l e)
         (0<-by (level-turn (upward g k .x) (upward g k .y) (way .x) (way .y) (low g k .D *ℤ leftOf g p k) turn f ∙ neg-out (low g k .D) (leftOf g p k))
-        (0<-* (ends-real g P k .0) (flip (leftOf g p k) w)))
+        (0<-* (ends-real g P k .0) (0<-neg (leftOf g p k) w)))
       where
         neg-out : (a b : ℤ) → negℤ (a *ℤ b) ≡ a *ℤ negℤ b
         neg-out a b = ring (a ∷ b ∷ []) (search reify depth 20) tt

@@ -1,26 +1,28 @@
 -- Looking west in a plane graph, from a point along a direction. In order: what the tests of a candidate say; a candidate is not level; `nearer` is a strict
 -- order of the edges at one height, by one identity (it is membership in the cone of planelaws); so what a look sees is the east side of a candidate than
 -- which none is nearer, and it sees nothing only where there is no candidate (`west-sees`). Assumes nothing.
-use mathlib.Core.Path.{_≡_, refl, sym, ap}
+use native.Mathlib.Omega.{arith}
+use lib.IntN.{+ℤ-invr}
+use mathlib.Core.Path.{_≡_, refl, sym, ap, subst}
 use mathlib.Core.Logic.{_⊎_, inl, inr, ⊎-elim}
 use Prim.Native.Nat.{_<_}
-use native.Mathlib.Omega.{arith}
-use borrow.Author.Tests as Author
 use lib.Signed.{_<ℤ_}
-use Rattle.seq.specs.Seq.{Bool, true, false, not, _&&_, [], _∷_, Option, none, some, Option·map, ℕ, ℤ, pos, negℤ, _+ℤ_, _-ℤ_, _*ℤ_, best}
+use Rattle.seq.specs.Seq.{Bool, true, false, not, _&&_, [], _∷_, Option, none, some, Option·map, ℕ, ℤ, pos, negℤ, _-ℤ_, _*ℤ_, best}
 use Rattle.seq.specs.Terms.{Has, Strict, Top, TopIs}
-use Rattle.seq.specs.Tests.{not-true, and-parts}
-use Rattle.seq.specs.Best.{best-top}
+use Rattle.seq.specs.Tests.{not-true, and-parts, was-false}
+use Rattle.seq.specs.Best.{best-top, best-has}
 use Rattle.exact.specs.Solve.{ring, reify}
-use Rattle.exact.specs.Order.{zomega, sq, <→≢, 0<-*}
+use Rattle.exact.specs.Order.{<→≢, 0<-*, neg-<0, 0<-neg, neg-zero, <→0<}
 use Rattle.exact.specs.Mul.{≡-by₂}
 use Rattle.paper.specs.Plane.{Pt, Vec, vec, nowhere, cross, dir, below}
-use Rattle.paper.specs.Graph.{Graph, edgeCount, edge, low, high, upward, atHeight, leftOf, westward, nearer, eastSide, west}
+use Rattle.paper.specs.Graph.{Graph, edgeCount, edge, low, high, upward, atHeight, leftOf, westward, nearer, eastSide, west, halfCount}
 use Rattle.planelaws.specs.Cone.{Up, above, level, up-by, up-+, up-*, up-0, up-cancel, UpV, rises-up, up-rises}
 use Rattle.planelaws.specs.Ends.{below-lt, level-below}
-use Rattle.planelaws.specs.Angles.{cross-self}
+use Rattle.planelaws.specs.Angles.{cross-self, turn-y}
 use Rattle.planelaws.specs.Sides.{chord}
-use Rattle.graphlaws.specs.Plane.{Plane, ends-real, ends-on}
+use Rattle.planelaws.specs.Points.{mid}
+use Rattle.graphlaws.specs.Plane.{Plane, ends-real, ends-on, upward-up}
+use Rattle.graphlaws.specs.East.{east-below}
 
 -- "candidates are edges with lower y ≤ y of p < upper y that at the height of p lie west of p, or go through or start at p .."
 abbrev pub candidate : Graph → Pt → Vec → ℕ → Bool
@@ -31,34 +33,35 @@ abbrev pub Sees : Graph → Pt → Vec → Option ℕ → Type 0
 Sees g p d none = (k : ℕ) → Has (candidate g p d) (edgeCount g) k → ⊥
 Sees g p d (some h) = (k : ℕ) × Top (candidate g p d) (nearer g p) (edgeCount g) k × (eastSide g k ≡ h)
 
+-- what is seen is one of the graph's half-edges
+pub look-below : (g : Graph) (p : Pt) (d : Vec) (h : ℕ) → west g p d ≡ some h → h < halfCount g
+look-below g p d h q = go (best (candidate g p d) (nearer g p) (edgeCount g)) refl q
+  where
+    go : (o : Option ℕ) → best (candidate g p d) (nearer g p) (edgeCount g) ≡ o → Option·map (eastSide g) o ≡ some h → h < halfCount g
+    go none e f = absurd (let z : _≡_ {A = ℕ} 0 1 = cc in omega arith)
+    go (some k) e f =
+        let i : eastSide g k ≡ h = cc in
+        subst (λ (x : ℕ). x < halfCount g) i (east-below g k (best-has (candidate g p d) (nearer g p) (edgeCount g) k e .below))
+
 -- ── the tests ──
-
-pos-neg : (z : ℤ) → pos 0 <ℤ negℤ z → z <ℤ pos 0
-pos-neg z = zomega (z ∷ []) (search sq depth 20) (omega arith)
-
-neg-pos : (z : ℤ) → z <ℤ pos 0 → pos 0 <ℤ negℤ z
-neg-pos z = zomega (z ∷ []) (search sq depth 20) (omega arith)
-
-neg-zero : (z : ℤ) → negℤ z ≡ pos 0 → z ≡ pos 0
-neg-zero z = zomega (z ∷ []) (search sq depth 20) (omega arith)
 
 no-zero : {z : ℤ} → z ≡ pos 0 → pos 0 <ℤ z → ⊥
 no-zero e h = <→≢ h (sym e)
 
 module _ (g : Graph) (p : Pt) (k : ℕ) where
   pub height-is : atHeight g p k ≡ true → (below p (low g k) ≡ false) × (below p (high g k) ≡ true)
-  height-is e = let r = and-parts (not (below p (low g k))) (below p (high g k)) e in (Author.not-true (below p (low g k)) (r .0), r .1)
+  height-is e = let r = and-parts (not (below p (low g k))) (below p (high g k)) e in (was-false (below p (low g k)) (r .0), r .1)
 
   -- p is right of the edge, or on it and the edge's angle is greater than that of d
   pub westward-is : (d : Vec) → westward g p d k ≡ true → (leftOf g p k <ℤ pos 0) ⊎ ((leftOf g p k ≡ pos 0) × (pos 0 <ℤ cross d (upward g k)))
   westward-is d e = go (rises-up (vec (cross d (upward g k)) (negℤ (leftOf g p k))) e)
     where
       go : Up (cross d (upward g k)) (negℤ (leftOf g p k)) → (leftOf g p k <ℤ pos 0) ⊎ ((leftOf g p k ≡ pos 0) × (pos 0 <ℤ cross d (upward g k)))
-      go (above h) = inl (pos-neg (leftOf g p k) h)
+      go (above h) = inl (neg-<0 (leftOf g p k) h)
       go (level f h) = inr (neg-zero (leftOf g p k) f, h)
 
   pub right-westward : (d : Vec) → leftOf g p k <ℤ pos 0 → westward g p d k ≡ true
-  right-westward d h = up-rises (vec (cross d (upward g k)) (negℤ (leftOf g p k))) (above (neg-pos (leftOf g p k) h))
+  right-westward d h = up-rises (vec (cross d (upward g k)) (negℤ (leftOf g p k))) (above (0<-neg (leftOf g p k) h))
 
   pub turned-westward : (d : Vec) → leftOf g p k ≡ pos 0 → pos 0 <ℤ cross d (upward g k) → westward g p d k ≡ true
   turned-westward d e h = up-rises (vec (cross d (upward g k)) (negℤ (leftOf g p k))) (level (ap negℤ e) h)
@@ -72,16 +75,6 @@ module _ (g : Graph) (p : Pt) (k : ℕ) where
 
 -- ── nearer ──
 
--- y of r times (k against j) = y of j times (k against r) + y of k times (r against j): of the crosses and of the differences
-mid-cross : (kx ky rx ry jx jy : ℤ) → jy *ℤ (kx *ℤ ry -ℤ ky *ℤ rx) +ℤ ky *ℤ (rx *ℤ jy -ℤ ry *ℤ jx) ≡ ry *ℤ (kx *ℤ jy -ℤ ky *ℤ jx)
-mid-cross kx ky rx ry jx jy = ring (kx ∷ ky ∷ rx ∷ ry ∷ jx ∷ jy ∷ []) (search reify depth 20) tt
-
-mid-left : (xk yk xr yr xj yj : ℤ) → yj *ℤ (xk *ℤ yr -ℤ xr *ℤ yk) +ℤ yk *ℤ (xr *ℤ yj -ℤ xj *ℤ yr) ≡ yr *ℤ (xk *ℤ yj -ℤ xj *ℤ yk)
-mid-left xk yk xr yr xj yj = ring (xk ∷ yk ∷ xr ∷ yr ∷ xj ∷ yj ∷ []) (search reify depth 20) tt
-
-self : (x : ℤ) → x -ℤ x ≡ pos 0
-self x = ring (x ∷ []) (search reify depth 20) tt
-
 module _ (g : Graph) (p : Pt) where
   -- the difference of the x of k and r at the height of p, times both y
   abbrev pub ahead : ℕ → ℕ → ℤ
@@ -94,21 +87,18 @@ module _ (g : Graph) (p : Pt) where
   up-nearer k r h = up-rises (vec (cross (upward g k) (upward g r)) (ahead k r)) h
 
   pub nearer-irr : (k : ℕ) → nearer g p k k ≡ false
-  nearer-irr k = not-true (nearer g p k k) (λ e. up-0 (cross-self (upward g k)) (self (leftOf g p k *ℤ upward g k .y)) (nearer-up k k e))
+  nearer-irr k = not-true (nearer g p k k) (λ e. up-0 (cross-self (upward g k)) (+ℤ-invr (leftOf g p k *ℤ upward g k .y)) (nearer-up k k e))
 
   pub nearer-trans : (k r j : ℕ) → pos 0 <ℤ upward g k .y → pos 0 <ℤ upward g r .y → pos 0 <ℤ upward g j .y → nearer g p k r ≡ true → nearer g p r j ≡ true → nearer g p k j ≡ true
   nearer-trans k r j hk hr hj e f =
       up-nearer k j (up-cancel (upward g r .y) (cross (upward g k) (upward g j)) (ahead k j) hr
-      (up-by (mid-cross (upward g k .x) (upward g k .y) (upward g r .x) (upward g r .y) (upward g j .x) (upward g j .y))
-      (mid-left (leftOf g p k) (upward g k .y) (leftOf g p r) (upward g r .y) (leftOf g p j) (upward g j .y))
+      (up-by (turn-y (upward g k .x) (upward g k .y) (upward g r .x) (upward g r .y) (upward g j .x) (upward g j .y))
+      (mid (leftOf g p k) (upward g k .y) (leftOf g p r) (upward g r .y) (leftOf g p j) (upward g j .y))
       (up-+ (up-* hj (nearer-up k r e)) (up-* hk (nearer-up r j f)))))
 
 -- along a level direction nothing rises
 no-rise : (a b c d : ℤ) → b ≡ pos 0 → pos 0 <ℤ a → pos 0 <ℤ d → a *ℤ d -ℤ b *ℤ c ≡ pos 0 → ⊥
 no-rise a b c d e ha hd f = <→≢ (0<-* ha hd) (sym (≡-by₂ f (pos 1) e c (ring (a ∷ b ∷ c ∷ d ∷ []) (search reify depth 20) tt)))
-
-rise : (x y : ℤ) → x <ℤ y → pos 0 <ℤ (y -ℤ x)
-rise x y = zomega (x ∷ y ∷ []) (search sq depth 20) (omega arith)
 
 module _ (g : Graph) (P : Plane g) (p : Pt) (hp : pos 0 <ℤ p .D) where
   -- ── candidates ──
@@ -119,10 +109,10 @@ module _ (g : Graph) (P : Plane g) (p : Pt) (hp : pos 0 <ℤ p .D) where
 
   -- an edge at the height of p is not level
   pub height-steep : (k : ℕ) → k < edgeCount g → atHeight g p k ≡ true → pos 0 <ℤ upward g k .y
-  height-steep k l e = go (rises-up (upward g k) (P .rising k l))
+  height-steep k l e = go (upward-up g P k l)
     where
       climbs : pos 0 <ℤ dir (low g k) (high g k) .y
-      climbs = rise (low g k .Y *ℤ high g k .D) (high g k .Y *ℤ low g k .D) (below-lt (low g k) (high g k) (height-below k k e e))
+      climbs = <→0< {a = low g k .Y *ℤ high g k .D} {b = high g k .Y *ℤ low g k .D} (below-lt (low g k) (high g k) (height-below k k e e))
 
       go : UpV (upward g k) → pos 0 <ℤ upward g k .y
       go (above h) = h

@@ -28,7 +28,7 @@ use Rattle.layers.specs.Label.{flatMap}
 use Rattle.layers.specs.Standing.{cells, standing, Stands}
 use Rattle.layers.specs.Layers.{Layered}
 use Rattle.layers.specs.Held.{vertexStart, edgeStart, heldMap, heldMaps, Held}
-use Rattle.layers.specs.declared.layers.Layers.{Layers}
+use Rattle.layers.specs.declared.stack.Layers.{Layers}
 
 -- ── a table that was filled in two parts ──
 

@@ -6,7 +6,7 @@ use Rattle.paper.specs.Limits.{maps}
 use Rattle.paper.specs.Map.{Map}
 use Rattle.maplaws.specs.Keeps.{Keeps}
 use Rattle.layers.specs.Standing.{Stands, standing}
-use Rattle.layers.specs.declared.layers.Layers.{Layers}
+use Rattle.layers.specs.declared.stack.Layers.{Layers}
 
 -- where the vertices and the edges of map i start; after the last map, where they end
 abbrev pub vertexStart : Layers → ℕ → ℕ

@@ -4,7 +4,7 @@ use Rattle.seq.specs.Seq.{List, [], _∷_, _++_, ℕ, _+_, _*_, replicate, pos,
 use Rattle.paper.specs.Graph.{origin}
 use Rattle.paper.specs.Map.{mapOf, vertexCount, edgesIn, label}
 use Rattle.mapfile.specs.Rows.{pointRow, carrierRow}
-use Rattle.layers.specs.declared.layers.Layers.{Layers}
+use Rattle.layers.specs.declared.stack.Layers.{Layers}
 
 -- the maps of the files a and b: where each map's vertices and edges start, and after the last where they end; then a row or a cell for each
 pub record Layered (a b : List ℕ) (l : Layers) : Type 0 where

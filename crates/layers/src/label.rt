@@ -1,11 +1,13 @@
 // "The label of a half-edge in a map: if it lies along an edge of that map, the label of that edge on that side; otherwise the label of what is seen looking
 // west in that map from its lower end along it."
-use graph::heading::twin;
-use graph::look::West;
-use graph::look::east_side;
-use graph::look::seen_half;
-use plane::point::Point;
-use plane::point::Vector;
+use graph::West;
+use graph::east_side;
+use graph::seen_half;
+use graph::twin;
+use limits::CARRIER_WIDTH;
+use limits::POINT_WIDTH;
+use plane::Point;
+use plane::Vector;
 ghost use mathlib.Core.Path.{_≡_};
 ghost use Prim.Native.Nat.{_*_, _-_, _≤_, _<_};
 ghost use lib.ListN.{length};
@@ -108,10 +110,10 @@ pub fn label_at(
     requires { ⌜ Stands (now corners) (now origins) (now carriers) (now labels) v w a b ⌝ ∗ ⌜ source ≤ b - a ⌝ ∗ ⌜ Near (ptOf p) × Direction (vecOf d) ⌝ }
     ensures { λ r. ⌜ r ≡ labelBy (standing (now (corners .entry)) (now (origins .entry)) (now (carriers .entry)) (now (labels .entry)) v w a b) h (ptOf p) (vecOf d) source ⌝ }
 {
-    let from = 4 * v;
-    let to = 4 * w;
-    let foot = 4 * a;
-    let head = 4 * b;
+    let from = POINT_WIDTH * v;
+    let to = POINT_WIDTH * w;
+    let foot = CARRIER_WIDTH * a;
+    let head = CARRIER_WIDTH * b;
     let first = 2 * a;
     let last = 2 * b;
     label_in(

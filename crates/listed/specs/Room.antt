@@ -3,14 +3,14 @@ use mathlib.Core.Path.{_≡_, refl, sym, _∙_, ap, subst}
 use Prim.Native.Nat.{_≤_}
 use native.Mathlib.Omega.{arith}
 use borrow.Author.Tests.{ltb-false}
-use Rattle.seq.specs.Seq.{Bool, true, false, not, List, [], _∷_, _++_, Option, none, some, ℕ, _/_, ltb, min, length}
-use Rattle.paper.specs.Limits.{maps, overlayFaces}
+use Rattle.seq.specs.Seq.{Bool, true, false, not, List, [], _∷_, _++_, Option, none, some, ℕ, ltb, length}
+use Rattle.paper.specs.Limits.{maps}
 use Rattle.paper.specs.Bytes.{u16}
 use Rattle.paper.specs.Refusal.{Refusal, Answer, done, refused, given, atLeast, firstOf, answer}
 use Rattle.paper.specs.Map.{mapOf}
 use Rattle.paper.specs.Faces.{overlayOf}
-use Rattle.paper.specs.Tables.{Counts, Tables, faceWidth, countsOf}
-use Rattle.paper.specs.Lent.{Lengths, Outcome, roomIn, roomFaults, outcome, mapFaults, overlay}
+use Rattle.paper.specs.Tables.{Counts, Tables, countsOf}
+use Rattle.paper.specs.Lent.{Lengths, Outcome, roomIn, roomFaults, mapFaults, overlay}
 use Rattle.paper.specs.Ovfile.{layouts, soundEdge}
 use Rattle.paper.specs.Reader.{countsIn, tablesIn, headFaults, layoutOf, read}
 use Rattle.paper.specs.Listing.{listingBy, listing}

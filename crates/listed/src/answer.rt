@@ -1,5 +1,6 @@
 // The text of an answer: the listing of the counts and the face table, or the line of a refusal.
-use tables::answer::Answer;
+use limits::LISTING;
+use tables::Answer;
 ghost use Rattle.paper.specs.Limits.{maps};
 ghost use Rattle.paper.specs.Listing.{listingBy};
 ghost use Rattle.tables.specs.Values.{answerOf};
@@ -13,7 +14,7 @@ pub struct Listed {
 }
 
 // Puts the text of an answer at the start of a lent text, and answers its length.
-pub fn put(answer: Answer, faces: &[u16], out: &mut [u8; 85504]) -> usize
+pub fn put(answer: Answer, faces: &[u16], out: &mut [u8; LISTING]) -> usize
     requires { ⌜ Roomy (answerOf answer) ⌝ }
     ensures { λ r. ⌜ Line 85504 (listingBy maps (facesOnly (now (faces .entry))) (answerOf answer)) (now (out .entry)) (now (out .exit)) r ⌝ }
 {

@@ -2,13 +2,14 @@
 // what is refused.
 use console::load;
 use console::say;
+use limits::LISTING;
 
 fn main() {
     let mut zones = io::buffer();
     let n = load(b"zones.zmp", &mut zones);
     let mut blocks = io::buffer();
     let m = load(b"blocks.zmp", &mut blocks);
-    let mut out = [0u8; 85504];
+    let mut out = [0u8; LISTING];
     let listed = sheet::list(&zones[..n], &blocks[..m], &mut out);
     let length = listed.length;
     say(&out[..length]);

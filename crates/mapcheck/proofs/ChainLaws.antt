@@ -4,7 +4,8 @@ use Rattle.seq.specs.Seq.{Option, none, some, List, [], _∷_, _++_, ℕ, lengt
 use Rattle.paper.specs.Refusal.{atLeast, firstOf, Refusal}
 use Rattle.paper.specs.Graph.{edgeCount, halfCount, followers}
 use Rattle.paper.specs.Map.{Map, mapOf, formFaults, partFaults, netFaults, fault, clashing, lonely, disagrees}
-use Rattle.mapfile.proofs.VerdictLaws.{Chain, rest, first-one, first-none, first-some}
+use Rattle.mapfile.proofs.VerdictLaws.{Chain, rest}
+use Rattle.refusallaws.specs.Refusals.{first-one, first-none, first-some}
 
 module _ (m : Map) where
   abbrev eight : Option Refusal

@@ -1,21 +1,21 @@
 -- Rule 10 of the map of a file: it holds a plane graph where rules 6 to 8 find nothing (`plane-held`), its table of labels gives each half-edge's label, and so
 -- rule 10 of the tables is rule 10 of the map (`disagrees-held`). Assumes nothing.
 use mathlib.Core.Path.{_≡_, refl, sym, ap, _∙_}
-use Prim.Native.Nat.{_<_}
 use native.Mathlib.Decide.{decLt}
 use native.Mathlib.Omega.{arith}
 use lib.ListN.{List·getD-eq-default}
 use Rattle.seq.specs.Filled.{filled-at, filled-past}
 use Rattle.seq.specs.Table.{length-table}
-use Rattle.seq.specs.Seq.{Bool, not, _&&_, _||_, none, List, _++_, ℕ, zero, suc, _*_, eqb, length, getD, replicate, ℤ, least, orZero, filled}
+use Rattle.seq.specs.Seq.{Bool, not, _&&_, _||_, none, List, _++_, ℕ, zero, suc, _*_, eqb, getD, replicate, least, orZero, filled}
 use Rattle.paper.specs.Refusal.{atLeast, firstOf}
 use Rattle.paper.specs.Graph.{Graph, edgeCount, halfCount, followers, makesHole, holeLook}
-use Rattle.paper.specs.Map.{Map, label, vertexCount, edgesIn, labelAt, mapOf, formFaults, partFaults, doubled, badEnds, clashing, disagrees}
+use Rattle.paper.specs.Map.{label, edgesIn, labelAt, mapOf, formFaults, partFaults, doubled, badEnds, clashing, disagrees}
 use Rattle.graphlaws.specs.Plane.{Plane}
 use Rattle.graphlaws.specs.Corners.{corners-plane}
-use Rattle.graphlaws.specs.Rules.{map-passes, rules-corners}
-use Rattle.mapfile.proofs.MapLaws.{edges-count}
-use Rattle.mapfile.proofs.VerdictLaws.{Chain, rest, at-least-none}
+use Rattle.graphlaws.specs.Rules.{tests-corners}
+use Rattle.graphlaws.specs.Reading.{edges-count}
+use Rattle.mapfile.proofs.VerdictLaws.{Chain, rest}
+use Rattle.refusallaws.specs.Refusals.{least-none-is}
 
 -- ── the graph is plane ──
 
@@ -24,7 +24,7 @@ plane-held s nothing eight =
     let g = mapOf s .graph in
     let one : Chain none (formFaults s ++ partFaults g) = record { is = sym nothing } in
     let six = rest (rest (rest (rest (rest one .1) .1) .1) .1) .1 in
-    corners-plane g (rules-corners g (map-passes s (at-least-none 6 (doubled g) _ (rest six .0)) (at-least-none 7 (badEnds g) _ (rest (rest six .1) .0)) (at-least-none 8 (clashing g) _ eight)))
+    corners-plane g (tests-corners s (least-none-is 6 (doubled g) _ (rest six .0)) (least-none-is 7 (badEnds g) _ (rest (rest six .1) .0)) (least-none-is 8 (clashing g) _ eight))
 
 -- ── labels ──
 

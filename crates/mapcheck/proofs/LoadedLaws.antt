@@ -7,18 +7,18 @@ use Rattle.seq.specs.Filled.{length-filled, filled-at}
 use Rattle.seq.specs.Laid.{length-laid, laid-at}
 use Rattle.seq.specs.Least.{least-ext, some-ext}
 use Rattle.seq.specs.Table.{table-is}
-use Rattle.seq.specs.Seq.{Bool, not, _&&_, List, ℕ, _+_, _*_, eqb, length, getD, ℤ, pos, cell, least, someBelow, filled, laid}
+use Rattle.seq.specs.Seq.{not, _&&_, List, ℕ, _+_, _*_, eqb, length, getD, ℤ, pos, cell, least, someBelow, filled, laid}
 use Rattle.exact.specs.Lowest.{pt}
-use Rattle.paper.specs.Plane.{Pt, Seg, whole, nowhere, clash}
-use Rattle.paper.specs.Graph.{Graph, Edge, edgeCount, halfCount, point, edge, noEdge, origin, leaves}
+use Rattle.paper.specs.Plane.{whole, nowhere, clash}
+use Rattle.paper.specs.Graph.{Graph, Edge, edgeCount, point, edge, noEdge, origin, leaves}
 use Rattle.paper.specs.Map.{vertexCount, edgesIn, mapOf, clashes, clashing, lonely}
 use Rattle.plane.specs.Values.{seg}
 use Rattle.plane.specs.Bounds as Bounds
 use Rattle.graphlaws.specs.Halves.{origin-first, origin-second}
-use Rattle.graph.specs.Flat.{pointAt, carrierAt, originAt, edgeAt, flatGraph, Points, Origins, Carriers, Flat}
+use Rattle.graph.specs.Flat.{pointAt, carrierAt, originAt, edgeAt, flatGraph, Points, Origins, Carriers}
 use Rattle.mapfile.specs.Kept.{Kept}
 use Rattle.mapfile.specs.Rows.{pointRow, carrierRow}
-use Rattle.mapfile.proofs.MapLaws.{points-count, edges-count}
+use Rattle.graphlaws.specs.Reading.{points-count, edges-count}
 use Rattle.mapfile.proofs.GraphLaws.{point-near, carrier-edge, origin-named}
 use Rattle.mapcheck.specs.Net.{clashAt, clashingAt, startsAt, lonelyAt}
 

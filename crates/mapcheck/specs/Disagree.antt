@@ -2,23 +2,21 @@
 use mathlib.Core.Path.{_≡_, refl, sym, _∙_, ap, subst}
 use mathlib.Core.Logic.{inr}
 use Prim.Native.Nat.{_<_}
-use native.Mathlib.Omega.{arith}
-use Rattle.seq.specs.Seq.{Bool, true, false, cond, not, _&&_, _||_, List, [], _∷_, Option, ℕ, zero, suc, _*_, eqb, length, getD, ℤ, someBelow, orZero, walkFrom}
+use Rattle.seq.specs.Seq.{Bool, true, false, cond, not, _&&_, _||_, List, [], _∷_, ℕ, zero, suc, _*_, eqb, getD, ℤ, someBelow, orZero, walkFrom}
 use Rattle.seq.specs.Terms.{Among}
 use Rattle.seq.specs.Least.{some-ext}
 use Rattle.paper.specs.Plane.{Pt, nowhere, before, lessAngle}
-use Rattle.paper.specs.Graph.{Graph, halfCount, point, origin, start, follower, followers, smallest, west, makesHole, holeLook}
+use Rattle.paper.specs.Graph.{Graph, halfCount, point, follower, followers, west, makesHole, holeLook}
 use Rattle.paper.specs.Map.{Map, label, disagrees}
 use Rattle.graphlaws.specs.Plane.{Plane}
 use Rattle.graphlaws.specs.Follow.{followers-at, followers-length}
 use Rattle.graphlaws.specs.Walks.{along-below, walk-along}
-use Rattle.graph.specs.Flat.{originAt, startAt, flatGraph, Flat}
+use Rattle.graph.specs.Flat.{flatGraph, Flat}
 use Rattle.graph.specs.Decode.{flat-halves, flat-origin, flat-start}
-use Rattle.graph.specs.Heading.{vecAt}
 use Rattle.graph.specs.Filling.{Holds}
 use Rattle.graph.specs.Follow.{Heads}
-use Rattle.mapcheck.specs.Labels.{noneOf, unlike, greaterAt, earlierAt, smallestAt, makesHoleAt, seenLabel, disagreesAt}
-use Rattle.mapcheck.specs.Makers.{none-of-ext, greater, earlier, after, maker, maker-is, makes-smallest}
+use Rattle.mapcheck.specs.Labels.{noneOf, greaterAt, earlierAt, makesHoleAt, seenLabel, disagreesAt}
+use Rattle.mapcheck.specs.Makers.{none-of-ext, greater, earlier, after, maker-is, makes-smallest}
 
 -- two lists of followers that agree below m have the same walks there
 pub walk-agrees : (nx ny : List ℕ) (m : ℕ) → ((x : ℕ) → x < m → getD nx x 0 ≡ getD ny x 0) → ((x : ℕ) → x < m → getD nx x 0 < m) →

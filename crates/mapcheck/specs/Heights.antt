@@ -1,22 +1,21 @@
 -- Two edges of which one lies wholly below the other do not clash: a test that is made before the sides are reckoned. No end of one is inside the other, and
 -- where the ends of each were on opposite sides of the other, a height between those of the one would be a height between those of the other.
 -- Assumes nothing.
-use mathlib.Core.Path.{_≡_, refl, sym, ap, subst}
+use mathlib.Core.Path.{_≡_, refl, subst}
 use mathlib.Core.List.{[], _∷_}
 use mathlib.Core.Logic.{_⊎_, inl, inr}
 use native.Mathlib.Omega.{arith}
 use lib.Signed.{_<ℤ_, ltZ}
 use Rattle.seq.specs.Seq.{Bool, true, false, _&&_, _||_, ℤ, pos, negℤ, _+ℤ_, _-ℤ_, _*ℤ_}
-use Rattle.exact.specs.Order.{zomega, sq, 0<-*}
-use Rattle.exact.specs.Sign.{Sign, neg, zer, plus, sgn, Sg, is-neg, is-zer, is-plus, sg}
+use Rattle.exact.specs.Order.{zomega, sq, 0<-*, 0<-neg, <→0<, <→≢}
+use Rattle.exact.specs.Sign.{Sign, Sg, is-neg, is-zer, is-plus, sg}
 use Rattle.exact.specs.Solve.{ring, reify}
 use Rattle.exact.specs.Tests.{lt-t}
 use Rattle.seq.specs.Tests.{never, or-cases, and-parts}
-use Rattle.paper.specs.Plane.{Vec, Seg, head, whole, before, same, leftBy, opposed, apart, clash}
-use Rattle.planelaws.specs.Cone.{Up, above, level, UpV}
+use Rattle.paper.specs.Plane.{Vec, Seg, head, whole, before, leftBy, opposed, apart, clash}
+use Rattle.planelaws.specs.Cone.{Up, above, level}
 use Rattle.planelaws.specs.Points.{before-up}
 use Rattle.planelaws.specs.Ends.{corner-same}
-use Rattle.planelaws.specs.Edges.{Inside}
 use Rattle.planelaws.specs.Clash.{Clash, foot-in, head-in, in-foot, in-head, across, equal, clash-way}
 use Rattle.mapcheck.specs.Later.{way-swap}
 
@@ -60,21 +59,12 @@ not-up a b c d l (level e h) = zomega (b ∷ d ∷ []) {A = b <ℤ d → b *ℤ 
 higher : (p q : Vec) → q .y <ℤ p .y → before (whole p) (whole q) ≡ true → ⊥
 higher p q l e = not-up (q .x) (q .y) (p .x) (p .y) l (before-up (whole p) (whole q) e)
 
-less-self : (a : ℤ) → a <ℤ a → ⊥
-less-self a = zomega (a ∷ []) {A = a <ℤ a → ⊥} (search sq depth 20) (omega arith)
-
 -- ── opposite sides ──
 
 -- a sum of positive weights
 sum-up : (x y z w : ℤ) → pos 0 <ℤ x → pos 0 <ℤ y → pos 0 <ℤ z → pos 0 <ℤ w → x +ℤ y +ℤ z +ℤ w ≡ pos 0 → ⊥
 sum-up x y z w =
     zomega (x ∷ y ∷ z ∷ w ∷ []) {A = pos 0 <ℤ x → pos 0 <ℤ y → pos 0 <ℤ z → pos 0 <ℤ w → x +ℤ y +ℤ z +ℤ w ≡ pos 0 → ⊥} (search sq depth 20) (omega arith)
-
-gap : (a b : ℤ) → a <ℤ b → pos 0 <ℤ (b -ℤ a)
-gap a b = zomega (a ∷ b ∷ []) {A = a <ℤ b → pos 0 <ℤ (b -ℤ a)} (search sq depth 20) (omega arith)
-
-turn : (a : ℤ) → a <ℤ pos 0 → pos 0 <ℤ negℤ a
-turn a = zomega (a ∷ []) {A = a <ℤ pos 0 → pos 0 <ℤ negℤ a} (search sq depth 20) (omega arith)
 
 abbrev Opposite : ℤ → ℤ → Type 0
 Opposite a b = ((a <ℤ pos 0) × (pos 0 <ℤ b)) ⊎ ((pos 0 <ℤ a) × (b <ℤ pos 0))
@@ -102,10 +92,10 @@ module _ (a b c d p q r w : ℤ) (turns : a -ℤ b ≡ d -ℤ c)
       zomega (a ∷ b ∷ c ∷ d ∷ []) {A = pos 0 <ℤ a → b <ℤ pos 0 → pos 0 <ℤ c → d <ℤ pos 0 → a -ℤ b ≡ d -ℤ c → ⊥} (search sq depth 20) (omega arith) l h m g turns
   never-both (inl (l, h)) (inr (m, g)) =
       sum-up (b *ℤ negℤ d *ℤ p) (b *ℤ c *ℤ q) (negℤ a *ℤ negℤ d *ℤ r) (negℤ a *ℤ c *ℤ w)
-      (0<-* (0<-* h (turn d g)) hp) (0<-* (0<-* h m) hq) (0<-* (0<-* (turn a l) (turn d g)) hr) (0<-* (0<-* (turn a l) m) hw) odd
+      (0<-* (0<-* h (0<-neg d g)) hp) (0<-* (0<-* h m) hq) (0<-* (0<-* (0<-neg a l) (0<-neg d g)) hr) (0<-* (0<-* (0<-neg a l) m) hw) odd
   never-both (inr (l, h)) (inl (m, g)) =
       sum-up (negℤ b *ℤ d *ℤ p) (negℤ b *ℤ negℤ c *ℤ q) (a *ℤ d *ℤ r) (a *ℤ negℤ c *ℤ w)
-      (0<-* (0<-* (turn b h) g) hp) (0<-* (0<-* (turn b h) (turn c m)) hq) (0<-* (0<-* l g) hr) (0<-* (0<-* l (turn c m)) hw) even
+      (0<-* (0<-* (0<-neg b h) g) hp) (0<-* (0<-* (0<-neg b h) (0<-neg c m)) hq) (0<-* (0<-* l g) hr) (0<-* (0<-* l (0<-neg c m)) hw) even
 
 -- how far (x, y) lies to the left of the line from (x₀, y₀) along (u, v)
 abbrev left : ℤ → ℤ → ℤ → ℤ → ℤ → ℤ → ℤ
@@ -136,7 +126,7 @@ module _ (sx sy su sv tx ty tu tv : ℤ) where
   sides : sy <ℤ ty → sy <ℤ (ty +ℤ tv) → (sy +ℤ sv) <ℤ ty → (sy +ℤ sv) <ℤ (ty +ℤ tv) → Opposite a b → Opposite c d → ⊥
   sides p r q w =
       never-both a b c d (ty -ℤ sy) (ty -ℤ (sy +ℤ sv)) (ty +ℤ tv -ℤ sy) (ty +ℤ tv -ℤ (sy +ℤ sv)) turns-is even-is odd-is
-      (gap sy ty p) (gap (sy +ℤ sv) ty q) (gap sy (ty +ℤ tv) r) (gap (sy +ℤ sv) (ty +ℤ tv) w)
+      (<→0< {a = sy} {b = ty} p) (<→0< {a = sy +ℤ sv} {b = ty} q) (<→0< {a = sy} {b = ty +ℤ tv} r) (<→0< {a = sy +ℤ sv} {b = ty +ℤ tv} w)
 
 -- ── no clash ──
 
@@ -153,7 +143,7 @@ module _ (s t : Seg) where
   no-way U (in-foot i) = higher (t .foot) (s .foot) (U .foot-foot) (i .low)
   no-way U (in-head i) = higher (t .foot) (head s) (U .head-foot) (i .low)
   no-way U (across e f) = not-across U e f
-  no-way U (equal e f) = less-self (t .foot .y) (subst (λ (p : Vec). p .y <ℤ t .foot .y) (corner-same (s .foot) (t .foot) e) (U .foot-foot))
+  no-way U (equal e f) = <→≢ (subst (λ (p : Vec). p .y <ℤ t .foot .y) (corner-same (s .foot) (t .foot) e) (U .foot-foot)) refl
 
 pub parted-clear : (s t : Seg) → parted s t ≡ true → clash s t ≡ false
 parted-clear s t e = go (clash s t) refl

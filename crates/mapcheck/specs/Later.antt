@@ -1,10 +1,10 @@
 -- Clashing is mutual, whether or not an edge goes up: so the least edge that clashes with another is the least that clashes with a later one. Assumes nothing.
 use mathlib.Core.Path.{_≡_, sym, _∙_, ap}
-use Prim.Native.Nat.{_≤_, _<_}
+use Prim.Native.Nat.{_<_}
 use native.Mathlib.Decide.{decLt}
 use native.Mathlib.Omega.{arith}
 use borrow.Author.Tests.{ltb-true, lt-ltb, le-ltb, eq-eqb, ne-eqb}
-use Rattle.seq.specs.Seq.{Bool, true, false, not, _&&_, List, ℕ, _+_, eqb, ltb, ℤ, least, someBelow}
+use Rattle.seq.specs.Seq.{Bool, true, false, not, _&&_, List, ℕ, _+_, ltb, ℤ, least, someBelow}
 use Rattle.seq.specs.Least.{least-le, least-holds, least-min, least-by, least-none, some-has, some-witness, no-some, no-some-is}
 use Rattle.seq.specs.Tests.{bool-ext, and-parts}
 use Rattle.paper.specs.Plane.{Seg, head, whole, clash}

@@ -5,7 +5,6 @@ pub mod Rows
 pub mod Labels
 pub mod Held
 pub mod Walking
-pub mod Seen
 pub mod Makers
 pub mod Disagree
 pub mod LinkedLaws

@@ -6,7 +6,7 @@ use native.Mathlib.Omega.{arith}
 use Rattle.seq.specs.Filled.{length-filled, filled-at}
 use Rattle.seq.specs.Least.{least-ext}
 use Rattle.seq.specs.Seq.{List, ℕ, _*_, length, getD, ℤ, least, filled, laid}
-use Rattle.paper.specs.Limits.{absent, mapEdges}
+use Rattle.paper.specs.Limits.{mapEdges}
 use Rattle.paper.specs.Graph.{Graph, heading, follower, followers}
 use Rattle.paper.specs.Map.{disagrees}
 use Rattle.graphlaws.specs.Plane.{Plane}

@@ -5,10 +5,9 @@ use mathlib.Core.Logic.{inl, inr}
 use Prim.Native.Nat.{_<_}
 use native.Mathlib.Decide.{ℕ-discrete}
 use borrow.Author.Tests.{eqb-true, eq-eqb}
-use borrow.Author.Tests as Not
 use Rattle.seq.specs.Seq.{Bool, true, false, not, _&&_, List, [], _∷_, Option, none, some, ℕ, eqb, length, getD, someBelow, walkFrom}
 use Rattle.seq.specs.Terms.{Among, Has, BestIs}
-use Rattle.seq.specs.Tests.{bool-ext, clash, not-true, and-both, and-parts}
+use Rattle.seq.specs.Tests.{bool-ext, clash, not-true, and-both, and-parts, was-false}
 use Rattle.seq.specs.Least.{no-some, no-some-is}
 use Rattle.seq.specs.Cyclic.{asym}
 use Rattle.paper.specs.Plane.{before, lessAngle}
@@ -16,7 +15,7 @@ use Rattle.paper.specs.Graph.{Graph, halfCount, point, origin, start, heading, 
 use Rattle.planelaws.specs.Points.{before-irr}
 use Rattle.graphlaws.specs.Plane.{Plane}
 use Rattle.graphlaws.specs.Follow.{lesser, ranked, greatest-is}
-use Rattle.graphlaws.specs.Walks.{Along, along-walk, walk-along}
+use Rattle.graphlaws.specs.Walks.{along-walk, walk-along}
 use Rattle.graphlaws.specs.Holes.{smallest-is, smallest-first, makes-best, greatest-makes}
 use Rattle.mapcheck.specs.Labels.{noneOf}
 
@@ -28,7 +27,7 @@ none-of p (x ∷ xs) f = and-both (ap not (f x (inl refl))) (none-of p xs (λ y 
 
 pub none-of-is : (p : ℕ → Bool) (xs : List ℕ) → noneOf p xs ≡ true → (x : ℕ) → Among x xs → p x ≡ false
 none-of-is p [] e x a = absurd a
-none-of-is p (y ∷ ys) e x (inl q) = ap p q ∙ Not.not-true (p y) (and-parts (not (p y)) (noneOf p ys) e .0)
+none-of-is p (y ∷ ys) e x (inl q) = ap p q ∙ was-false (p y) (and-parts (not (p y)) (noneOf p ys) e .0)
 none-of-is p (y ∷ ys) e x (inr a) = none-of-is p ys (and-parts (not (p y)) (noneOf p ys) e .1) x a
 
 pub none-of-ext : (p q : ℕ → Bool) (xs : List ℕ) → ((x : ℕ) → Among x xs → p x ≡ q x) → noneOf p xs ≡ noneOf q xs
@@ -74,7 +73,7 @@ module _ (g : Graph) (P : Plane g) (h : ℕ) (l : h < halfCount g) where
   maker-makes : maker g h ≡ true → makesHole g (followers g) h ≡ true
   maker-makes e =
       let r = and-parts (not (someBelow (greater g h) (halfCount g))) (noneOf (earlier g h) (after g h)) e in
-      let o = greatest-own (Not.not-true (someBelow (greater g h) (halfCount g)) (r .0)) (greatestOut g (origin g h)) (greatest-is g P (origin g h)) in
+      let o = greatest-own (was-false (someBelow (greater g h) (halfCount g)) (r .0)) (greatestOut g (origin g h)) (greatest-is g P (origin g h)) in
       greatest-makes g P h (ap (greatestOut g) (smallest-own (r .1)) ∙ o)
 
   -- the half-edge that makes its walk a hole walk leaves from its smallest vertex

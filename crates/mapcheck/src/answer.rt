@@ -1,5 +1,5 @@
 // What the check of a map answers: "its vertex and edge counts or .. rules 1 to 10".
-use mapfile::refusal::Refusal;
+use mapfile::Refusal;
 
 pub struct Counts {
     pub vertices: u16,

@@ -1,11 +1,11 @@
 // Rule 10: half-edges at which labels disagree, a search for the least, over the tables of a map with its headings and followers.
-use graph::follow::heading_at;
-use graph::heading::start;
-use graph::look::West;
-use graph::look::seen_half;
-use plane::angle::less_angle;
-use plane::order::before;
-use plane::point::Vector;
+use graph::West;
+use graph::heading_at;
+use graph::seen_half;
+use graph::start;
+use plane::Vector;
+use plane::before;
+use plane::less_angle;
 ghost use mathlib.Core.Path.{_≡_};
 ghost use Prim.Native.Nat.{_*_, _≤_, _<_};
 ghost use lib.ListN.{length};

@@ -1,15 +1,15 @@
 // The check of one map (01, "When a map is refused"): rules 8 to 10 over the map's flat tables, and the whole check of a file.
-pub mod net; // rules 8 and 9
-pub mod labels; // rule 10
-pub mod rules; // rules 8 to 10 of a file, and the chain
-pub mod answer; // what is answered
+mod edges; // rules 8 and 9
+mod labels; // rule 10
+mod rules; // rules 8 to 10 of a file, and the chain
+mod answer; // what is answered
 
-use crate::answer::Checked;
-use crate::answer::Counts;
-use crate::rules::fault;
-use mapfile::fields::edge_count;
-use mapfile::fields::vertex_count;
-use mapfile::refusal::Check;
+pub use answer::Checked;
+pub use answer::Counts;
+use mapfile::Check;
+use mapfile::edge_count;
+use mapfile::vertex_count;
+pub use rules::fault;
 ghost use mathlib.Core.Path.{_≡_};
 ghost use Rattle.paper.specs.Map.{check};
 ghost use Rattle.mapcheck.specs.Answer.{answerOf};

@@ -1,19 +1,23 @@
 // Rules 8 to 10 of a file that passes rules 1 to 7, each from tables of its own: a table holds as many vertices or edges as a map has at most.
+use super::edges::first_clashing;
+use super::edges::first_lonely;
 use super::labels::first_disagreeing;
-use super::net::first_clashing;
-use super::net::first_lonely;
-use graph::follow::follow;
-use graph::heading::headings;
-use mapfile::fields::edge_count;
-use mapfile::fields::vertex_count;
+use graph::follow;
+use graph::headings;
+use limits::MAP_CARRIER_CELLS;
+use limits::MAP_HALVES;
+use limits::MAP_HEADING_CELLS;
+use limits::MAP_POINT_CELLS;
+use mapfile::Check;
+use mapfile::edge_count;
+use mapfile::first;
 use mapfile::form_and_parts;
-use mapfile::load::load_carriers;
-use mapfile::load::load_labels;
-use mapfile::load::load_origins;
-use mapfile::load::load_points;
-use mapfile::refusal::Check;
-use mapfile::refusal::first;
-use mapfile::refusal::given;
+use mapfile::given;
+use mapfile::load_carriers;
+use mapfile::load_labels;
+use mapfile::load_origins;
+use mapfile::load_points;
+use mapfile::vertex_count;
 ghost use mathlib.Core.Path.{_≡_};
 ghost use mathlib.Core.List.{_++_};
 ghost use mathlib.Core.Option.{none};
@@ -34,7 +38,7 @@ pub fn edges_clash(file: &[u8]) -> Check
     requires { ⌜ firstOf (formFaults (now file) ++ partFaults (mapOf (now file) .graph)) ≡ none ⌝ }
     ensures { λ r. ⌜ verdict r ≡ atLeast 8 (clashing (mapOf (now (file .entry)) .graph)) (edgeCount (mapOf (now (file .entry)) .graph)) ⌝ }
 {
-    let mut carriers = [0i64; 1200];
+    let mut carriers = [0i64; MAP_CARRIER_CELLS];
     load_carriers(file, &mut carriers);
     let e = edge_count(file) as usize;
     let k = first_clashing(&carriers, e);
@@ -46,7 +50,7 @@ pub fn vertex_alone(file: &[u8]) -> Check
     requires { ⌜ firstOf (formFaults (now file) ++ partFaults (mapOf (now file) .graph)) ≡ none ⌝ }
     ensures { λ r. ⌜ verdict r ≡ atLeast 9 (lonely (mapOf (now (file .entry)) .graph)) (length (mapOf (now (file .entry)) .graph .points)) ⌝ }
 {
-    let mut origins = [0u16; 600];
+    let mut origins = [0u16; MAP_HALVES];
     load_origins(file, &mut origins);
     let n = vertex_count(file) as usize;
     let v = first_lonely(&origins, 2 * edge_count(file) as usize, n);
@@ -65,9 +69,9 @@ pub fn first_by_followers(
     requires { ⌜ Flat (now points) (now origins) (now carriers) n e ⌝ ∗ ⌜ n ≤ mapVertices ⌝ ∗ ⌜ e ≤ mapEdges ⌝ ∗ ⌜ 2 * e ≤ length (now labels) ⌝ ∗ ⌜ Plane (flatGraph (now points) (now origins) (now carriers) n e) ⌝ }
     ensures { λ r. ⌜ r ≡ least (disagrees (heldMap (now (points .entry)) (now (origins .entry)) (now (carriers .entry)) (now (labels .entry)) n e) (followers (flatGraph (now (points .entry)) (now (origins .entry)) (now (carriers .entry)) n e))) (2 * e) ⌝ }
 {
-    let mut ways = [0i64; 1200];
+    let mut ways = [0i64; MAP_HEADING_CELLS];
     headings(points, origins, carriers, n, e, &mut ways);
-    let mut next = [0u16; 600];
+    let mut next = [0u16; MAP_HALVES];
     follow(origins, &ways, n, e, &mut next);
     first_disagreeing(points, origins, carriers, labels, &ways, &next, n, e)
 }
@@ -77,13 +81,13 @@ pub fn labels_disagree(file: &[u8]) -> Check
     requires { ⌜ firstOf (formFaults (now file) ++ partFaults (mapOf (now file) .graph)) ≡ none ⌝ ∗ ⌜ atLeast 8 (clashing (mapOf (now file) .graph)) (edgeCount (mapOf (now file) .graph)) ≡ none ⌝ }
     ensures { λ r. ⌜ verdict r ≡ atLeast 10 (disagrees (mapOf (now (file .entry))) (followers (mapOf (now (file .entry)) .graph))) (halfCount (mapOf (now (file .entry)) .graph)) ⌝ }
 {
-    let mut points = [0i64; 800];
+    let mut points = [0i64; MAP_POINT_CELLS];
     load_points(file, &mut points);
-    let mut origins = [0u16; 600];
+    let mut origins = [0u16; MAP_HALVES];
     load_origins(file, &mut origins);
-    let mut carriers = [0i64; 1200];
+    let mut carriers = [0i64; MAP_CARRIER_CELLS];
     load_carriers(file, &mut carriers);
-    let mut labels = [0u16; 600];
+    let mut labels = [0u16; MAP_HALVES];
     load_labels(file, &mut labels);
     let n = vertex_count(file) as usize;
     let e = edge_count(file) as usize;

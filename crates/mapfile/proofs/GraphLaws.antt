@@ -16,7 +16,7 @@ use Rattle.paper.specs.Map.{vertexCount, edgesIn, originAt, mapOf}
 use Rattle.paper.specs.Plane.{Vec, minusV, whole, before, between}
 use Rattle.plane.specs.Bounds.{numerators, span, Corner, Near, Edge}
 use Rattle.mapfile.specs.Kept.{Kept}
-use Rattle.mapfile.proofs.MapLaws.{point-is, carrier-is, origin-is}
+use Rattle.graphlaws.specs.Reading.{point-at, carrier-at, origin-at}
 
 -- ── an edge between corners ──
 
@@ -50,13 +50,13 @@ module _ (s : List ℕ) (kept : Kept s) where
   point-near v l =
       let c = kept .near v l in
       let far : reach ≤ numerators = lit≤ tt in
-      subst Near (sym (point-is s v l)) (record { positive = record { lt = tt }; X-is = le-trans (c .x-is) far; Y-is = le-trans (c .y-is) far; D-is = lit≤ tt })
+      subst Near (sym (point-at s v l)) (record { positive = record { lt = tt }; X-is = le-trans (c .x-is) far; Y-is = le-trans (c .y-is) far; D-is = lit≤ tt })
 
   pub carrier-edge : (k : ℕ) → k < edgesIn s → Edge (edge (mapOf s .graph) k .carrier)
   carrier-edge k l =
       let a = kept .from k l in
       let b = kept .to k l in
-      subst Edge (sym (carrier-is s k l a b)) (between-edge _ _ (kept .near (originAt s (2 * k)) a) (kept .near (originAt s (2 * k + 1)) b))
+      subst Edge (sym (carrier-at s k l a b)) (between-edge _ _ (kept .near (originAt s (2 * k)) a) (kept .near (originAt s (2 * k + 1)) b))
 
   -- the half-edge is 2k or 2k + 1
   named : (h : ℕ) → h < 2 * edgesIn s → originAt s h < vertexCount s
@@ -67,4 +67,4 @@ module _ (s : List ℕ) (kept : Kept s) where
       ]
 
   pub origin-named : (h : ℕ) → h < 2 * edgesIn s → origin (mapOf s .graph) h < vertexCount s
-  origin-named h l = subst (λ (v : ℕ). v < vertexCount s) (sym (origin-is s h l)) (named h l)
+  origin-named h l = subst (λ (v : ℕ). v < vertexCount s) (sym (origin-at s h l)) (named h l)

@@ -11,8 +11,9 @@ use Rattle.paper.specs.Map.{vertexCount, edgesIn, cornerAt, originAt, mapOf, fo
 use Rattle.plane.specs.Bounds.{Corner}
 use Rattle.mapfile.specs.Parts.{farAt, badEndsAt}
 use Rattle.mapfile.specs.Kept.{Kept}
-use Rattle.mapfile.proofs.VerdictLaws.{Chain, given-none, at-least-none, rest}
-use Rattle.mapfile.proofs.MapLaws.{points-count, edges-count}
+use Rattle.mapfile.proofs.VerdictLaws.{Chain, rest}
+use Rattle.refusallaws.specs.Refusals.{given-none, least-none-is}
+use Rattle.graphlaws.specs.Reading.{points-count, edges-count}
 use Rattle.mapfile.proofs.PartsLaws.{far-is, ends-is}
 
 module _ (s : List ℕ) where
@@ -47,8 +48,8 @@ module _ (s : List ℕ) where
       let seven = rest (rest five .1) .1 in
       let g = mapOf s .graph in
       let few = or-false (ltb mapVertices (vertexCount s)) (ltb mapEdges (edgesIn s)) (given-none 3 0 _ (rest three .0)) in
-      let far = below-vertices (tooFar g) (farAt s) (far-is s) (at-least-none 5 (tooFar g) _ (rest five .0)) in
-      let ends = below-edges (badEnds g) (badEndsAt s) (ends-is s) (at-least-none 7 (badEnds g) _ (rest seven .0)) in
+      let far = below-vertices (tooFar g) (farAt s) (far-is s) (least-none-is 5 (tooFar g) _ (rest five .0)) in
+      let ends = below-edges (badEnds g) (badEndsAt s) (ends-is s) (least-none-is 7 (badEnds g) _ (rest seven .0)) in
       record {
         few-vertices = ltb-false mapVertices (vertexCount s) (few .0);
         few-edges = ltb-false mapEdges (edgesIn s) (few .1);

@@ -2,7 +2,6 @@
 pub mod BytesLaws
 pub mod VerdictLaws
 pub mod FormLaws
-pub mod MapLaws
 pub mod PartsLaws
 pub mod LoadLaws
 pub mod KeptLaws

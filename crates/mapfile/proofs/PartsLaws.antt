@@ -15,13 +15,13 @@ use Rattle.paper.specs.Limits.{reach}
 use Rattle.paper.specs.Map.{vertexCount, edgesIn, mapOf, tooFar, doubled, badEnds}
 use Rattle.paper.specs.Plane.{Pt, Vec, whole, same}
 use Rattle.mapfile.specs.Parts.{farAt, liesOn, doubledAt, badEndsAt}
-use Rattle.mapfile.proofs.MapLaws.{points-count, point-is, from-is, to-is}
+use Rattle.graphlaws.specs.Reading.{points-count, point-at, from-at, to-at}
 
 -- ── the map's tests are those of the bytes ──
 
 module _ (s : List ℕ) where
   pub far-is : (v : ℕ) → v < vertexCount s → tooFar (mapOf s .graph) v ≡ farAt s v
-  far-is v h = ap (λ (p : Pt). ltb reach (natAbs (p .X)) || ltb reach (natAbs (p .Y))) (point-is s v h)
+  far-is v h = ap (λ (p : Pt). ltb reach (natAbs (p .X)) || ltb reach (natAbs (p .Y))) (point-at s v h)
 
   pub least-far : least (tooFar (mapOf s .graph)) (vertexCount s) ≡ least (farAt s) (vertexCount s)
   least-far = least-ext (tooFar (mapOf s .graph)) (farAt s) (vertexCount s) far-is
@@ -29,7 +29,7 @@ module _ (s : List ℕ) where
   doubled-is : (v : ℕ) → v < vertexCount s → doubled (mapOf s .graph) v ≡ doubledAt s v
   doubled-is v h =
       some-ext (λ u. same (point (mapOf s .graph) v) (point (mapOf s .graph) u)) (liesOn s v) v
-      (λ u l i. same (point-is s v h i) (point-is s u (omega arith) i))
+      (λ u l i. same (point-at s v h i) (point-at s u (omega arith) i))
 
   pub least-doubled : least (doubled (mapOf s .graph)) (vertexCount s) ≡ least (doubledAt s) (vertexCount s)
   least-doubled = least-ext (doubled (mapOf s .graph)) (doubledAt s) (vertexCount s) doubled-is
@@ -37,8 +37,8 @@ module _ (s : List ℕ) where
   pub ends-is : (k : ℕ) → k < edgesIn s → badEnds (mapOf s .graph) k ≡ badEndsAt s k
   ends-is k h i =
       let n = points-count s i in
-      let a = from-is s k h i in
-      let b = to-is s k h i in
+      let a = from-at s k h i in
+      let b = to-at s k h i in
       (leb n a || leb n b) || eqb a b
 
   pub least-ends : least (badEnds (mapOf s .graph)) (edgesIn s) ≡ least (badEndsAt s) (edgesIn s)

@@ -2,8 +2,10 @@
 // has one more.
 use crate::bytes::i16_at;
 use crate::bytes::u16_at;
-use crate::limits::MAP_HEAD;
-use plane::point::Vector;
+use limits::MAP_EDGE_SIZE;
+use limits::MAP_HEAD;
+use limits::MAP_VERTEX_SIZE;
+use plane::Vector;
 ghost use mathlib.Core.Path.{_≡_};
 ghost use Rattle.plane.specs.Values.{vecOf};
 ghost use Rattle.paper.specs.Map.{vertexCount, edgesIn, vertexPlace, cornerAt, halfPlace, originAt, labelAt};
@@ -24,7 +26,7 @@ pub fn edge_count(file: &[u8]) -> u16
 pub fn vertex_place(v: u16) -> usize
     ensures { λ r. ⌜ r ≡ vertexPlace v ⌝ }
 {
-    MAP_HEAD + 4 * v as usize
+    MAP_HEAD + MAP_VERTEX_SIZE * v as usize
 }
 
 pub fn corner_x(file: &[u8], v: u16) -> i64
@@ -53,7 +55,7 @@ pub fn corner(file: &[u8], v: u16) -> Vector
 pub fn half_place(file: &[u8], h: u32) -> usize
     ensures { λ r. ⌜ r ≡ halfPlace (now (file .entry)) h ⌝ }
 {
-    vertex_place(vertex_count(file)) + 8 * (h / 2) as usize + 2 * (h % 2) as usize
+    vertex_place(vertex_count(file)) + MAP_EDGE_SIZE * (h / 2) as usize + 2 * (h % 2) as usize
 }
 
 pub fn origin_at(file: &[u8], h: u32) -> u16

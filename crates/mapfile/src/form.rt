@@ -1,13 +1,14 @@
 // Rules 1 to 4: the form of a map file.
 use crate::bytes::byte_at;
 use crate::fields::vertex_place;
-use crate::limits::MAP_EDGES;
-use crate::limits::MAP_HEAD;
-use crate::limits::MAP_VERTICES;
 use crate::reader::read_header;
 use crate::refusal::Check;
 use crate::refusal::first;
 use crate::refusal::given;
+use limits::MAP_EDGE_SIZE;
+use limits::MAP_EDGES;
+use limits::MAP_HEAD;
+use limits::MAP_VERTICES;
 ghost use mathlib.Core.Path.{_≡_};
 ghost use mathlib.Core.Bool.{not, _||_};
 ghost use Prim.Native.Nat.{_+_, _*_};
@@ -49,7 +50,7 @@ pub fn over_limits(vertices: u16, edges: u16) -> bool
 pub fn map_length(vertices: u16, edges: u16) -> usize
     ensures { λ r. ⌜ r ≡ vertexPlace vertices + 8 * edges ⌝ }
 {
-    vertex_place(vertices) + 8 * edges as usize
+    vertex_place(vertices) + MAP_EDGE_SIZE * edges as usize
 }
 
 // The first of rules 1 to 4 that the file breaks.

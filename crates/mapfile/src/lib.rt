@@ -1,17 +1,27 @@
 // Map files (01, "Map file"): the numbers in a file's bytes, the parts of the map that it holds, and refusals 1 to 7.
 // Everything here takes arbitrary bytes: a byte past the end counts as 0, as in the definitions.
-pub mod limits; // the numbers of 01
-pub mod refusal; // a refusal, and chains of checks
-pub mod bytes; // numbers in bytes, low byte first
-pub mod reader; // the reader that holds the file and its place
-pub mod fields; // counts, corners, origins, labels
-pub mod form; // rules 1 to 4
-pub mod parts; // rules 5 to 7
-pub mod load; // the map in flat tables
+mod refusal; // a refusal, and chains of checks
+mod bytes; // numbers in bytes, low byte first
+mod reader; // the reader that holds the file and its place
+mod fields; // counts, corners, origins, labels
+mod form; // rules 1 to 4
+mod parts; // rules 5 to 7
+mod load; // the map in flat tables
 
 use crate::form::form;
 use crate::parts::parts;
-use crate::refusal::Check;
+pub use bytes::byte_at;
+pub use bytes::u16_at;
+pub use fields::edge_count;
+pub use fields::vertex_count;
+pub use load::load_carriers;
+pub use load::load_labels;
+pub use load::load_origins;
+pub use load::load_points;
+pub use refusal::Check;
+pub use refusal::Refusal;
+pub use refusal::first;
+pub use refusal::given;
 ghost use mathlib.Core.Path.{_≡_};
 ghost use mathlib.Core.List.{_++_};
 ghost use Rattle.paper.specs.Refusal.{firstOf};

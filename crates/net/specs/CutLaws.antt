@@ -16,10 +16,9 @@ use Rattle.cut.specs.Cutting.{puts}
 use Rattle.cut.specs.VerticesAre.{Vertices, vertices-are, vertices-over}
 use Rattle.cut.specs.EdgesAre.{edges-are, edges-over}
 use Rattle.layers.specs.Held.{vertexStart, heldMaps, Held}
-use Rattle.layers.specs.declared.layers.Layers.{Layers}
+use Rattle.layers.specs.declared.stack.Layers.{Layers}
 use Rattle.net.specs.Standing.{holds, corners-lowest, vertices-near, unordered-near}
 use Rattle.net.specs.Cut.{CutOf}
-use Rattle.net.specs.declared.cutting.Cut.{Cut}
 
 -- the n points in a table are those that are collected
 abbrev pub Collected : Layers → List ℤ → ℕ → Type 0

@@ -36,7 +36,7 @@ use Rattle.cut.specs.Holds.{Holds, edgesIn, owner}
 use Rattle.cut.specs.VerticesAre.{Vertices}
 use Rattle.layers.specs.Standing.{cells}
 use Rattle.layers.specs.Held.{vertexStart, edgeStart, heldMap, heldMaps, Held}
-use Rattle.layers.specs.declared.layers.Layers.{Layers}
+use Rattle.layers.specs.declared.stack.Layers.{Layers}
 
 -- ── a part of a table ──
 

@@ -28,7 +28,7 @@ use Rattle.cut.specs.Net.{endsOf, carrierIn, segRow}
 use Rattle.cut.specs.NetAre as NetAre
 use Rattle.cut.specs.NetBounds.{carriers-near}
 use Rattle.layers.specs.Held.{heldMaps, Held}
-use Rattle.layers.specs.declared.layers.Layers.{Layers}
+use Rattle.layers.specs.declared.stack.Layers.{Layers}
 use Rattle.net.specs.Standing.{keep, holds, starts, vertices-near}
 use Rattle.net.specs.Cut.{CutOf}
 use Rattle.net.specs.Traced.{TracedOf}

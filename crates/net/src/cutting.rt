@@ -1,10 +1,12 @@
 // Vertices and edges: "Vertices stand in point order", edges are "the pieces of input edges between neighbouring overlay vertices on them".
-use cut::collect::collect;
-use cut::limits::MAPS;
-use cut::limits::VERTEX_ROWS;
-use cut::order::order;
-use cut::pieces::pieces;
-use layers::layers::Layers;
+use cut::collect;
+use cut::order;
+use cut::pieces;
+use layers::Layers;
+use limits::MAPS;
+use limits::PIECE_CELLS;
+use limits::POINT_CELLS;
+use limits::VERTEX_ROWS;
 ghost use Rattle.layers.specs.Held.{heldMaps, Held};
 ghost use Rattle.net.specs.Cut.{CutOf};
 
@@ -12,9 +14,9 @@ ghost use Rattle.net.specs.Cut.{CutOf};
 // may have, so that a count says whether there are more.
 pub struct Cut {
     pub vertices: usize,
-    pub points: [i64; 4004],
+    pub points: [i64; POINT_CELLS],
     pub edges: usize,
-    pub pieces: [u16; 8004],
+    pub pieces: [u16; PIECE_CELLS],
 }
 
 // The vertices and edges of the overlay of the maps that the layers hold; where there are too many vertices, no edges.
@@ -26,8 +28,8 @@ pub fn cut_layers(l: Layers) -> Cut
     let carriers = l.carriers;
     let starts = l.edges;
     let c = l.vertices[MAPS];
-    let mut points = [0i64; 4004];
-    let mut rows = [0u16; 8004];
+    let mut points = [0i64; POINT_CELLS];
+    let mut rows = [0u16; PIECE_CELLS];
     let vertices = collect(&corners, c, &carriers, &starts, &mut points);
     if VERTEX_ROWS <= vertices {
         return Cut {

@@ -1,12 +1,16 @@
 // Half-edges, walks and faces.
 use crate::cutting::Cut;
-use cut::net::carriers;
-use cut::net::origins;
-use faces::link::enclose;
-use faces::link::link;
-use graph::places::ABSENT;
-use graph::places::first_places;
-use layers::layers::Layers;
+use cut::carriers;
+use cut::origins;
+use faces::enclose;
+use faces::link;
+use graph::first_places;
+use layers::Layers;
+use limits::ABSENT;
+use limits::CARRIER_CELLS;
+use limits::FACE_ROWS;
+use limits::HALVES;
+use limits::VERTICES;
 ghost use mathlib.Core.Path.{_≡_};
 ghost use Prim.Native.Nat.{_*_, _≤_};
 ghost use lib.IntN.{pos};
@@ -24,31 +28,31 @@ ghost use Rattle.net.specs.Traced.{TracedOf};
 // Of each half-edge where it starts, its follower, its predecessor and its face; of each edge the input edge that it lies along; of each vertex the least outgoing
 // half-edge; the least half-edges of the outer walks and how many there are; of each face its hole walks.
 pub struct Traced {
-    pub origins: [u16; 4000],
-    pub carriers: [i64; 8000],
-    pub next: [u16; 4000],
-    pub prev: [u16; 4000],
-    pub least: [u16; 1000],
-    pub face: [u16; 4000],
-    pub outers: [u16; 4000],
-    pub holes: [u16; 4001],
+    pub origins: [u16; HALVES],
+    pub carriers: [i64; CARRIER_CELLS],
+    pub next: [u16; HALVES],
+    pub prev: [u16; HALVES],
+    pub least: [u16; VERTICES],
+    pub face: [u16; HALVES],
+    pub outers: [u16; HALVES],
+    pub holes: [u16; FACE_ROWS],
     pub count: usize,
 }
 
 // Where each half-edge starts: "Half-edge 2k goes from lower to upper, 2k+1 back".
-fn starts_of(c: Cut) -> [u16; 4000]
+fn starts_of(c: Cut) -> [u16; HALVES]
     requires { ⌜ c .edges ≤ overlayEdges ⌝ }
     ensures { λ r. ⌜ r ≡ laid (c .edges) (endsOf (c .pieces)) (replicate 4000 0) ⌝ }
 {
     let pieces = c.pieces;
     let e = c.edges;
-    let mut out = [0u16; 4000];
+    let mut out = [0u16; HALVES];
     origins(&pieces, e, &mut out);
     out
 }
 
 // The input edge that each edge lies along.
-fn carriers_of(l: Layers, c: Cut) -> [i64; 8000]
+fn carriers_of(l: Layers, c: Cut) -> [i64; CARRIER_CELLS]
     requires { ⌜ Starts (l .edges) (l .carriers) ⌝ ∗ ⌜ c .edges ≤ overlayEdges ⌝ }
     ensures { λ r. ⌜ r ≡ laid (c .edges) (λ k. segRow (carrierIn (c .pieces) (l .carriers) (l .edges) k)) (replicate 8000 (pos 0)) ⌝ }
 {
@@ -56,27 +60,27 @@ fn carriers_of(l: Layers, c: Cut) -> [i64; 8000]
     let e = c.edges;
     let first = l.edges;
     let given = l.carriers;
-    let mut out = [0i64; 8000];
+    let mut out = [0i64; CARRIER_CELLS];
     carriers(&pieces, e, &first, &given, &mut out);
     out
 }
 
 // The predecessor of each half-edge: the half-edge that it follows.
-fn predecessors(next: [u16; 4000], e: usize) -> [u16; 4000]
+fn predecessors(next: [u16; HALVES], e: usize) -> [u16; HALVES]
     requires { ⌜ Numbers next (2 * e) (2 * e) ⌝ ∗ ⌜ e ≤ overlayEdges ⌝ }
     ensures { λ r. ⌜ r ≡ filled (2 * e) (firstPlace next (2 * e) absent) (replicate 4000 0) ⌝ }
 {
-    let mut out = [0u16; 4000];
+    let mut out = [0u16; HALVES];
     first_places(&next, 2 * e, ABSENT, &mut out, 2 * e);
     out
 }
 
 // The least outgoing half-edge of each vertex, ABSENT where there is none.
-fn least_outgoing(from: [u16; 4000], n: usize, e: usize) -> [u16; 1000]
+fn least_outgoing(from: [u16; HALVES], n: usize, e: usize) -> [u16; VERTICES]
     requires { ⌜ Numbers from (2 * e) n ⌝ ∗ ⌜ n ≤ overlayVertices ⌝ ∗ ⌜ e ≤ overlayEdges ⌝ }
     ensures { λ r. ⌜ r ≡ filled n (firstPlace from (2 * e) absent) (replicate 1000 0) ⌝ }
 {
-    let mut out = [0u16; 1000];
+    let mut out = [0u16; VERTICES];
     first_places(&from, 2 * e, ABSENT, &mut out, n);
     out
 }

@@ -16,10 +16,9 @@ use Rattle.paper.specs.Pieces.{verticesOf, edgesOf, edgeOf}
 use Rattle.paper.specs.Faces.{Overlay, net, overlayOf}
 use Rattle.paper.specs.Tables.{Counts, countsOf, tablesOf}
 use Rattle.paper.specs.Lent.{Lengths, roomIn, roomFaults, mapFaults, outcome, overlay}
-use Rattle.filelaws.specs.Refusals.{nothing, given-none, none-given}
+use Rattle.refusallaws.specs.Refusals.{nothing, given-none, none-given, first-none, first-some, first-one}
 use Rattle.graph.specs.Flat.{pointAt}
 use Rattle.cut.specs.PieceRows.{pieceAt}
-use Rattle.mapfile.proofs.VerdictLaws.{first-none, first-some, first-one}
 use Rattle.net.specs.Cut.{CutOf}
 use Rattle.net.specs.Traced.{TracedOf}
 use Rattle.net.specs.declared.cutting.Cut.{Cut}

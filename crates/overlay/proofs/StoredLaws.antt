@@ -16,7 +16,7 @@ use Rattle.graph.specs.Flat.{pointAt, flatGraph}
 use Rattle.graph.specs.Decode.{flat-points, flat-edges, flat-point, flat-origin}
 use Rattle.cut.specs.PieceRows.{minusOne, pieceAt, piecesIn}
 use Rattle.tables.specs.Rows.{vertexOf, halfOf, sourceOf, faceBy}
-use Rattle.tables.specs.declared.faces.FaceRows.{FaceRows}
+use Rattle.tables.specs.declared.face_rows.FaceRows.{FaceRows}
 use Rattle.net.specs.Cut.{CutOf}
 use Rattle.net.specs.Traced.{TracedOf}
 use Rattle.net.specs.declared.cutting.Cut.{Cut}

@@ -2,10 +2,10 @@
 use Rattle.seq.specs.Seq.{_*_, rows}
 use Rattle.paper.specs.Tables.{Counts, Tables}
 use Rattle.tables.specs.Rows.{vertexOf, halfOf, sourceOf, faceBy}
-use Rattle.tables.specs.declared.vertices.VertexRows.{VertexRows}
-use Rattle.tables.specs.declared.halves.HalfRows.{HalfRows}
-use Rattle.tables.specs.declared.sources.SourceRows.{SourceRows}
-use Rattle.tables.specs.declared.faces.FaceRows.{FaceRows}
+use Rattle.tables.specs.declared.vertex_rows.VertexRows.{VertexRows}
+use Rattle.tables.specs.declared.half_rows.HalfRows.{HalfRows}
+use Rattle.tables.specs.declared.source_rows.SourceRows.{SourceRows}
+use Rattle.tables.specs.declared.face_rows.FaceRows.{FaceRows}
 use Rattle.net.specs.declared.cutting.Cut.{Cut}
 use Rattle.net.specs.declared.tracing.Traced.{Traced}
 

@@ -1,10 +1,10 @@
 // What is refused: the maps, and then counts over the room.
-use mapcheck::rules::fault;
-use mapfile::refusal::Check;
-use mapfile::refusal::Refusal;
-use mapfile::refusal::first;
-use mapfile::refusal::given;
-use tables::room::Counts;
+use mapcheck::fault;
+use mapfile::Check;
+use mapfile::Refusal;
+use mapfile::first;
+use mapfile::given;
+use tables::Counts;
 ghost use mathlib.Core.Path.{_≡_};
 ghost use mathlib.Core.List.{[], _∷_};
 ghost use lib.Dec.{ltb};

@@ -1,14 +1,14 @@
 // The overlay of two map files: "Out come three tables (vertices, half-edges, faces)".
-pub mod judge; // the maps, and counts over the room
-pub mod store; // the lent tables filled
-pub mod stages; // from layers to tables
+mod judge; // the maps, and counts over the room
+mod store; // the lent tables filled
+mod stages; // from layers to tables
 
 use crate::judge::maps_fault;
 use crate::stages::from_layers;
 use crate::stages::refuse;
-use layers::layers::read_layers;
-use mapfile::refusal::Check;
-use tables::answer::Answer;
+use layers::read_layers;
+use mapfile::Check;
+use tables::Answer;
 ghost use mathlib.Core.Path.{_≡_};
 ghost use Rattle.paper.specs.Lent.{lengthsOf, overlay};
 ghost use Rattle.tables.specs.Values.{tablesBy, outcomeOf};

@@ -1,18 +1,18 @@
 // The lent tables filled from what the stages hold, zeros past the counts.
-use net::cutting::Cut;
-use net::tracing::Traced;
-use tables::faces::FaceRows;
-use tables::faces::store_faces;
-use tables::halves::HalfRows;
-use tables::halves::store_halves;
-use tables::sources::SourceRows;
-use tables::sources::store_sources;
-use tables::vertices::VertexRows;
-use tables::vertices::store_vertices;
+use net::Cut;
+use net::Traced;
+use tables::FaceRows;
+use tables::HalfRows;
+use tables::SourceRows;
+use tables::VertexRows;
+use tables::store_faces;
+use tables::store_halves;
+use tables::store_sources;
+use tables::store_vertices;
 ghost use mathlib.Core.Path.{_≡_};
 ghost use Rattle.paper.specs.Limits.{maps};
 ghost use Rattle.paper.specs.Lent.{lengthsOf, roomIn, paddedTables};
-ghost use Rattle.filelaws.specs.Refusals.{Fits};
+ghost use Rattle.refusallaws.specs.Room.{Fits};
 ghost use Rattle.tables.specs.Values.{tablesBy};
 ghost use Rattle.overlay.specs.Stored.{stored, storedCounts};
 

@@ -4,8 +4,8 @@
 use mathlib.Core.Path.{_≡_, sym, _∙_, ap, subst}
 use Prim.Native.Nat.{_<_}
 use native.Mathlib.Omega.{arith}
-use lib.Signed.{_<ℤ_}
 use Rattle.seq.specs.Seq.{Bool, true, false, cond, List, Option, none, some, ℕ, _*_, _/_, length, pos}
+use Rattle.seq.specs.Options.{none-some}
 use Rattle.paper.specs.Plane.{Pt, Seg, Vec, whole, head, opposite, cross, before, leftBy}
 use Rattle.paper.specs.Graph.{Graph, edgeCount, pointIn, edge, goesUp, upward, heading}
 use Rattle.paper.specs.Map.{Map}
@@ -17,15 +17,16 @@ use Rattle.planelaws.specs.Angles.{SameWay, cross-swap-0, same-way-sym, same-wa
 use Rattle.planelaws.specs.Lines.{one-line}
 use Rattle.graphlaws.specs.Halves.{even-double, half-first, first-below, origin-first}
 use Rattle.maplaws.specs.Keeps.{seg, edges}
-use Rattle.overlaylaws.specs.Maps.{AllKeep, seg-rises}
-use Rattle.overlaylaws.specs.Places.{places, at-real}
-use Rattle.overlaylaws.specs.Sources.{sourceAt, none-some}
+use Rattle.overlaylaws.specs.Maps.{AllKeep}
+use Rattle.overlaylaws.specs.Places.{places}
+use Rattle.overlaylaws.specs.Sources.{sourceAt}
 use Rattle.overlaylaws.specs.Pieces.{pieceAt}
 use Rattle.overlaylaws.specs.Chain.{Turns, turning-piece}
 use Rattle.overlaylaws.specs.Net.{net-edges, from-is, to-is, near, carrier-up, ends-before, goes-even}
 use Rattle.overlaylaws.specs.NetPlane.{net-plane}
-use Rattle.overlaylaws.specs.Inside.{overlaid, carrierAt, lowAt, highAt}
+use Rattle.overlaylaws.specs.Inside.{overlaid, carrierAt, lowAt, highAt, low-real, high-real}
 use Rattle.overlaylaws.specs.Round.{Leaves, Out, source-up, source-on, source-way, out}
+use Rattle.graphlaws.specs.Plane.{upward-up}
 
 -- the sources of piece k
 abbrev pub sourcesAt : List Map → ℕ → ℕ → Option ℕ
@@ -52,18 +53,15 @@ module _ (ms : List Map) (K : AllKeep ms) where
     abbrev t : Seg
     t = seg (layer ms i) e
 
-    low-real : pos 0 <ℤ lowAt ms k .D
-    low-real = at-real vs (places ms K) (edge g k .from)
-
     -- its line is the carrier's
     pub source-line : (q : Pt) → leftBy (seg (layer ms i) e) q ≡ pos 0 → leftBy (carrierAt ms k) q ≡ pos 0
     source-line q z =
-        one-line t (carrierAt ms k) (lowAt ms k) q (source-up ms K k l i e s) low-real (source-way ms K k l i e s .parallel) (source-on ms K k l i e s .0 .line)
+        one-line t (carrierAt ms k) (lowAt ms k) q (source-up ms K k l i e s) (low-real ms K k l) (source-way ms K k l i e s .parallel) (source-on ms K k l i e s .0 .line)
         (near ms K vs (places ms K) k l .on-lo .line) z
 
     pub carrier-line : (q : Pt) → leftBy (carrierAt ms k) q ≡ pos 0 → leftBy (seg (layer ms i) e) q ≡ pos 0
     carrier-line q z =
-        one-line (carrierAt ms k) t (lowAt ms k) q (carrier-up ms K vs (places ms K) k l) low-real (cross-swap-0 (upward g k) (t .up) (source-way ms K k l i e s .parallel))
+        one-line (carrierAt ms k) t (lowAt ms k) q (carrier-up ms K vs (places ms K) k l) (low-real ms K k l) (cross-swap-0 (upward g k) (t .up) (source-way ms K k l i e s .parallel))
         (near ms K vs (places ms K) k l .on-lo .line) (source-on ms K k l i e s .0 .line) z
 
     -- the piece starts on it, before its upper end, and ends on it, after its lower end
@@ -71,8 +69,7 @@ module _ (ms : List Map) (K : AllKeep ms) where
     source-span =
         let (a, b) = source-on ms K k l i e s in
         let c = ends-before ms K vs (places ms K) k l in
-        let high-real = at-real vs (places ms K) (edge g k .to) in
-        (before-le (lowAt ms k) (highAt ms k) (whole (head t)) low-real high-real 0<1 c (b .high), le-before (whole (t .foot)) (lowAt ms k) (highAt ms k) 0<1 low-real high-real (a .low) c)
+        (before-le (lowAt ms k) (highAt ms k) (whole (head t)) (low-real ms K k l) (high-real ms K k l) 0<1 c (b .high), le-before (whole (t .foot)) (lowAt ms k) (highAt ms k) 0<1 (low-real ms K k l) (high-real ms K k l) (a .low) c)
 
   -- ── every point of an edge is on a piece of it ──
 
@@ -102,7 +99,7 @@ module _ (ms : List Map) (K : AllKeep ms) where
     own : Out ms (edge g k .from) i e true → sourcesAt ms k i ≡ some e
     own r =
         let u = seg (layer ms i) e .up in
-        let ue = seg-rises (layer ms i) (K i (o .in-list)) e (o .of-map) in
+        let ue = upward-up (layer ms i .graph) (K i (o .in-list) .plane) e (o .of-map) in
         let w : SameWay (upward g k) u = record { parallel = p; half = up-rises (upward g k) (carrier-up ms K vs (places ms K) k l) ∙ sym (up-rises u ue) } in
         let same : SameWay (heading g (r .half)) (heading g (2 * k)) = subst (λ (z : Vec). SameWay (heading g (r .half)) z) (sym up-first)
         (same-way-trans (heading g (r .half)) u (upward g k) (up-nonzero u ue) (r .way) (same-way-sym (upward g k) u w)) in

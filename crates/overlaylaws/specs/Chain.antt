@@ -1,23 +1,25 @@
 -- The pieces of one input edge join up to it: the vertices on it, in order, start with its lower end and end with its upper end, and between each of them and the next
 -- there is a piece that has the edge as its source (`Chain`). So each piece ends where the next starts, and a test on points that turns between the ends of the edge turns
 -- between those of one of its pieces (`turning-piece`): each point of an edge is on a piece of it. Assumes nothing.
-use mathlib.Core.Path.{_≡_, refl, sym, _∙_, ap, subst}
+use mathlib.Core.Path.{_≡_, sym, _∙_, ap, subst}
 use Prim.Native.Nat.{_<_, _-_}
-use native.Mathlib.Nat.{not-suc-le-zero, le-of-suc-le-suc}
 use native.Mathlib.Decide.{decLt}
 use native.Mathlib.Omega.{arith}
-use Rattle.seq.specs.Seq.{Bool, true, false, List, [], _∷_, some, ℕ, zero, suc, length, getD}
+use Rattle.seq.specs.Seq.{Bool, true, false, List, some, ℕ, suc, length, getD}
 use Rattle.seq.specs.Terms.{Among, Asc}
 use Rattle.seq.specs.Tests.{clash}
 use Rattle.seq.specs.Members.{at-among, among-at}
+use Rattle.seq.specs.Pairs.{pairs-at}
+use Rattle.seq.specs.Least.{turning}
 use Rattle.paper.specs.Plane.{Pt, whole, head, before}
 use Rattle.paper.specs.Graph.{pointIn}
 use Rattle.paper.specs.Map.{Map}
 use Rattle.paper.specs.Pieces.{layer, along, verticesOf, edgesOf}
 use Rattle.planelaws.specs.Points.{before-irr}
 use Rattle.planelaws.specs.Edges.{On, on-foot, on-head, seg-up}
+use Rattle.graphlaws.specs.Plane.{upward-up}
 use Rattle.maplaws.specs.Keeps.{seg, edges}
-use Rattle.overlaylaws.specs.Maps.{AllKeep, seg-rises}
+use Rattle.overlaylaws.specs.Maps.{AllKeep}
 use Rattle.overlaylaws.specs.Vertices.{foot-there, head-there}
 use Rattle.overlaylaws.specs.Places.{places, number, at-before}
 use Rattle.overlaylaws.specs.Links.{Link, Runs, along-from, along-has, along-asc, link-neighbours}
@@ -26,27 +28,21 @@ use Rattle.overlaylaws.specs.Pieces.{pieceAt, piece-of, piece-at}
 
 -- ── rising numbers by place ──
 
-pub asc-at : (l : List ℕ) → Asc l → (i j : ℕ) → i < j → j < length l → getD l i 0 < getD l j 0
-asc-at [] a i j s k = absurd (not-suc-le-zero k)
-asc-at (x ∷ xs) a i zero s k = absurd (not-suc-le-zero s)
-asc-at (x ∷ xs) a zero (suc j) s k = a .0 (getD xs j 0) (at-among xs j 0 (le-of-suc-le-suc k))
-asc-at (x ∷ xs) a (suc i) (suc j) s k = asc-at xs (a .1) i j (le-of-suc-le-suc s) (le-of-suc-le-suc k)
-
 module _ (l : List ℕ) (a : Asc l) where
   -- two that stand next to each other are neighbours
   pub asc-link : (j : ℕ) → suc j < length l → Link l (getD l j 0) (getD l (suc j) 0)
   asc-link j s = record {
-    rises = asc-at l a j (suc j) (omega arith) s;
+    rises = pairs-at _<_ l 0 a j (suc j) (omega arith) s;
     lower = at-among l j 0 (omega arith);
     upper = at-among l (suc j) 0 s;
     none = λ x i h k. let (n, b, e) = among-at x l 0 i in
         elim (decLt j n) [
           | yes q ↦ elim (decLt (suc j) n) [
-            | yes r ↦ omega (arith, asc-at l a (suc j) n r b, e)
+            | yes r ↦ omega (arith, pairs-at _<_ l 0 a (suc j) n r b, e)
             | no r ↦ let t : n ≡ suc j = omega arith in let f : getD l (suc j) 0 ≡ x = ap (λ (m : ℕ). getD l m 0) (sym t) ∙ e in omega arith
           ]
           | no q ↦ elim (decLt n j) [
-            | yes r ↦ omega (arith, asc-at l a n j r (omega arith), e)
+            | yes r ↦ omega (arith, pairs-at _<_ l 0 a n j r (omega arith), e)
             | no r ↦ let t : n ≡ j = omega arith in let f : getD l j 0 ≡ x = ap (λ (m : ℕ). getD l m 0) (sym t) ∙ e in omega arith
           ]
         ];
@@ -57,7 +53,7 @@ module _ (l : List ℕ) (a : Asc l) where
   asc-first v i h =
       let (n, b, e) = among-at v l 0 i in
       elim (decLt 0 n) [
-        | yes q ↦ absurd (h (getD l 0 0) (at-among l 0 0 (omega arith)) (subst (λ (x : ℕ). getD l 0 0 < x) e (asc-at l a 0 n q b)))
+        | yes q ↦ absurd (h (getD l 0 0) (at-among l 0 0 (omega arith)) (subst (λ (x : ℕ). getD l 0 0 < x) e (pairs-at _<_ l 0 a 0 n q b)))
         | no q ↦ let t : n ≡ 0 = omega arith in ap (λ (m : ℕ). getD l m 0) (sym t) ∙ e
       ]
 
@@ -65,18 +61,9 @@ module _ (l : List ℕ) (a : Asc l) where
   asc-last v i h =
       let (n, b, e) = among-at v l 0 i in
       elim (decLt n (length l - 1)) [
-        | yes q ↦ absurd (h (getD l (length l - 1) 0) (at-among l (length l - 1) 0 (omega arith)) (subst (λ (x : ℕ). x < getD l (length l - 1) 0) e (asc-at l a n (length l - 1) q (omega arith))))
+        | yes q ↦ absurd (h (getD l (length l - 1) 0) (at-among l (length l - 1) 0 (omega arith)) (subst (λ (x : ℕ). x < getD l (length l - 1) 0) e (pairs-at _<_ l 0 a n (length l - 1) q (omega arith))))
         | no q ↦ let t : n ≡ length l - 1 = omega arith in ap (λ (m : ℕ). getD l m 0) (sym t) ∙ e
       ]
-
--- a test that turns on the way turns at some step
-pub turning : (t : ℕ → Bool) (n : ℕ) → t 0 ≡ false → t n ≡ true → (j : ℕ) × (j < n) × (t j ≡ false) × (t (suc j) ≡ true)
-turning t zero e f = absurd (clash f e)
-turning t (suc n) e f = go (t n) refl (turning t n e)
-  where
-    go : (c : Bool) → t n ≡ c → (t n ≡ true → (j : ℕ) × (j < n) × (t j ≡ false) × (t (suc j) ≡ true)) → (j : ℕ) × (j < suc n) × (t j ≡ false) × (t (suc j) ≡ true)
-    go true q ih = let (j, l, x, y) = ih q in (j, omega arith, x, y)
-    go false q ih = (n, omega arith, q, f)
 
 -- ── the vertices on an edge ──
 
@@ -104,7 +91,7 @@ module _ (ms : List Map) (K : AllKeep ms) (i k : ℕ) (li : i < length ms) (lk :
   l = along vs (layer ms i .graph) k
 
   rise : before (whole (seg (layer ms i) k .foot)) (whole (head (seg (layer ms i) k))) ≡ true
-  rise = seg-up (seg (layer ms i) k) (seg-rises (layer ms i) (K i li) k lk)
+  rise = seg-up (seg (layer ms i) k) (upward-up (layer ms i .graph) (K i li .plane) k lk)
 
   -- the numbers of the two ends
   foot-number : (v : ℕ) × (v < length vs) × (pointIn vs v ≡ whole (seg (layer ms i) k .foot))
@@ -116,12 +103,12 @@ module _ (ms : List Map) (K : AllKeep ms) (i k : ℕ) (li : i < length ms) (lk :
   foot-in : Among (foot-number .0) l
   foot-in =
       let (v, b, e) = foot-number in
-      along-has vs (layer ms i .graph) k v b (subst (On (seg (layer ms i) k)) (sym e) (on-foot (seg (layer ms i) k) (seg-rises (layer ms i) (K i li) k lk)))
+      along-has vs (layer ms i .graph) k v b (subst (On (seg (layer ms i) k)) (sym e) (on-foot (seg (layer ms i) k) (upward-up (layer ms i .graph) (K i li .plane) k lk)))
 
   head-in : Among (head-number .0) l
   head-in =
       let (v, b, e) = head-number in
-      along-has vs (layer ms i .graph) k v b (subst (On (seg (layer ms i) k)) (sym e) (on-head (seg (layer ms i) k) (seg-rises (layer ms i) (K i li) k lk)))
+      along-has vs (layer ms i .graph) k v b (subst (On (seg (layer ms i) k)) (sym e) (on-head (seg (layer ms i) k) (upward-up (layer ms i .graph) (K i li .plane) k lk)))
 
   -- none on the edge is before the one or after the other
   no-lower : (w : ℕ) → Among w l → w < foot-number .0 → ⊥

@@ -1,31 +1,20 @@
 -- An empty map put anywhere into the list of maps changes no vertex (`empty-vertices`) and no edge of the overlay's graph (`empty-graph`), and so no follower, walk or face; each
 -- piece has one source more, none, at its place (`empty-pieces`). Of any list of maps, whether they keep the rules or not. Assumes nothing.
 use mathlib.Core.Path.{_≡_, refl, sym, _∙_, ap}
-use mathlib.Core.List.{map-append}
 use Prim.Native.Nat.{_<_, _≤_}
 use native.Mathlib.Omega.{arith}
-use borrow.Author.Tests.{eqb-true, eq-eqb, ne-eqb}
+use borrow.Author.Tests.{ne-eqb}
 use Rattle.seq.specs.Seq.{Bool, true, false, cond, List, [], _∷_, _++_, map, Option, none, some, ℕ, zero, suc, eqb, length, rows, insertBy}
-use Rattle.seq.specs.Tests.{bool-ext}
-use Rattle.seq.specs.Rows.{rows-ext}
+use Rattle.seq.specs.Tests.{eqb-iff}
+use Rattle.seq.specs.Rows.{rows-ext, rows-none, map-rows}
+use Rattle.seq.specs.Put.{put, length-put, put-before, put-own, put-past, table-put, rows-put}
 use Rattle.paper.specs.Plane.{Pt}
 use Rattle.paper.specs.Graph.{Graph, edgeCount}
 use Rattle.paper.specs.Map.{Map, empty}
 use Rattle.paper.specs.Pieces.{layer, meetings, crossings, inOrder, verticesOf, Piece, only, merged, joined, earlier, piecesInOrder, linksFrom, links, along, piecesOf, edgesOf, carrierOf, edgeOf}
-use Rattle.overlaylaws.specs.Put.{put, length-put, put-before, put-own, put-past, table-put, rows-put}
 use Rattle.overlaylaws.specs.Links.{cutOut}
 use Rattle.overlaylaws.specs.Net.{netOf}
 use Rattle.overlaylaws.specs.Inside.{overlaid}
-
--- ── rows ──
-
-rows-none : {A : Type 0} (n : ℕ) → rows {A = A} (λ i. []) n ≡ []
-rows-none zero = refl
-rows-none {A} (suc n) = ap (λ (r : List A). r ++ []) (rows-none n)
-
-map-rows : {A : Type 0} {B : Type 0} (f : A → B) (g : ℕ → List A) (n : ℕ) → map f (rows g n) ≡ rows (λ i. map f (g i)) n
-map-rows f g zero = refl
-map-rows {A} {B} f g (suc n) = map-append f (rows g n) (g n) ∙ ap (λ (r : List B). r ++ map f (g n)) (map-rows f g n)
 
 -- ── layers ──
 
@@ -106,9 +95,6 @@ carrier-put (suc a) (m ∷ ms) [] = refl
 carrier-put (suc a) (m ∷ ms) (none ∷ ss) = carrier-put a ms ss
 carrier-put (suc a) (m ∷ ms) (some k ∷ ss) = refl
 
-same-test : (x y z w : ℕ) → (x ≡ y → z ≡ w) → (z ≡ w → x ≡ y) → eqb x y ≡ eqb z w
-same-test x y z w f b = bool-ext (eqb x y) (eqb z w) (λ e. eq-eqb z w (f (eqb-true x y e))) (λ e. eq-eqb x y (b (eqb-true z w e)))
-
 module _ (a n i k : ℕ) (h : a ≤ n) where
   abbrev own : ℕ → ℕ → Option ℕ
   own i j = cond (eqb j i) (some k) none
@@ -120,12 +106,12 @@ module _ (a n i k : ℕ) (h : a ≤ n) where
   only-by i′ d below past = sym (ap (λ (x : Option ℕ). put a x (only n i k)) (sym (not-own i′ d)) ∙ table-put a n h (own i) (own i′) below past)
 
   only-before : i < a → only (suc n) i k ≡ put a none (only n i k)
-  only-before l = only-by i (λ e. omega arith) (λ j q. refl) (λ j q. ap (λ (c : Bool). cond c (some k) none) (same-test (suc j) i j i (λ e. absurd (omega arith)) (λ e. absurd (omega arith))))
+  only-before l = only-by i (λ e. omega arith) (λ j q. refl) (λ j q. ap (λ (c : Bool). cond c (some k) none) (eqb-iff (suc j) i j i (λ e. absurd (omega arith)) (λ e. absurd (omega arith))))
 
   only-past : a ≤ i → only (suc n) (suc i) k ≡ put a none (only n i k)
   only-past l =
-      only-by (suc i) (λ e. omega arith) (λ j q. ap (λ (c : Bool). cond c (some k) none) (same-test j (suc i) j i (λ e. absurd (omega arith)) (λ e. absurd (omega arith))))
-      (λ j q. ap (λ (c : Bool). cond c (some k) none) (same-test (suc j) (suc i) j i (λ e. omega arith) (λ e. omega arith)))
+      only-by (suc i) (λ e. omega arith) (λ j q. ap (λ (c : Bool). cond c (some k) none) (eqb-iff j (suc i) j i (λ e. absurd (omega arith)) (λ e. absurd (omega arith))))
+      (λ j q. ap (λ (c : Bool). cond c (some k) none) (eqb-iff (suc j) (suc i) j i (λ e. omega arith) (λ e. omega arith)))
 
 -- ── pieces ──
 
@@ -161,6 +147,11 @@ module _ (a : ℕ) where
   order-put [] = refl
   order-put (p ∷ ps) = ap (insertBy earlier joined (withNone a p)) (order-put ps) ∙ insert-put p (piecesInOrder ps)
 
+-- the edges of the graph do not know of the source that is none
+pub edges-same : (a : ℕ) (ms : List Map) (l : List Piece) → map (edgeOf (withEmpty a ms)) (map (withNone a) l) ≡ map (edgeOf ms) l
+edges-same a ms [] = refl
+edges-same a ms (p ∷ ps) = λ i. record { from = p .lo; to = p .hi; carrier = carrier-put a ms (p .sources) i } ∷ edges-same a ms ps i
+
 module _ (ms : List Map) (a : ℕ) (h : a ≤ length ms) (vs : List Pt) where
   -- the pieces of a graph as the map of number i of n
   abbrev cutBy : ℕ → ℕ → Graph → List Piece
@@ -187,12 +178,8 @@ module _ (ms : List Map) (a : ℕ) (h : a ≤ length ms) (vs : List Pt) where
 
   -- ── the graph ──
 
-  edges-same : (l : List Piece) → map (edgeOf (withEmpty a ms)) (map (withNone a) l) ≡ map (edgeOf ms) l
-  edges-same [] = refl
-  edges-same (p ∷ ps) = λ i. record { from = p .lo; to = p .hi; carrier = carrier-put a ms (p .sources) i } ∷ edges-same ps i
-
   pub empty-net : netOf (withEmpty a ms) vs ≡ netOf ms vs
-  empty-net = λ i. record { points = vs; edges = (ap (map (edgeOf (withEmpty a ms))) empty-pieces ∙ edges-same (edgesOf ms vs)) i }
+  empty-net = λ i. record { points = vs; edges = (ap (map (edgeOf (withEmpty a ms))) empty-pieces ∙ edges-same a ms (edgesOf ms vs)) i }
 
 -- the overlay's graph is the same
 pub empty-graph : (ms : List Map) (a : ℕ) → a ≤ length ms → overlaid (withEmpty a ms) ≡ overlaid ms

@@ -9,6 +9,7 @@ use lib.ListN.{length-map, length-replicate}
 use Rattle.seq.specs.Seq.{List, [], _∷_, _++_, map, none, ℕ, zero, suc, _*_, _/_, length, getD, replicate, rows, table}
 use Rattle.seq.specs.Rows.{rows-ext}
 use Rattle.seq.specs.Table.{length-table}
+use Rattle.seq.specs.Put.{put, put-before, put-default, put-past, put-map, put-++, put-replicate, table-put}
 use Rattle.paper.specs.Limits.{absent}
 use Rattle.paper.specs.Map.{Map}
 use Rattle.paper.specs.Pieces.{Piece, layer, verticesOf, edgesOf, edgeOf}
@@ -16,7 +17,6 @@ use Rattle.paper.specs.Faces.{Overlay, walksOf, overlayBy, overlayOf, net, sour
 use Rattle.paper.specs.Tables.{vertexRow, halfRow, plusOne, sourceRow, faceRow, countsOf, tablesOf}
 use Rattle.overlaylaws.specs.Sources.{sourceAt}
 use Rattle.overlaylaws.specs.Pieces.{pieceAt}
-use Rattle.overlaylaws.specs.Put.{put, put-before, put-default, put-past, put-map, put-++, put-replicate, table-put}
 use Rattle.overlaylaws.specs.EmptyMap.{withEmpty, withNone, one-more, layer-before, layer-own, layer-past, empty-vertices, empty-pieces, empty-graph}
 
 -- an overlay with one source more, none, at place a in each piece

@@ -18,30 +18,34 @@ use Rattle.maplaws.specs.Files.{passes-keeps}
 use Rattle.overlaylaws.specs.Maps.{AllKeep}
 use Rattle.overlaylaws.specs.Vertices.{InReach, vertices-bounded}
 
--- the maps in a list of files
-abbrev pub mapsIn : List (List ℕ) → List Map
-mapsIn files = map mapOf files
+-- each file passes
+abbrev pub AllPass : List (List ℕ) → Type 0
+AllPass files = (i : ℕ) → i < length files → fault (getD files i []) ≡ none
+
+-- the maps in the files
+abbrev pub mapsOf : List (List ℕ) → List Map
+mapsOf files = map mapOf files
 
 module _ (files : List (List ℕ)) where
-  pub layer-is : (i : ℕ) → layer (mapsIn files) i ≡ mapOf (getD files i [])
+  pub layer-is : (i : ℕ) → layer (mapsOf files) i ≡ mapOf (getD files i [])
   layer-is i = List·getD-map mapOf files i []
 
-  pub maps-count : length (mapsIn files) ≡ length files
+  pub maps-count : length (mapsOf files) ≡ length files
   maps-count = length-map files mapOf
 
-  module _ (passes : (i : ℕ) → i < length files → fault (getD files i []) ≡ none) where
-    in-files : {i : ℕ} → i < length (mapsIn files) → i < length files
+  module _ (passes : AllPass files) where
+    in-files : {i : ℕ} → i < length (mapsOf files) → i < length files
     in-files {i} = subst (λ (n : ℕ). i < n) maps-count
 
-    pub files-keep : AllKeep (mapsIn files)
+    pub files-keep : AllKeep (mapsOf files)
     files-keep i l = subst Keeps (sym (layer-is i)) (passes-keeps (getD files i []) (passes i (in-files l)))
 
-    pub files-reach : (i : ℕ) → i < length (mapsIn files) → InReach (layer (mapsIn files) i)
+    pub files-reach : (i : ℕ) → i < length (mapsOf files) → InReach (layer (mapsOf files) i)
     files-reach i l = let r = passes-rules (getD files i []) (passes i (in-files l)) in subst InReach (sym (layer-is i)) (λ v b. (r .x-near v b, r .y-near v b))
 
     -- "D is at most 32,000,000; X and Y lie within 2,000·D either way"
-    pub files-bounded : Every Bounded (verticesOf (mapsIn files))
-    files-bounded = vertices-bounded (mapsIn files) files-keep files-reach
+    pub files-bounded : Every Bounded (verticesOf (mapsOf files))
+    files-bounded = vertices-bounded (mapsOf files) files-keep files-reach
 
   -- ── labels ──
 
@@ -55,5 +59,5 @@ module _ (files : List (List ℕ)) where
         ]
 
     -- "labels 0 to 65,535", of files of bytes
-    pub files-labels : (i h : ℕ) → label (layer (mapsIn files) i) h < 256 ^ 2
+    pub files-labels : (i h : ℕ) → label (layer (mapsOf files) i) h < 256 ^ 2
     files-labels i h = subst (λ (m : Map). label m h < 256 ^ 2) (sym (layer-is i)) (label-of i h)

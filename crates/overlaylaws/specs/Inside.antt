@@ -23,8 +23,9 @@ use Rattle.planelaws.specs.Sides.{left-foot, left-head}
 use Rattle.planelaws.specs.Edges.{On, IsEnd, on-same}
 use Rattle.planelaws.specs.Lines.{one-line}
 use Rattle.planelaws.specs.Crossing.{crossing-there, crossing-touch}
+use Rattle.graphlaws.specs.Plane.{upward-up}
 use Rattle.maplaws.specs.Keeps.{seg, edges, vertices}
-use Rattle.overlaylaws.specs.Maps.{AllKeep, seg-rises}
+use Rattle.overlaylaws.specs.Maps.{AllKeep}
 use Rattle.overlaylaws.specs.Vertices.{vertex-has, foot-there, head-there}
 use Rattle.overlaylaws.specs.Places.{places, at-real, before-at, number}
 use Rattle.overlaylaws.specs.Links.{Neighbours}
@@ -60,10 +61,10 @@ module _ (ms : List Map) (K : AllKeep ms) (k : ℕ) (l : k < edgeCount (overlaid
   abbrev f : Seg
   f = carrierAt ms k
 
-  low-real : pos 0 <ℤ lowAt ms k .D
+  pub low-real : pos 0 <ℤ lowAt ms k .D
   low-real = at-real vs (places ms K) (edge (overlaid ms) k .from)
 
-  high-real : pos 0 <ℤ highAt ms k .D
+  pub high-real : pos 0 <ℤ highAt ms k .D
   high-real = at-real vs (places ms K) (edge (overlaid ms) k .to)
 
   n : Neighbours vs (carrierAt ms k) (edge (overlaid ms) k .from) (edge (overlaid ms) k .to)
@@ -99,7 +100,7 @@ module _ (ms : List Map) (K : AllKeep ms) (k : ℕ) (l : k < edgeCount (overlaid
     e = seg (layer ms i) t
 
     ue : UpV (e .up)
-    ue = seg-rises (layer ms i) (K i li) t le
+    ue = upward-up (layer ms i .graph) (K i li .plane) t le
 
     pub lo-off : before (lowAt ms k) (whole (seg (layer ms i) t .foot)) ≡ true → before (whole (seg (layer ms i) t .foot)) (highAt ms k) ≡ true → leftBy (carrierAt ms k) (whole (seg (layer ms i) t .foot)) ≡ pos 0 → ⊥
     lo-off a b on = vertex-off (whole (e .foot)) (foot-there ms K i t li le) on a b
@@ -117,7 +118,7 @@ module _ (ms : List Map) (K : AllKeep ms) (k : ℕ) (l : k < edgeCount (overlaid
         (q : Pt) → Between ms k q → On e q → On f q → ⊥
     crossing-off j s lj ls d c w q b oe o =
         let g = seg (layer ms j) s in
-        let ug = seg-rises (layer ms j) (K j lj) s ls in
+        let ug = upward-up (layer ms j .graph) (K j lj .plane) s ls in
         let x = lowest (q .X) (q .Y) (q .D) in
         let r = crossing-touch g e ug ue x (crossing-there g e ug ue q w (b .real) (subst (λ (z : Seg). On z q) c o) oe) in
         same-off x q

@@ -1,5 +1,6 @@
 pub mod Maps
 pub mod Vertices
+pub mod Collected
 pub mod Places
 pub mod Links
 pub mod Sources
@@ -13,9 +14,9 @@ pub mod Inside
 pub mod Round
 pub mod Cells
 pub mod Parts
+pub mod Padded
 pub mod Named
 pub mod Fits
-pub mod Put
 pub mod EmptyMap
 pub mod EmptyTables
 pub mod Along

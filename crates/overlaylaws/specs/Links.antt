@@ -1,7 +1,7 @@
 -- The pieces of one edge: they go between neighbours among the vertices on it, and every two neighbours have one. First the links between neighbours of a rising list of
 -- numbers; then of the list of vertices on an edge; then the pieces of all edges of all maps, before they are put in order. Assumes nothing.
 use mathlib.Core.Path.{_≡_, refl, sym, subst}
-use mathlib.Core.Logic.{_⊎_, inl, inr, ⊎-elim}
+use mathlib.Core.Logic.{inl, inr, ⊎-elim, _⊎_}
 use Prim.Native.Nat.{_<_}
 use native.Mathlib.Omega.{arith}
 use Rattle.seq.specs.Seq.{Bool, List, [], _∷_, Option, ℕ, length, rows}

@@ -11,16 +11,16 @@ use Rattle.seq.specs.Tests.{clash}
 use Rattle.seq.specs.Members.{at-among, among-at, in-every}
 use Rattle.exact.specs.Sign.{isZer}
 use Rattle.paper.specs.Plane.{Pt, Vec, Seg, whole, nowhere, head, before, same}
-use Rattle.paper.specs.Graph.{Graph, point, origin, start, low, high, goesUp, upward}
+use Rattle.paper.specs.Graph.{Graph, point, origin, start, low, high, goesUp}
 use Rattle.paper.specs.Map.{Map}
 use Rattle.paper.specs.Pieces.{layer}
-use Rattle.planelaws.specs.Cone.{UpV, rises-up}
+use Rattle.planelaws.specs.Cone.{UpV}
 use Rattle.planelaws.specs.Points.{LowestP, before-asym, before-same, same-before, same-sym, same-neither, same-order, order-same}
 use Rattle.planelaws.specs.Ends.{0<1, lower-upper, corner-lowest}
 use Rattle.planelaws.specs.Edges.{On, IsEnd, inside-on, seg-up, end-not-inside}
 use Rattle.planelaws.specs.Clash.{middle, middle-inside, ends-equal}
 use Rattle.graphlaws.specs.Halves.{half-below, first-below, second-below}
-use Rattle.graphlaws.specs.Plane.{up-ends, down-ends}
+use Rattle.graphlaws.specs.Plane.{up-ends, down-ends, upward-up}
 use Rattle.maplaws.specs.Keeps.{seg, edges, halves, vertices, Keeps}
 
 -- every map of the list keeps the rules
@@ -30,9 +30,6 @@ AllKeep ms = (i : ℕ) → i < length ms → Keeps (layer ms i)
 module _ (m : Map) (K : Keeps m) where
   abbrev g : Graph
   g = m .graph
-
-  pub seg-rises : (k : ℕ) → k < edges m → UpV (seg m k .up)
-  seg-rises k l = rises-up (upward g k) (K .plane .rising k l)
 
   -- ── a vertex is a corner, and the end of an edge ──
 
@@ -103,10 +100,10 @@ same-trans a p b ha hp hb e f = ap isZer (order-same p a b hp ha hb (same-order 
 module _ (m : Map) (K : Keeps m) (i j : ℕ) (li : i < edges m) (lj : j < edges m) (p q : Pt) (hp : pos 0 <ℤ p .D) (hq : pos 0 <ℤ q .D) (b : before p q ≡ true) where
   module _ (ip : On (seg m i) p) (iq : On (seg m i) q) (jp : On (seg m j) p) (jq : On (seg m j) q) (d : i ≡ j → ⊥) where
     first : (same (whole (seg m i .foot)) p ≡ true) × (same (whole (head (seg m i))) q ≡ true)
-    first = lower-end (seg m i) (seg-rises m K i li) p q hp hq b (K .share i j li lj d p hp ip jp .0) (K .share i j li lj d q hq iq jq .0)
+    first = lower-end (seg m i) (upward-up (m .graph) (K .plane) i li) p q hp hq b (K .share i j li lj d p hp ip jp .0) (K .share i j li lj d q hq iq jq .0)
 
     second : (same (whole (seg m j .foot)) p ≡ true) × (same (whole (head (seg m j))) q ≡ true)
-    second = lower-end (seg m j) (seg-rises m K j lj) p q hp hq b (K .share i j li lj d p hp ip jp .1) (K .share i j li lj d q hq iq jq .1)
+    second = lower-end (seg m j) (upward-up (m .graph) (K .plane) j lj) p q hp hq b (K .share i j li lj d p hp ip jp .1) (K .share i j li lj d q hq iq jq .1)
 
     equal : seg m i ≡ seg m j
     equal =
@@ -117,7 +114,7 @@ module _ (m : Map) (K : Keeps m) (i j : ℕ) (li : i < edges m) (lj : j < edges 
     two-edges : ⊥
     two-edges =
         let c = middle (seg m i) in
-        let w = middle-inside (seg m i) (seg-rises m K i li) in
+        let w = middle-inside (seg m i) (upward-up (m .graph) (K .plane) i li) in
         let o = inside-on (seg m i) c w in
         end-not-inside (seg m i) c (K .share i j li lj d c (record { lt = tt }) o (subst (λ (s : Seg). On s c) equal o) .0) w
 

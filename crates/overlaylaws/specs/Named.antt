@@ -11,7 +11,7 @@ use Rattle.paper.specs.Limits.{absent}
 use Rattle.paper.specs.Graph.{Graph, edgeCount, halfCount, twin, origin, leaves, follower}
 use Rattle.paper.specs.Map.{Map}
 use Rattle.paper.specs.Pieces.{layer, verticesOf, edgesOf}
-use Rattle.paper.specs.Faces.{walksOf, leadsOuter, overlayOf, sourcesOf}
+use Rattle.paper.specs.Faces.{walksOf, leadsOuter, overlayOf}
 use Rattle.paper.specs.Tables as T
 use Rattle.paper.specs.Tables.{Counts, Tables, vertexCell, sourceCell, faceCell, originOf, twinOf, followerOf, predecessorOf, plusOne, countsOf, tablesOf}
 use Rattle.graphlaws.specs.Halves.{twin-below, first-below, second-below, origin-first, origin-second}
@@ -28,7 +28,7 @@ use Rattle.overlaylaws.specs.NetPlane.{net-plane}
 use Rattle.overlaylaws.specs.Inside.{overlaid}
 use Rattle.overlaylaws.specs.Round.{vertex-left}
 use Rattle.overlaylaws.specs.Cells.{vertex-cell, source-cell, least-cell}
-use Rattle.overlaylaws.specs.Parts.{sources-are, outers-are, vertex-count, edge-count, face-count, origin-is, twin-is, follower-is, predecessor-is, face-cell-is}
+use Rattle.overlaylaws.specs.Parts.{sources-are, outers-are, vertex-count, edge-count, face-count, half-count, half-there, sources-wide, origin-is, twin-is, follower-is, predecessor-is, face-cell-is}
 
 -- half-edge h of tables with counts c
 pub record HalfNamed (c : Counts) (t : Tables) (h : ℕ) : Type 0 where
@@ -61,14 +61,11 @@ module _ (ms : List Map) (K : AllKeep ms) where
   plane : Plane (overlaid ms)
   plane = net-plane ms K (verticesOf ms) (places ms K)
 
-  halves-are : 2 * c .edges ≡ halfCount g
-  halves-are = ap (λ (n : ℕ). 2 * n) (edge-count ms)
-
   -- ── half-edges ──
 
   module _ (h : ℕ) (l : h < halfCount (overlaid ms)) where
     below : {x : ℕ} → x < halfCount g → x < 2 * c .edges
-    below {x} = subst (λ (n : ℕ). x < n) (sym halves-are)
+    below {x} = subst (λ (n : ℕ). x < n) (sym (half-count ms))
 
     fol : followerOf t h ≡ follower g h
     fol = follower-is ms h l K
@@ -89,7 +86,7 @@ module _ (ms : List Map) (K : AllKeep ms) where
     }
 
   pub half-named : (h : ℕ) → h < 2 * countsOf (overlayOf ms) .edges → HalfNamed (countsOf (overlayOf ms)) (tablesOf ms (overlayOf ms)) h
-  half-named h l = half-named-by h (subst (λ (n : ℕ). h < n) halves-are l)
+  half-named h l = half-named-by h (half-there ms l)
 
   -- "follows no half-edge of lower number"
   pub followed-once : (h r : ℕ) → h < 2 * countsOf (overlayOf ms) .edges → r < 2 * countsOf (overlayOf ms) .edges → followerOf (tablesOf ms (overlayOf ms)) h ≡ followerOf (tablesOf ms (overlayOf ms)) r → h ≡ r
@@ -101,11 +98,8 @@ module _ (ms : List Map) (K : AllKeep ms) where
     s : Sourced ms (verticesOf ms) (pieceAt (edgesOf ms (verticesOf ms)) k)
     s = sourced ms K (verticesOf ms) (places ms K) k l
 
-    wide : (r : ℕ) → r < c .edges → length (sourcesOf (overlayOf ms) r) ≡ length ms
-    wide r b = ap length (sources-are ms r) ∙ sourced ms K (verticesOf ms) (places ms K) r (subst (λ (n : ℕ). r < n) (edge-count ms) b) .width
-
     source-is : (i : ℕ) → i < length ms → sourceCell (length ms) t k i ≡ plusOne (sourceAt (pieceAt (edgesOf ms (verticesOf ms)) k .sources) i)
-    source-is i b = source-cell ms (overlayOf ms) wide k i (subst (λ (n : ℕ). k < n) (sym (edge-count ms)) l) b ∙ ap (λ (ss : List (Option ℕ)). plusOne (sourceAt ss i)) (sources-are ms k)
+    source-is i b = source-cell ms (overlayOf ms) (sources-wide ms K) k i (subst (λ (n : ℕ). k < n) (sym (edge-count ms)) l) b ∙ ap (λ (ss : List (Option ℕ)). plusOne (sourceAt ss i)) (sources-are ms k)
 
     most : (i : ℕ) → i < length ms → sourceCell (length ms) t k i ≤ edges (layer ms i)
     most i b = go (sourceAt (pieceAt (edgesOf ms (verticesOf ms)) k .sources) i) refl
@@ -150,7 +144,7 @@ module _ (ms : List Map) (K : AllKeep ms) where
       (h : ℕ) × (vertexCell (tablesOf ms (overlayOf ms)) v 3 ≡ pos h) × (h < 2 * countsOf (overlayOf ms) .edges) × (originOf (tablesOf ms (overlayOf ms)) h ≡ v)
   vertex-named v l =
       let b : v < length (verticesOf ms) = subst (λ (n : ℕ). v < n) (vertex-count ms) l in
-      (h v b, out-cell v b, subst (λ (n : ℕ). h v b < n) (sym halves-are) (h-below v b), origin-is ms (h v b) (h-below v b) ∙ h-leaves v b)
+      (h v b, out-cell v b, subst (λ (n : ℕ). h v b < n) (sym (half-count ms)) (h-below v b), origin-is ms (h v b) (h-below v b) ∙ h-leaves v b)
 
   -- ── faces ──
 
@@ -162,4 +156,4 @@ module _ (ms : List Map) (K : AllKeep ms) where
       let x : ℕ = getD (select (leadsOuter (walksOf g)) (halfCount g)) f 0 in
       let (b, e) = face-onto g plane f (omega (arith, face-count ms)) in
       let q : faceCell (length ms) t (suc f) (length ms) ≡ x = least-cell ms (overlayOf ms) (suc f) l ∙ ap (λ (os : List ℕ). getD os f 0) (outers-are ms) in
-      (subst₂ _<_ (sym q) (sym halves-are) b, ap (T.faceOf t) q ∙ face-cell-is ms x b ∙ e)
+      (subst₂ _<_ (sym q) (sym (half-count ms)) b, ap (T.faceOf t) q ∙ face-cell-is ms x b ∙ e)

@@ -5,6 +5,7 @@ use Prim.Native.Nat.{_<_}
 use native.Mathlib.Omega.{arith}
 use lib.ListN.{length-map, List·getD-map}
 use Rattle.seq.specs.Seq.{true, false, List, [], _∷_, map, Option, none, some, ℕ, zero, suc, _+_, _*_, _/_, length, getD}
+use Rattle.seq.specs.Options.{none-some}
 use Rattle.paper.specs.Plane.{Pt, Seg, before, lower, upper}
 use Rattle.paper.specs.Graph.{Graph, Edge, noEdge, edgeCount, halfCount, pointIn, edge, even, twin, origin, start, low, high, goesUp, upward}
 use Rattle.paper.specs.Map.{Map}
@@ -12,12 +13,13 @@ use Rattle.paper.specs.Pieces.{layer, Piece, carrierOf, edgeOf, edgesOf, graphO
 use Rattle.planelaws.specs.Cone.{UpV}
 use Rattle.planelaws.specs.Points.{before-asym}
 use Rattle.planelaws.specs.Ends.{lower-is, upper-is}
+use Rattle.graphlaws.specs.Plane.{upward-up}
 use Rattle.graphlaws.specs.Halves.{half-below, twin-first, twin-second, even-double, odd-double, origin-first, origin-second, Which, first, second, which}
 use Rattle.maplaws.specs.Keeps.{seg}
-use Rattle.overlaylaws.specs.Maps.{AllKeep, seg-rises}
+use Rattle.overlaylaws.specs.Maps.{AllKeep}
 use Rattle.overlaylaws.specs.Places.{Places, at-before}
 use Rattle.overlaylaws.specs.Links.{Neighbours, Runs}
-use Rattle.overlaylaws.specs.Sources.{sourceAt, none-some}
+use Rattle.overlaylaws.specs.Sources.{sourceAt}
 use Rattle.overlaylaws.specs.Pieces.{Sourced, noPiece, pieceAt, piece-at}
 
 -- the overlay's graph over the points vs
@@ -96,7 +98,7 @@ module _ (ms : List Map) (K : AllKeep ms) (vs : List Pt) (O : Places vs) where
     pub carrier-up : UpV (upward (netOf ms vs) k)
     carrier-up =
         let i = lies .layer-of in
-        subst (λ (s : Seg). UpV (s .up)) (sym (lies .along)) (seg-rises (layer ms i) (K i (lies .runs .in-list)) (lies .source) (lies .runs .of-map))
+        subst (λ (s : Seg). UpV (s .up)) (sym (lies .along)) (upward-up (layer ms i .graph) (K i (lies .runs .in-list) .plane) (lies .source) (lies .runs .of-map))
 
     pub ends-before : before (pointIn vs (edge (netOf ms vs) k .from)) (pointIn vs (edge (netOf ms vs) k .to)) ≡ true
     ends-before = at-before vs O (edge n k .from) (edge n k .to) (near .rises) (near .below)

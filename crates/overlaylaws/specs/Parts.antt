@@ -1,5 +1,5 @@
 -- The parts of the overlay of a list of maps, and the cells of its tables, by the overlay's graph: counts, pieces, followers, faces. Assumes nothing.
-use mathlib.Core.Path.{_≡_, refl, sym, _∙_, subst}
+use mathlib.Core.Path.{_≡_, refl, sym, _∙_, ap, subst}
 use Prim.Native.Nat.{_<_}
 use native.Mathlib.Omega.{arith}
 use Rattle.seq.specs.Seq.{List, ℕ, suc, _*_, length, getD, select, position}
@@ -15,6 +15,7 @@ use Rattle.graphlaws.specs.Faces.{faceOf}
 use Rattle.overlaylaws.specs.Maps.{AllKeep}
 use Rattle.overlaylaws.specs.Places.{places}
 use Rattle.overlaylaws.specs.Pieces.{pieceAt}
+use Rattle.overlaylaws.specs.Net.{sourced}
 use Rattle.overlaylaws.specs.NetPlane.{net-plane}
 use Rattle.overlaylaws.specs.Inside.{overlaid}
 use Rattle.overlaylaws.specs.Cells.{half-cell}
@@ -60,6 +61,16 @@ module _ (ms : List Map) where
   unfolding overlayOf
   face-count = refl
 
+  pub half-count : 2 * countsOf (overlayOf ms) .edges ≡ halfCount (overlaid ms)
+  half-count = ap (λ (n : ℕ). 2 * n) edge-count
+
+  pub half-there : {h : ℕ} → h < 2 * countsOf (overlayOf ms) .edges → h < halfCount (overlaid ms)
+  half-there {h} = subst (λ (n : ℕ). h < n) half-count
+
+  -- a row of sources has a cell for each map
+  pub sources-wide : AllKeep ms → (k : ℕ) → k < countsOf (overlayOf ms) .edges → length (sourcesOf (overlayOf ms) k) ≡ length ms
+  sources-wide K k l = ap length (sources-are k) ∙ sourced ms K (verticesOf ms) (places ms K) k (subst (λ (n : ℕ). k < n) edge-count l) .width
+
   abbrev pub made : Tables
   made = tablesOf ms (overlayOf ms)
 
@@ -67,7 +78,7 @@ module _ (ms : List Map) where
 
   module _ (h : ℕ) (l : h < halfCount (overlaid ms)) where
     counted : h < 2 * countsOf (overlayOf ms) .edges
-    counted = subst (λ (n : ℕ). h < 2 * n) (sym edge-count) l
+    counted = subst (λ (n : ℕ). h < n) (sym half-count) l
 
     pub origin-is : originOf made h ≡ origin (overlaid ms) h
     unfolding overlayOf

@@ -8,14 +8,16 @@ use lib.Seq.{ext-getD}
 use Rattle.seq.specs.Seq.{List, [], Option, none, some, ℕ, length, getD}
 use Rattle.seq.specs.Terms.{Among, Rising}
 use Rattle.seq.specs.Members.{at-among, among-at}
+use Rattle.seq.specs.Pairs.{rising-number, rising-once}
+use Rattle.seq.specs.Options.{option-cases}
 use Rattle.paper.specs.Plane.{Pt}
 use Rattle.paper.specs.Graph.{pointIn}
 use Rattle.paper.specs.Map.{Map}
 use Rattle.paper.specs.Pieces.{layer, Piece, only, joined, earlier, edgesOf}
 use Rattle.overlaylaws.specs.Maps.{AllKeep, two-common}
-use Rattle.overlaylaws.specs.Places.{Places, at-real, at-before, rising-number, rising-once}
+use Rattle.overlaylaws.specs.Places.{Places, at-real, at-before}
 use Rattle.overlaylaws.specs.Links.{pieceOf, cutOut, Runs, cut-from, cut-has}
-use Rattle.overlaylaws.specs.Sources.{sourceAt, source-cases, length-only, only-own, only-is, length-merged, merged-from, merged-first}
+use Rattle.overlaylaws.specs.Sources.{sourceAt, length-only, only-own, only-is, length-merged, merged-from, merged-first}
 use Rattle.overlaylaws.specs.Order.{SameEnds, ends-same, ends-swap, order-rising, order-all, Holds, order-holds}
 
 -- what a piece is: between neighbours on an edge, and its sources are exactly the edges on which its ends are neighbours
@@ -107,7 +109,7 @@ module _ (ms : List Map) (K : AllKeep ms) (vs : List Pt) (O : Places vs) where
 
   -- sources are determined by the ends
   sources-once : (p q : Piece) → SameEnds p q → Sourced ms vs p → Sourced ms vs q → p .sources ≡ q .sources
-  sources-once p q s a b = ext-getD none (p .sources) (q .sources) (a .width ∙ sym (b .width)) (λ i l. go i (source-cases (sourceAt (p .sources) i)) (source-cases (sourceAt (q .sources) i)))
+  sources-once p q s a b = ext-getD none (p .sources) (q .sources) (a .width ∙ sym (b .width)) (λ i l. go i (option-cases (sourceAt (p .sources) i)) (option-cases (sourceAt (q .sources) i)))
     where
       to-q : (i k : ℕ) → Runs ms vs i k (p .lo) (p .hi) → Runs ms vs i k (q .lo) (q .hi)
       to-q i k r = subst (λ (x : ℕ). Runs ms vs i k x (q .hi)) (s .low) (subst (λ (x : ℕ). Runs ms vs i k (p .lo) x) (s .high) r)

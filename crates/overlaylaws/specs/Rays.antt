@@ -7,20 +7,21 @@ use lib.IntN.{ℤ, pos, negsuc, negℤ, _-ℤ_, _*ℤ_}
 use lib.Signed.{_<ℤ_}
 use Rattle.exact.specs.Solve.{ring, reify}
 use Rattle.exact.specs.Order.{0<-*, <→≢}
-use Rattle.exact.specs.Mul.{≡-by₁, ≡-by₂}
-use Rattle.exact.specs.Sign.{sgn, sgn-is, sg-scale, sg, isPlus, pick}
+use Rattle.exact.specs.Mul.{≡-by₁, ≡-by₂, zero-cancel}
+use Rattle.exact.specs.Sign.{sgn, isPlus, pick}
+use Rattle.exact.specs.Signs.{sgn-scale}
 use Rattle.seq.specs.Seq.{true}
 use Rattle.paper.specs.Plane.{Pt, Vec, Seg, whole, opposite, dir, cross, rises, before, lessAngle, leftBy}
 use Rattle.planelaws.specs.Cone.{above, level, UpV, up-nonzero}
 use Rattle.planelaws.specs.Points.{before-up}
 use Rattle.planelaws.specs.Angles.{cross-swap-0, parallel-trans, angleTest}
-use Rattle.planelaws.specs.Sides.{chord, zero-cancel, left-foot}
+use Rattle.planelaws.specs.Sides.{chord, left-foot}
 use Rattle.planelaws.specs.Lines.{one-line}
 
 -- ── signs ──
 
 pub scaled-sign : (p q x y : ℤ) → pos 0 <ℤ p → pos 0 <ℤ q → p *ℤ y ≡ q *ℤ x → sgn y ≡ sgn x
-scaled-sign p q x y hp hq e = sym (sgn-is (p *ℤ y) (sg-scale p y hp (sg y))) ∙ ap sgn e ∙ sgn-is (q *ℤ x) (sg-scale q x hq (sg x))
+scaled-sign p q x y hp hq e = sym (sgn-scale y p hp) ∙ ap sgn e ∙ sgn-scale x q hq
 
 -- ── rays ──
 

@@ -6,21 +6,21 @@ use Prim.Native.Nat.{_<_}
 use lib.ListN.{length-map, List·getD-map}
 use Rattle.seq.specs.Seq.{true, List, [], _∷_, map, none, some, ℕ, length, getD}
 use Rattle.seq.specs.Terms.{Among, Rising, Asymmetric}
-use Rattle.seq.specs.Tests.{clash}
 use Rattle.seq.specs.Members.{at-among, among-map, map-among}
 use Rattle.seq.specs.Sorted.{rising-unique}
+use Rattle.seq.specs.Options.{option-cases}
 use Rattle.paper.specs.Plane.{Pt, before, leftBy}
 use Rattle.paper.specs.Graph.{edgeCount, pointIn, point, edge}
 use Rattle.paper.specs.Map.{Map}
 use Rattle.paper.specs.Pieces.{layer, Piece, earlier, verticesOf, edgesOf}
-use Rattle.planelaws.specs.Points.{before-asym}
+use Rattle.planelaws.specs.Points.{before-asymmetric}
 use Rattle.planelaws.specs.Crossing.{Touch}
 use Rattle.maplaws.specs.Keeps.{Keeps, seg, edges, vertices}
 use Rattle.overlaylaws.specs.Maps.{AllKeep}
 use Rattle.overlaylaws.specs.Vertices.{Corner, Crossed, Vertex, vertex-from, vertex-has, vertices-rising}
 use Rattle.overlaylaws.specs.Places.{Places, places, at-real}
 use Rattle.overlaylaws.specs.Links.{Neighbours, Runs}
-use Rattle.overlaylaws.specs.Sources.{sourceAt, source-cases}
+use Rattle.overlaylaws.specs.Sources.{sourceAt}
 use Rattle.overlaylaws.specs.Order.{earlier-is, sooner-asym}
 use Rattle.overlaylaws.specs.Pieces.{Sourced, noPiece, pieceAt, pieces-rising, piece-from, piece-at, piece-of}
 use Rattle.overlaylaws.specs.Net.{netOf, net-edges, from-is, to-is, near, carrier-up, ends-before}
@@ -110,13 +110,10 @@ module _ (ms ns : List Map) (to back : ℕ → ℕ) (R : Renumbers ms ns to back
 
 -- ── the same vertices ──
 
-before-not-both : Asymmetric before
-before-not-both x y e f = clash f (before-asym x y e)
-
 pub renumber-vertices : (ms ns : List Map) (to back : ℕ → ℕ) → Renumbers ms ns to back → AllKeep ms → verticesOf ns ≡ verticesOf ms
 renumber-vertices ms ns to back R K =
     let L = renumber-keeps ms ns to back R K in
-    rising-unique before before-not-both (verticesOf ns) (verticesOf ms) (vertices-rising ns L) (vertices-rising ms K)
+    rising-unique before before-asymmetric (verticesOf ns) (verticesOf ms) (vertices-rising ns L) (vertices-rising ms K)
     (λ p i. vertex-has ms K p (vertex-to ns ms back to (renumber-back ms ns to back R) p (vertex-from ns L p i)))
     (λ p i. vertex-has ns L p (vertex-to ms ns to back R p (vertex-from ms K p i)))
 
@@ -191,7 +188,7 @@ module _ (vs : List Pt) (O : Places vs) where
           (subst₂ (Runs ns vs (to i) e) (renumber-low k) (renumber-high k) (s′ .from (to i) e q))))
 
       pub renumber-source : (i : ℕ) → i < length ms → sourceAt (pieceAt (edgesOf ns vs) k .sources) (to i) ≡ sourceAt (pieceAt (edgesOf ms vs) k .sources) i
-      renumber-source i li = go (source-cases (sourceAt (pieceAt (edgesOf ms vs) k .sources) i)) (source-cases (sourceAt (pieceAt (edgesOf ns vs) k .sources) (to i)))
+      renumber-source i li = go (option-cases (sourceAt (pieceAt (edgesOf ms vs) k .sources) i)) (option-cases (sourceAt (pieceAt (edgesOf ns vs) k .sources) (to i)))
         where
           go : (sourceAt (pieceAt (edgesOf ms vs) k .sources) i ≡ none) ⊎ ((e : ℕ) × (sourceAt (pieceAt (edgesOf ms vs) k .sources) i ≡ some e)) →
               (sourceAt (pieceAt (edgesOf ns vs) k .sources) (to i) ≡ none) ⊎ ((e : ℕ) × (sourceAt (pieceAt (edgesOf ns vs) k .sources) (to i) ≡ some e)) →

@@ -8,6 +8,7 @@ use native.Mathlib.Omega.{arith}
 use Rattle.seq.specs.Seq.{Bool, true, false, cond, List, some, ℕ, zero, suc, _+_, _*_, _/_, length, getD, pos}
 use Rattle.seq.specs.Tests.{clash}
 use Rattle.seq.specs.Members.{at-among, among-at}
+use Rattle.seq.specs.Downward.{inner as inside, wrap as round}
 use Rattle.paper.specs.Plane.{Pt, Vec, Seg, whole, nowhere, head, opposite, dir, cross, before, lessAngle}
 use Rattle.paper.specs.Graph.{Graph, edgeCount, halfCount, pointIn, edge, origin, goesUp, upward, heading}
 use Rattle.paper.specs.Map.{Map}
@@ -19,11 +20,10 @@ use Rattle.planelaws.specs.Angles.{SameWay, cross-swap-0, parallel-trans, same-
 use Rattle.planelaws.specs.Sides.{chord}
 use Rattle.planelaws.specs.Edges.{On, seg-up, on-foot, on-head}
 use Rattle.graphlaws.specs.Halves.{even-double, odd-double, half-first, half-second, first-below, second-below, origin-first, origin-second}
-use Rattle.graphlaws.specs.Plane.{heading-moves}
-use Rattle.graphlaws.specs.Downward.{inner as inside, wrap as round}
+use Rattle.graphlaws.specs.Plane.{heading-moves, upward-up}
 use Rattle.graphlaws.specs.Follow.{Clockwise, lesser}
 use Rattle.maplaws.specs.Keeps.{seg, edges}
-use Rattle.overlaylaws.specs.Maps.{AllKeep, seg-rises, vertex-end}
+use Rattle.overlaylaws.specs.Maps.{AllKeep, vertex-end}
 use Rattle.overlaylaws.specs.Vertices.{Vertex, vertex-from}
 use Rattle.overlaylaws.specs.Places.{places, at-real}
 use Rattle.overlaylaws.specs.Links.{Runs, along-has}
@@ -74,7 +74,7 @@ module _ (ms : List Map) (K : AllKeep ms) where
     source-there = (runs .in-list, runs .of-map)
 
     pub source-up : UpV (seg (layer ms i) k .up)
-    source-up = seg-rises (layer ms i) (K i (runs .in-list)) k (runs .of-map)
+    source-up = upward-up (layer ms i .graph) (K i (runs .in-list) .plane) k (runs .of-map)
 
     -- both ends of the piece are on the source
     pub source-on : On (seg (layer ms i) k) (lowAt ms r) × On (seg (layer ms i) k) (highAt ms r)
@@ -184,7 +184,7 @@ module _ (ms : List Map) (K : AllKeep ms) (i t r : ℕ) (lt : t < halfCount (ove
   arrow-moves k b q = go b
     where
       n : NonZero (seg (layer ms i) k .up)
-      n = up-nonzero (seg (layer ms i) k .up) (seg-rises (layer ms i) (K i (q .in-list)) k (q .of-map))
+      n = up-nonzero (seg (layer ms i) k .up) (upward-up (layer ms i .graph) (K i (q .in-list) .plane) k (q .of-map))
 
       go : (b : Bool) → NonZero (arrow b (seg (layer ms i) k .up))
       go true = n
@@ -224,7 +224,7 @@ module _ (ms : List Map) (K : AllKeep ms) (x : ℕ) (lx : x < length (verticesOf
   on-edge (inl c) =
       let i = c .layer-of in
       let (k, l, e) = vertex-end (layer ms i) (K i (c .in-list)) (c .vertex) (c .below) in
-      let u = seg-rises (layer ms i) (K i (c .in-list)) k l in
+      let u = upward-up (layer ms i .graph) (K i (c .in-list) .plane) k l in
       (i, k, c .in-list, l, ⊎-elim (λ f. subst (On (seg (layer ms i) k)) (sym f ∙ c .is) (on-foot (seg (layer ms i) k) u)) (λ f. subst (On (seg (layer ms i) k)) (sym f ∙ c .is) (on-head (seg (layer ms i) k) u)) e)
   on-edge (inr c) = (c .first-layer, c .first-edge, c .first-in, c .first-below, c .touch .first)
 
@@ -236,7 +236,7 @@ module _ (ms : List Map) (K : AllKeep ms) (x : ℕ) (lx : x < length (verticesOf
       go true e = (true, record { in-list = li; of-map = lk; on = o; goes = e })
       go false e =
           let s = seg (layer ms i) k in
-          (false, record { in-list = li; of-map = lk; on = o; goes = before-le (whole (s .foot)) (whole (head s)) p 0<1 0<1 (at-real (verticesOf ms) (places ms K) x) (seg-up s (seg-rises (layer ms i) (K i li) k lk)) e })
+          (false, record { in-list = li; of-map = lk; on = o; goes = before-le (whole (s .foot)) (whole (head s)) p 0<1 0<1 (at-real (verticesOf ms) (places ms K) x) (seg-up s (upward-up (layer ms i .graph) (K i li .plane) k lk)) e })
 
   pub vertex-left : (h : ℕ) × (h < halfCount (overlaid ms)) × (origin (overlaid ms) h ≡ x)
   vertex-left =

@@ -8,22 +8,12 @@ use borrow.Author.Tests.{eq-eqb, ne-eqb}
 use lib.ListN.{List·getD-eq-default}
 use Rattle.seq.specs.Seq.{Bool, cond, List, [], _∷_, Option, none, some, ℕ, zero, suc, eqb, length, getD}
 use Rattle.seq.specs.Table.{length-table, table-at}
+use Rattle.seq.specs.Options.{none-some, some-once}
 use Rattle.paper.specs.Pieces.{only, merged}
 
 -- the edge of map i that a piece comes from
 abbrev pub sourceAt : List (Option ℕ) → ℕ → Option ℕ
 sourceAt ss i = getD ss i none
-
-pub none-some : {k : ℕ} → none ≡ some k → ⊥
-none-some {k} e = let z : _≡_ {A = ℕ} 0 1 = cc in omega arith
-
-pub some-equal : {j k : ℕ} → some j ≡ some k → j ≡ k
-some-equal e = cc
-
--- none, or some
-pub source-cases : (o : Option ℕ) → (o ≡ none) ⊎ ((k : ℕ) × (o ≡ some k))
-source-cases none = inl refl
-source-cases (some k) = inr (k, refl)
 
 -- ── from one edge alone ──
 
@@ -42,7 +32,7 @@ module _ (n i k : ℕ) where
   only-is j r e =
       elim (decLt j n) [
         | yes l ↦ elim (ℕ-discrete j i) [
-          | yes q ↦ (q, some-equal (sym e ∙ ap (λ (x : ℕ). sourceAt (only n i k) x) q ∙ only-own (omega arith)))
+          | yes q ↦ (q, some-once (sym e ∙ ap (λ (x : ℕ). sourceAt (only n i k) x) q ∙ only-own (omega arith)))
           | no q ↦ absurd (none-some (sym (only-other j l q) ∙ e))
         ]
         | no l ↦ absurd (none-some (sym (List·getD-eq-default (only n i k) none (omega (arith, length-only))) ∙ e))

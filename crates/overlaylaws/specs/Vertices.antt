@@ -1,26 +1,28 @@
 -- The vertices of the overlay of a list of maps that keep the rules (01, "Overlay tables"): a point is one exactly if it is a corner of a map or the single point where
 -- edges of two different maps meet (`vertex-from`, `vertex-has`); each is in lowest terms, and they rise strictly in point order, so that each stands once. No corner is
 -- moved: a corner (x, y) is the vertex (x, y, 1). Then how large their numbers are. Assumes nothing.
-use mathlib.Core.Path.{_≡_, refl, sym, _∙_, ap, subst}
+use mathlib.Core.Path.{_≡_, refl, sym, _∙_, subst}
 use mathlib.Core.Logic.{_⊎_, inl, inr, ⊎-elim}
 use Prim.Native.Nat.{_<_, _≤_}
 use native.Mathlib.Decide.{decLt}
 use native.Mathlib.Omega.{arith}
-use Rattle.seq.specs.Seq.{List, _++_, Option, none, some, ℕ, length, natAbs, rows, optional}
-use Rattle.seq.specs.Terms.{Among, Every, Rising, Transitive}
+use Rattle.seq.specs.Seq.{List, _++_, ℕ, length, natAbs, rows, optional}
+use Rattle.seq.specs.Terms.{Among, Every, Rising}
 use Rattle.seq.specs.Members.{among-++, ++-among, at-among, among-at, every-in, in-every}
 use Rattle.seq.specs.Rows.{among-rows, rows-among}
 use Rattle.seq.specs.Inserted.{inOrder-from, inOrder-has, inOrder-rising}
+use Rattle.seq.specs.Options.{optional-some, some-optional}
 use Rattle.paper.specs.Limits.{reach}
 use Rattle.paper.specs.Plane.{Pt, Vec, whole, nowhere, head, before, crossing}
 use Rattle.paper.specs.Graph.{Graph, point}
 use Rattle.paper.specs.Map.{Map}
 use Rattle.paper.specs.Pieces.{layer, meeting, meetings, crossings, verticesOf}
-use Rattle.planelaws.specs.Points.{LowestP, before-trans, same-point}
+use Rattle.planelaws.specs.Points.{LowestP, same-point, before-transitive}
 use Rattle.planelaws.specs.Bounds.{Reaches, Bounded, crossing-bounded, corner-bounded}
 use Rattle.planelaws.specs.Crossing.{Touch, touch-swap, crossing-touch, touch-crossing}
 use Rattle.maplaws.specs.Keeps.{seg, edges, vertices}
-use Rattle.overlaylaws.specs.Maps.{AllKeep, seg-rises, corner-is, points-lowest, foot-vertex, head-vertex}
+use Rattle.overlaylaws.specs.Maps.{AllKeep, corner-is, points-lowest, foot-vertex, head-vertex}
+use Rattle.graphlaws.specs.Plane.{upward-up}
 
 -- p is a corner of a map
 pub record Corner (ms : List Map) (p : Pt) : Type 0 where
@@ -48,14 +50,6 @@ Vertex ms p = Corner ms p ⊎ Crossed ms p
 
 -- ── members of the parts ──
 
-optional-some : (p : Pt) (o : Option Pt) → Among p (optional o) → o ≡ some p
-optional-some p none i = absurd i
-optional-some p (some q) (inl e) = ap some (sym e)
-optional-some p (some q) (inr i) = absurd i
-
-some-optional : (p : Pt) (o : Option Pt) → o ≡ some p → Among p (optional o)
-some-optional p o e = subst (λ (z : Option Pt). Among p (optional z)) (sym e) (inl refl)
-
 abbrev cornersOf : List Map → ℕ → List Pt
 cornersOf ms i = layer ms i .graph .points
 
@@ -78,12 +72,25 @@ module _ (ms : List Map) (K : AllKeep ms) where
       among-rows (cornersOf ms) (length ms) (c .layer-of) p (c .in-list)
       (subst (λ (q : Pt). Among q (g (c .layer-of) .points)) (c .is) (at-among (g (c .layer-of) .points) (c .vertex) (whole nowhere) (c .below)))
 
-  crossed-from : (p : Pt) → Among p (crossings ms) → Crossed ms p
-  crossed-from p a =
+  -- the crossings, by two maps and an edge of each, the map of lesser number first
+  pub crossings-from : (p : Pt) → Among p (crossings ms) →
+      (i : ℕ) × (j : ℕ) × (e : ℕ) × (f : ℕ) × (i < j) × (j < length ms) × (e < edges (layer ms i)) × (f < edges (layer ms j)) × Among p (optional (crossing (seg (layer ms i) e) (seg (layer ms j) f)))
+  crossings-from p a =
       let (j, lj, s) = rows-among (λ j. rows (λ i. meetings (g i) (g j)) j) (length ms) p a in
       let (i, li, t) = rows-among (λ i. meetings (g i) (g j)) j p s in
       let (e, le, u) = rows-among (λ e. rows (meeting (g i) (g j) e) (edges (layer ms j))) (edges (layer ms i)) p t in
       let (f, lf, w) = rows-among (meeting (g i) (g j) e) (edges (layer ms j)) p u in
+      (i, j, e, f, li, lj, le, lf, w)
+
+  pub crossings-has : (p : Pt) (i j e f : ℕ) → i < j → j < length ms → e < edges (layer ms i) → f < edges (layer ms j) → Among p (optional (crossing (seg (layer ms i) e) (seg (layer ms j) f))) → Among p (crossings ms)
+  crossings-has p i j e f li lj le lf w =
+      among-rows (λ j. rows (λ i. meetings (g i) (g j)) j) (length ms) j p lj
+      (among-rows (λ i. meetings (g i) (g j)) j i p li
+      (among-rows (λ e. rows (meeting (g i) (g j) e) (edges (layer ms j))) (edges (layer ms i)) e p le (among-rows (meeting (g i) (g j) e) (edges (layer ms j)) f p lf w)))
+
+  crossed-from : (p : Pt) → Among p (crossings ms) → Crossed ms p
+  crossed-from p a =
+      let (i, j, e, f, li, lj, le, lf, w) = crossings-from p a in
       let in-first : i < length ms = omega arith in
       record {
         first-layer = i;
@@ -95,19 +102,15 @@ module _ (ms : List Map) (K : AllKeep ms) where
         differ = λ q. omega arith;
         first-below = le;
         second-below = lf;
-        touch = crossing-touch (seg (layer ms i) e) (seg (layer ms j) f) (seg-rises (layer ms i) (K i in-first) e le) (seg-rises (layer ms j) (K j lj) f lf) p
+        touch = crossing-touch (seg (layer ms i) e) (seg (layer ms j) f) (upward-up (layer ms i .graph) (K i in-first .plane) e le) (upward-up (layer ms j .graph) (K j lj .plane) f lf) p
             (optional-some p (crossing (seg (layer ms i) e) (seg (layer ms j) f)) w);
       }
 
-  -- the map of lesser number first
   crossed-by : (p : Pt) (i j e f : ℕ) → i < j → j < length ms → e < edges (layer ms i) → f < edges (layer ms j) → Touch (seg (layer ms i) e) (seg (layer ms j) f) p → Among p (crossings ms)
   crossed-by p i j e f lij lj le lf t =
-      among-rows (λ j. rows (λ i. meetings (g i) (g j)) j) (length ms) j p lj
-      (among-rows (λ i. meetings (g i) (g j)) j i p lij
-      (among-rows (λ e. rows (meeting (g i) (g j) e) (edges (layer ms j))) (edges (layer ms i)) e p le
-      (among-rows (meeting (g i) (g j) e) (edges (layer ms j)) f p lf
+      crossings-has p i j e f lij lj le lf
       (some-optional p (crossing (seg (layer ms i) e) (seg (layer ms j) f))
-      (touch-crossing (seg (layer ms i) e) (seg (layer ms j) f) (seg-rises (layer ms i) (K i (omega arith)) e le) (seg-rises (layer ms j) (K j lj) f lf) p t)))))
+      (touch-crossing (seg (layer ms i) e) (seg (layer ms j) f) (upward-up (layer ms i .graph) (K i (omega arith) .plane) e le) (upward-up (layer ms j .graph) (K j lj .plane) f lf) p t))
 
   crossed-has : (p : Pt) → Crossed ms p → Among p (crossings ms)
   crossed-has p c =
@@ -122,10 +125,10 @@ module _ (ms : List Map) (K : AllKeep ms) where
 
   -- ── a point is a vertex exactly if it is one of these ──
 
-  collected-from : (p : Pt) → Among p (collected ms) → Vertex ms p
+  pub collected-from : (p : Pt) → Among p (collected ms) → Vertex ms p
   collected-from p i = ⊎-elim (λ a. inl (corner-from p a)) (λ a. inr (crossed-from p a)) (among-++ p (rows (cornersOf ms) (length ms)) (crossings ms) i)
 
-  collected-has : (p : Pt) → Vertex ms p → Among p (collected ms)
+  pub collected-has : (p : Pt) → Vertex ms p → Among p (collected ms)
   collected-has p v = ++-among p (rows (cornersOf ms) (length ms)) (crossings ms) (⊎-elim (λ c. inl (corner-has p c)) (λ c. inr (crossed-has p c)) v)
 
   vertex-low : (p : Pt) → Vertex ms p → LowestP p
@@ -147,12 +150,9 @@ module _ (ms : List Map) (K : AllKeep ms) where
   pub vertices-lowest : Every LowestP (verticesOf ms)
   vertices-lowest = in-every LowestP (verticesOf ms) (λ p i. vertex-low p (vertex-from p i))
 
-  trans : Transitive before LowestP
-  trans x y z lx ly lz = before-trans x y z (lx .positive) (ly .positive) (lz .positive)
-
   -- in strict point order, and so each once
   pub vertices-rising : Rising before (verticesOf ms)
-  vertices-rising = inOrder-rising before (λ p q. q) (λ p q. refl) LowestP same-point trans (collected ms) collected-lowest
+  vertices-rising = inOrder-rising before (λ p q. q) (λ p q. refl) LowestP same-point before-transitive (collected ms) collected-lowest
 
   -- "a corner (x, y) is the vertex (x, y, 1)"
   pub corner-stays : (i v : ℕ) (l : i < length ms) → v < vertices (layer ms i) → (a : Vec) × (point (layer ms i .graph) v ≡ whole a) × Among (whole a) (verticesOf ms)
@@ -203,8 +203,8 @@ module _ (ms : List Map) (K : AllKeep ms) (R : (i : ℕ) → i < length ms → I
       let j = c .second-layer in
       let s = seg (layer ms i) (c .first-edge) in
       let t = seg (layer ms j) (c .second-edge) in
-      let us = seg-rises (layer ms i) (K i (c .first-in)) (c .first-edge) (c .first-below) in
-      let ut = seg-rises (layer ms j) (K j (c .second-in)) (c .second-edge) (c .second-below) in
+      let us = upward-up (layer ms i .graph) (K i (c .first-in) .plane) (c .first-edge) (c .first-below) in
+      let ut = upward-up (layer ms j .graph) (K j (c .second-in) .plane) (c .second-edge) (c .second-below) in
       crossing-bounded s t p us ut (seg-reaches i (c .first-edge) (c .first-in) (c .first-below)) (seg-reaches j (c .second-edge) (c .second-in) (c .second-below))
       (touch-crossing s t us ut p (c .touch))
 

@@ -1,6 +1,6 @@
 // Numbers in bytes, "low byte first", over the width: read from a file, where a byte past the end counts as 0, and stored in a buffer.
-use exact::cast::magnitude;
-use mapfile::bytes::byte_at;
+use exact::magnitude;
+use mapfile::byte_at;
 ghost use mathlib.Core.Path.{_≡_};
 ghost use Prim.Native.Nat.{_+_, _*_, _<_, _≤_, _^_};
 ghost use lib.IntN.{natAbs};

@@ -1,9 +1,9 @@
 // Where vertices, edges and faces stand in a file: "Length is 11 + 14 per vertex + 16 per edge + 8 per face".
-use crate::limits::EDGE_SIZE;
-use crate::limits::FACE_SIZE;
-use crate::limits::OVERLAY_HEAD;
-use crate::limits::VERTEX_SIZE;
-use tables::room::Counts;
+use limits::EDGE_SIZE;
+use limits::FACE_SIZE;
+use limits::OVERLAY_HEAD;
+use limits::VERTEX_SIZE;
+use tables::Counts;
 ghost use mathlib.Core.Path.{_≡_};
 ghost use Prim.Native.Nat.{_+_, _*_};
 ghost use Rattle.paper.specs.Limits.{overlayHead};

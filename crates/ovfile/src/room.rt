@@ -1,8 +1,8 @@
 // The numbers of 01 as counts, and a count that is over them or over its table.
-use tables::limits::OVERLAY_EDGES;
-use tables::limits::OVERLAY_FACES;
-use tables::limits::OVERLAY_VERTICES;
-use tables::room::Counts;
+use limits::OVERLAY_EDGES;
+use limits::OVERLAY_FACES;
+use limits::OVERLAY_VERTICES;
+use tables::Counts;
 ghost use mathlib.Core.Path.{_≡_};
 ghost use Rattle.paper.specs.Ovfile.{over};
 ghost use Rattle.paper.specs.Reader.{numbers};

@@ -3,7 +3,8 @@
 use crate::cells::half_cell;
 use crate::cells::source_cell;
 use crate::cells::u16_at;
-use tables::room::Counts;
+use limits::HALVES;
+use tables::Counts;
 ghost use mathlib.Core.Path.{_≡_};
 ghost use mathlib.Core.Bool.{not};
 ghost use mathlib.Core.List.{[]};
@@ -101,7 +102,7 @@ pub fn first_unsound(c: Counts, halves: &[u16], sources: &[u32]) -> u16
     requires { ⌜ c .edges ≤ overlayEdges ⌝ }
     ensures { λ r. ⌜ r ≡ least (λ k. not (soundEdge maps (countsOf c) (edgeTables (now (halves .entry)) (now (sources .entry))) k)) (c .edges) ⌝ }
 {
-    let mut first = [0u16; 4000];
+    let mut first = [0u16; HALVES];
     first_places(halves, 2, 2 * c.edges as u32, &mut first);
     first_unsound_by(c, halves, sources, &first)
 }

@@ -15,14 +15,14 @@ use Rattle.paper.specs.Tables.{Counts, Tables, countsOf, tablesOf}
 use Rattle.paper.specs.Lent.{Lengths, roomIn, lengthsOf, paddedTables, overlay}
 use Rattle.paper.specs.Ovfile.{Layout, Written, layouts, fileLength, overlayFile, writeFault, writeBy}
 use Rattle.paper.specs.Reader.{layoutOf, readBy, read, write}
+use Rattle.graphlaws.specs.Reading.{edges-count}
 use Rattle.maplaws.specs.Keeps.{edges}
 use Rattle.maplaws.specs.Passes.{passes-form}
-use Rattle.maplaws.specs.Corners.{edges-are}
 use Rattle.overlaylaws.specs.Maps.{AllKeep}
-use Rattle.overlaylaws.specs.Files.{mapsIn, layer-is, maps-count, files-keep, files-bounded, files-labels}
-use Rattle.potential.specs.Done.{AllPass, done-passes, done-fits, done-counts, done-tables}
+use Rattle.overlaylaws.specs.Files.{AllPass, mapsOf, layer-is, maps-count, files-keep, files-bounded, files-labels}
+use Rattle.potential.specs.Done.{done-passes, done-fits, done-counts, done-tables}
 use Rattle.filelaws.specs.Bytes.{Bytes}
-use Rattle.filelaws.specs.Refusals.{Fits}
+use Rattle.refusallaws.specs.Room.{Fits}
 use Rattle.filelaws.specs.Agree.{padded-agree, file-same}
 use Rattle.readback.specs.Sound.{GoodEdge}
 use Rattle.readback.specs.Accepts.{is-write}
@@ -33,10 +33,10 @@ use Rattle.ovlaws.specs.Good.{good-edge, good-vertex, faces-fit, table-l
 
 -- the counts and tables of the overlay of a list of files
 abbrev pub countsFor : List (List ℕ) → Counts
-countsFor files = countsOf (overlayOf (mapsIn files))
+countsFor files = countsOf (overlayOf (mapsOf files))
 
 abbrev pub tablesFor : List (List ℕ) → Tables
-tablesFor files = tablesOf (mapsIn files) (overlayOf (mapsIn files))
+tablesFor files = tablesOf (mapsOf files) (overlayOf (mapsOf files))
 
 -- a coordinate's bytes hold every X and Y
 abbrev pub Wide : Layout → Type 0
@@ -44,7 +44,7 @@ Wide l = reach * denominators < 256 ^ l .coordinate / 2
 
 module _ (files : List (List ℕ)) (P : AllPass files) (B : (i : ℕ) → Bytes (getD files i [])) where
   abbrev ms : List Map
-  ms = mapsIn files
+  ms = mapsOf files
 
   abbrev c : Counts
   c = countsFor files
@@ -52,16 +52,16 @@ module _ (files : List (List ℕ)) (P : AllPass files) (B : (i : ℕ) → Bytes 
   abbrev t : Tables
   t = tablesFor files
 
-  keep : AllKeep (mapsIn files)
+  keep : AllKeep (mapsOf files)
   keep = files-keep files P
 
-  few-edges : (i : ℕ) → i < length (mapsIn files) → edges (layer (mapsIn files) i) < 256 ^ 2
+  few-edges : (i : ℕ) → i < length (mapsOf files) → edges (layer (mapsOf files) i) < 256 ^ 2
   few-edges i l =
       let s = getD files i [] in
       let f = passes-form s (P i (subst (λ (n : ℕ). i < n) (maps-count files) l)) .few-edges in
-      subst (λ (m : Map). edges m < 256 ^ 2) (sym (layer-is files i)) (omega (arith, f, edges-are s))
+      subst (λ (m : Map). edges m < 256 ^ 2) (sym (layer-is files i)) (omega (arith, f, edges-count s))
 
-  module _ (l : Layout) (q : l .maps ≡ length (mapsIn files)) (wide : Wide l) (ls : Lengths) (R : Fits (roomIn (l .maps) ls) (countsFor files)) where
+  module _ (l : Layout) (q : l .maps ≡ length (mapsOf files)) (wide : Wide l) (ls : Lengths) (R : Fits (roomIn (l .maps) ls) (countsFor files)) where
     abbrev u : Tables
     u = paddedTables ls t
 
@@ -92,7 +92,7 @@ module _ (files : List (List ℕ)) (P : AllPass files) (B : (i : ℕ) → Bytes 
 
   -- ── and the file is read ──
 
-  module _ (known : List Layout) (version : ℕ) (some : 0 < version) (is-known : version ≤ length known) (few : length known < 256 ^ 2) (q : layoutOf known version .maps ≡ length (mapsIn files)) (wide : Wide (layoutOf known version)) where
+  module _ (known : List Layout) (version : ℕ) (some : 0 < version) (is-known : version ≤ length known) (few : length known < 256 ^ 2) (q : layoutOf known version .maps ≡ length (mapsOf files)) (wide : Wide (layoutOf known version)) where
     pub tables-read : (ls : Lengths) → Fits (roomIn (layoutOf known version .maps) ls) (countsFor files)
         → readBy (layoutOf known version .maps) known ls (overlayFile version (layoutOf known version) (countsFor files) (tablesFor files)) ≡ record { answer = done (countsFor files); tables = paddedTables ls (tablesFor files) }
     tables-read ls R =

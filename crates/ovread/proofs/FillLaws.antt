@@ -4,10 +4,10 @@ use mathlib.Core.Path.{_≡_, refl, sym, _∙_, ap}
 use Prim.Native.Nat.{_≤_, _<_}
 use native.Mathlib.Nat.{zero-add}
 use native.Mathlib.Omega.{arith}
-use borrow.Author.Tests.{ltb-false, eqb-true, eq-eqb}
+use borrow.Author.Tests.{ltb-false}
 use Rattle.seq.specs.Seq.{Bool, true, false, cond, List, [], _∷_, ℕ, _+_, _*_, _/_, _%_, ltb, eqb, length, getD, pos, least, rows, position, firsts}
 use Rattle.seq.specs.Terms.{standsAt}
-use Rattle.seq.specs.Tests.{bool-ext}
+use Rattle.seq.specs.Tests.{eqb-swap}
 use Rattle.seq.specs.Least.{least-le, least-ext}
 use Rattle.seq.specs.Table.{length-table, table-at}
 use Rattle.seq.specs.Rows.{rows-ext}
@@ -23,9 +23,6 @@ use Rattle.ovread.specs.Filled.{storedField, startsIn, followersIn, vert
 
 same-count : (key : ℕ → ℕ) {m n : ℕ} {d t : List ℕ} → m ≡ n → FirstPlaces key m d t → FirstPlaces key n d t
 same-count key {d = d} e r = record { is = r .is ∙ ap (λ (k : ℕ). firsts key 0 k d) e }
-
-eqb-swap : (x y : ℕ) → eqb x y ≡ eqb y x
-eqb-swap x y = bool-ext (eqb x y) (eqb y x) (λ e. eq-eqb y x (sym (eqb-true x y e))) (λ e. eq-eqb x y (sym (eqb-true y x e)))
 
 -- the bound itself stands for none
 or-bound : (h n : ℕ) (c : Bool) → ltb h n ≡ c → h ≤ n → cond c h n ≡ h

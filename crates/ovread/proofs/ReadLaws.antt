@@ -12,7 +12,8 @@ use Rattle.paper.specs.Tables.{Counts}
 use Rattle.paper.specs.Lent.{Lengths, roomIn, roomFaults, paddedTables, zeroTables, outcome}
 use Rattle.paper.specs.Ovfile.{Layout, layouts, over, soundEdge}
 use Rattle.paper.specs.Reader.{countsIn, tablesIn, numbers, headFaults, readFault, layoutOf, read}
-use Rattle.filelaws.specs.Refusals.{nothing, is-nothing, given-none, not-over}
+use Rattle.refusallaws.specs.Refusals.{nothing, is-nothing, given-none}
+use Rattle.refusallaws.specs.Room.{not-over}
 use Rattle.filelaws.specs.Agree.{sound-same, padded-agree}
 use Rattle.ovfile.specs.Values.{edgeTables, layout}
 use Rattle.ovread.specs.Filled.{Within, Roomy}

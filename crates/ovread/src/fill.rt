@@ -6,16 +6,24 @@ use crate::stored::face;
 use crate::stored::face_field;
 use crate::stored::follower;
 use crate::stored::origin;
-use exact::cast::of_u16;
-use exact::cast::of_u64;
-use ovfile::bytes::number_at;
-use ovfile::bytes::signed_at;
-use ovfile::cells::u16_at;
-use ovfile::limits::COORDINATE_BYTES;
-use ovfile::limits::DENOMINATOR_BYTES;
-use ovfile::places::vertex_place;
-use ovfile::sound::store;
-use ovfile::sound::twin;
+use exact::of_u16;
+use exact::of_u64;
+use limits::ABSENT;
+use limits::COORDINATE_BYTES;
+use limits::DENOMINATOR_BYTES;
+use limits::EDGE_FOLLOWERS;
+use limits::EDGE_WIDTH;
+use limits::FACE_WIDTH;
+use limits::HALVES;
+use limits::SOURCE_WIDTH;
+use limits::VERTEX_WIDTH;
+use limits::VERTICES;
+use ovfile::number_at;
+use ovfile::signed_at;
+use ovfile::store;
+use ovfile::twin;
+use ovfile::u16_at;
+use ovfile::vertex_place;
 use seq::store2_u32;
 use seq::store4_i64;
 use seq::store4_u16;
@@ -35,6 +43,9 @@ ghost use Rattle.ovfile.specs.Values.{layout};
 ghost use Rattle.ovfile.specs.Firsts.{FirstPlaces};
 ghost use Rattle.ovread.specs.Filled.{storedField, followersIn, vertexBy, Within, Predecessors, LeastStarts};
 
+// The field of an edge from which on its followers are.
+const FOLLOWERS: u16 = EDGE_FOLLOWERS as u16;
+
 // In each cell of `out` the first of n half-edges that has its number as field j of its edge, or as the one after it. From the last half-edge down.
 fn first_stored(file: &[u8], j: u16, n: u32, out: &mut [u16])
     requires { ⌜ n ≤ 65536 ⌝ }
@@ -52,13 +63,13 @@ fn first_stored(file: &[u8], j: u16, n: u32, out: &mut [u16])
 }
 
 // The predecessor of each half-edge.
-fn predecessors(file: &[u8]) -> [u16; 4000]
+fn predecessors(file: &[u8]) -> [u16; HALVES]
     requires { ⌜ Within (countsIn (now file)) ⌝ }
     ensures { λ r. ⌜ Predecessors (now (file .entry)) r ⌝ }
 {
     let n = 2 * counts(file).edges as u32;
-    let mut first = [n as u16; 4000];
-    first_stored(file, 4, n, &mut first);
+    let mut first = [n as u16; HALVES];
+    first_stored(file, FOLLOWERS, n, &mut first);
     first
 }
 
@@ -90,15 +101,15 @@ pub fn fill_halves(file: &[u8], halves: &mut [u16])
     let first = predecessors(file);
     lay_halves(file, &first, halves);
     let c = counts(file);
-    wipe_from_u16(halves, 10 * c.edges as usize);
+    wipe_from_u16(halves, EDGE_WIDTH * c.edges as usize);
 }
 
 // The least outgoing half-edge of each vertex.
-fn least_starts(file: &[u8]) -> [u16; 1000]
+fn least_starts(file: &[u8]) -> [u16; VERTICES]
     requires { ⌜ Within (countsIn (now file)) ⌝ }
     ensures { λ r. ⌜ LeastStarts (now (file .entry)) r ⌝ }
 {
-    let mut least = [65535u16; 1000];
+    let mut least = [ABSENT; VERTICES];
     first_stored(file, 0, 2 * counts(file).edges as u32, &mut least);
     least
 }
@@ -134,7 +145,7 @@ pub fn fill_vertices(file: &[u8], vertices: &mut [i64])
     let least = least_starts(file);
     lay_vertices(file, &least, vertices);
     let c = counts(file);
-    wipe_from_i64(vertices, 4 * c.vertices as usize);
+    wipe_from_i64(vertices, VERTEX_WIDTH * c.vertices as usize);
 }
 
 fn lay_sources(file: &[u8], sources: &mut [u32])
@@ -161,7 +172,7 @@ pub fn fill_sources(file: &[u8], sources: &mut [u32])
 {
     lay_sources(file, sources);
     let c = counts(file);
-    wipe_from_u32(sources, 2 * c.edges as usize);
+    wipe_from_u32(sources, SOURCE_WIDTH * c.edges as usize);
 }
 
 fn lay_faces(file: &[u8], faces: &mut [u16])
@@ -190,5 +201,5 @@ pub fn fill_faces(file: &[u8], faces: &mut [u16])
 {
     lay_faces(file, faces);
     let c = counts(file);
-    wipe_from_u16(faces, 4 * c.faces as usize);
+    wipe_from_u16(faces, FACE_WIDTH * c.faces as usize);
 }

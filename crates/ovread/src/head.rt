@@ -1,15 +1,15 @@
 // The form of an overlay file: "1 (under 11 bytes or wrong mark), 2 (version), 3 (a count over its number above), 4 (length)".
 use crate::stored::counts;
-use mapfile::bytes::byte_at;
-use mapfile::bytes::u16_at;
-use mapfile::refusal::Check;
-use mapfile::refusal::first;
-use mapfile::refusal::given;
-use ovfile::limits::OVERLAY_HEAD;
-use ovfile::limits::VERSION;
-use ovfile::places::file_length;
-use ovfile::room::numbers;
-use ovfile::room::over;
+use limits::OVERLAY_HEAD;
+use limits::VERSION;
+use mapfile::Check;
+use mapfile::byte_at;
+use mapfile::first;
+use mapfile::given;
+use mapfile::u16_at;
+use ovfile::file_length;
+use ovfile::numbers;
+use ovfile::over;
 ghost use mathlib.Core.Path.{_≡_};
 ghost use mathlib.Core.Bool.{not, _||_};
 ghost use lib.Dec.{ltb, eqb};

@@ -6,13 +6,15 @@ use crate::fill::fill_sources;
 use crate::fill::fill_vertices;
 use crate::head::head;
 use crate::stored::counts;
-use mapfile::refusal::Check;
-use mapfile::refusal::first;
-use mapfile::refusal::given;
-use ovfile::sound::first_unsound;
-use tables::answer::Answer;
-use tables::room::room_in;
-use tables::wipe::wipe_all;
+use limits::HALF_CELLS;
+use limits::SOURCE_CELLS;
+use mapfile::Check;
+use mapfile::first;
+use mapfile::given;
+use ovfile::first_unsound;
+use tables::Answer;
+use tables::room_in;
+use tables::wipe_all;
 ghost use mathlib.Core.Path.{_≡_};
 ghost use mathlib.Core.Bool.{not};
 ghost use mathlib.Core.List.{_∷_};
@@ -44,8 +46,8 @@ fn unsound(file: &[u8]) -> u16
     requires { ⌜ Within (countsIn (now file)) ⌝ }
     ensures { λ r. ⌜ r ≡ least (λ k. not (soundEdge maps (countsIn (now (file .entry))) (tablesIn maps layout (now (file .entry))) k)) (countsIn (now (file .entry)) .edges) ⌝ }
 {
-    let mut halves = [0u16; 20000];
-    let mut sources = [0u32; 4000];
+    let mut halves = [0u16; HALF_CELLS];
+    let mut sources = [0u32; SOURCE_CELLS];
     unsound_by(file, &mut halves, &mut sources)
 }
 

@@ -1,10 +1,12 @@
 // The stored fields of an overlay file. A byte past the end counts as 0.
-use mapfile::bytes::u16_at;
-use ovfile::limits::EDGE_SIZE;
-use ovfile::limits::FACE_SIZE;
-use ovfile::places::edges_at;
-use ovfile::places::faces_at;
-use tables::room::Counts;
+use limits::EDGE_FACES;
+use limits::EDGE_FOLLOWERS;
+use limits::EDGE_SIZE;
+use limits::FACE_SIZE;
+use mapfile::u16_at;
+use ovfile::edges_at;
+use ovfile::faces_at;
+use tables::Counts;
 ghost use mathlib.Core.Path.{_≡_};
 ghost use Rattle.paper.specs.Reader.{countsIn, edgeField, faceField, storedOrigin, storedFollower, storedFace};
 ghost use Rattle.tables.specs.Values.{countsOf};
@@ -49,11 +51,11 @@ pub fn origin(file: &[u8], h: u32) -> u16
 pub fn follower(file: &[u8], h: u32) -> u16
     ensures { λ r. ⌜ r ≡ storedFollower layout (now (file .entry)) h ⌝ }
 {
-    edge_field(file, h / 2, 4 + h % 2)
+    edge_field(file, h / 2, EDGE_FOLLOWERS + h % 2)
 }
 
 pub fn face(file: &[u8], h: u32) -> u16
     ensures { λ r. ⌜ r ≡ storedFace layout (now (file .entry)) h ⌝ }
 {
-    edge_field(file, h / 2, 6 + h % 2)
+    edge_field(file, h / 2, EDGE_FACES + h % 2)
 }

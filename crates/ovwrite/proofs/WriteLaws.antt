@@ -11,7 +11,8 @@ use Rattle.paper.specs.Tables.{Counts, Tables}
 use Rattle.paper.specs.Lent.{Lengths, roomIn, lengthsOf}
 use Rattle.paper.specs.Ovfile.{over, badVertex, badEdge, fileLength, overlayFile, writeFault}
 use Rattle.paper.specs.Reader.{write}
-use Rattle.filelaws.specs.Refusals.{nothing, given-none, least-none-is, not-over}
+use Rattle.refusallaws.specs.Refusals.{nothing, given-none, least-none-is}
+use Rattle.refusallaws.specs.Room.{not-over}
 use Rattle.tables.specs.Values.{tablesBy}
 use Rattle.ovfile.specs.Values.{layout}
 use Rattle.ovwrite.specs.Judged.{VerticesFit}

@@ -1,5 +1,5 @@
 // The writer's answer.
-use mapfile::refusal::Refusal;
+use mapfile::Refusal;
 
 // The file's length, or "a refusal with number, map and place".
 pub enum WriteAnswer {

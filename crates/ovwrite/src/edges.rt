@@ -1,11 +1,12 @@
 // Refusal 21: "an edge record is not sound", or "an edge whose source is number 65,535 or with a half-edge whose twin is not the other half-edge of its edge
 // or whose predecessor is not a half-edge of the tables that has it as follower".
-use ovfile::cells::half_cell;
-use ovfile::cells::source_cell;
-use ovfile::sound::first_places;
-use ovfile::sound::sound_edge;
-use ovfile::sound::twin;
-use tables::room::Counts;
+use limits::HALVES;
+use ovfile::first_places;
+use ovfile::half_cell;
+use ovfile::sound_edge;
+use ovfile::source_cell;
+use ovfile::twin;
+use tables::Counts;
 ghost use mathlib.Core.Path.{_≡_};
 ghost use mathlib.Core.List.{[]};
 ghost use Prim.Native.Nat.{_*_, _<_, _≤_};
@@ -69,7 +70,7 @@ pub fn first_bad_edge(c: Counts, halves: &[u16], sources: &[u32]) -> u16
     requires { ⌜ c .edges ≤ overlayEdges ⌝ }
     ensures { λ r. ⌜ r ≡ least (badEdge maps (countsOf c) (edgeTables (now (halves .entry)) (now (sources .entry)))) (c .edges) ⌝ }
 {
-    let mut first = [0u16; 4000];
+    let mut first = [0u16; HALVES];
     first_places(halves, 2, 2 * c.edges as u32, &mut first);
     first_bad_edge_by(c, halves, sources, &first)
 }

@@ -1,14 +1,15 @@
 // Refusal 5: "a vertex's X, Y or D does not fit its bytes", or a vertex "whose outgoing entry is not the least half-edge with that origin (65,535 if none)".
-use exact::cast::magnitude;
-use exact::cast::of_u16;
-use ovfile::bytes::numbers;
-use ovfile::cells::u16_at;
-use ovfile::cells::vertex_cell;
-use ovfile::limits::COORDINATE_BYTES;
-use ovfile::limits::DENOMINATOR_BYTES;
-use ovfile::sound::first_places;
-use tables::limits::ABSENT;
-use tables::room::Counts;
+use exact::magnitude;
+use exact::of_u16;
+use limits::ABSENT;
+use limits::COORDINATE_BYTES;
+use limits::DENOMINATOR_BYTES;
+use limits::VERTICES;
+use ovfile::first_places;
+use ovfile::numbers_in;
+use ovfile::u16_at;
+use ovfile::vertex_cell;
+use tables::Counts;
 ghost use mathlib.Core.Path.{_≡_};
 ghost use mathlib.Core.List.{[]};
 ghost use Prim.Native.Nat.{_*_, _<_, _≤_};
@@ -25,7 +26,7 @@ fn fits_signed(z: i64, width: usize) -> bool
     requires { ⌜ width < 8 ⌝ }
     ensures { λ r. ⌜ r ≡ fitsSigned width z ⌝ }
 {
-    let half = numbers(width) / 2;
+    let half = numbers_in(width) / 2;
     if z < 0 {
         magnitude(z) <= half
     } else {
@@ -41,7 +42,7 @@ fn fits_unsigned(z: i64, width: usize) -> bool
     if z < 0 {
         return false;
     }
-    magnitude(z) < numbers(width)
+    magnitude(z) < numbers_in(width)
 }
 
 // Whether vertex v is refused, by a table of least outgoing half-edges.
@@ -71,11 +72,11 @@ fn first_bad_vertex_by(n: u16, vertices: &[i64], starts: &[u16]) -> u16
 }
 
 // The least outgoing half-edge of each vertex.
-fn least_starts(edges: u16, halves: &[u16]) -> [u16; 1000]
+fn least_starts(edges: u16, halves: &[u16]) -> [u16; VERTICES]
     requires { ⌜ edges ≤ overlayEdges ⌝ }
     ensures { λ r. ⌜ LeastStarts (now (halves .entry)) (2 * edges) r ⌝ }
 {
-    let mut starts = [ABSENT; 1000];
+    let mut starts = [ABSENT; VERTICES];
     first_places(halves, 0, 2 * edges as u32, &mut starts);
     starts
 }

@@ -30,10 +30,10 @@ use Rattle.faces.specs.Linked.{halfRows}
 use Rattle.cut.specs.PieceRows.{pieceWidth, minusOne, pieceAt, noPiece}
 use Rattle.cut.specs.Net.{sourceIn}
 use Rattle.tables.specs.Rows.{faceBy}
-use Rattle.tables.specs.declared.faces.FaceRows.{FaceRows}
+use Rattle.tables.specs.declared.face_rows.FaceRows.{FaceRows}
 use Rattle.layers.specs.Label.{labelBy, stored, label-by}
 use Rattle.layers.specs.Held.{Held, heldMap, heldMaps, edgeStart}
-use Rattle.layers.specs.declared.layers.Layers.{Layers}
+use Rattle.layers.specs.declared.stack.Layers.{Layers}
 use Rattle.net.specs.declared.cutting.Cut.{Cut}
 use Rattle.net.specs.declared.tracing.Traced.{Traced}
 use Rattle.net.specs.Standing.{layer-is, keep, held-edges}

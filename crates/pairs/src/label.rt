@@ -1,8 +1,10 @@
 // "A face holds the pair of its least outer half-edge": one label of the pair, in one map.
-use graph::heading::carrier_at;
-use graph::heading::start;
-use layers::label::label_at;
-use plane::point::Vector;
+use graph::carrier_at;
+use graph::start;
+use layers::label_at;
+use limits::PIECE_SOURCES;
+use limits::PIECE_WIDTH;
+use plane::Vector;
 ghost use mathlib.Core.Path.{_≡_};
 ghost use Prim.Native.Nat.{ℕ, _+_, _*_, _-_, _≤_, _<_};
 ghost use lib.ListN.{length, getD};
@@ -31,7 +33,7 @@ fn source_in(pieces: &[u16], k: usize, m: usize) -> u16
     requires { ⌜ pieceWidth * k + pieceWidth ≤ length (now pieces) ⌝ ∗ ⌜ m < maps ⌝ }
     ensures { λ r. ⌜ r ≡ sourceIn (now (pieces .entry)) k m ⌝ }
 {
-    pieces[4 * k + 2 + m]
+    pieces[PIECE_WIDTH * k + PIECE_SOURCES + m]
 }
 
 // The least outer half-edge of face f, which is not face 0.

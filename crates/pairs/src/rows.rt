@@ -1,11 +1,12 @@
 // The rows of the faces: "A face holds the pair of its least outer half-edge, that number (65,535 for face 0), and its count of hole walks".
 use crate::label::face_labels;
 use crate::label::outer_of;
-use graph::places::ABSENT;
-use layers::layers::Layers;
-use net::cutting::Cut;
-use net::tracing::Traced;
-use tables::faces::FaceRows;
+use layers::Layers;
+use limits::ABSENT;
+use limits::FACES;
+use net::Cut;
+use net::Traced;
+use tables::FaceRows;
 ghost use mathlib.Core.Path.{_≡_};
 ghost use Prim.Native.Nat.{_+_, _≤_, _<_};
 ghost use lib.ListN.{length, getD};
@@ -95,16 +96,16 @@ pub fn face_rows(l: Layers, c: Cut, t: Traced) -> FaceRows
     ensures count { λ r. ⌜ r .count ≡ t .count + 1 ⌝ }
     ensures is { λ r. ⌜ rows (faceBy r) (r .count) ≡ rows (faceRow (heldMaps l) (overlayOf (heldMaps l))) (t .count + 1) ⌝ }
 {
-    let mut first = [0u16; 1334];
+    let mut first = [0u16; FACES];
     lay_labels(l, c, t, 0, &mut first);
-    let mut second = [0u16; 1334];
+    let mut second = [0u16; FACES];
     lay_labels(l, c, t, 1, &mut second);
     let n = t.count + 1;
     let outers = t.outers;
-    let mut outer = [0u16; 1334];
+    let mut outer = [0u16; FACES];
     lay_outers(&outers, n, &mut outer);
     let counts = t.holes;
-    let mut holes = [0u16; 1334];
+    let mut holes = [0u16; FACES];
     lay_holes(&counts, n, &mut holes);
     FaceRows {
         count: n as u16,

@@ -1,5 +1,5 @@
 -- The overlay of a list of maps: walks, faces and labels (01, "Overlay tables"). Assumes nothing.
-use Rattle.seq.specs.Seq.{Bool, false, cond, not, _&&_, List, [], Option, none, some, ℕ, zero, suc, _/_, ltb, eqb, length, getD, count, select, table, leader, orZero}
+use Rattle.seq.specs.Seq.{Bool, false, cond, not, _&&_, List, [], Option, none, some, ℕ, zero, suc, _/_, eqb, length, getD, count, select, table, leader, orZero}
 use Rattle.paper.specs.Graph.{halfCount, upward, even, twin, low, followers, holeWalk, eastSide, west, holeLook, Graph}
 use Rattle.paper.specs.Map.{label, Map}
 use Rattle.paper.specs.Pieces.{layer, verticesOf, edgesOf, graphOf, Piece}

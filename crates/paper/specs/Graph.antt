@@ -1,7 +1,7 @@
 -- A plane graph as half-edges see it, one for the maps and for the overlay: points, and edges that join two of them. Half-edge 2k goes along
 -- edge k `from` its one point, 2k + 1 back. Followers, walks, hole walks (01, "Points, sides, followers") and looking west. Assumes nothing.
 pub use Rattle.seq.specs.Seq.{walk}
-use Rattle.seq.specs.Seq.{Bool, true, false, cond, not, _&&_, List, [], _∷_, Option, Option·getD, Option·map, ℕ, zero, suc, _+_, _*_, _-_, _/_, _%_, eqb, length, getD, ℤ, negℤ, _-ℤ_, _*ℤ_, table, best, bestOf, among}
+use Rattle.seq.specs.Seq.{Bool, true, false, cond, not, _&&_, List, [], _∷_, Option, Option·getD, Option·map, ℕ, _+_, _*_, _-_, _/_, _%_, eqb, length, getD, ℤ, negℤ, _-ℤ_, _*ℤ_, table, best, bestOf, among}
 use Rattle.paper.specs.Plane.{Pt, Vec, Seg, vec, whole, opposite, nowhere, cross, rises, before, below, lower, upper, lessAngle, leftBy}
 
 -- an edge: the numbers of the points that it joins, and its carrier, the input edge that it lies along, from its lower end. Of a map's edge

@@ -1,7 +1,7 @@
 -- Guards against two of 01's slips, as laws of the definitions: an edge is split at every vertex on it, and an upper end is never counted when
 -- looking west. Assumes nothing.
 use mathlib.Core.Path.{_≡_, refl, sym}
-use Prim.Native.Nat.{_<_, _≤_}
+use Prim.Native.Nat.{_<_}
 use native.Mathlib.Omega.{arith}
 use Rattle.seq.specs.Seq.{Bool, true, false, not, _&&_, List, [], _∷_, Option, ℕ, zero, suc, length, getD}
 use Rattle.paper.specs.Plane.{Pt, Sign, pick, neg, zer, plus, sgn, isNeg, isZer, same, below, dir}

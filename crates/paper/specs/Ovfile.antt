@@ -1,5 +1,5 @@
 -- The overlay file (01, "Overlay file"): its versions' layouts, which edge records are sound, and its writer, which "takes any counts and tables". Assumes nothing.
-use Rattle.seq.specs.Seq.{Bool, not, _&&_, _||_, List, [], _∷_, _++_, Option, ℕ, _+_, _*_, _^_, leb, ltb, eqb, length, pos, _-ℤ_, someBelow, rows, table, gather, padded}
+use Rattle.seq.specs.Seq.{Bool, not, _&&_, _||_, List, [], _∷_, _++_, Option, ℕ, _+_, _*_, _^_, leb, ltb, eqb, pos, _-ℤ_, someBelow, rows, table, gather, padded}
 use Rattle.paper.specs.Limits.{overlayHead, coordinateBytes, denominatorBytes, maps}
 use Rattle.paper.specs.Plane.{isZer, sgn}
 use Rattle.paper.specs.Graph.{twin}

@@ -1,5 +1,5 @@
 -- The overlay's graph (01, "Overlay tables"): its vertices, and the pieces of input edges with their sources, over a list of maps. Assumes nothing.
-use Rattle.seq.specs.Seq.{Bool, cond, not, _&&_, _||_, List, [], _∷_, _++_, map, Option, none, some, ℕ, _+_, _*_, ltb, eqb, length, getD, select, rows, table, optional, inOrderBy}
+use Rattle.seq.specs.Seq.{Bool, cond, _&&_, _||_, List, [], _∷_, _++_, map, Option, none, some, ℕ, ltb, eqb, length, getD, select, rows, table, optional, inOrderBy}
 use Rattle.paper.specs.Plane.{Pt, Seg, before, crossing, onSeg}
 use Rattle.paper.specs.Graph.{edgeCount, pointIn, noEdge, edge, Edge, Graph}
 use Rattle.paper.specs.Map.{empty, Map}

@@ -1,9 +1,9 @@
 -- Points, their order, sides, angles, the crossing of two edges and when two clash (01, "Points, sides, followers"): exact, over the integers.
 -- x grows east and y grows north. Assumes nothing.
-pub use Rattle.exact.specs.Lowest.{Pt, lowest}
-pub use Rattle.exact.specs.Sign.{Sign, neg, zer, plus, sgn, isNeg, isZer, isPlus, pick, lexS}
+pub use Rattle.exact.specs.Exact.{Pt, lowest}
+pub use Rattle.exact.specs.Exact.{Sign, neg, zer, plus, sgn, isNeg, isZer, isPlus, pick, lexS}
 use lib.Signed.{leZ}
-use Rattle.seq.specs.Seq.{Bool, cond, not, _&&_, _||_, Option, none, some, ℕ, zero, suc, ℤ, pos, negsuc, negℤ, _+ℤ_, _-ℤ_, _*ℤ_}
+use Rattle.seq.specs.Seq.{Bool, cond, not, _&&_, _||_, Option, none, some, zero, suc, ℤ, pos, negsuc, negℤ, _+ℤ_, _-ℤ_, _*ℤ_}
 
 -- ── directions ──
 

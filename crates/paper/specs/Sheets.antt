@@ -1,7 +1,7 @@
 -- The worked sheets S1 to S12, listed once, and one statement over the list: each computes to what 01 says. A sheet is a question and its answer,
 -- both of one type. Assumes nothing.
 use mathlib.Core.Path.{_≡_, refl}
-use Rattle.exact.specs.Gcd.{gcdOf}
+use Rattle.exact.specs.Exact.{gcdOf}
 use Rattle.seq.specs.Seq.{List, [], _∷_, _++_, map, Option, none, some, ℕ, _*_, ℤ, pos, negsuc, table}
 use Rattle.paper.specs.Limits.{overlayVertices, overlayEdges, overlayFaces, maps}
 use Rattle.paper.specs.Plane.{vec, between, whole, side, crossing}

@@ -3,12 +3,12 @@
 use mathlib.Core.Path.{_≡_, refl, sym}
 use Prim.Native.Nat.{zero, suc, _≤_}
 use native.Mathlib.Nat.{le-trans, le-of-eq}
-use native.Mathlib.Omega.{arith}
 use lib.IntN.{ℤ, pos, negsuc, negℤ, natAbs}
 use lib.Signed.{_<ℤ_}
-use Rattle.exact.specs.Parts.{pos≮0, <-of}
+use Rattle.exact.specs.Parts.{pos≮0}
 use Rattle.exact.specs.Mach.{abs-neg}
 use Rattle.exact.specs.Lowest.{lowest-is, lowest-x-le, lowest-y-le, lowest-d-le}
+use Rattle.exact.specs.Order.{0<-neg}
 use Rattle.paper.specs.Limits.{denominators}
 use Rattle.paper.specs.Plane.{Pt, Seg, lowest, crossAt, crossBy}
 use Rattle.seq.specs.Seq.{none}
@@ -29,11 +29,7 @@ module _ (s : Seg) (n m : ℤ) where
 
 -- a parameter turned
 pub turned : (n d : ℤ) → natAbs n ≤ denominators → natAbs d ≤ denominators → d <ℤ pos 0 → Over (negℤ n) (negℤ d)
-turned n d f g h = record { positive = up d h; n-is = le-trans (le-of-eq (abs-neg n)) f; d-is = le-trans (le-of-eq (abs-neg d)) g }
-  where
-    up : (d : ℤ) → d <ℤ pos 0 → pos 0 <ℤ negℤ d
-    up (pos d) h = absurd (pos≮0 d h)
-    up (negsuc d) h = <-of (pos 0) (pos (suc d)) (omega arith)
+turned n d f g h = record { positive = 0<-neg d h; n-is = le-trans (le-of-eq (abs-neg n)) f; d-is = le-trans (le-of-eq (abs-neg d)) g }
 
 -- the same point in lowest terms
 abbrev pub lowestOf : Pt → Pt

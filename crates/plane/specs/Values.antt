@@ -2,13 +2,13 @@
 -- numbers, a Cross a point or none. Assumes nothing.
 use lib.IntN.{ℤ}
 use Rattle.exact.specs.Lowest.{pt}
-use Rattle.exact.specs.declared.lowest.Point.{Point}
+use Rattle.exact.specs.declared.terms.Point.{Point}
 use Rattle.paper.specs.Plane.{Pt, Vec, vec, minusV}
 use Rattle.paper.specs.Plane as Plane
 use Rattle.plane.specs.declared.point.Vector.{Vector}
 use Rattle.plane.specs.declared.point.Seg.{Seg}
-use Rattle.plane.specs.declared.crossing.Cross.{Cross}
-use Rattle.plane.specs.declared.crossing.Cross.the-variants.{Nothing, At}
+use Rattle.plane.specs.declared.crossings.Cross.{Cross}
+use Rattle.plane.specs.declared.crossings.Cross.the-variants.{Nothing, At}
 use Rattle.seq.specs.Seq.{Option, none, some}
 
 -- the edge from the corner x, y along u, v

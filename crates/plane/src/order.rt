@@ -1,6 +1,6 @@
 // "Order: smaller y first, then smaller x".
 use super::point::Point;
-pub use exact::compare::Ordering;
+pub use exact::Ordering;
 ghost use mathlib.Core.Path.{_≡_};
 ghost use Rattle.exact.specs.Compare.{signOf};
 ghost use Rattle.exact.specs.Lowest.{pt};
@@ -13,9 +13,9 @@ pub fn order_of(px: i64, py: i64, pd: i64, qx: i64, qy: i64, qd: i64) -> Orderin
     requires { ⌜ Near (pt px py pd) × Near (pt qx qy qd) ⌝ }
     ensures { λ r. ⌜ signOf r ≡ order (pt px py pd) (pt qx qy qd) ⌝ }
 {
-    match exact::compare::order(py * qd, qy * pd) {
+    match exact::order(py * qd, qy * pd) {
         Ordering::Less => Ordering::Less,
-        Ordering::Equal => exact::compare::order(px * qd, qx * pd),
+        Ordering::Equal => exact::order(px * qd, qx * pd),
         Ordering::Greater => Ordering::Greater,
     }
 }

@@ -1,5 +1,5 @@
 // Points, directions and edges by value.
-pub use exact::lowest::Point;
+pub use exact::Point;
 ghost use mathlib.Core.Path.{_≡_};
 ghost use Rattle.paper.specs.Plane.{whole};
 ghost use Rattle.plane.specs.Values.{ptOf, vecOf};

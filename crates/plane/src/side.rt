@@ -1,7 +1,7 @@
 // On which side of an edge's line a point lies.
 use super::point::Point;
 use super::point::Seg;
-use exact::compare::Ordering;
+use exact::Ordering;
 ghost use mathlib.Core.Path.{_≡_};
 ghost use Prim.Native.Nat.{_≤_};
 ghost use lib.IntN.{natAbs};
@@ -45,5 +45,5 @@ pub fn side(s: Seg, p: Point) -> i64
     requires { ⌜ Edge (segOf s) × Near (ptOf p) ⌝ }
     ensures { λ r. ⌜ r ≡ side (segOf s) (ptOf p) ⌝ }
 {
-    number(exact::compare::order(left_by(s, p), 0))
+    number(exact::order(left_by(s, p), 0))
 }

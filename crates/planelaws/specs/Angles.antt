@@ -13,6 +13,7 @@ use Rattle.exact.specs.Solve.{ring, reify}
 use Rattle.exact.specs.Mul.{≡-by₂}
 use Rattle.exact.specs.Sign.{Sign, neg, zer, plus, sgn, isPlus, negS, sums, sgn-negℤ, lex-pairs, Sg, is-neg, is-zer, is-plus, sg}
 use Rattle.exact.specs.Tests.{clash, never, T-true}
+use Rattle.exact.specs.Signs.{plus-turned, plus-not-neg}
 use Rattle.paper.specs.Plane.{Vec, cross, opposite, rises, lessAngle}
 use Rattle.planelaws.specs.Cone.{up, lex-is, zero-factor, UpV, NonZero, rises-up, up-rises, rises-no, no-rises, rises-opposite}
 
@@ -30,11 +31,15 @@ cross-back u v = go (u .x) (u .y) (v .x) (v .y)
     go : (a b c d : ℤ) → a *ℤ negℤ d -ℤ b *ℤ negℤ c ≡ negℤ (a *ℤ d -ℤ b *ℤ c)
     go a b c d = ring (a ∷ b ∷ c ∷ d ∷ []) (search reify depth 20) tt
 
+-- the turn from v to u is the opposite of that from u to v
 pub cross-swap : (u v : Vec) → cross v u ≡ negℤ (cross u v)
 cross-swap u v = go (u .x) (u .y) (v .x) (v .y)
   where
     go : (a b c d : ℤ) → c *ℤ b -ℤ d *ℤ a ≡ negℤ (a *ℤ d -ℤ b *ℤ c)
     go a b c d = ring (a ∷ b ∷ c ∷ d ∷ []) (search reify depth 20) tt
+
+pub turn-swap : (u v : Vec) → sgn (cross v u) ≡ negS (sgn (cross u v))
+turn-swap u v = ap sgn (cross-swap u v) ∙ sgn-negℤ (cross u v)
 
 pub cross-self : (u : Vec) → cross u u ≡ pos 0
 cross-self u = go (u .x) (u .y)
@@ -50,7 +55,7 @@ cross-swap-0 u v e = cross-swap u v ∙ ap negℤ e
 turn-x : (a b c d e f : ℤ) → e *ℤ (a *ℤ d -ℤ b *ℤ c) +ℤ a *ℤ (c *ℤ f -ℤ d *ℤ e) ≡ c *ℤ (a *ℤ f -ℤ b *ℤ e)
 turn-x a b c d e f = ring (a ∷ b ∷ c ∷ d ∷ e ∷ f ∷ []) (search reify depth 20) tt
 
-turn-y : (a b c d e f : ℤ) → f *ℤ (a *ℤ d -ℤ b *ℤ c) +ℤ b *ℤ (c *ℤ f -ℤ d *ℤ e) ≡ d *ℤ (a *ℤ f -ℤ b *ℤ e)
+pub turn-y : (a b c d e f : ℤ) → f *ℤ (a *ℤ d -ℤ b *ℤ c) +ℤ b *ℤ (c *ℤ f -ℤ d *ℤ e) ≡ d *ℤ (a *ℤ f -ℤ b *ℤ e)
 turn-y a b c d e f = ring (a ∷ b ∷ c ∷ d ∷ e ∷ f ∷ []) (search reify depth 20) tt
 
 -- the signs of the turns from u to v, from v to w and from u to w
@@ -138,13 +143,8 @@ module _ (u v w : Vec) (nu : NonZero u) (nv : NonZero v) (nw : NonZero w) where
 pub angle-asym : (u v : Vec) → lessAngle u v ≡ true → lessAngle v u ≡ false
 angle-asym u v = go (rises u) (rises v)
   where
-    not-both : (z : Sign) → isPlus z ≡ true → isPlus (negS z) ≡ false
-    not-both neg e = never e
-    not-both zer e = refl
-    not-both plus e = refl
-
     other : isPlus (sgn (cross u v)) ≡ true → isPlus (sgn (cross v u)) ≡ false
-    other e = ap (λ (z : ℤ). isPlus (sgn z)) (cross-swap u v) ∙ ap isPlus (sgn-negℤ (cross u v)) ∙ not-both (sgn (cross u v)) e
+    other e = ap isPlus (turn-swap u v) ∙ plus-turned (sgn (cross u v)) ∙ plus-not-neg (sgn (cross u v)) e
 
     go : (a b : Bool) → angleTest a b (isPlus (sgn (cross u v))) ≡ true → angleTest b a (isPlus (sgn (cross v u))) ≡ false
     go true true e = other e
@@ -154,7 +154,7 @@ angle-asym u v = go (rises u) (rises v)
 
 module _ (u v : Vec) where
   flat : isPlus (sgn (cross u v)) ≡ false → isPlus (sgn (cross v u)) ≡ false → cross u v ≡ pos 0
-  flat e f = go (sg (cross u v)) e (ap isPlus (sym (sgn-negℤ (cross u v))) ∙ ap (λ (z : ℤ). isPlus (sgn z)) (sym (cross-swap u v)) ∙ f)
+  flat e f = go (sg (cross u v)) e (ap isPlus (sym (turn-swap u v)) ∙ f)
     where
       go : {s : Sign} → Sg (cross u v) s → isPlus s ≡ false → isPlus (negS s) ≡ false → cross u v ≡ pos 0
       go (is-neg h) e f = never (sym f)

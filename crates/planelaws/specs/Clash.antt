@@ -1,5 +1,5 @@
 -- `clash s t` says, of two edges that go up, that they share a point that is not an end of both (01, refusal 8). In order: the ways in which the test finds it (`Clash`); such a point from each way
--- (`clash-share`); a way from each such point (`share-clash`): it is an end of one inside the other, or strictly inside both, and then the ends of each are on opposite strict sides of the
+-- (`clash-share`); two edges on one line that overlap (`overlap-clash`); a way from each such point (`share-clash`): it is an end of one inside the other, or strictly inside both, and then the ends of each are on opposite strict sides of the
 -- other, or the two lie on one line and an end of one is inside the other, or both ends are the same. Clashing is mutual. Assumes nothing.
 use mathlib.Core.Path.{_≡_, refl, sym, _∙_, subst}
 use mathlib.Core.Bool.{Bool, true, false, _&&_, _||_}
@@ -125,6 +125,30 @@ module _ (s t : Seg) (us : UpV (s .up)) (ut : UpV (t .up)) where
       let o : On s (middle s) = inside-on s (middle s) i in
       record { at = middle s; real = 0<2; first = o; second = subst (λ (x : Seg). On x (middle s)) (ends-equal s t a b) o; no-end = λ x y. end-not-inside s (middle s) x i }
 
+  -- ── on one line ──
+
+  -- each of the two starts before the other ends
+  module _ (q : Pt) (h : pos 0 <ℤ q .D) (sq : leftBy s q ≡ pos 0) (tq : leftBy t q ≡ pos 0) (z : cross (s .up) (t .up) ≡ pos 0) (st : before (whole (s .foot)) (whole (head t)) ≡ true)
+      (ts : before (whole (t .foot)) (whole (head s)) ≡ true) where
+    on-s : (p : Pt) → leftBy t p ≡ pos 0 → leftBy s p ≡ pos 0
+    on-s p e = one-line t s q p ut h z tq sq e
+
+    on-t : (p : Pt) → leftBy s p ≡ pos 0 → leftBy t p ≡ pos 0
+    on-t p e = one-line s t q p us h (cross-swap-0 (s .up) (t .up) z) sq tq e
+
+    by-heads : same (whole (s .foot)) (whole (t .foot)) ≡ true → (a b : Bool) → before (whole (head s)) (whole (head t)) ≡ a → before (whole (head t)) (whole (head s)) ≡ b → Clash s t
+    by-heads e true b f g = in-head (record { line = on-t (whole (head s)) (left-head s); low = ts; high = f })
+    by-heads e false true f g = head-in (record { line = on-s (whole (head t)) (left-head t); low = st; high = g })
+    by-heads e false false f g = equal e (neither (whole (head s)) (whole (head t)) f g)
+
+    by-feet : (a b : Bool) → before (whole (s .foot)) (whole (t .foot)) ≡ a → before (whole (t .foot)) (whole (s .foot)) ≡ b → Clash s t
+    by-feet true b f g = foot-in (record { line = on-s (whole (t .foot)) (left-foot t); low = f; high = ts })
+    by-feet false true f g = in-foot (record { line = on-t (whole (s .foot)) (left-foot s); low = g; high = st })
+    by-feet false false f g = by-heads (neither (whole (s .foot)) (whole (t .foot)) f g) (before (whole (head s)) (whole (head t))) (before (whole (head t)) (whole (head s))) refl refl
+
+    pub overlap-clash : Clash s t
+    overlap-clash = by-feet (before (whole (s .foot)) (whole (t .foot))) (before (whole (t .foot)) (whole (s .foot))) refl refl
+
   -- ── a point strictly inside both ──
 
   module _ (q : Pt) (h : pos 0 <ℤ q .D) (i : Inside s q) (j : Inside t q) where
@@ -132,36 +156,15 @@ module _ (s t : Seg) (us : UpV (s .up)) (ut : UpV (t .up)) where
     turned : (cross (s .up) (t .up) ≡ pos 0 → ⊥) → Clash s t
     turned n = across (inside-apart t s ut us q h j (i .line) (λ z. n (cross-swap-0 (t .up) (s .up) z))) (inside-apart s t us ut q h i (j .line) n)
 
-    -- on one line
-    module _ (z : cross (s .up) (t .up) ≡ pos 0) where
-      on-s : (p : Pt) → leftBy t p ≡ pos 0 → leftBy s p ≡ pos 0
-      on-s p e = one-line t s q p ut h z (j .line) (i .line) e
-
-      on-t : (p : Pt) → leftBy s p ≡ pos 0 → leftBy t p ≡ pos 0
-      on-t p e = one-line s t q p us h (cross-swap-0 (s .up) (t .up) z) (i .line) (j .line) e
-
-      low-high : (a b : Vec) → before (whole a) q ≡ true → before q (whole b) ≡ true → before (whole a) (whole b) ≡ true
-      low-high a b e f = before-trans (whole a) q (whole b) 0<1 h 0<1 e f
-
-      by-heads : same (whole (s .foot)) (whole (t .foot)) ≡ true → (a b : Bool) → before (whole (head s)) (whole (head t)) ≡ a → before (whole (head t)) (whole (head s)) ≡ b → Clash s t
-      by-heads e true b f g = in-head (record { line = on-t (whole (head s)) (left-head s); low = low-high (t .foot) (head s) (j .low) (i .high); high = f })
-      by-heads e false true f g = head-in (record { line = on-s (whole (head t)) (left-head t); low = low-high (s .foot) (head t) (i .low) (j .high); high = g })
-      by-heads e false false f g = equal e (neither (whole (head s)) (whole (head t)) f g)
-
-      by-feet : (a b : Bool) → before (whole (s .foot)) (whole (t .foot)) ≡ a → before (whole (t .foot)) (whole (s .foot)) ≡ b → Clash s t
-      by-feet true b f g = foot-in (record { line = on-s (whole (t .foot)) (left-foot t); low = f; high = low-high (t .foot) (head s) (j .low) (i .high) })
-      by-feet false true f g = in-foot (record { line = on-t (whole (s .foot)) (left-foot s); low = g; high = low-high (s .foot) (head t) (i .low) (j .high) })
-      by-feet false false f g = by-heads (neither (whole (s .foot)) (whole (t .foot)) f g) (before (whole (head s)) (whole (head t))) (before (whole (head t)) (whole (head s))) refl refl
-
-      stretch : Clash s t
-      stretch = by-feet (before (whole (s .foot)) (whole (t .foot))) (before (whole (t .foot)) (whole (s .foot))) refl refl
+    low-high : (a b : Vec) → before (whole a) q ≡ true → before q (whole b) ≡ true → before (whole a) (whole b) ≡ true
+    low-high a b e f = before-trans (whole a) q (whole b) 0<1 h 0<1 e f
 
     both-inside : Clash s t
     both-inside = go (tri (pos 0) (cross (s .up) (t .up)))
       where
         go : Tri (pos 0) (cross (s .up) (t .up)) → Clash s t
         go (lt l) = turned (λ z. <→≢ l (sym z))
-        go (eq z) = stretch (sym z)
+        go (eq z) = overlap-clash q h (i .line) (j .line) (sym z) (low-high (s .foot) (head t) (i .low) (j .high)) (low-high (t .foot) (head s) (j .low) (i .high))
         go (gt l) = turned (λ z. <→≢ l z)
 
   pub share-clash : Share s t → Clash s t

@@ -10,7 +10,7 @@ use native.Mathlib.Omega.{arith}
 use lib.IntN.{ℤ, pos, negℤ, _+ℤ_, _*ℤ_, zero-*ℤ, *ℤ-zero}
 use lib.Signed.{_<ℤ_}
 use Rattle.exact.specs.Solve.{ring, reify}
-use Rattle.exact.specs.Order.{zomega, sq, Tri, lt, eq, gt, tri, 0<-*, *-zero}
+use Rattle.exact.specs.Order.{zomega, sq, Tri, lt, eq, gt, tri, 0<-*, *-zero, 0<-neg, zero-neg, neg-zero}
 use Rattle.exact.specs.Sign.{Sign, neg, zer, plus, pick, lexS, isNeg, isZer, isPlus, Sg, is-neg, is-zer, is-plus, sg}
 use Rattle.exact.specs.Tests.{never, not-true}
 use Rattle.paper.specs.Plane.{Vec, rises, opposite}
@@ -53,21 +53,15 @@ pub data Way (x y : ℤ) : Sign → Type 0 where
   nil : x ≡ pos 0 → y ≡ pos 0 → Way x y zer
   down : Up (negℤ x) (negℤ y) → Way x y neg
 
-flip : (z : ℤ) → z <ℤ pos 0 → pos 0 <ℤ negℤ z
-flip z = zomega (z ∷ []) (search sq depth 20) (omega arith)
-
-neg0 : (z : ℤ) → z ≡ pos 0 → negℤ z ≡ pos 0
-neg0 z = zomega (z ∷ []) (search sq depth 20) (omega arith)
-
 pub which : (x y : ℤ) → Way x y (lexS y x)
 which x y = go (sg y) (sg x)
   where
     go : {s t : Sign} → Sg y s → Sg x t → Way x y (pick s t)
     go (is-plus h) t = up (above h)
-    go (is-neg h) t = down (above (flip y h))
+    go (is-neg h) t = down (above (0<-neg y h))
     go (is-zer e) (is-plus h) = up (level e h)
     go (is-zer e) (is-zer f) = nil f e
-    go (is-zer e) (is-neg h) = down (level (neg0 y e) (flip x h))
+    go (is-zer e) (is-neg h) = down (level (zero-neg y e) (0<-neg x h))
 
 -- a vector goes one way only
 pub lex-is : (x y : ℤ) {s : Sign} → Way x y s → lexS y x ≡ s
@@ -79,9 +73,9 @@ lex-is x y w = go (which x y) w
     go (up h) (down l) = absurd (up-not-down h l)
     go (nil e f) (up l) = absurd (up-0 e f l)
     go (nil e f) (nil p q) = refl
-    go (nil e f) (down l) = absurd (up-0 (neg0 x e) (neg0 y f) l)
+    go (nil e f) (down l) = absurd (up-0 (zero-neg x e) (zero-neg y f) l)
     go (down h) (up l) = absurd (up-not-down l h)
-    go (down h) (nil p q) = absurd (up-0 (neg0 x p) (neg0 y q) h)
+    go (down h) (nil p q) = absurd (up-0 (zero-neg x p) (zero-neg y q) h)
     go (down h) (down l) = refl
 
 pub lex-up : (x y : ℤ) → isPlus (lexS y x) ≡ true → Up x y
@@ -117,7 +111,7 @@ up-factor k {x} {y} h l = go (tri (pos 0) k)
     go : Tri (pos 0) k → pos 0 <ℤ k
     go (lt p) = p
     go (eq e) = absurd (up-0 (ap (λ (z : ℤ). z *ℤ x) (sym e) ∙ zero-*ℤ x) (ap (λ (z : ℤ). z *ℤ y) (sym e) ∙ zero-*ℤ y) l)
-    go (gt p) = absurd (up-not-down l (up-by (ring (k ∷ x ∷ []) (search reify depth 20) tt) (ring (k ∷ y ∷ []) (search reify depth 20) tt) (up-* (flip k p) h)))
+    go (gt p) = absurd (up-not-down l (up-by (ring (k ∷ x ∷ []) (search reify depth 20) tt) (ring (k ∷ y ∷ []) (search reify depth 20) tt) (up-* (0<-neg k p) h)))
 
 -- a positive factor cancels
 pub up-cancel : (k x y : ℤ) → pos 0 <ℤ k → Up (k *ℤ x) (k *ℤ y) → Up x y
@@ -163,10 +157,7 @@ module _ (u : Vec) where
   up-nonzero h p q = up-0 p q h
 
   pub opposite-nonzero : NonZero u → NonZero (opposite u)
-  opposite-nonzero n p q = n (back (u .x) p) (back (u .y) q)
-    where
-      back : (z : ℤ) → negℤ z ≡ pos 0 → z ≡ pos 0
-      back z = zomega (z ∷ []) (search sq depth 20) (omega arith)
+  opposite-nonzero n p q = n (neg-zero (u .x) p) (neg-zero (u .y) q)
 
   -- the opposite of a direction goes the other way
   pub rises-opposite : NonZero u → rises (opposite u) ≡ not (rises u)

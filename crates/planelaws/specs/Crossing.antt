@@ -14,6 +14,7 @@ use Rattle.exact.specs.Order.{<-of}
 use Rattle.exact.specs.Mul.{≡-by₁, ≡-by₂}
 use Rattle.exact.specs.Lowest.{Pt, lowest, lowest-is, lowest-x, lowest-y, lowest-only}
 use Rattle.exact.specs.Tests.{and-both, and-parts, le-t, t-le}
+use Rattle.seq.specs.Options.{not-both}
 use Rattle.paper.specs.Plane.{Seg, minusV, cross, same, leftBy, within, crossAt, crossBy, crossing}
 use Rattle.planelaws.specs.Cone.{UpV}
 use Rattle.planelaws.specs.Points.{LowestP, is-same, same-equal}
@@ -172,10 +173,7 @@ module _ (s t : Seg) (us : UpV (s .up)) (ut : UpV (t .up)) where
 
   -- none
   pub crossing-none : crossing s t ≡ none → (turn ≡ pos 0 → ⊥) → (q : Pt) → pos 0 <ℤ q .D → On s q → On t q → ⊥
-  crossing-none e w q h os ot = no-both (crossing s t) e (crossing-there q w h os ot)
-    where
-      no-both : (o : Option Pt) {p : Pt} → o ≡ none → o ≡ some p → ⊥
-      no-both o {p} e f = absurd (let z : _≡_ {A = ℕ} 0 1 = cc in omega arith)
+  crossing-none e w q h os ot = not-both (crossing s t) e (crossing-there q w h os ot)
 
 -- parallel edges have none, whatever they are
 pub parallel-none : (s t : Seg) → cross (s .up) (t .up) ≡ pos 0 → crossing s t ≡ none

@@ -9,12 +9,14 @@ use lib.Signed.{_<ℤ_}
 use Rattle.exact.specs.Solve.{ring, reify}
 use Rattle.exact.specs.Sign.{sgn, isZer}
 use Rattle.exact.specs.Lowest.{Pt}
-use Rattle.exact.specs.Tests.{clash, never, and-both, and-parts}
+use Rattle.exact.specs.Tests.{clash, and-both, and-parts}
+use Rattle.exact.specs.Signs.{zero-is}
+use Rattle.seq.specs.Tests.{was-false}
 use Rattle.paper.specs.Plane.{Vec, Seg, plusV, minusV, head, between, whole, before, same, lower, upper, leftBy, inside, onSeg}
 use Rattle.planelaws.specs.Cone.{up-by, UpV}
 use Rattle.planelaws.specs.Points.{before-irr, before-asym, le-trans, le-before, before-le, neither, same-neither, same-sym, same-before, before-same}
 use Rattle.planelaws.specs.Ends.{0<1, corner-up, up-corner}
-use Rattle.planelaws.specs.Sides.{zero-is, left-foot, left-head, left-same-sign}
+use Rattle.planelaws.specs.Sides.{left-foot, left-head, left-same-sign}
 
 pub record On (s : Seg) (p : Pt) : Type 0 where
   pub line : leftBy s p ≡ pos 0
@@ -31,16 +33,12 @@ IsEnd s p = (same (whole (s .foot)) p ≡ true) ⊎ (same (whole (head s)) p ≡
 
 -- ── the tests ──
 
-not-not : (b : Bool) → not b ≡ true → b ≡ false
-not-not true e = never e
-not-not false e = refl
-
 module _ (s : Seg) (p : Pt) where
   pub on-is : onSeg s p ≡ true → On s p
   on-is e =
       let r = and-parts (isZer (sgn (leftBy s p))) (not (before p (whole (s .foot))) && not (before (whole (head s)) p)) e in
       let t = and-parts (not (before p (whole (s .foot)))) (not (before (whole (head s)) p)) (r .1) in
-      record { line = zero-is (leftBy s p) (r .0); low = not-not (before p (whole (s .foot))) (t .0); high = not-not (before (whole (head s)) p) (t .1) }
+      record { line = zero-is (leftBy s p) (r .0); low = was-false (before p (whole (s .foot))) (t .0); high = was-false (before (whole (head s)) p) (t .1) }
 
   pub is-on : On s p → onSeg s p ≡ true
   is-on o =

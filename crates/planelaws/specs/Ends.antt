@@ -4,50 +4,31 @@ use mathlib.Core.Path.{_≡_, refl, sym, _∙_, ap}
 use mathlib.Core.Bool.{Bool, true, false, cond}
 use mathlib.Core.List.{[], _∷_}
 use mathlib.Core.Logic.{_⊎_, inl, inr}
-use native.Mathlib.Omega.{arith}
 use lib.Dec.{T}
 use lib.IntN.{ℤ, pos, _-ℤ_, _*ℤ_}
 use lib.Signed.{_<ℤ_}
 use Rattle.exact.specs.Solve.{ring, reify}
-use Rattle.exact.specs.Order.{zomega, sq}
-use Rattle.exact.specs.Sign.{Sign, neg, zer, plus, sgn, isNeg, isPlus, negS, sums, pick, sgn-sums, sgn-negℤ, sgn-neg, Sg, is-neg, is-zer, is-plus, sg}
+use Rattle.exact.specs.Order.{neg-less, less-neg}
+use Rattle.exact.specs.Sign.{Sign, neg, zer, plus, sgn, isNeg, isPlus, sums, pick, sgn-sums, sgn-negℤ, sgn-neg}
 use Rattle.exact.specs.Lowest.{Pt, whole-lowest}
 use Rattle.exact.specs.Tests.{clash, never, not-true}
+use Rattle.exact.specs.Signs.{less-is, neg-turned, neg-not-plus, le-lt, lt-le}
 use Rattle.paper.specs.Plane.{Vec, minusV, whole, dir, before, same, below, lower, upper}
 use Rattle.planelaws.specs.Cone.{up-by, UpV}
-use Rattle.planelaws.specs.Points.{LowestP, before-up, up-before, before-irr, before-asym, back-y, mid, le-lt, lt-le, same-equal, Three, less, equal, more, three}
+use Rattle.planelaws.specs.Points.{LowestP, before-up, up-before, before-irr, before-asym, back-y, mid, same-equal, Three, less, equal, more, three}
 
 -- ── heights ──
 
-neg-less : (z : ℤ) → isNeg (sgn z) ≡ true → z <ℤ pos 0
-neg-less z = go (sg z)
-  where
-    go : {s : Sign} → Sg z s → isNeg s ≡ true → z <ℤ pos 0
-    go (is-neg h) e = h
-    go (is-zer h) e = never e
-    go (is-plus h) e = never e
-
-lower-y : (x y : ℤ) → (x -ℤ y) <ℤ pos 0 → x <ℤ y
-lower-y x y = zomega (x ∷ y ∷ []) (search sq depth 20) (omega arith)
-
-y-lower : (x y : ℤ) → x <ℤ y → (x -ℤ y) <ℤ pos 0
-y-lower x y = zomega (x ∷ y ∷ []) (search sq depth 20) (omega arith)
-
 module _ (a b : Pt) where
   pub below-lt : below a b ≡ true → (a .Y *ℤ b .D) <ℤ (b .Y *ℤ a .D)
-  below-lt e = lower-y (a .Y *ℤ b .D) (b .Y *ℤ a .D) (neg-less (dir b a .y) e)
+  below-lt e = neg-less (a .Y *ℤ b .D) (b .Y *ℤ a .D) (less-is (dir b a .y) e)
 
   pub lt-below : (a .Y *ℤ b .D) <ℤ (b .Y *ℤ a .D) → below a b ≡ true
-  lt-below h = ap isNeg (sgn-neg (y-lower (a .Y *ℤ b .D) (b .Y *ℤ a .D) h))
+  lt-below h = ap isNeg (sgn-neg (less-neg (a .Y *ℤ b .D) (b .Y *ℤ a .D) h))
 
   -- b is lower than a exactly if the vector from b to a goes up
   pub above-is : below b a ≡ isPlus (sgn (dir b a .y))
-  above-is = ap isNeg (ap sgn (back-y b a) ∙ sgn-negℤ (dir b a .y)) ∙ go (sgn (dir b a .y))
-    where
-      go : (s : Sign) → isNeg (negS s) ≡ isPlus s
-      go neg = refl
-      go zer = refl
-      go plus = refl
+  above-is = ap isNeg (ap sgn (back-y b a) ∙ sgn-negℤ (dir b a .y)) ∙ neg-turned (sgn (dir b a .y))
 
   pub below-before : below a b ≡ true → before a b ≡ true
   below-before e = go (sgn (dir b a .y)) (sgn (dir b a .x)) e
@@ -58,12 +39,7 @@ module _ (a b : Pt) where
       go plus t e = never e
 
 pub below-asym : (a b : Pt) → below a b ≡ true → below b a ≡ false
-below-asym a b e = above-is a b ∙ go (sgn (dir b a .y)) e
-  where
-    go : (s : Sign) → isNeg s ≡ true → isPlus s ≡ false
-    go neg e = refl
-    go zer e = refl
-    go plus e = never e
+below-asym a b e = above-is a b ∙ neg-not-plus (sgn (dir b a .y)) e
 
 pub below-irr : (a : Pt) → below a a ≡ false
 below-irr a = not-true (below a a) (λ e. clash e (below-asym a a e))

@@ -1,3 +1,4 @@
+pub mod Signs
 pub mod Cone
 pub mod Points
 pub mod Ends
@@ -5,8 +6,11 @@ pub mod Angles
 pub mod Sides
 pub mod Edges
 pub mod Lines
+pub mod Parallel
 pub mod Crossing
+pub mod Extent
 pub mod Bounds
 pub mod Meeting
 pub mod Clash
 pub mod NoClash
+pub mod Disjoint

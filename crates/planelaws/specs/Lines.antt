@@ -9,17 +9,18 @@ use native.Mathlib.Omega.{arith}
 use lib.IntN.{ℤ, pos, negℤ, _+ℤ_, _-ℤ_, _*ℤ_, *ℤ-comm, zero-*ℤ}
 use lib.Signed.{_≤ℤ_, _<ℤ_}
 use Rattle.exact.specs.Solve.{ring, reify}
-use Rattle.exact.specs.Order.{zomega, sq, Tri, lt, eq, gt, tri, <→≤, ≤-of-≡, ≤→≯, ≤-or-<, 0<-*, 0≤-*}
-use Rattle.exact.specs.Mul.{≡-by₁, ≡-by₂, 0<-+, 0<-cancel}
+use Rattle.exact.specs.Order.{zomega, sq, Tri, lt, eq, gt, tri, <→≤, ≤-of-≡, ≤→≯, ≤-or-<, 0<-*, 0≤-*, <→0<, 0<→<}
+use Rattle.exact.specs.Mul.{≡-by₁, ≡-by₂, 0<-+, 0<-cancel, zero-cancel}
 use Rattle.exact.specs.Sign.{Sign, isZer}
 use Rattle.exact.specs.Lowest.{Pt}
 use Rattle.exact.specs.Tests.{clash, not-true}
+use Rattle.exact.specs.Ring.{one-*ℤ, *ℤ-1}
 use Rattle.paper.specs.Plane.{Vec, Seg, cross, head, whole, dir, before, same, towards, leftBy}
 use Rattle.planelaws.specs.Cone.{above, level, Way, up, nil, down, which, up-by, up-0, up-*, up-factor, up-cancel, UpV, NonZero, up-nonzero}
 use Rattle.planelaws.specs.Points.{before-up, up-before}
 use Rattle.planelaws.specs.Ends.{0<1}
 use Rattle.planelaws.specs.Angles.{cross-swap-0, parallel-trans}
-use Rattle.planelaws.specs.Sides.{chord, chord-left, zero-cancel}
+use Rattle.planelaws.specs.Sides.{chord, chord-left}
 use Rattle.planelaws.specs.Edges.{On, Inside}
 
 -- ── a part of the way ──
@@ -87,12 +88,6 @@ module _ (s : Seg) (p : Pt) where
 
 -- ── points stand along the edge in point order ──
 
-more : (a b : ℤ) → a <ℤ b → pos 0 <ℤ (b -ℤ a)
-more a b = zomega (a ∷ b ∷ []) (search sq depth 20) (omega arith)
-
-less : (a b : ℤ) → pos 0 <ℤ (b -ℤ a) → a <ℤ b
-less a b = zomega (a ∷ b ∷ []) (search sq depth 20) (omega arith)
-
 -- d·e·(the way from p to q) = (m·d - n·e)·(the product of the denominators)·u, of one coordinate
 way-along : (f u n d m e x c y k : ℤ) → x *ℤ d ≡ (f *ℤ d +ℤ n *ℤ u) *ℤ c → y *ℤ e ≡ (f *ℤ e +ℤ m *ℤ u) *ℤ k → (d *ℤ e) *ℤ (y *ℤ c -ℤ x *ℤ k) ≡ ((m *ℤ d -ℤ n *ℤ e) *ℤ (c *ℤ k)) *ℤ u
 way-along f u n d m e x c y k p q = ≡-by₂ q (d *ℤ c) p (negℤ (e *ℤ k)) (ring (f ∷ u ∷ n ∷ d ∷ m ∷ e ∷ x ∷ c ∷ y ∷ k ∷ []) (search reify depth 20) tt)
@@ -108,46 +103,40 @@ module _ (s : Seg) (u : UpV (s .up)) (p q : Pt) (hp : pos 0 <ℤ p .D) (hq : pos
   pub part-before : (n *ℤ e) <ℤ (m *ℤ d) → before p q ≡ true
   part-before l =
       up-before p q (up-cancel (d *ℤ e) (dir p q .x) (dir p q .y) (0<-* hd he)
-      (up-by (sym way-x) (sym way-y) (up-* (0<-* (more (n *ℤ e) (m *ℤ d) l) (0<-* hp hq)) u)))
+      (up-by (sym way-x) (sym way-y) (up-* (0<-* (<→0< {a = n *ℤ e} {b = m *ℤ d} l) (0<-* hp hq)) u)))
 
   pub before-part : before p q ≡ true → (n *ℤ e) <ℤ (m *ℤ d)
   before-part f =
-      less (n *ℤ e) (m *ℤ d) (0<-cancel (p .D *ℤ q .D) (m *ℤ d -ℤ n *ℤ e) (0<-* hp hq)
+      0<→< (n *ℤ e) (m *ℤ d) (0<-cancel (p .D *ℤ q .D) (m *ℤ d -ℤ n *ℤ e) (0<-* hp hq)
       (subst (λ (z : ℤ). pos 0 <ℤ z) (*ℤ-comm (m *ℤ d -ℤ n *ℤ e) (p .D *ℤ q .D))
       (up-factor ((m *ℤ d -ℤ n *ℤ e) *ℤ (p .D *ℤ q .D)) u (up-by way-x way-y (up-* (0<-* hd he) (before-up p q f))))))
 
 -- ── on the edge exactly from 0 to 1 ──
 
-times-1 : (z : ℤ) → z *ℤ pos 1 ≡ z
-times-1 z = ring (z ∷ []) (search reify depth 20) tt
-
-1-times : (z : ℤ) → pos 1 *ℤ z ≡ z
-1-times z = ring (z ∷ []) (search reify depth 20) tt
-
 module _ (s : Seg) (u : UpV (s .up)) (p : Pt) (hp : pos 0 <ℤ p .D) (n d : ℤ) (hd : pos 0 <ℤ d) (a : Part s n d p) where
   past-foot : before p (whole (s .foot)) ≡ true → n <ℤ pos 0
-  past-foot e = subst₂ _<ℤ_ (times-1 n) (zero-*ℤ d) (before-part s u p (whole (s .foot)) hp 0<1 n d (pos 0) (pos 1) hd 0<1 a (part-foot s) e)
+  past-foot e = subst₂ _<ℤ_ (*ℤ-1 n) (zero-*ℤ d) (before-part s u p (whole (s .foot)) hp 0<1 n d (pos 0) (pos 1) hd 0<1 a (part-foot s) e)
 
   foot-past : n <ℤ pos 0 → before p (whole (s .foot)) ≡ true
-  foot-past l = part-before s u p (whole (s .foot)) hp 0<1 n d (pos 0) (pos 1) hd 0<1 a (part-foot s) (subst₂ _<ℤ_ (sym (times-1 n)) (sym (zero-*ℤ d)) l)
+  foot-past l = part-before s u p (whole (s .foot)) hp 0<1 n d (pos 0) (pos 1) hd 0<1 a (part-foot s) (subst₂ _<ℤ_ (sym (*ℤ-1 n)) (sym (zero-*ℤ d)) l)
 
   pub foot-before : before (whole (s .foot)) p ≡ true → pos 0 <ℤ n
-  foot-before e = subst₂ _<ℤ_ (zero-*ℤ d) (times-1 n) (before-part s u (whole (s .foot)) p 0<1 hp (pos 0) (pos 1) n d 0<1 hd (part-foot s) a e)
+  foot-before e = subst₂ _<ℤ_ (zero-*ℤ d) (*ℤ-1 n) (before-part s u (whole (s .foot)) p 0<1 hp (pos 0) (pos 1) n d 0<1 hd (part-foot s) a e)
 
   pub before-foot : pos 0 <ℤ n → before (whole (s .foot)) p ≡ true
-  before-foot l = part-before s u (whole (s .foot)) p 0<1 hp (pos 0) (pos 1) n d 0<1 hd (part-foot s) a (subst₂ _<ℤ_ (sym (zero-*ℤ d)) (sym (times-1 n)) l)
+  before-foot l = part-before s u (whole (s .foot)) p 0<1 hp (pos 0) (pos 1) n d 0<1 hd (part-foot s) a (subst₂ _<ℤ_ (sym (zero-*ℤ d)) (sym (*ℤ-1 n)) l)
 
   past-head : before (whole (head s)) p ≡ true → d <ℤ n
-  past-head e = subst₂ _<ℤ_ (1-times d) (times-1 n) (before-part s u (whole (head s)) p 0<1 hp (pos 1) (pos 1) n d 0<1 hd (part-head s) a e)
+  past-head e = subst₂ _<ℤ_ (one-*ℤ d) (*ℤ-1 n) (before-part s u (whole (head s)) p 0<1 hp (pos 1) (pos 1) n d 0<1 hd (part-head s) a e)
 
   head-past : d <ℤ n → before (whole (head s)) p ≡ true
-  head-past l = part-before s u (whole (head s)) p 0<1 hp (pos 1) (pos 1) n d 0<1 hd (part-head s) a (subst₂ _<ℤ_ (sym (1-times d)) (sym (times-1 n)) l)
+  head-past l = part-before s u (whole (head s)) p 0<1 hp (pos 1) (pos 1) n d 0<1 hd (part-head s) a (subst₂ _<ℤ_ (sym (one-*ℤ d)) (sym (*ℤ-1 n)) l)
 
   pub head-before : before p (whole (head s)) ≡ true → n <ℤ d
-  head-before e = subst₂ _<ℤ_ (times-1 n) (1-times d) (before-part s u p (whole (head s)) hp 0<1 n d (pos 1) (pos 1) hd 0<1 a (part-head s) e)
+  head-before e = subst₂ _<ℤ_ (*ℤ-1 n) (one-*ℤ d) (before-part s u p (whole (head s)) hp 0<1 n d (pos 1) (pos 1) hd 0<1 a (part-head s) e)
 
   pub before-head : n <ℤ d → before p (whole (head s)) ≡ true
-  before-head l = part-before s u p (whole (head s)) hp 0<1 n d (pos 1) (pos 1) hd 0<1 a (part-head s) (subst₂ _<ℤ_ (sym (times-1 n)) (sym (1-times d)) l)
+  before-head l = part-before s u p (whole (head s)) hp 0<1 n d (pos 1) (pos 1) hd 0<1 a (part-head s) (subst₂ _<ℤ_ (sym (*ℤ-1 n)) (sym (one-*ℤ d)) l)
 
   pub part-on : pos 0 ≤ℤ n → n ≤ℤ d → On s p
   part-on l r = record {

@@ -1,5 +1,5 @@
 -- Where the lines of two edges f and e that go up meet, by signs. Let q be on both lines: a point p of f's line lies on that side of e which its place before or after q says (`side-order`), and so
--- two points of f on opposite strict sides of e have q strictly between them. In order: products of signs; the meeting point of two lines that are not parallel; sides by places and
+-- two points of f on opposite strict sides of e have q strictly between them. In order: products of signs; the meeting point of two lines that are not parallel; sides by opposed-places and
 -- back; opposite strict sides give a meeting point between (`opposite-meet`), and a crossing where it lies on both edges (`opposite-crossing`, `apart-inside`).
 -- Assumes nothing.
 use mathlib.Core.Path.{_≡_, refl, sym, _∙_, ap, subst}
@@ -12,44 +12,18 @@ use lib.IntN.{ℤ, pos, negsuc, _+ℤ_, _*ℤ_}
 use lib.Signed.{_<ℤ_}
 use Rattle.exact.specs.Solve.{ring, reify}
 use Rattle.exact.specs.Order.{zomega, sq, Tri, lt, eq, gt, tri}
-use Rattle.exact.specs.Sign.{Sign, neg, zer, plus, sgn, negS, isNeg, isZer, isPlus, sums, sgn-negℤ}
+use Rattle.exact.specs.Sign.{Sign, neg, zer, plus, sgn, negS, isNeg, isZer, isPlus, sums}
 use Rattle.exact.specs.Lowest.{Pt, lowest}
-use Rattle.exact.specs.Tests.{clash, never}
+use Rattle.exact.specs.Signs.{zero-is, zer-sum, sums-swap}
 use Rattle.paper.specs.Plane.{Seg, cross, head, whole, order, before, same, leftBy, opposed, apart, crossing}
 use Rattle.planelaws.specs.Cone.{UpV}
-use Rattle.planelaws.specs.Points.{after, le-before, before-le, before-asym, zer-sum}
+use Rattle.planelaws.specs.Points.{after, le-before, before-le, before-asym}
 use Rattle.planelaws.specs.Ends.{0<1}
-use Rattle.planelaws.specs.Angles.{cross-swap}
-use Rattle.planelaws.specs.Sides.{zero-is, meet-signs, pass-signs, sums-swap, left-same-sign, left-foot, left-head}
+use Rattle.planelaws.specs.Sides.{meet-signs, pass-signs, left-same-sign, left-foot, left-head}
 use Rattle.planelaws.specs.Edges.{On, Inside, inside-on, inside-between, seg-up}
 use Rattle.planelaws.specs.Crossing.{crossing-there}
-
--- ── signs ──
-
-abbrev pub timesS : Sign → Sign → Sign
-timesS neg s = negS s
-timesS zer s = zer
-timesS plus s = s
-
-times-plus : (k : Sign) → k ≡ timesS k plus
-times-plus neg = refl
-times-plus zer = refl
-times-plus plus = refl
-
-times-neg : (k : Sign) → negS k ≡ timesS k neg
-times-neg neg = refl
-times-neg zer = refl
-times-neg plus = refl
-
-times-zer : (k : Sign) → zer ≡ timesS k zer
-times-zer neg = refl
-times-zer zer = refl
-times-zer plus = refl
-
-pub neg-back : (k : Sign) → negS (negS k) ≡ k
-neg-back neg = refl
-neg-back zer = refl
-neg-back plus = refl
+use Rattle.planelaws.specs.Signs.{timesS, times-plus, times-neg, times-zer, turn-side, opposed-places, strict, two-sides}
+use Rattle.planelaws.specs.Angles.{turn-swap}
 
 -- ── the meeting point of two lines ──
 
@@ -58,8 +32,8 @@ pub record Meet (f e : Seg) (q : Pt) : Type 0 where
   pub first : leftBy f q ≡ pos 0
   pub second : leftBy e q ≡ pos 0
 
-pub meet-swap : {f e : Seg} {q : Pt} → Meet f e q → Meet e f q
-meet-swap m = record { real = m .real; first = m .second; second = m .first }
+pub lines-swap : {f e : Seg} {q : Pt} → Meet f e q → Meet e f q
+lines-swap m = record { real = m .real; first = m .second; second = m .first }
 
 -- with σ = 1 or -1, so that its D is positive
 abbrev metAt : ℤ → Seg → Seg → Pt
@@ -90,14 +64,14 @@ lines-meet f e n = go (tri (pos 0) (cross (f .up) (e .up)))
     go (eq z) = absurd (n (sym z))
     go (gt h) = (metAt (negsuc 0) f e, met (negsuc 0) f e (turned (cross (f .up) (e .up)) h))
 
--- ── sides by places ──
+-- ── sides by opposed-places ──
 
 module _ (f e : Seg) (uf : UpV (f .up)) (ue : UpV (e .up)) (q : Pt) (m : Meet f e q) where
   abbrev K : Sign
   K = sgn (cross (f .up) (e .up))
 
   swapped : sgn (cross (e .up) (f .up)) ≡ negS K
-  swapped = ap sgn (cross-swap (f .up) (e .up)) ∙ sgn-negℤ (cross (f .up) (e .up))
+  swapped = turn-swap (f .up) (e .up)
 
   module _ (p : Pt) (hp : pos 0 <ℤ p .D) (on : leftBy f p ≡ pos 0) where
     before-q : before p q ≡ true → sgn (leftBy e p) ≡ K
@@ -125,38 +99,6 @@ module _ (f e : Seg) (uf : UpV (f .up)) (ue : UpV (e .up)) (q : Pt) (m : Meet f 
 
 -- ── opposite strict sides ──
 
--- the turn has the side of the first
-turn-side : (s t k : Sign) → opposed s t ≡ true → T (sums t k s) → k ≡ s
-turn-side neg neg k e h = never e
-turn-side neg zer k e h = never e
-turn-side neg plus neg e h = refl
-turn-side neg plus zer e h = absurd h
-turn-side neg plus plus e h = absurd h
-turn-side zer t k e h = never e
-turn-side plus neg neg e h = absurd h
-turn-side plus neg zer e h = absurd h
-turn-side plus neg plus e h = refl
-turn-side plus zer k e h = never e
-turn-side plus plus k e h = never e
-
--- so the first point is before q, and the second after it
-places : (s t o r : Sign) → opposed s t ≡ true → s ≡ timesS s o → t ≡ timesS s r → (o ≡ plus) × (r ≡ neg)
-places neg neg o r e f g = never e
-places neg zer o r e f g = never e
-places neg plus o r e f g = (sym (neg-back o) ∙ ap negS (sym f), sym (neg-back r) ∙ ap negS (sym g))
-places zer t o r e f g = never e
-places plus neg o r e f g = (sym f, sym g)
-places plus zer o r e f g = never e
-places plus plus o r e f g = never e
-
-strict : (s t : Sign) → opposed s t ≡ true → s ≡ zer → ⊥
-strict s t e z = clash (subst (λ (k : Sign). opposed k t ≡ true) z e) refl
-
-two-sides : (k : Sign) → (k ≡ zer → ⊥) → opposed k (negS k) ≡ true
-two-sides neg n = refl
-two-sides zer n = absurd (n refl)
-two-sides plus n = refl
-
 module _ (f e : Seg) (uf : UpV (f .up)) (ue : UpV (e .up)) (p r : Pt) (hp : pos 0 <ℤ p .D) (hr : pos 0 <ℤ r .D) (on-p : leftBy f p ≡ pos 0) (on-r : leftBy f r ≡ pos 0) where
   -- two points of f on opposite strict sides of e: not parallel
   pub opposite-turned : before p r ≡ true → opposed (sgn (leftBy e p)) (sgn (leftBy e r)) ≡ true → sgn (cross (f .up) (e .up)) ≡ sgn (leftBy e p)
@@ -166,7 +108,7 @@ module _ (f e : Seg) (uf : UpV (f .up)) (ue : UpV (e .up)) (p r : Pt) (hp : pos 
   pub opposite-between : (q : Pt) → Meet f e q → before p r ≡ true → opposed (sgn (leftBy e p)) (sgn (leftBy e r)) ≡ true → (before p q ≡ true) × (before q r ≡ true)
   opposite-between q m b o =
       let k = opposite-turned b o in
-      let w = places (sgn (leftBy e p)) (sgn (leftBy e r)) (order q p) (order q r) o
+      let w = opposed-places (sgn (leftBy e p)) (sgn (leftBy e r)) (order q p) (order q r) o
       (side-order f e uf ue q m p hp on-p ∙ ap (λ (s : Sign). timesS s (order q p)) k)
       (side-order f e uf ue q m r hr on-r ∙ ap (λ (s : Sign). timesS s (order q r)) k) in
       (after q p ∙ ap isPlus (w .0), ap isNeg (w .1))
@@ -199,7 +141,7 @@ module _ (f e : Seg) (uf : UpV (f .up)) (ue : UpV (e .up)) where
   pub apart-inside : apart e f ≡ true → apart f e ≡ true → (q : Pt) × (pos 0 <ℤ q .D) × Inside f q × Inside e q
   apart-inside ef fe =
       let (q, m, a, b) = opposite-meet f e uf ue (whole (f .foot)) (whole (head f)) 0<1 0<1 (left-foot f) (left-head f) (seg-up f uf) ef in
-      let (c, d) = opposite-between e f ue uf (whole (e .foot)) (whole (head e)) 0<1 0<1 (left-foot e) (left-head e) q (meet-swap m) (seg-up e ue) fe in
+      let (c, d) = opposite-between e f ue uf (whole (e .foot)) (whole (head e)) 0<1 0<1 (left-foot e) (left-head e) q (lines-swap m) (seg-up e ue) fe in
       (q, m .real, record { line = m .first; low = a; high = b }, record { line = m .second; low = c; high = d })
 
   -- and back: where they cross inside f and are not parallel, the ends of f are on opposite strict sides of e

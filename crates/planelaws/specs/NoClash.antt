@@ -1,7 +1,7 @@
 -- What it gives that two edges that go up do not clash, as rule 8 of a map says of any two: a point on both is an end of both (`common-end`); no point inside the one is on the other, in particular no
 -- end and no crossing; they are not the same edge; and where they have a foot or a head in common, they go different ways. Assumes nothing.
-use mathlib.Core.Path.{_≡_, refl, sym, _∙_, ap}
-use mathlib.Core.Bool.{Bool, true, false}
+use mathlib.Core.Path.{_≡_, sym, _∙_, ap}
+use mathlib.Core.Bool.{true, false}
 use mathlib.Core.Logic.{_⊎_, inl, inr}
 use mathlib.Core.Option.{some}
 use lib.IntN.{pos}
@@ -10,14 +10,13 @@ use Rattle.exact.specs.Lowest.{Pt}
 use Rattle.exact.specs.Tests.{clash as no-both}
 use Rattle.paper.specs.Plane.{Vec, Seg, cross, head, whole, before, same, leftBy, lessAngle, clash, crossing}
 use Rattle.planelaws.specs.Cone.{UpV}
-use Rattle.planelaws.specs.Points.{same-self, neither}
+use Rattle.planelaws.specs.Points.{same-self}
 use Rattle.planelaws.specs.Ends.{0<1}
-use Rattle.planelaws.specs.Angles.{cross-swap-0, Turn, less, same as same-way, more, turned}
+use Rattle.planelaws.specs.Angles.{Turn, less, same as same-way, more, turned}
 use Rattle.planelaws.specs.Sides.{left-foot, left-head}
 use Rattle.planelaws.specs.Edges.{On, Inside, IsEnd, inside-on, on-where, seg-up, end-not-inside}
-use Rattle.planelaws.specs.Lines.{one-line}
 use Rattle.planelaws.specs.Crossing.{crossing-touch}
-use Rattle.planelaws.specs.Clash.{Clash, foot-in, head-in, in-foot, in-head, equal, way-clash, shares-clash, clash-swap}
+use Rattle.planelaws.specs.Clash.{Clash, overlap-clash, foot-in, head-in, equal, way-clash, shares-clash, clash-swap}
 
 -- one of two that go up and are not parallel has the lesser angle
 pub up-turned : (u v : Vec) → (cross u v ≡ pos 0 → ⊥) → (lessAngle u v ≡ true) ⊎ (lessAngle v u ≡ true)
@@ -68,19 +67,10 @@ module _ (s t : Seg) (us : UpV (s .up)) (ut : UpV (t .up)) (c : clash s t ≡ fa
   -- ── a common foot ──
 
   module _ (e : s .foot ≡ t .foot) where
-    foot-line : cross (s .up) (t .up) ≡ pos 0 → leftBy t (whole (head s)) ≡ pos 0
-    foot-line z = one-line s t (whole (s .foot)) (whole (head s)) us 0<1 (cross-swap-0 (s .up) (t .up) z) (left-foot s) (ap (λ (a : Vec). leftBy t (whole a)) e ∙ left-foot t) (left-head s)
-
-    foot-line′ : cross (s .up) (t .up) ≡ pos 0 → leftBy s (whole (head t)) ≡ pos 0
-    foot-line′ z = one-line t s (whole (t .foot)) (whole (head t)) ut 0<1 z (left-foot t) (ap (λ (a : Vec). leftBy s (whole a)) (sym e) ∙ left-foot s) (left-head t)
-
     pub foot-turned : cross (s .up) (t .up) ≡ pos 0 → ⊥
-    foot-turned z = refused s t us ut c (go (before (whole (head s)) (whole (head t))) (before (whole (head t)) (whole (head s))) refl refl)
-      where
-        go : (a b : Bool) → before (whole (head s)) (whole (head t)) ≡ a → before (whole (head t)) (whole (head s)) ≡ b → Clash s t
-        go true b f g = in-head (record { line = foot-line z; low = ap (λ (a : Vec). before (whole a) (whole (head s))) (sym e) ∙ seg-up s us; high = f })
-        go false true f g = head-in (record { line = foot-line′ z; low = ap (λ (a : Vec). before (whole a) (whole (head t))) e ∙ seg-up t ut; high = g })
-        go false false f g = equal (ap (λ (a : Vec). same (whole (s .foot)) (whole a)) (sym e) ∙ same-self (whole (s .foot))) (neither (whole (head s)) (whole (head t)) f g)
+    foot-turned z =
+        refused s t us ut c (overlap-clash s t us ut (whole (s .foot)) 0<1 (left-foot s) (ap (λ (a : Vec). leftBy t (whole a)) e ∙ left-foot t) z
+        (ap (λ (a : Vec). before (whole a) (whole (head t))) e ∙ seg-up t ut) (ap (λ (a : Vec). before (whole a) (whole (head s))) (sym e) ∙ seg-up s us))
 
     pub foot-angle : (lessAngle (s .up) (t .up) ≡ true) ⊎ (lessAngle (t .up) (s .up) ≡ true)
     foot-angle = up-turned (s .up) (t .up) foot-turned
@@ -88,19 +78,10 @@ module _ (s t : Seg) (us : UpV (s .up)) (ut : UpV (t .up)) (c : clash s t ≡ fa
   -- ── a common head ──
 
   module _ (e : head s ≡ head t) where
-    head-line : cross (s .up) (t .up) ≡ pos 0 → leftBy t (whole (s .foot)) ≡ pos 0
-    head-line z = one-line s t (whole (head s)) (whole (s .foot)) us 0<1 (cross-swap-0 (s .up) (t .up) z) (left-head s) (ap (λ (a : Vec). leftBy t (whole a)) e ∙ left-head t) (left-foot s)
-
-    head-line′ : cross (s .up) (t .up) ≡ pos 0 → leftBy s (whole (t .foot)) ≡ pos 0
-    head-line′ z = one-line t s (whole (head t)) (whole (t .foot)) ut 0<1 z (left-head t) (ap (λ (a : Vec). leftBy s (whole a)) (sym e) ∙ left-head s) (left-foot t)
-
     pub head-turned : cross (s .up) (t .up) ≡ pos 0 → ⊥
-    head-turned z = refused s t us ut c (go (before (whole (s .foot)) (whole (t .foot))) (before (whole (t .foot)) (whole (s .foot))) refl refl)
-      where
-        go : (a b : Bool) → before (whole (s .foot)) (whole (t .foot)) ≡ a → before (whole (t .foot)) (whole (s .foot)) ≡ b → Clash s t
-        go true b f g = foot-in (record { line = head-line′ z; low = f; high = ap (λ (a : Vec). before (whole (t .foot)) (whole a)) e ∙ seg-up t ut })
-        go false true f g = in-foot (record { line = head-line z; low = g; high = ap (λ (a : Vec). before (whole (s .foot)) (whole a)) (sym e) ∙ seg-up s us })
-        go false false f g = equal (neither (whole (s .foot)) (whole (t .foot)) f g) (ap (λ (a : Vec). same (whole (head s)) (whole a)) (sym e) ∙ same-self (whole (head s)))
+    head-turned z =
+        refused s t us ut c (overlap-clash s t us ut (whole (head s)) 0<1 (left-head s) (ap (λ (a : Vec). leftBy t (whole a)) e ∙ left-head t) z
+        (ap (λ (a : Vec). before (whole (s .foot)) (whole a)) (sym e) ∙ seg-up s us) (ap (λ (a : Vec). before (whole (t .foot)) (whole a)) e ∙ seg-up t ut))
 
     pub head-angle : (lessAngle (s .up) (t .up) ≡ true) ⊎ (lessAngle (t .up) (s .up) ≡ true)
     head-angle = up-turned (s .up) (t .up) head-turned

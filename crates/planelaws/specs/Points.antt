@@ -7,15 +7,17 @@ use mathlib.Core.Bool.{Bool, true, false}
 use mathlib.Core.List.{[], _∷_}
 use native.Mathlib.Omega.{arith}
 use lib.Dec.{T}
-use lib.IntN.{ℤ, pos, negℤ, _+ℤ_, _-ℤ_, _*ℤ_}
+use lib.IntN.{ℤ, pos, negℤ, _+ℤ_, _-ℤ_, _*ℤ_, +ℤ-invr}
 use lib.Signed.{_<ℤ_}
-use Rattle.exact.specs.Solve.{ring, reify}
-use Rattle.exact.specs.Order.{zomega, sq}
+use Rattle.exact.specs.Solve.{ring, reify, sub-zero→}
+use Rattle.exact.specs.Order.{zomega, sq, sub-back}
 use Rattle.exact.specs.Sign.{Sign, neg, zer, plus, isNeg, isZer, isPlus, negS, sums, lexS, lex-neg, lex-scalars}
 use Rattle.exact.specs.Lowest.{Pt, Lowest, lowest-unique}
-use Rattle.exact.specs.Tests.{clash, never, not-true, T-true}
+use Rattle.exact.specs.Tests.{clash, never, not-true}
+use Rattle.exact.specs.Signs.{zer-is, neg-turned, neg-not-plus, le-lt, lt-le, zer-sum}
 use Rattle.paper.specs.Plane.{dir, order, before, same}
 use Rattle.planelaws.specs.Cone.{nil, down, lex-is, lex-down, lex-nil, up-by, UpV}
+use Rattle.seq.specs.Terms.{Transitive, Asymmetric}
 
 -- in lowest terms
 abbrev pub LowestP : Pt → Type 0
@@ -23,19 +25,13 @@ LowestP p = Lowest p
 
 -- ── the test is the cone ──
 
-back : (x y : ℤ) → y -ℤ x ≡ negℤ (x -ℤ y)
-back x y = ring (x ∷ y ∷ []) (search reify depth 20) tt
-
-self : (x : ℤ) → x -ℤ x ≡ pos 0
-self x = ring (x ∷ []) (search reify depth 20) tt
-
 module _ (a b : Pt) where
   -- the way back is the opposite
   pub back-x : dir b a .x ≡ negℤ (dir a b .x)
-  back-x = back (b .X *ℤ a .D) (a .X *ℤ b .D)
+  back-x = sub-back (b .X *ℤ a .D) (a .X *ℤ b .D)
 
   pub back-y : dir b a .y ≡ negℤ (dir a b .y)
-  back-y = back (b .Y *ℤ a .D) (a .Y *ℤ b .D)
+  back-y = sub-back (b .Y *ℤ a .D) (a .Y *ℤ b .D)
 
 module _ (a b : Pt) where
   pub before-up : before a b ≡ true → UpV (dir a b)
@@ -49,58 +45,22 @@ module _ (a b : Pt) where
 
   -- b comes before a exactly if the order of a and b is plus
   pub after : before b a ≡ isPlus (order a b)
-  after = ap isNeg order-swap ∙ go (order a b)
-    where
-      go : (s : Sign) → isNeg (negS s) ≡ isPlus s
-      go neg = refl
-      go zer = refl
-      go plus = refl
+  after = ap isNeg order-swap ∙ neg-turned (order a b)
 
 pub order-self : (a : Pt) → order a a ≡ zer
-order-self a = lex-is (dir a a .x) (dir a a .y) (nil (self (a .X *ℤ a .D)) (self (a .Y *ℤ a .D)))
+order-self a = lex-is (dir a a .x) (dir a a .y) (nil (+ℤ-invr (a .X *ℤ a .D)) (+ℤ-invr (a .Y *ℤ a .D)))
 
 pub before-irr : (a : Pt) → before a a ≡ false
 before-irr a = ap isNeg (order-self a)
 
 pub before-asym : (a b : Pt) → before a b ≡ true → before b a ≡ false
-before-asym a b e = after a b ∙ go (order a b) e
-  where
-    go : (s : Sign) → isNeg s ≡ true → isPlus s ≡ false
-    go neg e = refl
-    go zer e = refl
-    go plus e = never e
+before-asym a b e = after a b ∙ neg-not-plus (order a b) e
 
 -- ── chains ──
 
 -- e·(x·f - z·d) = f·(x·e - y·d) + d·(y·f - z·e)
 pub mid : (x d y e z f : ℤ) → f *ℤ (x *ℤ e -ℤ y *ℤ d) +ℤ d *ℤ (y *ℤ f -ℤ z *ℤ e) ≡ e *ℤ (x *ℤ f -ℤ z *ℤ d)
 mid x d y e z f = ring (x ∷ d ∷ y ∷ e ∷ z ∷ f ∷ []) (search reify depth 20) tt
-
--- of three signs, the third that of a sum
-pub le-lt : (s t u : Sign) → T (sums s t u) → isPlus s ≡ false → isNeg t ≡ true → isNeg u ≡ true
-le-lt neg neg u h e f = T-true (isNeg u) h
-le-lt zer neg u h e f = T-true (isNeg u) h
-le-lt plus neg u h e f = never (sym e)
-le-lt s zer u h e f = never f
-le-lt s plus u h e f = never f
-
-pub lt-le : (s t u : Sign) → T (sums s t u) → isNeg s ≡ true → isPlus t ≡ false → isNeg u ≡ true
-lt-le neg neg u h e f = T-true (isNeg u) h
-lt-le neg zer u h e f = T-true (isNeg u) h
-lt-le neg plus u h e f = never (sym f)
-lt-le zer t u h e f = never e
-lt-le plus t u h e f = never e
-
-pub zer-sum : (s u : Sign) → T (sums zer s u) → s ≡ u
-zer-sum neg neg t = refl
-zer-sum neg zer t = absurd t
-zer-sum neg plus t = absurd t
-zer-sum zer neg t = absurd t
-zer-sum zer zer t = refl
-zer-sum zer plus t = absurd t
-zer-sum plus neg t = absurd t
-zer-sum plus zer t = absurd t
-zer-sum plus plus t = refl
 
 module _ (a b c : Pt) (ha : pos 0 <ℤ a .D) (hb : pos 0 <ℤ b .D) (hc : pos 0 <ℤ c .D) where
   pub order-trans : T (sums (order a b) (order b c) (order a c))
@@ -127,18 +87,17 @@ module _ (a b c : Pt) (ha : pos 0 <ℤ a .D) (hb : pos 0 <ℤ b .D) (hc : pos 0 
 pub le-trans : (a b c : Pt) → pos 0 <ℤ a .D → pos 0 <ℤ b .D → pos 0 <ℤ c .D → before b a ≡ false → before c b ≡ false → before c a ≡ false
 le-trans a b c ha hb hc e f = not-true (before c a) (λ g. clash (before-le c a b hc ha hb g e) f)
 
--- ── the same point ──
+-- as a relation
+pub before-asymmetric : Asymmetric before
+before-asymmetric a b e f = clash f (before-asym a b e)
 
-0-sub : (a b : ℤ) → b -ℤ a ≡ pos 0 → b ≡ a
-0-sub a b = zomega (a ∷ b ∷ []) (search sq depth 20) (omega arith)
+pub before-transitive : Transitive before LowestP
+before-transitive a b c la lb lc = before-trans a b c (la .positive) (lb .positive) (lc .positive)
+
+-- ── the same point ──
 
 sub-0 : (a b : ℤ) → b ≡ a → b -ℤ a ≡ pos 0
 sub-0 a b = zomega (a ∷ b ∷ []) (search sq depth 20) (omega arith)
-
-pub zer-is : (s : Sign) → isZer s ≡ true → s ≡ zer
-zer-is neg e = never e
-zer-is zer e = refl
-zer-is plus e = never e
 
 pub same-self : (a : Pt) → same a a ≡ true
 same-self a = ap isZer (order-self a)
@@ -146,7 +105,7 @@ same-self a = ap isZer (order-self a)
 module _ (a b : Pt) where
   -- the same two fractions
   pub same-is : same a b ≡ true → (a .X *ℤ b .D ≡ b .X *ℤ a .D) × (a .Y *ℤ b .D ≡ b .Y *ℤ a .D)
-  same-is e = let n = lex-nil (dir b a .x) (dir b a .y) e in (0-sub (b .X *ℤ a .D) (a .X *ℤ b .D) (n .0), 0-sub (b .Y *ℤ a .D) (a .Y *ℤ b .D) (n .1))
+  same-is e = let n = lex-nil (dir b a .x) (dir b a .y) e in (sub-zero→ (a .X *ℤ b .D) (b .X *ℤ a .D) (n .0), sub-zero→ (a .Y *ℤ b .D) (b .Y *ℤ a .D) (n .1))
 
   pub is-same : a .X *ℤ b .D ≡ b .X *ℤ a .D → a .Y *ℤ b .D ≡ b .Y *ℤ a .D → same a b ≡ true
   is-same e f = ap isZer (lex-is (dir b a .x) (dir b a .y) (nil (sub-0 (b .X *ℤ a .D) (a .X *ℤ b .D) e) (sub-0 (b .Y *ℤ a .D) (a .Y *ℤ b .D) f)))

@@ -6,33 +6,18 @@
 use mathlib.Core.Path.{_≡_, sym, _∙_, ap}
 use mathlib.Core.Bool.{true}
 use mathlib.Core.List.{[], _∷_}
-use mathlib.Core.Logic.{⊎-elim}
 use lib.Dec.{T}
 use lib.IntN.{ℤ, pos, negℤ, _+ℤ_, _-ℤ_, _*ℤ_}
 use lib.Signed.{_<ℤ_}
 use Rattle.exact.specs.Solve.{ring, reify}
-use Rattle.exact.specs.Order.{*-zero, <→≢}
-use Rattle.exact.specs.Mul.{≡-by₂}
-use Rattle.exact.specs.Sign.{Sign, neg, zer, plus, sgn, isZer, sums, sgn-is, sg-scale, sg, lex-pairs, Sg, is-neg, is-zer, is-plus}
+use Rattle.exact.specs.Mul.{≡-by₂, zero-cancel}
+use Rattle.exact.specs.Sign.{sgn, sums, sgn-is, sg-scale, sg, lex-pairs}
 use Rattle.exact.specs.Lowest.{Pt}
-use Rattle.exact.specs.Tests.{never}
 use Rattle.paper.specs.Plane.{Seg, minusV, cross, head, whole, dir, before, same, leftBy}
 use Rattle.planelaws.specs.Cone.{up, lex-is, up-*, UpV}
 use Rattle.planelaws.specs.Points.{before-up, same-is}
 
 -- ── the test ──
-
-pub zero-is : (z : ℤ) → isZer (sgn z) ≡ true → z ≡ pos 0
-zero-is z = go (sg z)
-  where
-    go : {s : Sign} → Sg z s → isZer s ≡ true → z ≡ pos 0
-    go (is-neg h) e = never e
-    go (is-zer h) e = h
-    go (is-plus h) e = never e
-
--- a factor greater than 0 of a product that is 0
-pub zero-cancel : (c z : ℤ) → pos 0 <ℤ c → c *ℤ z ≡ pos 0 → z ≡ pos 0
-zero-cancel c z h e = ⊎-elim (λ f. absurd (<→≢ h (sym f))) (λ f. f) (*-zero c z e)
 
 -- ── ends ──
 
@@ -117,14 +102,3 @@ module _ (f e : Seg) (p r : Pt) (on : leftBy f p ≡ pos 0) (on′ : leftBy f r 
       lex-pairs (p .D *ℤ f .up .y) (p .D *ℤ f .up .x) (dir p r .y) (dir p r .x) (r .D *ℤ f .up .y) (r .D *ℤ f .up .x) (leftBy e r) (cross (f .up) (e .up)) (leftBy e p)
       (lex-is (p .D *ℤ f .up .x) (p .D *ℤ f .up .y) (up (up-* hp uf))) (lex-is (dir p r .x) (dir p r .y) (up (before-up p r b)))
       (lex-is (r .D *ℤ f .up .x) (r .D *ℤ f .up .y) (up (up-* hr uf))) pass-y pass-x
-
-pub sums-swap : (s t u : Sign) → T (sums s t u) → T (sums t s u)
-sums-swap neg neg u h = h
-sums-swap neg zer u h = h
-sums-swap neg plus u h = h
-sums-swap zer neg u h = h
-sums-swap zer zer u h = h
-sums-swap zer plus u h = h
-sums-swap plus neg u h = h
-sums-swap plus zer u h = h
-sums-swap plus plus u h = h

@@ -9,7 +9,7 @@ use lib.Dec.{T}
 use lib.IntN.{ℤ, pos, negℤ, _+ℤ_, _-ℤ_, _*ℤ_}
 use lib.Signed.{_≤ℤ_, _<ℤ_}
 use Rattle.exact.specs.Solve.{ring, reify}
-use Rattle.exact.specs.Order.{zomega, sq, 0<-*, Tri, lt, eq, gt, tri, <→≢, ≤→≯}
+use Rattle.exact.specs.Order.{zomega, sq, 0<-*, Tri, lt, eq, gt, tri, <→≢, ≤→≯, 0<→<}
 use Rattle.exact.specs.Mul.{≡-by₁, 0<-cancel}
 use Rattle.exact.specs.Sign.{Sign, neg, zer, plus, sgn, isPlus, negS, sums, sgn-sums, sgn-negℤ, plus→, isNeg}
 use Rattle.exact.specs.Tests.{never, clash, not-true, and-parts, and-both}
@@ -20,9 +20,10 @@ use Rattle.planelaws.specs.Points.{before-up}
 use Rattle.planelaws.specs.Ends.{0<1, lt-below, below-before}
 use Rattle.planelaws.specs.Angles.{turn-trans}
 use Rattle.planelaws.specs.Sides.{chord}
+use Rattle.potential.specs.Spans.{Span, Good}
 use Rattle.potential.specs.Near.{near}
 use Rattle.potential.specs.Cuts.{lo, hi, above}
-use Rattle.potential.specs.Height.{scaled, atHeightOf, above-height, right-height, height-steep}
+use Rattle.potential.specs.Height.{scaled, atHeightOf, above-height, right-height, span-steep}
 
 -- ── the point ──
 
@@ -30,8 +31,8 @@ abbrev pub across : Seg → Pt → Pt
 across W p = record { X = p .X *ℤ W .up .y +ℤ leftBy W p; Y = p .Y *ℤ W .up .y; D = p .D *ℤ W .up .y }
 
 module _ (W : Seg) (p : Pt) where
-  pub across-on : leftBy W (across W p) ≡ pos 0
-  across-on = ring (W .foot .x ∷ W .foot .y ∷ W .up .x ∷ W .up .y ∷ p .X ∷ p .Y ∷ p .D ∷ []) (search reify depth 20) tt
+  pub across-line : leftBy W (across W p) ≡ pos 0
+  across-line = ring (W .foot .x ∷ W .foot .y ∷ W .up .x ∷ W .up .y ∷ p .X ∷ p .Y ∷ p .D ∷ []) (search reify depth 20) tt
 
   -- an edge there and here
   pub across-left : (e : Seg) → leftBy e (across W p) ≡ leftBy e p *ℤ W .up .y -ℤ leftBy W p *ℤ e .up .y
@@ -82,22 +83,25 @@ left-rises d u h uy c = go (tri (pos 0) (d .y))
     go (eq z) = level (sym z) (0<-cancel (u .y) (d .x) uy (subst (λ (t : ℤ). pos 0 <ℤ t) (flat (sym z)) c))
     go (gt l) = absurd (≤→≯ h l)
 
-module _ (p : Pt) (hp : pos 0 <ℤ p .D) (d : Vec) (hd : pos 0 ≤ℤ d .y) (W : Seg) (uW : UpV (W .up)) (counts : above false p d W ≡ true) where
-  counted : (atHeightOf p W ≡ true) × (near false (sgn (leftBy W p)) (sgn (cross d (W .up))) ≡ true)
-  counted = and-parts (atHeightOf p W) (near false (sgn (leftBy W p)) (sgn (cross d (W .up)))) (sym (above-height p d W uW hd) ∙ counts)
+module _ (p : Pt) (hp : pos 0 <ℤ p .D) (d : Vec) (hd : pos 0 ≤ℤ d .y) (VW : Span) (uW : Good VW) (counts : above false p d VW ≡ true) where
+  abbrev W : Seg
+  W = VW .line
+
+  counted : (atHeightOf p VW ≡ true) × (near false (sgn (leftBy W p)) (sgn (cross d (W .up))) ≡ true)
+  counted = and-parts (atHeightOf p VW) (near false (sgn (leftBy W p)) (sgn (cross d (W .up)))) (sym (above-height p d VW uW hd) ∙ counts)
 
   steep : pos 0 <ℤ W .up .y
-  steep = height-steep p W hp (counted .0)
+  steep = span-steep p VW uW hp (counted .0)
 
   abbrev q : Pt
   q = across W p
 
-  module _ (e : Seg) (ue : UpV (e .up)) where
-    sides : pos 0 <ℤ e .up .y → T (sums (sgn (leftBy e p)) (negS (sgn (leftBy W p))) (sgn (leftBy e q)))
+  module _ (e : Span) (ue : Good e) where
+    sides : pos 0 <ℤ e .line .up .y → T (sums (sgn (leftBy (e .line) p)) (negS (sgn (leftBy W p))) (sgn (leftBy (e .line) q)))
     sides h =
-        subst (λ (s : Sign). T (sums (sgn (leftBy e p)) s (sgn (leftBy e q)))) (sgn-negℤ (leftBy W p))
-        (sgn-sums (W .up .y) (e .up .y) (pos 1) (leftBy e p) (negℤ (leftBy W p)) (leftBy e q) steep h 0<1
-        (law (W .up .y) (e .up .y) (leftBy e p) (leftBy W p) (leftBy e q) (across-left W p e)))
+        subst (λ (s : Sign). T (sums (sgn (leftBy (e .line) p)) s (sgn (leftBy (e .line) q)))) (sgn-negℤ (leftBy W p))
+        (sgn-sums (W .up .y) (e .line .up .y) (pos 1) (leftBy (e .line) p) (negℤ (leftBy W p)) (leftBy (e .line) q) steep h 0<1
+        (law (W .up .y) (e .line .up .y) (leftBy (e .line) p) (leftBy W p) (leftBy (e .line) q) (across-left W p (e .line))))
       where
         law : (a b x y z : ℤ) → z ≡ x *ℤ a -ℤ y *ℤ b → a *ℤ x +ℤ b *ℤ negℤ y ≡ pos 1 *ℤ z
         law a b x y z h = ≡-by₁ h (negℤ (pos 1)) (ring (a ∷ b ∷ x ∷ y ∷ z ∷ []) (search reify depth 20) tt)
@@ -106,18 +110,18 @@ module _ (p : Pt) (hp : pos 0 <ℤ p .D) (d : Vec) (hd : pos 0 ≤ℤ d .y) (W :
     same-height i = not (sym (across-below W p steep (lo e)) i) && sym (across-below W p steep (hi e)) i
 
     abbrev here : Bool
-    here = near false (sgn (leftBy e p)) (sgn (cross d (e .up)))
+    here = near false (sgn (leftBy (e .line) p)) (sgn (cross d (e .line .up)))
 
     abbrev there : Bool
-    there = near true (sgn (leftBy e q)) (sgn (cross (W .up) (e .up)))
+    there = near true (sgn (leftBy (e .line) q)) (sgn (cross (W .up) (e .line .up)))
 
     pub look-across : (above false p d e ≡ true → there ≡ true) → above false p d e ≡ above true q (W .up) e
     look-across nearest =
         above-height p d e ue hd ∙ go (atHeightOf p e) refl ∙ ap (λ (b : Bool). b && there) same-height ∙ sym (right-height q (W .up) e ue steep)
       where
         back : atHeightOf p e ≡ true → there ≡ true → here ≡ true
-        back h n = seen-signs (sgn (leftBy W p)) (sgn (cross d (W .up))) (sgn (leftBy e p)) (sgn (leftBy e q)) (sgn (cross (W .up) (e .up))) (sgn (cross d (e .up))) (counted .1)
-            (sides (height-steep p e hp h)) (λ k. turn-trans d (W .up) (e .up) (left-rises d (W .up) hd steep (plus→ k)) uW ue) n
+        back h n = seen-signs (sgn (leftBy W p)) (sgn (cross d (W .up))) (sgn (leftBy (e .line) p)) (sgn (leftBy (e .line) q)) (sgn (cross (W .up) (e .line .up))) (sgn (cross d (e .line .up))) (counted .1)
+            (sides (span-steep p e ue hp h)) (λ k. turn-trans d (W .up) (e .line .up) (left-rises d (W .up) hd steep (plus→ k)) (uW .rises) (ue .rises)) n
 
         go : (b : Bool) → atHeightOf p e ≡ b → (b && here) ≡ (b && there)
         go false h = refl
@@ -127,11 +131,8 @@ module _ (p : Pt) (hp : pos 0 <ℤ p .D) (d : Vec) (hd : pos 0 ≤ℤ d .y) (W :
 
 -- along a line that climbs, what comes before is below
 pub lower-below : (W : Seg) → pos 0 <ℤ W .up .y → (x z : Pt) → leftBy W x ≡ pos 0 → leftBy W z ≡ pos 0 → before x z ≡ true → below x z ≡ true
-lower-below W steep x z a b e = lt-below x z (less (x .Y *ℤ z .D) (z .Y *ℤ x .D) (go (before-up x z e)))
+lower-below W steep x z a b e = lt-below x z (0<→< (x .Y *ℤ z .D) (z .Y *ℤ x .D) (go (before-up x z e)))
   where
-    less : (a b : ℤ) → pos 0 <ℤ (b -ℤ a) → a <ℤ b
-    less a b = zomega (a ∷ b ∷ []) (search sq depth 20) (omega arith)
-
     flat : (ux uy x y : ℤ) → y ≡ pos 0 → ux *ℤ y -ℤ uy *ℤ x ≡ pos 0 → pos 0 ≡ uy *ℤ x
     flat ux uy x y z c = zomega (ux ∷ uy ∷ x ∷ y ∷ []) {A = ux *ℤ y ≡ pos 0 → ux *ℤ y -ℤ uy *ℤ x ≡ pos 0 → pos 0 ≡ uy *ℤ x} (search sq depth 20) (omega arith) (≡-by₁ z ux (ring (ux ∷ y ∷ []) (search reify depth 20) tt)) c
 
@@ -142,7 +143,7 @@ lower-below W steep x z a b e = lt-below x z (less (x .Y *ℤ z .D) (z .Y *ℤ x
 -- between two points of its line that stand at the heights of an edge, p at its height
 module _ (W : Seg) (steep : pos 0 <ℤ W .up .y) (p : Pt) (z : Pt) (on : leftBy W z ≡ pos 0) where
   pub across-after : below p z ≡ false → before (across W p) z ≡ false
-  across-after h = not-true (before (across W p) z) (λ e. clash (sym (across-below W p steep z) ∙ lower-below W steep (across W p) z (across-on W p) on e) h)
+  across-after h = not-true (before (across W p) z) (λ e. clash (sym (across-below W p steep z) ∙ lower-below W steep (across W p) z (across-line W p) on e) h)
 
   pub across-before : below p z ≡ true → before (across W p) z ≡ true
   across-before h = below-before (across W p) z (across-below W p steep z ∙ h)

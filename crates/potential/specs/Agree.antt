@@ -1,84 +1,51 @@
--- The labels of the overlay of a list of maps that keep the rules agree: any two half-edges of one walk have the same labels (`walk-labels`), and so have any two of one face
--- (`face-labels`); they are the labels of the face, all 0 for face 0 (`held-labels`). Assumes nothing.
-use mathlib.Core.Path.{_≡_, refl, sym, _∙_, ap}
+-- The labels of the overlay of a list of maps that keep the rules agree. The overlay's graph is drawn from its maps (`overlay-drawn`), so that of Drawn: any two half-edges of one walk have the same labels
+-- (`walk-labels`), and so have any two of one face (`face-labels`); they are the labels of the face, all 0 for face 0 (`held-labels`); and what is seen looking west from any point in the overlay has the labels
+-- that are seen in each map (`overlay-seen`). Assumes nothing.
+use mathlib.Core.Path.{_≡_}
 use Prim.Native.Nat.{_<_}
-use native.Mathlib.Omega.{arith}
-use Rattle.seq.specs.Seq.{List, ℕ, zero, suc, _/_, length, getD, table, pos}
-use Rattle.seq.specs.Table.{table-ext, table-const}
-use Rattle.paper.specs.Graph.{Graph, halfCount}
+use lib.Signed.{_≤ℤ_, _<ℤ_}
+use Rattle.seq.specs.Seq.{List, ℕ, pos}
+use Rattle.paper.specs.Plane.{Pt, Vec}
+use Rattle.paper.specs.Graph.{halfCount, west}
 use Rattle.paper.specs.Map.{Map}
-use Rattle.paper.specs.Pieces.{layer, verticesOf}
-use Rattle.paper.specs.Faces.{labelIn, overlayOf, labelsOf}
-use Rattle.graphlaws.specs.Halves.{half-below}
-use Rattle.graphlaws.specs.Plane.{Plane}
-use Rattle.graphlaws.specs.Walks.{Along, along-below, along-same}
-use Rattle.graphlaws.specs.Faces.{faceOf, face-below, face-onto}
+use Rattle.paper.specs.Pieces.{verticesOf, edgesOf}
+use Rattle.paper.specs.Faces.{overlayOf, labelsOf}
+use Rattle.graphlaws.specs.Walks.{Along}
+use Rattle.graphlaws.specs.Faces.{faceOf}
 use Rattle.overlaylaws.specs.Maps.{AllKeep}
 use Rattle.overlaylaws.specs.Places.{places}
 use Rattle.overlaylaws.specs.Net.{goes-even}
 use Rattle.overlaylaws.specs.NetPlane.{net-plane}
 use Rattle.overlaylaws.specs.Inside.{overlaid}
-use Rattle.overlaylaws.specs.Along.{sourcesAt}
 use Rattle.overlaylaws.specs.Cells.{faceLabels}
-use Rattle.potential.specs.Star.{leftIn, followed}
-use Rattle.potential.specs.OneFace.{outersOf, heldIn, one-face}
-use Rattle.potential.specs.LabelIn.{label-in}
 use Rattle.potential.specs.Overlay.{overlay-covers, source-is}
-
-pos-once : (a b : ℕ) → pos a ≡ pos b → a ≡ b
-pos-once a b e = cc
+use Rattle.potential.specs.Drawn.{Drawn, seenInMaps, seenLabels, drawn-held, drawn-face, drawn-walk, drawn-seen}
 
 module _ (ms : List Map) (K : AllKeep ms) where
-  abbrev g : Graph
-  g = overlaid ms
-
-  plane : Plane (overlaid ms)
-  plane = net-plane ms K (verticesOf ms) (places ms K)
-
-  -- the label of half-edge h in map i
-  abbrev labelOf : ℕ → ℕ → ℕ
-  labelOf i h = labelIn (layer ms i) g h (sourcesAt ms (h / 2) i)
-
-  labels-are : (h : ℕ) → labelsOf ms (overlayOf ms) h ≡ table (λ i. labelOf i h) (length ms)
-  unfolding overlayOf
-  labels-are h = refl
-
-  outer-labels : (f : ℕ) → faceLabels ms (overlayOf ms) (suc f) ≡ labelsOf ms (overlayOf ms) (getD (outersOf g) f 0)
-  unfolding overlayOf
-  outer-labels f = refl
-
-  -- it is the map's potential at the left
-  is-left : (i h : ℕ) → i < length ms → h < halfCount g → pos (labelOf i h) ≡ leftIn (layer ms i) g h
-  is-left i h li l =
-      label-in g (layer ms i) (K i li) (overlay-covers ms K i li) h l (goes-even ms K (verticesOf ms) (places ms K) h l)
-      (sourcesAt ms (h / 2) i) (source-is ms K i (h / 2) li (half-below g h l))
-
-  held-at : (i h : ℕ) → i < length ms → h < halfCount g → (f : ℕ) → faceOf g h ≡ f → pos (labelOf i h) ≡ heldIn (layer ms i) g f
-  held-at i h li l f e = is-left i h li l ∙ one-face g (layer ms i) (K i li) (overlay-covers ms K i li) h l ∙ ap (heldIn (layer ms i) g) e
-
-  held-by : (h : ℕ) → h < halfCount g → (f : ℕ) → faceOf g h ≡ f → labelsOf ms (overlayOf ms) h ≡ faceLabels ms (overlayOf ms) f
-  held-by h l zero e =
-      labels-are h ∙ table-ext (λ i. labelOf i h) (λ i. 0) (length ms) (λ i li. pos-once (labelOf i h) 0 (held-at i h li l 0 e)) ∙ table-const 0 (length ms)
-  held-by h l (suc f) e =
-      let x = getD (outersOf g) f 0 in
-      let (lx, q) = face-onto g plane f (omega (arith, face-below g plane h l)) in
-      labels-are h
-      ∙ table-ext (λ i. labelOf i h) (λ i. labelOf i x) (length ms) (λ i li. pos-once (labelOf i h) (labelOf i x) (held-at i h li l (suc f) e ∙ sym (is-left i x li lx)))
-      ∙ sym (outer-labels f ∙ labels-are x)
+  pub overlay-drawn : Drawn ms (edgesOf ms (verticesOf ms)) (overlaid ms)
+  overlay-drawn = record {
+    plane = net-plane ms K (verticesOf ms) (places ms K);
+    goes = goes-even ms K (verticesOf ms) (places ms K);
+    covers = overlay-covers ms K;
+    source = λ i k li l. source-is ms K i k li l;
+  }
 
   -- they are the labels of the face
   pub held-labels : (h : ℕ) → h < halfCount (overlaid ms) → labelsOf ms (overlayOf ms) h ≡ faceLabels ms (overlayOf ms) (faceOf (overlaid ms) h)
-  held-labels h l = held-by h l (faceOf g h) refl
+  unfolding overlayOf
+  held-labels h l = drawn-held ms K (edgesOf ms (verticesOf ms)) (overlaid ms) overlay-drawn h l
 
   -- one face, the same labels
   pub face-labels : (h k : ℕ) → h < halfCount (overlaid ms) → k < halfCount (overlaid ms) → faceOf (overlaid ms) h ≡ faceOf (overlaid ms) k → labelsOf ms (overlayOf ms) h ≡ labelsOf ms (overlayOf ms) k
-  face-labels h k l j e = held-labels h l ∙ ap (faceLabels ms (overlayOf ms)) e ∙ sym (held-labels k j)
+  unfolding overlayOf
+  face-labels h k l j e = drawn-face ms K (edgesOf ms (verticesOf ms)) (overlaid ms) overlay-drawn h k l j e
 
   -- one walk, the same labels
   pub walk-labels : (h k : ℕ) → h < halfCount (overlaid ms) → Along (overlaid ms) h k → labelsOf ms (overlayOf ms) h ≡ labelsOf ms (overlayOf ms) k
-  walk-labels h k l a =
-      let j = along-below g plane l a in
-      labels-are h
-      ∙ table-ext (λ i. labelOf i h) (λ i. labelOf i k) (length ms) (λ i li.
-      pos-once (labelOf i h) (labelOf i k) (is-left i h li l ∙ sym (along-same g plane (leftIn (layer ms i) g) (followed g (layer ms i) (K i li) (overlay-covers ms K i li)) l a) ∙ sym (is-left i k li j)))
-      ∙ sym (labels-are k)
+  unfolding overlayOf
+  walk-labels h k l a = drawn-walk ms K (edgesOf ms (verticesOf ms)) (overlaid ms) overlay-drawn h k l a
+
+  -- looking west
+  pub overlay-seen : (p : Pt) → pos 0 <ℤ p .D → (d : Vec) → pos 0 ≤ℤ d .y → seenInMaps ms p d ≡ seenLabels ms (overlayOf ms) (west (overlaid ms) p d)
+  unfolding overlayOf
+  overlay-seen p hp d hd = drawn-seen ms K (edgesOf ms (verticesOf ms)) (overlaid ms) overlay-drawn p hp d hd

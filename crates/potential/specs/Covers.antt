@@ -1,28 +1,30 @@
 -- A plane graph in which the edges of a map are drawn (`Covers`): each edge of the map is made of pieces of the graph, which may have other edges besides. A map's own graph is
 -- one (`self-covers`), and the overlay's graph is one for each of its maps. Then: an edge of the map that leaves a vertex of the graph leaves it along a half-edge
 -- (`left-along`). Assumes nothing.
-use mathlib.Core.Path.{_≡_, refl, sym, _∙_, ap, subst, subst₂}
+use mathlib.Core.Path.{_≡_, refl, sym, _∙_, ap, subst}
 use mathlib.Core.Bool.{Bool, true, false, not, _&&_}
 use Prim.Native.Nat.{ℕ, _<_}
 use lib.IntN.{pos}
 use lib.Signed.{_<ℤ_}
 use Rattle.exact.specs.Sign.{isZer}
 use Rattle.exact.specs.Tests.{clash, and-parts}
+use Rattle.exact.specs.Signs.{zero-is}
 use Rattle.seq.specs.Seq.{length}
 use Rattle.paper.specs.Plane.{Pt, Vec, Seg, opposite, cross, before, same, leftBy}
 use Rattle.paper.specs.Graph.{Graph, edgeCount, halfCount, point, edge, origin, low, high, upward, heading, eastSide}
 use Rattle.paper.specs.Map.{Map}
-use Rattle.planelaws.specs.Cone.{rises-up, up-rises, up-nonzero}
+use Rattle.planelaws.specs.Cone.{up-rises, up-nonzero}
 use Rattle.planelaws.specs.Points.{neither}
 use Rattle.planelaws.specs.Angles.{cross-self, SameWay, same-way-opposite}
-use Rattle.planelaws.specs.Sides.{zero-is}
-use Rattle.graphlaws.specs.Plane.{Plane}
-use Rattle.graphlaws.specs.East.{east-below, east-start, east-heading}
-use Rattle.maplaws.specs.Keeps.{seg, edges, Keeps}
+use Rattle.graphlaws.specs.Plane.{Plane, upward-up}
+use Rattle.graphlaws.specs.East.{east-below, east-start, east-heading, westSide, west-below, west-start, west-heading}
+use Rattle.maplaws.specs.Keeps.{seg, edges}
+use Rattle.potential.specs.Lawful.{Lawful}
+use Rattle.potential.specs.Spans.{Span, span}
 use Rattle.potential.specs.Cuts.{lo, hi, reach, Leaves}
-use Rattle.potential.specs.Clear.{Within, Clear, whole-edge}
-use Rattle.potential.specs.Sides.{westSide, west-below, west-start, west-heading}
-use Rattle.potential.specs.Edges.{seg-rises, clear, no-through}
+use Rattle.potential.specs.Clear.{Within, Clear}
+use Rattle.potential.specs.Edges.{clear, no-through}
+use Rattle.potential.specs.Pot.{Jumps}
 use Rattle.potential.specs.Sector.{arrow}
 
 -- q lies from a up to b, b not included (true), or a not included (false)
@@ -44,39 +46,36 @@ pub record Covers (O : Graph) (m : Map) : Type 0 where
   pub within : (k : ℕ) → k < edgeCount O → Within (edge O k .carrier) (low O k) (high O k)
   pub no-inside : (z k : ℕ) → z < length (O .points) → k < edgeCount O → leftBy (edge O k .carrier) (point O z) ≡ pos 0 → before (low O k) (point O z) ≡ true → before (point O z) (high O k) ≡ true → ⊥
   -- the map's edges stay clear of its inside
-  pub clear : (k j : ℕ) → k < edgeCount O → j < edges m → Clear (edge O k .carrier) (low O k) (high O k) (seg m j)
-  -- where an edge of the map leaves a point, a piece does
-  pub piece-at : (j : ℕ) → j < edges m → (q : Pt) → pos 0 <ℤ q .D → (b : Bool) → Leaves q b (seg m j) → PieceAt O (seg m j) q b
+  pub clear : (k j : ℕ) → k < edgeCount O → j < edges m → Clear (edge O k .carrier) (low O k) (high O k) (span m j)
+  -- where an edge of the map leaves a point, a piece does, if the labels on its two sides differ
+  pub piece-at : (j : ℕ) → j < edges m → Jumps m j → (q : Pt) → pos 0 <ℤ q .D → (b : Bool) → Leaves q b (span m j) → PieceAt O (seg m j) q b
 
 -- ── a map covers itself ──
 
-reach-spans : (b : Bool) (q : Pt) (e : Seg) → reach q b e ≡ spans b q (lo e) (hi e)
+reach-spans : (b : Bool) (q : Pt) (e : Span) → reach q b e ≡ spans b q (lo e) (hi e)
 reach-spans true q e = refl
 reach-spans false q e = refl
 
-module _ (m : Map) (K : Keeps m) where
+module _ (m : Map) (K : Lawful m) where
   abbrev g : Graph
   g = m .graph
 
-  self-clear : (k j : ℕ) → k < edges m → j < edges m → Clear (seg m k) (low g k) (high g k) (seg m j)
-  self-clear k j l i = subst₂ (λ (x y : Pt). Clear (seg m k) x y (seg m j)) (K .foot-is k l) (K .head-is k l) (clear m K k j l i)
-
-  self-piece : (j : ℕ) → j < edges m → (q : Pt) (b : Bool) → Leaves q b (seg m j) → PieceAt g (seg m j) q b
+  self-piece : (j : ℕ) → j < edges m → (q : Pt) (b : Bool) → Leaves q b (span m j) → PieceAt g (seg m j) q b
   self-piece j l q b o = record {
     piece = j;
     below = l;
     parallel = cross-self (seg m j .up);
     on = zero-is (leftBy (seg m j) q) (ap isZer (o .on));
-    reaches = (λ i. spans b q (sym (K .foot-is j l) i) (sym (K .head-is j l) i)) ∙ sym (reach-spans b q (seg m j)) ∙ o .reaches;
+    reaches = sym (reach-spans b q (span m j)) ∙ o .reaches;
   }
 
   pub self-covers : Covers g m
   self-covers = record {
     plane = K .plane;
-    within = λ k l. subst₂ (Within (seg m k)) (K .foot-is k l) (K .head-is k l) (whole-edge (seg m k) (seg-rises m K k l));
-    no-inside = λ z k lz l o a b. no-through m K z k lz l (record { line = o; low = ap (λ (p : Pt). before p (point g z)) (K .foot-is k l) ∙ a; high = ap (before (point g z)) (K .head-is k l) ∙ b });
-    clear = self-clear;
-    piece-at = λ j l q h b o. self-piece j l q b o;
+    within = K .within;
+    no-inside = λ z k lz l o a b. no-through m K z k lz l (record { line = o; low = a; high = b });
+    clear = λ k j l i. clear m K k j l i;
+    piece-at = λ j l w q h b o. self-piece j l q b o;
   }
 
 -- ── an edge that leaves a vertex leaves it along a half-edge ──
@@ -88,12 +87,12 @@ pub record Out (O : Graph) (z : ℕ) (u : Vec) : Type 0 where
   pub leaves : origin O half ≡ z
   pub along : SameWay (heading O half) u
 
-module _ (O : Graph) (m : Map) (K : Keeps m) (C : Covers O m) (z : ℕ) (lz : z < length (O .points)) (j : ℕ) (lj : j < edges m) where
+module _ (O : Graph) (m : Map) (K : Lawful m) (C : Covers O m) (z : ℕ) (lz : z < length (O .points)) (j : ℕ) (lj : j < edges m) (wj : Jumps m j) where
   abbrev v : Pt
   v = point O z
 
   up-way : (k : ℕ) → k < edgeCount O → cross (upward O k) (seg m j .up) ≡ pos 0 → SameWay (upward O k) (seg m j .up)
-  up-way k l p = record { parallel = p; half = C .plane .rising k l ∙ sym (up-rises (seg m j .up) (seg-rises m K j lj)) }
+  up-way k l p = record { parallel = p; half = C .plane .rising k l ∙ sym (up-rises (seg m j .up) (upward-up (m .graph) (K .plane) j lj)) }
 
   -- the piece starts at v
   up-out : PieceAt O (seg m j) v true → Out O z (seg m j .up)
@@ -124,7 +123,7 @@ module _ (O : Graph) (m : Map) (K : Keeps m) (C : Covers O m) (z : ℕ) (lz : z 
         below = east-below O k l;
         leaves = C .plane .distinct (origin O (eastSide O k)) z (C .plane .starts (eastSide O k) (east-below O k l)) lz (ap (λ (x : Pt). same x v) (east-start O (C .plane) k l) ∙ at k l (p .on) (before v (high O k)) (before (high O k) v) refl refl (r .0) (r .1));
         along = subst (λ (u : Vec). SameWay u (opposite (seg m j .up))) (sym (east-heading O (C .plane) k l))
-            (same-way-opposite (upward O k) (seg m j .up) (up-nonzero (upward O k) (rises-up (upward O k) (C .plane .rising k l))) (up-nonzero (seg m j .up) (seg-rises m K j lj)) (up-way k l (p .parallel)));
+            (same-way-opposite (upward O k) (seg m j .up) (up-nonzero (upward O k) (upward-up O (C .plane) k l)) (up-nonzero (seg m j .up) (upward-up (m .graph) (K .plane) j lj)) (up-way k l (p .parallel)));
       }
     where
       at : (k : ℕ) → k < edgeCount O → leftBy (edge O k .carrier) v ≡ pos 0 → (a b : Bool) → before v (high O k) ≡ a → before (high O k) v ≡ b → before (low O k) v ≡ true → not b ≡ true → same (high O k) v ≡ true
@@ -132,6 +131,6 @@ module _ (O : Graph) (m : Map) (K : Keeps m) (C : Covers O m) (z : ℕ) (lz : z 
       at k l o true false x y u n = absurd (C .no-inside z k lz l o u x)
       at k l o false false x y u n = neither (high O k) v y x
 
-  pub left-along : pos 0 <ℤ v .D → (b : Bool) → Leaves v b (seg m j) → Out O z (arrow b (seg m j .up))
-  left-along h true o = up-out (C .piece-at j lj v h true o)
-  left-along h false o = down-out (C .piece-at j lj v h false o)
+  pub left-along : pos 0 <ℤ v .D → (b : Bool) → Leaves v b (span m j) → Out O z (arrow b (seg m j .up))
+  left-along h true o = up-out (C .piece-at j lj wj v h true o)
+  left-along h false o = down-out (C .piece-at j lj wj v h false o)

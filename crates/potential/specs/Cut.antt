@@ -7,13 +7,13 @@ use mathlib.Core.Bool.{Bool, false}
 use mathlib.Core.List.{[], _∷_}
 use Prim.Native.Nat.{ℕ, _<_}
 use lib.Dec.{eqb}
-use lib.IntN.{ℤ, pos, _-ℤ_, _*ℤ_, zero-*ℤ, +ℤ-invr}
+use lib.IntN.{ℤ, pos, _-ℤ_, _*ℤ_, zero-*ℤ, *ℤ-zero, +ℤ-invr, ℤ-discrete}
 use Rattle.exact.specs.Ring.{*ℤ-swapl}
 use Rattle.exact.specs.Solve.{ring, reify, sub-zero→}
 use Rattle.exact.specs.Mul.{≡-by₁}
 use Rattle.seq.specs.Terms.{sum, upto, ind}
-use Rattle.seq.specs.Sum.{upto-<, sum-ext, sum-*, sum--, exchange, delta}
-use Rattle.potential.specs.Sums.{sum-none, eqb-iff}
+use Rattle.seq.specs.Sum.{upto-<, sum-ext, sum-*, exchange, delta, sum-none, sum--}
+use Rattle.seq.specs.Tests.{eqb-swap}
 
 -- the potential of a cut
 unfoldable pub Φ : ℕ → (ℕ → ℤ) → (ℕ → Bool) → ℤ
@@ -29,15 +29,23 @@ pub record Balanced (m n : ℕ) (low high : ℕ → ℕ) (w : ℕ → ℤ) : Typ
   pub balance : (z : ℕ) → weightAt m w low z ≡ weightAt m w high z
 
 module _ (m : ℕ) (w : ℕ → ℤ) where
-  -- a test that is the same on every edge has the same potential
-  pub Φ-ext : (C₁ C₂ : ℕ → Bool) → ((e : ℕ) → e < m → C₁ e ≡ C₂ e) → Φ m w C₁ ≡ Φ m w C₂
-  unfolding Φ
-  Φ-ext C₁ C₂ h = sum-ext (upto m) (λ e i. ap (λ (b : Bool). ind b *ℤ w e) (h e (upto-< m i)))
+  -- a term of the sum changes only where the edge weighs something
+  term : (a b : Bool) (e : ℕ) → ((w e ≡ pos 0 → ⊥) → a ≡ b) → ind a *ℤ w e ≡ ind b *ℤ w e
+  term a b e h =
+      elim (ℤ-discrete (w e) (pos 0)) [
+        | yes z ↦ ap (λ (t : ℤ). ind a *ℤ t) z ∙ *ℤ-zero (ind a) ∙ sym (ap (λ (t : ℤ). ind b *ℤ t) z ∙ *ℤ-zero (ind b))
+        | no n ↦ ap (λ (c : Bool). ind c *ℤ w e) (h n)
+      ]
 
-  -- no edge passes
-  pub Φ-none : (C : ℕ → Bool) → ((e : ℕ) → e < m → C e ≡ false) → Φ m w C ≡ pos 0
+  -- a test that is the same on every edge that weighs something has the same potential
+  pub Φ-ext : (C₁ C₂ : ℕ → Bool) → ((e : ℕ) → e < m → (w e ≡ pos 0 → ⊥) → C₁ e ≡ C₂ e) → Φ m w C₁ ≡ Φ m w C₂
   unfolding Φ
-  Φ-none C h = sum-none (upto m) (λ e i. ap (λ (b : Bool). ind b *ℤ w e) (h e (upto-< m i)) ∙ zero-*ℤ (w e))
+  Φ-ext C₁ C₂ h = sum-ext (upto m) (λ e i. term (C₁ e) (C₂ e) e (h e (upto-< m i)))
+
+  -- no edge that weighs something passes
+  pub Φ-none : (C : ℕ → Bool) → ((e : ℕ) → e < m → (w e ≡ pos 0 → ⊥) → C e ≡ false) → Φ m w C ≡ pos 0
+  unfolding Φ
+  Φ-none C h = sum-none (upto m) (λ e i. term (C e) false e (h e (upto-< m i)) ∙ zero-*ℤ (w e))
 
   -- two tests that differ at one edge only
   pub Φ-one : (C₁ C₂ : ℕ → Bool) (k : ℕ) → k < m → ((e : ℕ) → e < m → ind (C₂ e) -ℤ ind (C₁ e) ≡ ind (eqb e k)) → Φ m w C₂ -ℤ Φ m w C₁ ≡ w k
@@ -61,7 +69,7 @@ module _ (m : ℕ) (w : ℕ → ℤ) where
     where
       turn : (e z : ℕ) → ind (eqb z (end e)) *ℤ (ind (Z z) *ℤ w e) ≡ ind (Z z) *ℤ (ind (eqb (end e) z) *ℤ w e)
       turn e z =
-          ap (λ (b : Bool). ind b *ℤ (ind (Z z) *ℤ w e)) (eqb-iff z (end e) (end e) z (λ p. sym p) (λ p. sym p))
+          ap (λ (b : Bool). ind b *ℤ (ind (Z z) *ℤ w e)) (eqb-swap z (end e))
           ∙ *ℤ-swapl (ind (eqb (end e) z)) (ind (Z z)) (w e)
 
 module _ {m n : ℕ} {low high : ℕ → ℕ} {w : ℕ → ℤ} (b : Balanced m n low high w) where

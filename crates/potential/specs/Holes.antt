@@ -13,23 +13,23 @@ use Rattle.exact.specs.Tests.{clash, not-false}
 use Rattle.paper.specs.Plane.{nowhere, opposite, before, lessAngle}
 use Rattle.paper.specs.Graph.{Graph, halfCount, point, twin, origin, start, goesUp, upward, heading, follower, followers, smallest, holeWalk, makesHole, west, holeLook}
 use Rattle.paper.specs.Map.{Map}
-use Rattle.planelaws.specs.Cone.{rises-up, up-nonzero}
+use Rattle.planelaws.specs.Cone.{up-nonzero}
 use Rattle.planelaws.specs.Angles.{angle-irr, angle-asym, same-way-sym, less-same-way}
 use Rattle.graphlaws.specs.Halves.{twin-twin, half-below}
-use Rattle.graphlaws.specs.Plane.{real-at, goesUp-twin, heading-moves}
+use Rattle.graphlaws.specs.Plane.{real-at, goesUp-twin, heading-moves, upward-up}
 use Rattle.graphlaws.specs.Follow.{lesser, follower-origin}
 use Rattle.graphlaws.specs.Walks.{along-step, along-below, along-same}
 use Rattle.graphlaws.specs.Holes.{smallest-first, smallest-same, makes-best, hole-makes}
-use Rattle.maplaws.specs.Keeps.{seg, Keeps}
+use Rattle.maplaws.specs.Keeps.{seg}
+use Rattle.potential.specs.Lawful.{Lawful}
 use Rattle.potential.specs.Cuts.{above, atLeft}
 use Rattle.potential.specs.Pot.{pot}
-use Rattle.potential.specs.Edges.{seg-rises}
 use Rattle.potential.specs.Sector.{last-up}
 use Rattle.potential.specs.Covers.{Covers, left-along}
 use Rattle.potential.specs.Star.{leftIn, followed}
 use Rattle.potential.specs.Looks.{seenIn, looked}
 
-module _ (O : Graph) (m : Map) (K : Keeps m) (C : Covers O m) where
+module _ (O : Graph) (m : Map) (K : Lawful m) (C : Covers O m) where
   abbrev nx : List ℕ
   nx = followers O
 
@@ -40,10 +40,10 @@ module _ (O : Graph) (m : Map) (K : Keeps m) (C : Covers O m) where
   pub strict-left : (h : ℕ) → h < halfCount O → goesUp O h ≡ true → Greatest h → leftIn m O h ≡ pot m (above false (start O h) nowhere)
   strict-left h l u n =
       ap (λ (b : Bool). pot m (atLeft (start O h) b (upward O (h / 2)))) u
-      ∙ last-up m K (start O h) (real-at O (C .plane) (origin O h)) (upward O (h / 2)) (rises-up (upward O (h / 2)) (C .plane .rising (h / 2) (half-below O h l)))
-      (λ k j o e. let p = left-along O m K C (origin O h) (C .plane .starts h l) k j (real-at O (C .plane) (origin O h)) true o in
+      ∙ last-up m K (start O h) (real-at O (C .plane) (origin O h)) (upward O (h / 2)) (upward-up O (C .plane) (h / 2) (half-below O h l))
+      (λ k j w o e. let p = left-along O m K C (origin O h) (C .plane .starts h l) k j w (real-at O (C .plane) (origin O h)) true o in
       n (p .half) (p .below) (p .leaves)
-      (less-same-way (heading O h) (seg m k .up) (heading O (p .half)) (heading-moves O (C .plane) h l) (up-nonzero (seg m k .up) (seg-rises m K k j)) (heading-moves O (C .plane) (p .half) (p .below))
+      (less-same-way (heading O h) (seg m k .up) (heading O (p .half)) (heading-moves O (C .plane) h l) (up-nonzero (seg m k .up) (upward-up (m .graph) (K .plane) k j)) (heading-moves O (C .plane) (p .half) (p .below))
       (ap (λ (b : Bool). lessAngle (cond b (upward O (h / 2)) (opposite (upward O (h / 2)))) (seg m k .up)) u ∙ e) (same-way-sym (heading O (p .half)) (seg m k .up) (p .along))))
 
   -- ── the half-edge that makes its walk a hole walk ──

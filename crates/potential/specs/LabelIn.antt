@@ -7,43 +7,44 @@ use mathlib.Core.Option.{Option, none, some}
 use Prim.Native.Nat.{ℕ, _/_, _<_}
 use lib.IntN.{pos}
 use lib.Signed.{_<ℤ_}
-use Rattle.exact.specs.Sign.{zer, sgn, isZer, negS, sgn-negℤ}
+use Rattle.exact.specs.Sign.{zer, sgn, isZer, negS}
+use Rattle.exact.specs.Signs.{zero-is}
 use Rattle.paper.specs.Plane.{Pt, Vec, cross, before, leftBy}
 use Rattle.paper.specs.Graph.{Graph, edgeCount, halfCount, even, twin, low, goesUp, upward, eastSide}
 use Rattle.paper.specs.Map.{Map, label}
 use Rattle.paper.specs.Faces.{labelIn}
 use Rattle.planelaws.specs.Cone.{UpV, rises-up}
-use Rattle.planelaws.specs.Angles.{cross-swap}
-use Rattle.planelaws.specs.Sides.{zero-is}
 use Rattle.graphlaws.specs.Halves.{half-below}
-use Rattle.graphlaws.specs.Plane.{up-ends, down-ends}
-use Rattle.maplaws.specs.Keeps.{seg, edges, Keeps}
+use Rattle.graphlaws.specs.Plane.{up-ends, down-ends, upward-up}
+use Rattle.maplaws.specs.Keeps.{seg, edges}
+use Rattle.potential.specs.Lawful.{Lawful}
+use Rattle.potential.specs.Spans.{span}
 use Rattle.potential.specs.Near.{near, near-off}
 use Rattle.potential.specs.Cuts.{lo, hi, above, atLeft, Leaves}
 use Rattle.potential.specs.Pot.{west, east, pot}
-use Rattle.potential.specs.Edges.{seg-rises}
 use Rattle.potential.specs.Moves.{pot-above}
 use Rattle.potential.specs.Along.{at-point}
-use Rattle.potential.specs.Line.{same-turn}
 use Rattle.potential.specs.Covers.{Covers}
 use Rattle.potential.specs.Star.{leftIn, along-piece}
 use Rattle.potential.specs.Labels.{west-is, east-label, theorem-B}
 use Rattle.potential.specs.Files.{rises-level}
+use Rattle.planelaws.specs.Angles.{turn-swap}
+use Rattle.planelaws.specs.Parallel.{same-turn}
 
 -- edge k of O lies along edge W of m, at least where it starts
 pub record AlongEdge (O : Graph) (m : Map) (k W : ℕ) : Type 0 where
   pub below : W < edges m
   pub parallel : cross (upward O k) (seg m W .up) ≡ pos 0
   pub on : leftBy (seg m W) (low O k) ≡ pos 0
-  pub from-low : before (low O k) (lo (seg m W)) ≡ false
-  pub to-high : before (low O k) (hi (seg m W)) ≡ true
+  pub from-low : before (low O k) (lo (span m W)) ≡ false
+  pub to-high : before (low O k) (hi (span m W)) ≡ true
 
 -- what the source of edge k in m says: the edge of m that it lies along, or that it lies along none
 pub data Source (O : Graph) (m : Map) (k : ℕ) : Option ℕ → Type 0 where
   along : (W : ℕ) → AlongEdge O m k W → Source O m k (some W)
-  off : ((j : ℕ) → j < edges m → Leaves (low O k) true (seg m j) → cross (upward O k) (seg m j .up) ≡ pos 0 → ⊥) → Source O m k none
+  off : ((j : ℕ) → j < edges m → Leaves (low O k) true (span m j) → cross (upward O k) (seg m j .up) ≡ pos 0 → ⊥) → Source O m k none
 
-module _ (O : Graph) (m : Map) (K : Keeps m) (C : Covers O m) (k : ℕ) (l : k < edgeCount O) where
+module _ (O : Graph) (m : Map) (K : Lawful m) (C : Covers O m) (k : ℕ) (l : k < edgeCount O) where
   abbrev p : Pt
   p = low O k
 
@@ -59,16 +60,13 @@ module _ (O : Graph) (m : Map) (K : Keeps m) (C : Covers O m) (k : ℕ) (l : k <
   -- ── along an edge of m ──
 
   module _ (W : ℕ) (a : AlongEdge O m k W) where
-    turned : (on : Bool) → pot m (above on p u) ≡ pot m (above on (lo (seg m W)) (seg m W .up))
+    turned : (on : Bool) → pot m (above on p u) ≡ pot m (above on (lo (span m W)) (seg m W .up))
     turned on =
-        pot-above m p on on u (seg m W .up) (λ j i o. ap (near on zer) (same j))
+        pot-above m p on on u (seg m W .up) (λ j i w o. ap (near on zer) (same j))
         ∙ at-point m K W (a .below) p hp (a .on) (a .from-low) (a .to-high) on
       where
-        swap : (v w : Vec) → sgn (cross v w) ≡ negS (sgn (cross w v))
-        swap v w = ap sgn (cross-swap w v) ∙ sgn-negℤ (cross w v)
-
         same : (j : ℕ) → sgn (cross u (seg m j .up)) ≡ sgn (cross (seg m W .up) (seg m j .up))
-        same j = swap u (seg m j .up) ∙ ap negS (same-turn u (seg m W .up) uu (seg-rises m K W (a .below)) (a .parallel) (seg m j .up)) ∙ sym (swap (seg m W .up) (seg m j .up))
+        same j = turn-swap (seg m j .up) u ∙ ap negS (same-turn u (seg m W .up) uu (upward-up (m .graph) (K .plane) W (a .below)) (a .parallel) (seg m j .up)) ∙ sym (turn-swap (seg m j .up) (seg m W .up))
 
     pub along-west : west m W ≡ pot m (above false p u)
     along-west = west-is m K W (a .below) ∙ sym (turned false)
@@ -78,12 +76,12 @@ module _ (O : Graph) (m : Map) (K : Keeps m) (C : Covers O m) (k : ℕ) (l : k <
 
   -- ── along none: both sides are alike ──
 
-  off-sides : ((j : ℕ) → j < edges m → Leaves p true (seg m j) → cross u (seg m j .up) ≡ pos 0 → ⊥) → pot m (above true p u) ≡ pot m (above false p u)
-  off-sides n = pot-above m p true false u u (λ j i o. near-off (sgn (cross u (seg m j .up))) (λ z. n j i o (zero-is (cross u (seg m j .up)) (ap isZer z))))
+  off-sides : ((j : ℕ) → j < edges m → Leaves p true (span m j) → cross u (seg m j .up) ≡ pos 0 → ⊥) → pot m (above true p u) ≡ pot m (above false p u)
+  off-sides n = pot-above m p true false u u (λ j i w o. near-off (sgn (cross u (seg m j .up))) (λ z. n j i o (zero-is (cross u (seg m j .up)) (ap isZer z))))
 
 -- ── the label of half-edge h ──
 
-module _ (O : Graph) (m : Map) (K : Keeps m) (C : Covers O m) (h : ℕ) (l : h < halfCount O) where
+module _ (O : Graph) (m : Map) (K : Lawful m) (C : Covers O m) (h : ℕ) (l : h < halfCount O) where
   abbrev e : ℕ
   e = h / 2
 

@@ -30,13 +30,14 @@ use Rattle.graphlaws.specs.Plane.{real-at, goesUp-twin}
 use Rattle.graphlaws.specs.Follow.{lesser, greatest-is}
 use Rattle.graphlaws.specs.Walks.{along-below, along-same}
 use Rattle.graphlaws.specs.Holes.{smallest-start, smallest-first, smallest-below, greatest-makes}
-use Rattle.graphlaws.specs.East.{east-half, east-down, east-below, east-is}
+use Rattle.graphlaws.specs.East.{east-half, east-down, east-below, east-is, westSide, west-below, west-half, west-up, west-start}
 use Rattle.graphlaws.specs.West.{candidate, Sees, west-sees, nowhere-westward}
 use Rattle.graphlaws.specs.Seen.{west-low}
 use Rattle.graphlaws.specs.Rank.{rank, rank-less}
-use Rattle.maplaws.specs.Keeps.{seg, edges, halves, Keeps}
+use Rattle.maplaws.specs.Keeps.{seg, edges, halves}
+use Rattle.potential.specs.Lawful.{Lawful}
+use Rattle.potential.specs.Spans.{span}
 use Rattle.potential.specs.Cuts.{lo, above, atLeft}
-use Rattle.potential.specs.Sides.{westSide, west-below, west-half, west-up, west-start}
 use Rattle.potential.specs.Pot.{lab, west, east, pot}
 use Rattle.potential.specs.Edges.{at-low, at-high}
 use Rattle.potential.specs.Moves.{pot-slide, pot-sides}
@@ -47,7 +48,7 @@ use Rattle.potential.specs.Holes.{strict-left}
 use Rattle.potential.specs.Descent.{descent}
 use Rattle.potential.specs.Turns.{greaterCount, none-greater, next-turn}
 
-module _ (m : Map) (K : Keeps m) where
+module _ (m : Map) (K : Lawful m) where
   abbrev g : Graph
   g = m .graph
 
@@ -61,10 +62,10 @@ module _ (m : Map) (K : Keeps m) where
   along h l = λ i. pos (K .one-label h l i) -ℤ followed g m K (self-covers m K) h l i
 
   module _ (k : ℕ) (l : k < edges m) where
-    pub west-pot : leftIn m g (westSide g k) ≡ pot m (above false (lo (seg m k)) (seg m k .up))
+    pub west-pot : leftIn m g (westSide g k) ≡ pot m (above false (lo (span m k)) (seg m k .up))
     west-pot i = pot m (atLeft (at-low m K k l i) (west-up g (K .plane) k l i) (upward g (west-half g k i)))
 
-    pub east-pot : leftIn m g (eastSide g k) ≡ pot m (above true (lo (seg m k)) (seg m k .up))
+    pub east-pot : leftIn m g (eastSide g k) ≡ pot m (above true (lo (span m k)) (seg m k .up))
     east-pot = (λ i. pot m (atLeft (at-high m K k l i) (east-down g (K .plane) k l i) (upward g (east-half g k i)))) ∙ pot-slide m K true k l
 
     sides : leftIn m g (eastSide g k) -ℤ leftIn m g (westSide g k) ≡ east m k -ℤ west m k
@@ -176,10 +177,10 @@ module _ (m : Map) (K : Keeps m) where
   theorem-A h l = sub-zero→ (lab m h) (leftIn m g h) (right h l)
 
   -- and so on the two sides of every edge
-  pub west-is : (k : ℕ) → k < edges m → west m k ≡ pot m (above false (lo (seg m k)) (seg m k .up))
+  pub west-is : (k : ℕ) → k < edges m → west m k ≡ pot m (above false (lo (span m k)) (seg m k .up))
   west-is k l = theorem-A (westSide g k) (west-below g k l) ∙ west-pot k l
 
-  pub east-label : (k : ℕ) → k < edges m → east m k ≡ pot m (above true (lo (seg m k)) (seg m k .up))
+  pub east-label : (k : ℕ) → k < edges m → east m k ≡ pot m (above true (lo (span m k)) (seg m k .up))
   east-label k l = theorem-A (eastSide g k) (east-below g k l) ∙ east-pot k l
 
   pub theorem-B : (p : Pt) → pos 0 <ℤ p .D → (d : Vec) → pos 0 ≤ℤ d .y → pos (orZero (label m) (Gr.west g p d)) ≡ pot m (above false p d)

@@ -1,11 +1,11 @@
-pub mod Sums
 pub mod Cut
 pub mod Near
+pub mod Spans
 pub mod Cuts
 pub mod Slide
 pub mod Clear
+pub mod Lawful
 pub mod Through
-pub mod Sides
 pub mod Pot
 pub mod Edges
 pub mod Moves
@@ -15,7 +15,6 @@ pub mod Star
 pub mod Along
 pub mod Height
 pub mod Across
-pub mod Line
 pub mod Looks
 pub mod Holes
 pub mod Descent
@@ -25,6 +24,7 @@ pub mod Files
 pub mod OneFace
 pub mod LabelIn
 pub mod Overlay
+pub mod Drawn
 pub mod Agree
 pub mod Done
 pub mod Demand3

@@ -3,7 +3,7 @@
 -- theorem B; with the overlay's it leads from a hole walk to the walk around it. In order: O's candidates as cuts; each edge of m that is counted lies along a
 -- piece that O counts (`counted-piece`); none is nearer than W; then along the right of W to its lower end. Assumes nothing.
 use mathlib.Core.Path.{_≡_, refl, sym, _∙_, ap}
-use mathlib.Core.Bool.{Bool, true, false, not}
+use mathlib.Core.Bool.{true, false, not}
 use mathlib.Core.Option.{Option, none, some}
 use Prim.Native.Nat.{ℕ, _<_}
 use lib.IntN.{ℤ, pos}
@@ -12,28 +12,31 @@ use Rattle.exact.specs.Order.{0<-*}
 use Rattle.exact.specs.Sign.{Sign, neg, zer, plus, sgn, isPlus, negS, pick, sgn-negℤ}
 use Rattle.exact.specs.Tests.{clash, never, not-true, and-both, and-parts}
 use Rattle.seq.specs.Terms.{Has, Top}
+use Rattle.seq.specs.Tests.{was-false}
 use Rattle.paper.specs.Plane.{Pt, Vec, Seg, cross, before, below, leftBy}
 use Rattle.paper.specs.Graph.{Graph, edgeCount, edge, low, high, upward, atHeight, leftOf, westward, nearer, eastSide}
 use Rattle.paper.specs.Graph as Gr
 use Rattle.paper.specs.Map.{Map}
-use Rattle.planelaws.specs.Cone.{UpV, rises-up}
-use Rattle.planelaws.specs.Ends.{0<1, below-before, below-level}
-use Rattle.planelaws.specs.Angles.{cross-swap}
-use Rattle.planelaws.specs.Sides.{left-foot, left-head}
+use Rattle.planelaws.specs.Cone.{UpV}
+use Rattle.planelaws.specs.Ends.{below-before}
 use Rattle.graphlaws.specs.East.{east-half, east-down, east-start}
 use Rattle.graphlaws.specs.West.{candidate, Sees, west-sees}
-use Rattle.maplaws.specs.Keeps.{seg, edges, Keeps}
+use Rattle.maplaws.specs.Keeps.{seg, edges}
+use Rattle.potential.specs.Lawful.{Lawful}
+use Rattle.potential.specs.Spans.{Span, span, Good}
 use Rattle.potential.specs.Near.{near}
 use Rattle.potential.specs.Cuts.{lo, hi, above, atLeft}
-use Rattle.potential.specs.Pot.{pot}
-use Rattle.potential.specs.Edges.{seg-rises}
+use Rattle.potential.specs.Pot.{Jumps, pot}
+use Rattle.potential.specs.Edges.{good}
 use Rattle.potential.specs.Moves.{pot-ext, pot-none}
 use Rattle.potential.specs.Along.{at-piece}
-use Rattle.potential.specs.Height.{atHeightOf, above-height, height-steep}
-use Rattle.potential.specs.Across.{across, across-on, across-left, across-below, look-across, lower-below, across-after, across-before}
-use Rattle.potential.specs.Line.{same-turn, same-climb, same-side}
+use Rattle.potential.specs.Height.{atHeightOf, above-height, span-steep}
+use Rattle.potential.specs.Across.{across, across-left, across-below, look-across, lower-below, across-after, across-before, across-line}
 use Rattle.potential.specs.Covers.{Covers, PieceAt}
 use Rattle.potential.specs.Star.{leftIn, along-piece}
+use Rattle.planelaws.specs.Angles.{turn-swap}
+use Rattle.planelaws.specs.Parallel.{same-turn, same-climb, same-side}
+use Rattle.graphlaws.specs.Plane.{upward-up}
 
 -- in m, the potential at the left of what is seen; 0 where the outside is
 abbrev pub seenIn : Map → Graph → Option ℕ → ℤ
@@ -64,18 +67,14 @@ module _ (O : Graph) (p : Pt) where
   not-nearer : (k W : ℕ) → nearer O p k W ≡ false → near true (sgn (leftOf O (across (edge O W .carrier) p) k)) (sgn (cross (upward O W) (upward O k))) ≡ true
   not-nearer k W e =
       near-signs (sgn (leftOf O (across (edge O W .carrier) p) k)) (sgn (cross (upward O W) (upward O k)))
-      ((λ i. isPlus (pick (sgn (across-left (edge O W .carrier) p (edge O k .carrier) i)) ((sym (sgn-negℤ (cross (upward O W) (upward O k))) ∙ ap sgn (sym (cross-swap (upward O W) (upward O k)))) i))) ∙ e)
+      ((λ i. isPlus (pick (sgn (across-left (edge O W .carrier) p (edge O k .carrier) i)) (sym (turn-swap (upward O W) (upward O k)) i))) ∙ e)
 
-opp : (b : Bool) → not b ≡ true → b ≡ false
-opp true e = never e
-opp false e = refl
-
-module _ (O : Graph) (m : Map) (K : Keeps m) (C : Covers O m) (p : Pt) (hp : pos 0 <ℤ p .D) (d : Vec) (hd : pos 0 ≤ℤ d .y) where
+module _ (O : Graph) (m : Map) (K : Lawful m) (C : Covers O m) (p : Pt) (hp : pos 0 <ℤ p .D) (d : Vec) (hd : pos 0 ≤ℤ d .y) where
   abbrev F : ℕ → Seg
   F k = edge O k .carrier
 
   rises-O : (k : ℕ) → k < edgeCount O → UpV (upward O k)
-  rises-O k l = rises-up (upward O k) (C .plane .rising k l)
+  rises-O k l = upward-up O (C .plane) k l
 
   -- ── a candidate of O is in the cut of its carrier ──
 
@@ -84,31 +83,23 @@ module _ (O : Graph) (m : Map) (K : Keeps m) (C : Covers O m) (p : Pt) (hp : pos
     parts = and-parts (atHeight O p W) (westward O p d W) (c .has)
 
     at-low : below p (low O W) ≡ false
-    at-low = opp (below p (low O W)) (and-parts (not (below p (low O W))) (below p (high O W)) (parts .0) .0)
+    at-low = was-false (below p (low O W)) (and-parts (not (below p (low O W))) (below p (high O W)) (parts .0) .0)
 
     at-high : below p (high O W) ≡ true
     at-high = and-parts (not (below p (low O W))) (below p (high O W)) (parts .0) .1
 
-    real-low : pos 0 <ℤ low O W .D
-    real-low = C .within W (c .below) .segment .p-real
+    -- the piece itself
+    abbrev piece-span : Span
+    piece-span = record { line = F W; bottom = low O W; top = high O W }
 
-    real-high : pos 0 <ℤ high O W .D
-    real-high = C .within W (c .below) .segment .r-real
+    good-span : Good piece-span
+    good-span = C .within W (c .below) .segment
 
-    at-height : atHeightOf p (F W) ≡ true
-    at-height = and-both {a = not (below p (lo (F W)))} (ap not above-lo) under-hi
-      where
-        above-lo : below p (lo (F W)) ≡ false
-        above-lo = not-true (below p (lo (F W))) (λ e. clash (below-level p (lo (F W)) (low O W) hp 0<1 real-low e (not-true (below (low O W) (lo (F W))) (λ f. clash (below-before (low O W) (lo (F W)) f) (C .within W (c .below) .bottom)))) at-low)
-
-        under-hi : below p (hi (F W)) ≡ true
-        under-hi = below-level p (high O W) (hi (F W)) hp real-high 0<1 at-high (not-true (below (hi (F W)) (high O W)) (λ f. clash (below-before (hi (F W)) (high O W) f) (C .within W (c .below) .top)))
-
-    counts : above false p d (F W) ≡ true
-    counts = above-height p d (F W) (rises-O W (c .below)) hd ∙ and-both at-height (sym (westward-near O p d W) ∙ parts .1)
+    counts : above false p d piece-span ≡ true
+    counts = above-height p d piece-span good-span hd ∙ and-both (parts .0) (sym (westward-near O p d W) ∙ parts .1)
 
     steep : pos 0 <ℤ upward O W .y
-    steep = height-steep p (F W) hp at-height
+    steep = span-steep p piece-span good-span hp (parts .0)
 
     -- ── the right side of W ──
 
@@ -119,26 +110,32 @@ module _ (O : Graph) (m : Map) (K : Keeps m) (C : Covers O m) (p : Pt) (hp : pos
     down-right : pot m (above true (across (F W) p) (upward O W)) ≡ pot m (above true (low O W) (upward O W))
     down-right =
         let w = C .within W (c .below) in
-        at-piece m K (F W) (low O W) (high O W) w (λ j l. C .clear W j (c .below) l) (across (F W) p) (0<-* hp steep) (across-on (F W) p)
+        at-piece m K (F W) (low O W) (high O W) w (λ j l. C .clear W j (c .below) l) (across (F W) p) (0<-* hp steep) (across-line (F W) p)
         (across-after (F W) steep p (low O W) (w .segment .p-on) at-low) (across-before (F W) steep p (high O W) (w .segment .r-on) at-high) true
 
   -- ── an edge of m that is counted lies along a piece that O counts ──
 
-  module _ (j : ℕ) (lj : j < edges m) (cj : above false p d (seg m j) ≡ true) where
+  module _ (j : ℕ) (lj : j < edges m) (wj : Jumps m j) (cj : above false p d (span m j) ≡ true) where
     abbrev s : Seg
     s = seg m j
 
     us : UpV (s .up)
-    us = seg-rises m K j lj
+    us = upward-up (m .graph) (K .plane) j lj
 
-    here : (atHeightOf p s ≡ true) × (near false (sgn (leftBy s p)) (sgn (cross d (s .up))) ≡ true)
-    here = and-parts (atHeightOf p s) (near false (sgn (leftBy s p)) (sgn (cross d (s .up)))) (sym (above-height p d s us hd) ∙ cj)
+    abbrev e : Span
+    e = span m j
 
-    heights : (not (below p (lo s)) ≡ true) × (below p (hi s) ≡ true)
-    heights = and-parts (not (below p (lo s))) (below p (hi s)) (here .0)
+    ge : Good (span m j)
+    ge = good m K j lj
+
+    here : (atHeightOf p e ≡ true) × (near false (sgn (leftBy s p)) (sgn (cross d (s .up))) ≡ true)
+    here = and-parts (atHeightOf p e) (near false (sgn (leftBy s p)) (sgn (cross d (s .up)))) (sym (above-height p d e ge hd) ∙ cj)
+
+    heights : (not (below p (lo e)) ≡ true) × (below p (hi e) ≡ true)
+    heights = and-parts (not (below p (lo e))) (below p (hi e)) (here .0)
 
     climbs : pos 0 <ℤ s .up .y
-    climbs = height-steep p s hp (here .0)
+    climbs = span-steep p e ge hp (here .0)
 
     -- its point at the height of p
     abbrev x : Pt
@@ -148,9 +145,9 @@ module _ (O : Graph) (m : Map) (K : Keeps m) (C : Covers O m) (p : Pt) (hp : pos
     hx = 0<-* hp climbs
 
     piece : PieceAt O s x true
-    piece = C .piece-at j lj x hx true record {
-      reaches = and-both {a = not (before x (lo s))} (ap not (across-after s climbs p (lo s) (left-foot s) (opp (below p (lo s)) (heights .0)))) (across-before s climbs p (hi s) (left-head s) (heights .1));
-      on = ap sgn (across-on s p);
+    piece = C .piece-at j lj wj x hx true record {
+      reaches = and-both {a = not (before x (lo e))} (ap not (across-after s climbs p (lo e) (ge .p-on) (was-false (below p (lo e)) (heights .0)))) (across-before s climbs p (hi e) (ge .r-on) (heights .1));
+      on = ap sgn (across-line s p);
     }
 
     abbrev k : ℕ
@@ -161,7 +158,7 @@ module _ (O : Graph) (m : Map) (K : Keeps m) (C : Covers O m) (p : Pt) (hp : pos
 
     -- the same line
     side-as : (z : Pt) → sgn (leftOf O z k) ≡ sgn (leftBy s z)
-    side-as = same-side (F k) s (rises-O k lk) us (piece .parallel) x hx (piece .on) (across-on s p)
+    side-as = same-side (F k) s (rises-O k lk) us (piece .parallel) x hx (piece .on) (across-line s p)
 
     turn-as : (u : Vec) → sgn (cross u (upward O k)) ≡ sgn (cross u (s .up))
     turn-as = same-turn (upward O k) (s .up) (rises-O k lk) us (piece .parallel)
@@ -171,7 +168,7 @@ module _ (O : Graph) (m : Map) (K : Keeps m) (C : Covers O m) (p : Pt) (hp : pos
         let r = and-parts (not (before x (low O k))) (before x (high O k)) (piece .reaches) in
         let steep : pos 0 <ℤ upward O k .y = same-climb (upward O k) (s .up) (rises-O k lk) us (piece .parallel) climbs in
         and-both {a = not (below p (low O k))}
-        (ap not (sym (across-below s p climbs (low O k)) ∙ not-true (below x (low O k)) (λ e. clash (below-before x (low O k) e) (opp (before x (low O k)) (r .0)))))
+        (ap not (sym (across-below s p climbs (low O k)) ∙ not-true (below x (low O k)) (λ e. clash (below-before x (low O k) e) (was-false (before x (low O k)) (r .0)))))
         (sym (across-below s p climbs (high O k)) ∙ lower-below (F k) steep x (high O k) (piece .on) (C .within k lk .segment .r-on) (r .1))
 
     counted-piece : Has (candidate O p d) (edgeCount O) k
@@ -185,12 +182,12 @@ module _ (O : Graph) (m : Map) (K : Keeps m) (C : Covers O m) (p : Pt) (hp : pos
 
   pub seen : (W : ℕ) → Top (candidate O p d) (nearer O p) (edgeCount O) W → pot m (above false p d) ≡ leftIn m O (eastSide O W)
   seen W t =
-      pot-ext m (above false p d) (above true (across (F W) p) (upward O W)) (λ j l.
-      look-across p hp d hd (F W) (rises-O W (t .is .below)) (counts W (t .is)) (seg m j) (seg-rises m K j l) (λ e. not-nearer-as j l e W (t .none-better (k j l e) (counted-piece j l e))))
+      pot-ext m (above false p d) (above true (across (F W) p) (upward O W)) (λ j l v.
+      look-across p hp d hd (piece-span W (t .is)) (good-span W (t .is)) (counts W (t .is)) (span m j) (good m K j l) (λ e. not-nearer-as j l v e W (t .none-better (k j l v e) (counted-piece j l v e))))
       ∙ down-right W (t .is) ∙ sym (east-left W (t .is))
 
   pub unseen : ((k : ℕ) → Has (candidate O p d) (edgeCount O) k → ⊥) → pot m (above false p d) ≡ pos 0
-  unseen n = pot-none m (above false p d) (λ j l. not-true (above false p d (seg m j)) (λ e. n (k j l e) (counted-piece j l e)))
+  unseen n = pot-none m (above false p d) (λ j l v. not-true (above false p d (span m j)) (λ e. n (k j l v e) (counted-piece j l v e)))
 
   seen-by : (o : Option ℕ) → Sees O p d o → pot m (above false p d) ≡ seenIn m O o
   seen-by none n = unseen n

@@ -2,7 +2,7 @@
 -- jumps; the potential; the edge's ends as vertices; balance, from rule 10's first half: the follower is a bijection of the half-edges, starts where its
 -- half-edge arrives and has the same label, so that at every vertex the labels that leave add up to the labels that arrive. Angles are not needed.
 -- Assumes nothing.
-use mathlib.Core.Path.{_≡_, refl, sym, _∙_}
+use mathlib.Core.Path.{_≡_, refl, sym, _∙_, ap}
 use mathlib.Core.Bool.{Bool, true, false, cond}
 use mathlib.Core.List.{[], _∷_}
 use Prim.Native.Nat.{ℕ, _+_, _*_}
@@ -10,17 +10,16 @@ use lib.Dec.{eqb}
 use lib.IntN.{ℤ, pos, _+ℤ_, _-ℤ_, _*ℤ_, +ℤ-comm, +ℤ-invr}
 use Rattle.exact.specs.Solve.{ring, reify, sub-zero→}
 use Rattle.seq.specs.Seq.{position}
-use Rattle.seq.specs.Terms.{sum, upto, ind}
-use Rattle.seq.specs.Sum.{upto-<, sum-ext, sum--}
-use Rattle.paper.specs.Plane.{Seg}
+use Rattle.seq.specs.Terms.{sum, upto, ind, Injects}
+use Rattle.seq.specs.Sum.{upto-<, sum-ext, sum-perm, sum-pairs, sum--}
 use Rattle.paper.specs.Graph.{Graph, twin, origin, goesUp, follower, followers, eastSide}
 use Rattle.paper.specs.Map.{Map, label}
 use Rattle.graphlaws.specs.Halves.{twin-first, twin-second, twin-below}
-use Rattle.graphlaws.specs.Follow.{follower-origin, follower-below, predecessor-below, predecessor-follower, follower-predecessor}
-use Rattle.graphlaws.specs.East.{east-below}
-use Rattle.maplaws.specs.Keeps.{seg, edges, halves, vertices, Keeps}
-use Rattle.potential.specs.Sums.{Bijection, reindex, sum-pairs}
-use Rattle.potential.specs.Sides.{westSide}
+use Rattle.graphlaws.specs.Follow.{follower-origin, follower-below, predecessor-follower}
+use Rattle.graphlaws.specs.East.{east-below, westSide}
+use Rattle.maplaws.specs.Keeps.{edges, halves, vertices}
+use Rattle.potential.specs.Lawful.{Lawful}
+use Rattle.potential.specs.Spans.{Span, span}
 use Rattle.potential.specs.Cut.{Φ, weightAt, Balanced}
 
 -- a half-edge's label, as a whole number
@@ -37,8 +36,12 @@ east m k = lab m (eastSide (m .graph) k)
 abbrev pub jump : Map → ℕ → ℤ
 jump m k = east m k -ℤ west m k
 
-unfoldable pub pot : Map → (Seg → Bool) → ℤ
-pot m C = Φ (edges m) (jump m) (λ k. C (seg m k))
+-- the labels on its two sides differ
+abbrev pub Jumps : Map → ℕ → Type 0
+Jumps m k = jump m k ≡ pos 0 → ⊥
+
+unfoldable pub pot : Map → (Span → Bool) → ℤ
+pot m C = Φ (edges m) (jump m) (λ k. C (span m k))
 
 -- the vertices at the lower and at the upper end of edge k
 abbrev pub lowEnd : Map → ℕ → ℕ
@@ -49,16 +52,14 @@ highEnd m k = origin (m .graph) (eastSide (m .graph) k)
 
 -- ── balance ──
 
-module _ (m : Map) (K : Keeps m) where
+module _ (m : Map) (K : Lawful m) where
   abbrev g : Graph
   g = m .graph
 
-  following : Bijection (halves m) (follower g) (λ h. position h (followers g))
+  following : Injects (follower g) (halves m)
   following = record {
-    next-< = follower-below g (K .plane);
-    prev-< = predecessor-below g (K .plane);
-    next-prev = follower-predecessor g (K .plane);
-    prev-next = predecessor-follower g (K .plane);
+    into = follower-below g (K .plane);
+    once = λ h k l r e. sym (predecessor-follower g (K .plane) h l) ∙ ap (λ (x : ℕ). position x (followers g)) e ∙ predecessor-follower g (K .plane) k r;
   }
 
   module _ (z : ℕ) where
@@ -71,7 +72,7 @@ module _ (m : Map) (K : Keeps m) where
 
     leave-arrive : sum (upto (halves m)) (λ h. from h *ℤ lab m h) ≡ sum (upto (halves m)) (λ h. to h *ℤ lab m h)
     leave-arrive =
-        sym (reindex following (λ h. from h *ℤ lab m h))
+        sym (sum-perm (follower g) (halves m) following (λ h. from h *ℤ lab m h))
         ∙ sum-ext (upto (halves m)) (λ h i. λ t. ind (eqb (follower-origin g (K .plane) h t) z) *ℤ pos (K .one-label h (upto-< (halves m) i) t))
 
     -- what leaves, and what arrives, along edge k

@@ -8,17 +8,19 @@ use Prim.Native.Nat.{ℕ, _<_}
 use lib.Dec.{T}
 use lib.IntN.{ℤ, pos}
 use lib.Signed.{_<ℤ_}
-use Rattle.exact.specs.Sign.{Sign, neg, zer, plus, sgn, isPlus, negS, sums, sgn-negℤ}
+use Rattle.exact.specs.Sign.{Sign, neg, zer, plus, sgn, isPlus, negS, sums}
 use Rattle.exact.specs.Tests.{never, clash}
 use Rattle.paper.specs.Plane.{Pt, Vec, nowhere, opposite, cross, rises, lessAngle}
 use Rattle.paper.specs.Map.{Map}
 use Rattle.planelaws.specs.Cone.{UpV, up-rises, rises-opposite, up-nonzero}
-use Rattle.planelaws.specs.Angles.{cross-swap, cross-opposite, turn-trans, angleTest}
-use Rattle.maplaws.specs.Keeps.{seg, edges, Keeps}
+use Rattle.planelaws.specs.Angles.{turn-swap, cross-opposite, turn-trans, angleTest}
+use Rattle.graphlaws.specs.Plane.{upward-up}
+use Rattle.maplaws.specs.Keeps.{seg, edges}
+use Rattle.potential.specs.Lawful.{Lawful}
+use Rattle.potential.specs.Spans.{span}
 use Rattle.potential.specs.Near.{near}
 use Rattle.potential.specs.Cuts.{above, under, atLeft, atRight, turn-nowhere, nowhere-turn, Leaves}
-use Rattle.potential.specs.Pot.{pot}
-use Rattle.potential.specs.Edges.{seg-rises}
+use Rattle.potential.specs.Pot.{Jumps, pot}
 use Rattle.potential.specs.Moves.{pot-above, pot-under, pot-through, pot-strict}
 
 -- ── angles ──
@@ -43,9 +45,6 @@ angle-is u v hu hv true false = λ i. angleTest (up-rises u hu i) (falls v hv i)
 angle-is u v hu hv false true = λ i. angleTest (falls u hu i) (up-rises v hv i) (isPlus (sgn (cross (opposite u) v)))
 angle-is u v hu hv false false =
     (λ i. angleTest (falls u hu i) (falls v hv i) (isPlus (sgn (cross (opposite u) (opposite v))))) ∙ ap (λ (z : ℤ). isPlus (sgn z)) (cross-opposite u v)
-
-turn-swap : (u v : Vec) → sgn (cross v u) ≡ negS (sgn (cross u v))
-turn-swap u v = ap sgn (cross-swap u v) ∙ sgn-negℤ (cross u v)
 
 -- ── signs ──
 
@@ -91,13 +90,13 @@ gap-down plus plus plus p t n = refl
 
 -- no edge of the map leaves p with an angle less than t's; none with an angle greater than r's; none between
 abbrev First : Map → Pt → Bool → Vec → Type 0
-First m p bt t = (k : ℕ) → k < edges m → (b : Bool) → Leaves p b (seg m k) → lessAngle (arrow b (seg m k .up)) (arrow bt t) ≡ true → ⊥
+First m p bt t = (k : ℕ) → k < edges m → Jumps m k → (b : Bool) → Leaves p b (span m k) → lessAngle (arrow b (seg m k .up)) (arrow bt t) ≡ true → ⊥
 
 abbrev Last : Map → Pt → Bool → Vec → Type 0
-Last m p br r = (k : ℕ) → k < edges m → (b : Bool) → Leaves p b (seg m k) → lessAngle (arrow br r) (arrow b (seg m k .up)) ≡ true → ⊥
+Last m p br r = (k : ℕ) → k < edges m → Jumps m k → (b : Bool) → Leaves p b (span m k) → lessAngle (arrow br r) (arrow b (seg m k .up)) ≡ true → ⊥
 
 abbrev Between : Map → Pt → Bool → Vec → Bool → Vec → Type 0
-Between m p bt t br r = (k : ℕ) → k < edges m → (b : Bool) → Leaves p b (seg m k) →
+Between m p bt t br r = (k : ℕ) → k < edges m → Jumps m k → (b : Bool) → Leaves p b (span m k) →
     lessAngle (arrow br r) (arrow b (seg m k .up)) ≡ true → lessAngle (arrow b (seg m k .up)) (arrow bt t) ≡ true → ⊥
 
 -- r is the first clockwise from t, as far as the edges of the map see it
@@ -105,7 +104,7 @@ pub data Sector (m : Map) (p : Pt) (bt : Bool) (t : Vec) (br : Bool) (r : Vec) :
   inner : lessAngle (arrow br r) (arrow bt t) ≡ true → Between m p bt t br r → Sector m p bt t br r
   wrap : (lessAngle (arrow br r) (arrow bt t) ≡ true → ⊥) → First m p bt t → Last m p br r → Sector m p bt t br r
 
-module _ (m : Map) (K : Keeps m) (p : Pt) (d : pos 0 <ℤ p .D) where
+module _ (m : Map) (K : Lawful m) (p : Pt) (d : pos 0 <ℤ p .D) where
   abbrev U : ℕ → Vec
   U k = seg m k .up
 
@@ -128,30 +127,30 @@ module _ (m : Map) (K : Keeps m) (p : Pt) (d : pos 0 <ℤ p .D) where
   module _ (t : Vec) (ut : UpV t) where
     -- the first of those that go up: all are at its left
     first-up : First m p true t → pot m (above true p t) ≡ pot m (above true p nowhere)
-    first-up f = pot-above m p true true t nowhere (λ k l o.
-        is-true (sgn (cross t (U k))) (λ n. f k l true o (less-back t (U k) ut (seg-rises m K k l) true n)) ∙ sym (ap (near true zer) (turn-nowhere (U k))))
+    first-up f = pot-above m p true true t nowhere (λ k l w o.
+        is-true (sgn (cross t (U k))) (λ n. f k l w true o (less-back t (U k) ut (upward-up (m .graph) (K .plane) k l) true n)) ∙ sym (ap (near true zer) (turn-nowhere (U k))))
 
-    first-down : ((k : ℕ) → k < edges m → Leaves p false (seg m k) → lessAngle (arrow false (U k)) (arrow false t) ≡ true → ⊥) → pot m (under false p t) ≡ pot m (under false p nowhere)
-    first-down f = pot-under m p false false t nowhere (λ k l o.
-        is-false (sgn (cross (U k) t)) (λ n. f k l o (less-of (U k) t (seg-rises m K k l) ut false false n)) ∙ sym (ap (near false zer) (nowhere-turn (U k))))
+    first-down : ((k : ℕ) → k < edges m → Jumps m k → Leaves p false (span m k) → lessAngle (arrow false (U k)) (arrow false t) ≡ true → ⊥) → pot m (under false p t) ≡ pot m (under false p nowhere)
+    first-down f = pot-under m p false false t nowhere (λ k l w o.
+        is-false (sgn (cross (U k) t)) (λ n. f k l w o (less-of (U k) t (upward-up (m .graph) (K .plane) k l) ut false false n)) ∙ sym (ap (near false zer) (nowhere-turn (U k))))
 
     -- nothing goes up
     no-up : First m p false t → pot m (above true p nowhere) ≡ pot m (above false p nowhere)
-    no-up f = pot-above m p true false nowhere nowhere (λ k l o. absurd (f k l true o (less-of (U k) t (seg-rises m K k l) ut true false refl)))
+    no-up f = pot-above m p true false nowhere nowhere (λ k l w o. absurd (f k l w true o (less-of (U k) t (upward-up (m .graph) (K .plane) k l) ut true false refl)))
 
   module _ (r : Vec) (ur : UpV r) where
     -- the last of those that go up: none is at its left
-    pub last-up : ((k : ℕ) → k < edges m → Leaves p true (seg m k) → lessAngle r (U k) ≡ true → ⊥) → pot m (above false p r) ≡ pot m (above false p nowhere)
-    last-up f = pot-above m p false false r nowhere (λ k l o.
-        is-false (sgn (cross r (U k))) (λ n. f k l o (less-of r (U k) ur (seg-rises m K k l) true true n)) ∙ sym (ap (near false zer) (turn-nowhere (U k))))
+    pub last-up : ((k : ℕ) → k < edges m → Jumps m k → Leaves p true (span m k) → lessAngle r (U k) ≡ true → ⊥) → pot m (above false p r) ≡ pot m (above false p nowhere)
+    last-up f = pot-above m p false false r nowhere (λ k l w o.
+        is-false (sgn (cross r (U k))) (λ n. f k l w o (less-of r (U k) ur (upward-up (m .graph) (K .plane) k l) true true n)) ∙ sym (ap (near false zer) (turn-nowhere (U k))))
 
     last-down : Last m p false r → pot m (under true p r) ≡ pot m (under true p nowhere)
-    last-down f = pot-under m p true true r nowhere (λ k l o.
-        is-true (sgn (cross (U k) r)) (λ n. f k l false o (less-back (U k) r (seg-rises m K k l) ur false n)) ∙ sym (ap (near true zer) (nowhere-turn (U k))))
+    last-down f = pot-under m p true true r nowhere (λ k l w o.
+        is-true (sgn (cross (U k) r)) (λ n. f k l w false o (less-back (U k) r (upward-up (m .graph) (K .plane) k l) ur false n)) ∙ sym (ap (near true zer) (nowhere-turn (U k))))
 
     -- nothing goes down
     no-down : Last m p true r → pot m (under true p nowhere) ≡ pot m (under false p nowhere)
-    no-down f = pot-under m p true false nowhere nowhere (λ k l o. absurd (f k l false o (less-of r (U k) ur (seg-rises m K k l) true false refl)))
+    no-down f = pot-under m p true false nowhere nowhere (λ k l w o. absurd (f k l w false o (less-of r (U k) ur (upward-up (m .graph) (K .plane) k l) true false refl)))
 
   module _ (t r : Vec) (ut : UpV t) (ur : UpV r) where
     -- r is at t's right: both up, or both down
@@ -160,26 +159,26 @@ module _ (m : Map) (K : Keeps m) (p : Pt) (d : pos 0 <ℤ p .D) where
     left-of false e = sym (angle-is r t ur ut false false) ∙ e
 
     both-up : isPlus (sgn (cross r t)) ≡ true → Between m p true t true r → pot m (above true p t) ≡ pot m (above false p r)
-    both-up l n = pot-above m p true false t r (λ k h o.
-        let uk = seg-rises m K k h in
+    both-up l n = pot-above m p true false t r (λ k h w o.
+        let uk = upward-up (m .graph) (K .plane) k h in
         gap-up (sgn (cross r t)) (sgn (cross t (U k))) (sgn (cross r (U k))) l (turn-trans r t (U k) ur ut uk)
-        (λ a b. n k h true o (less-of r (U k) ur uk true true a) (less-of (U k) t uk ut true true (ap isPlus (turn-swap t (U k)) ∙ b))))
+        (λ a b. n k h w true o (less-of r (U k) ur uk true true a) (less-of (U k) t uk ut true true (ap isPlus (turn-swap t (U k)) ∙ b))))
 
     both-down : isPlus (sgn (cross r t)) ≡ true → Between m p false t false r → pot m (under false p t) ≡ pot m (under true p r)
-    both-down l n = pot-under m p false true t r (λ k h o.
-        let uk = seg-rises m K k h in
+    both-down l n = pot-under m p false true t r (λ k h w o.
+        let uk = upward-up (m .graph) (K .plane) k h in
         gap-down (sgn (cross r t)) (sgn (cross (U k) t)) (sgn (cross (U k) r)) l (turn-trans (U k) r t uk ur ut)
-        (λ a b. n k h false o (less-of r (U k) ur uk false false (ap isPlus (turn-swap (U k) r) ∙ a)) (less-of (U k) t uk ut false false b)))
+        (λ a b. n k h w false o (less-of r (U k) ur uk false false (ap isPlus (turn-swap (U k) r) ∙ a)) (less-of (U k) t uk ut false false b)))
 
     pub sector : (bt br : Bool) → Sector m p bt t br r → pot m (atLeft p br r) ≡ pot m (atRight p bt t)
     sector true true (inner l n) = sym (both-up (left-of true l) n)
     sector true false (inner l n) = absurd (clash l (angle-is r t ur ut false true))
     sector false true (inner l n) =
-        last-up r ur (λ k h o e. n k h true o e (less-of (U k) t (seg-rises m K k h) ut true false refl))
+        last-up r ur (λ k h w o e. n k h w true o e (less-of (U k) t (upward-up (m .graph) (K .plane) k h) ut true false refl))
         ∙ pot-strict m K p d
-        ∙ sym (first-down t ut (λ k h o e. n k h false o (less-of r (U k) ur (seg-rises m K k h) true false refl) e))
+        ∙ sym (first-down t ut (λ k h w o e. n k h w false o (less-of r (U k) ur (upward-up (m .graph) (K .plane) k h) true false refl) e))
     sector false false (inner l n) = sym (both-down (left-of false l) n)
-    sector true true (wrap c f l) = last-up r ur (λ k h. l k h true) ∙ pot-strict m K p d ∙ sym (no-down r ur l) ∙ sym (pot-through m K p d) ∙ sym (first-up t ut f)
+    sector true true (wrap c f l) = last-up r ur (λ k h w. l k h w true) ∙ pot-strict m K p d ∙ sym (no-down r ur l) ∙ sym (pot-through m K p d) ∙ sym (first-up t ut f)
     sector true false (wrap c f l) = last-down r ur l ∙ sym (pot-through m K p d) ∙ sym (first-up t ut f)
     sector false true (wrap c f l) = absurd (c (angle-is r t ur ut true false))
-    sector false false (wrap c f l) = last-down r ur l ∙ sym (pot-through m K p d) ∙ no-up t ut f ∙ pot-strict m K p d ∙ sym (first-down t ut (λ k h. f k h false))
+    sector false false (wrap c f l) = last-down r ur l ∙ sym (pot-through m K p d) ∙ no-up t ut f ∙ pot-strict m K p d ∙ sym (first-down t ut (λ k h w. f k h w false))

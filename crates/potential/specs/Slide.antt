@@ -7,27 +7,17 @@ use mathlib.Core.Bool.{Bool, true, false, not, _&&_}
 use lib.Dec.{T}
 use lib.IntN.{pos, _-ℤ_, +ℤ-invr}
 use lib.Signed.{_<ℤ_}
-use Rattle.exact.specs.Sign.{sgn, isPlus, sums, sgn-negℤ, NotOpposite, NotSame, plus-both}
+use Rattle.exact.specs.Sign.{sgn, isPlus, sums, NotOpposite, NotSame, plus-both}
 use Rattle.exact.specs.Tests.{clash}
+use Rattle.exact.specs.Signs.{sums-swap}
 use Rattle.seq.specs.Terms.{ind}
 use Rattle.paper.specs.Plane.{Pt, Seg, cross, before, leftBy}
-use Rattle.planelaws.specs.Cone.{UpV}
 use Rattle.planelaws.specs.Points.{before-trans, le-before}
-use Rattle.planelaws.specs.Ends.{0<1}
-use Rattle.planelaws.specs.Angles.{cross-swap}
-use Rattle.planelaws.specs.Edges.{seg-up}
-use Rattle.planelaws.specs.Sides.{left-foot, left-head, meet-signs, pass-signs, sums-swap}
+use Rattle.planelaws.specs.Sides.{meet-signs, pass-signs}
+use Rattle.potential.specs.Spans.{Span, Segment, Good}
 use Rattle.potential.specs.Near.{near, near-end, near-span}
 use Rattle.potential.specs.Cuts.{lo, hi, above, under}
-
--- from p up to r, on the line of f
-pub record Segment (f : Seg) (p r : Pt) : Type 0 where
-  pub p-real : pos 0 <ℤ p .D
-  pub r-real : pos 0 <ℤ r .D
-  pub rises : UpV (f .up)
-  pub p-on : leftBy f p ≡ pos 0
-  pub r-on : leftBy f r ≡ pos 0
-  pub climbs : before p r ≡ true
+use Rattle.planelaws.specs.Angles.{turn-swap}
 
 -- strictly between p and r, strictly left of f
 unfoldable pub leftOf : Pt → Pt → Seg → Pt → Bool
@@ -63,44 +53,44 @@ level p r z hp hr hz c = go (before p z) (before z r) refl refl
 
 -- ── the signs ──
 
-module _ (f : Seg) (p r : Pt) (e : Seg) (s : Segment f p r) (ue : UpV (e .up)) where
-  pub sums-hi : before p (hi e) ≡ true → T (sums (sgn (leftBy e p)) (sgn (leftBy f (hi e))) (sgn (cross (f .up) (e .up))))
-  sums-hi b = meet-signs f e p (hi e) (s .p-on) (left-head e) (s .rises) ue (s .p-real) 0<1 b
+module _ (f : Seg) (p r : Pt) (e : Span) (s : Segment f p r) (ue : Good e) where
+  pub sums-hi : before p (hi e) ≡ true → T (sums (sgn (leftBy (e .line) p)) (sgn (leftBy f (hi e))) (sgn (cross (f .up) (e .line .up))))
+  sums-hi b = meet-signs f (e .line) p (hi e) (s .p-on) (ue .r-on) (s .rises) (ue .rises) (s .p-real) (ue .r-real) b
 
-  pub sums-lo : before (lo e) r ≡ true → T (sums (sgn (leftBy e r)) (sgn (leftBy f (lo e))) (sgn (cross (e .up) (f .up))))
+  pub sums-lo : before (lo e) r ≡ true → T (sums (sgn (leftBy (e .line) r)) (sgn (leftBy f (lo e))) (sgn (cross (e .line .up) (f .up))))
   sums-lo b =
-      sums-swap (sgn (leftBy f (lo e))) (sgn (leftBy e r)) (sgn (cross (e .up) (f .up)))
-      (meet-signs e f (lo e) r (left-foot e) (s .r-on) ue (s .rises) 0<1 (s .r-real) b)
+      sums-swap (sgn (leftBy f (lo e))) (sgn (leftBy (e .line) r)) (sgn (cross (e .line .up) (f .up)))
+      (meet-signs (e .line) f (lo e) r (ue .p-on) (s .r-on) (ue .rises) (s .rises) (ue .p-real) (s .r-real) b)
 
-  pub sums-both : T (sums (sgn (leftBy e r)) (sgn (cross (f .up) (e .up))) (sgn (leftBy e p)))
-  sums-both = pass-signs f e p r (s .p-on) (s .r-on) (s .rises) (s .p-real) (s .r-real) (s .climbs)
+  pub sums-both : T (sums (sgn (leftBy (e .line) r)) (sgn (cross (f .up) (e .line .up))) (sgn (leftBy (e .line) p)))
+  sums-both = pass-signs f (e .line) p r (s .p-on) (s .r-on) (s .rises) (s .p-real) (s .r-real) (s .climbs)
 
 -- ── the move ──
 
 -- what is assumed of the edge e
-pub record Apart (f : Seg) (p r : Pt) (e : Seg) : Type 0 where
+pub record Apart (f : Seg) (p r : Pt) (e : Span) : Type 0 where
   pub lo-off : At p r (lo e) mid → leftBy f (lo e) ≡ pos 0 → ⊥
   pub hi-off : At p r (hi e) mid → leftBy f (hi e) ≡ pos 0 → ⊥
-  pub spans : At p r (lo e) low → At p r (hi e) high → NotOpposite (leftBy e p) (leftBy e r)
-  pub ends : At p r (lo e) low → At p r (hi e) mid → NotSame (leftBy e p) (leftBy f (hi e))
-  pub starts : At p r (lo e) mid → At p r (hi e) high → NotSame (leftBy e r) (leftBy f (lo e))
+  pub spans : At p r (lo e) low → At p r (hi e) high → NotOpposite (leftBy (e .line) p) (leftBy (e .line) r)
+  pub ends : At p r (lo e) low → At p r (hi e) mid → NotSame (leftBy (e .line) p) (leftBy f (hi e))
+  pub starts : At p r (lo e) mid → At p r (hi e) high → NotSame (leftBy (e .line) r) (leftBy f (lo e))
   pub inside : At p r (lo e) mid → At p r (hi e) mid → NotOpposite (leftBy f (lo e)) (leftBy f (hi e))
 
-module _ (f : Seg) (p r : Pt) (e : Seg) (s : Segment f p r) (ue : UpV (e .up)) where
+module _ (f : Seg) (p r : Pt) (e : Span) (s : Segment f p r) (ue : Good e) where
   -- the upper end is not lower
   no-down-p : before p (hi e) ≡ false → before p (lo e) ≡ true → ⊥
-  no-down-p h l = clash (before-trans p (lo e) (hi e) (s .p-real) 0<1 0<1 l (seg-up e ue)) h
+  no-down-p h l = clash (before-trans p (lo e) (hi e) (s .p-real) (ue .p-real) (ue .r-real) l (ue .climbs)) h
 
   no-down-r : before (hi e) r ≡ true → before (lo e) r ≡ false → ⊥
-  no-down-r h l = clash (before-trans (lo e) (hi e) r 0<1 0<1 (s .r-real) (seg-up e ue) h) l
+  no-down-r h l = clash (before-trans (lo e) (hi e) r (ue .p-real) (ue .r-real) (s .r-real) (ue .climbs) h) l
 
   module _ (on : Bool) where
     -- the four tests: e at p, e at r, and its ends against f
     abbrev kp : Bool
-    kp = near on (sgn (leftBy e p)) (sgn (cross (f .up) (e .up)))
+    kp = near on (sgn (leftBy (e .line) p)) (sgn (cross (f .up) (e .line .up)))
 
     abbrev kr : Bool
-    kr = near on (sgn (leftBy e r)) (sgn (cross (e .up) (f .up)))
+    kr = near on (sgn (leftBy (e .line) r)) (sgn (cross (e .line .up) (f .up)))
 
     abbrev za : Bool
     za = isPlus (sgn (leftBy f (lo e)))
@@ -109,15 +99,15 @@ module _ (f : Seg) (p r : Pt) (e : Seg) (s : Segment f p r) (ue : UpV (e .up)) w
     zb = isPlus (sgn (leftBy f (hi e)))
 
     case-ends : Apart f p r e → At p r (lo e) low → At p r (hi e) mid → kp ≡ zb
-    case-ends c a b = near-end on (leftBy e p) (leftBy f (hi e)) (cross (f .up) (e .up)) (sums-hi f p r e s ue (b .from-p)) (c .hi-off b) (c .ends a b)
+    case-ends c a b = near-end on (leftBy (e .line) p) (leftBy f (hi e)) (cross (f .up) (e .line .up)) (sums-hi f p r e s ue (b .from-p)) (c .hi-off b) (c .ends a b)
 
     case-starts : Apart f p r e → At p r (lo e) mid → At p r (hi e) high → kr ≡ za
-    case-starts c a b = near-end on (leftBy e r) (leftBy f (lo e)) (cross (e .up) (f .up)) (sums-lo f p r e s ue (a .to-r)) (c .lo-off a) (c .starts a b)
+    case-starts c a b = near-end on (leftBy (e .line) r) (leftBy f (lo e)) (cross (e .line .up) (f .up)) (sums-lo f p r e s ue (a .to-r)) (c .lo-off a) (c .starts a b)
 
     case-spans : Apart f p r e → At p r (lo e) low → At p r (hi e) high → kr ≡ kp
     case-spans c a b =
-        ap (near on (sgn (leftBy e r))) (ap sgn (cross-swap (f .up) (e .up)) ∙ sgn-negℤ (cross (f .up) (e .up)))
-        ∙ sym (near-span on (leftBy e p) (leftBy e r) (cross (f .up) (e .up)) (sums-both f p r e s ue) (c .spans a b))
+        ap (near on (sgn (leftBy (e .line) r))) (turn-swap (f .up) (e .line .up))
+        ∙ sym (near-span on (leftBy (e .line) p) (leftBy (e .line) r) (cross (f .up) (e .line .up)) (sums-both f p r e s ue) (c .spans a b))
 
     case-inside : Apart f p r e → At p r (lo e) mid → At p r (hi e) mid → za ≡ zb
     case-inside c a b = plus-both (leftBy f (lo e)) (leftBy f (hi e)) (c .lo-off a) (c .hi-off b) (c .inside a b)
@@ -141,8 +131,8 @@ module _ (f : Seg) (p r : Pt) (e : Seg) (s : Segment f p r) (ue : UpV (e .up)) w
     pub slide : Apart f p r e → ind (under on r (f .up) e) -ℤ ind (above on p (f .up) e) ≡ ind (leftOf p r f (lo e)) -ℤ ind (leftOf p r f (hi e))
     unfolding above under leftOf
     slide c =
-        let a = level p r (lo e) (s .p-real) (s .r-real) 0<1 (s .climbs) in
-        let b = level p r (hi e) (s .p-real) (s .r-real) 0<1 (s .climbs) in
+        let a = level p r (lo e) (s .p-real) (s .r-real) (ue .p-real) (s .climbs) in
+        let b = level p r (hi e) (s .p-real) (s .r-real) (ue .r-real) (s .climbs) in
         (λ i. ind ((a .1 .to-r i && not (b .1 .to-r i)) && kr) -ℤ ind ((not (a .1 .from-p i) && b .1 .from-p i) && kp))
         ∙ claim c (a .0) (b .0) (a .1) (b .1)
         ∙ sym (λ i. ind ((a .1 .from-p i && a .1 .to-r i) && za) -ℤ ind ((b .1 .from-p i && b .1 .to-r i) && zb))

@@ -5,19 +5,20 @@ use mathlib.Core.Path.{_≡_, refl, sym, _∙_, ap}
 use mathlib.Core.Bool.{Bool, true, false, not}
 use Prim.Native.Nat.{ℕ, _/_, _<_}
 use lib.IntN.{ℤ}
+use Rattle.seq.specs.Downward.{inner as inside, wrap as round}
 use Rattle.paper.specs.Plane.{Vec, lessAngle}
 use Rattle.paper.specs.Graph.{Graph, edgeCount, halfCount, point, edge, twin, origin, start, low, high, goesUp, upward, heading, follower}
 use Rattle.paper.specs.Map.{Map}
-use Rattle.planelaws.specs.Cone.{UpV, NonZero, rises-up, up-nonzero, opposite-nonzero}
+use Rattle.planelaws.specs.Cone.{UpV, NonZero, up-nonzero, opposite-nonzero}
 use Rattle.planelaws.specs.Angles.{same-way-sym, less-same-way, same-way-greater}
 use Rattle.graphlaws.specs.Halves.{twin-half, twin-below, half-below}
-use Rattle.graphlaws.specs.Plane.{real-at, goesUp-twin, up-ends, down-ends, heading-moves}
-use Rattle.graphlaws.specs.Downward.{inner as inside, wrap as round}
+use Rattle.graphlaws.specs.Plane.{real-at, goesUp-twin, up-ends, down-ends, heading-moves, upward-up}
 use Rattle.graphlaws.specs.Follow.{Clockwise, follower-origin, follower-below, follower-clockwise}
-use Rattle.maplaws.specs.Keeps.{seg, edges, Keeps}
+use Rattle.maplaws.specs.Keeps.{seg, edges}
+use Rattle.potential.specs.Lawful.{Lawful}
+use Rattle.potential.specs.Spans.{span}
 use Rattle.potential.specs.Cuts.{above, under, atLeft, atRight, Leaves}
-use Rattle.potential.specs.Pot.{pot}
-use Rattle.potential.specs.Edges.{seg-rises}
+use Rattle.potential.specs.Pot.{Jumps, pot}
 use Rattle.potential.specs.Moves.{pot-piece}
 use Rattle.potential.specs.Sector.{arrow, Sector, inner, wrap, sector}
 use Rattle.potential.specs.Covers.{Covers, Out, left-along}
@@ -29,7 +30,7 @@ leftIn m O h = pot m (atLeft (start O h) (goesUp O h) (upward O (h / 2)))
 abbrev pub rightIn : Map → Graph → ℕ → ℤ
 rightIn m O h = pot m (atRight (start O h) (goesUp O h) (upward O (h / 2)))
 
-module _ (O : Graph) (m : Map) (K : Keeps m) (C : Covers O m) where
+module _ (O : Graph) (m : Map) (K : Lawful m) (C : Covers O m) where
   -- ── along a half-edge ──
 
   pub along-piece : (on : Bool) (k : ℕ) → k < edgeCount O → pot m (under on (high O k) (upward O k)) ≡ pot m (above on (low O k) (upward O k))
@@ -54,37 +55,37 @@ module _ (O : Graph) (m : Map) (K : Keeps m) (C : Covers O m) where
   arrow-moves false u h = opposite-nonzero u (up-nonzero u h)
 
   module _ (t r : ℕ) (lt : t < halfCount O) (lr : r < halfCount O) (o : origin O r ≡ origin O t) where
-    abbrev out : (k : ℕ) → k < edges m → (b : Bool) → Leaves (start O t) b (seg m k) → Out O (origin O t) (arrow b (seg m k .up))
-    out k l b q = left-along O m K C (origin O t) (C .plane .starts t lt) k l (real-at O (C .plane) (origin O t)) b q
+    abbrev out : (k : ℕ) → k < edges m → Jumps m k → (b : Bool) → Leaves (start O t) b (span m k) → Out O (origin O t) (arrow b (seg m k .up))
+    out k l w b q = left-along O m K C (origin O t) (C .plane .starts t lt) k l w (real-at O (C .plane) (origin O t)) b q
 
     -- an angle of the map's edge as one of the half-edge along it
-    under-as : (k : ℕ) (l : k < edges m) (b : Bool) (q : Leaves (start O t) b (seg m k)) (x : ℕ) → x < halfCount O →
-        lessAngle (arrow b (seg m k .up)) (heading O x) ≡ true → lessAngle (heading O (out k l b q .half)) (heading O x) ≡ true
-    under-as k l b q x lx e =
-        let p = out k l b q in
-        same-way-greater (heading O x) (arrow b (seg m k .up)) (heading O (p .half)) (heading-moves O (C .plane) x lx) (arrow-moves b (seg m k .up) (seg-rises m K k l)) (heading-moves O (C .plane) (p .half) (p .below))
+    under-as : (k : ℕ) (l : k < edges m) (w : Jumps m k) (b : Bool) (q : Leaves (start O t) b (span m k)) (x : ℕ) → x < halfCount O →
+        lessAngle (arrow b (seg m k .up)) (heading O x) ≡ true → lessAngle (heading O (out k l w b q .half)) (heading O x) ≡ true
+    under-as k l w b q x lx e =
+        let p = out k l w b q in
+        same-way-greater (heading O x) (arrow b (seg m k .up)) (heading O (p .half)) (heading-moves O (C .plane) x lx) (arrow-moves b (seg m k .up) (upward-up (m .graph) (K .plane) k l)) (heading-moves O (C .plane) (p .half) (p .below))
         e (same-way-sym (heading O (p .half)) (arrow b (seg m k .up)) (p .along))
 
-    over-as : (k : ℕ) (l : k < edges m) (b : Bool) (q : Leaves (start O t) b (seg m k)) (x : ℕ) → x < halfCount O →
-        lessAngle (heading O x) (arrow b (seg m k .up)) ≡ true → lessAngle (heading O x) (heading O (out k l b q .half)) ≡ true
-    over-as k l b q x lx e =
-        let p = out k l b q in
-        less-same-way (heading O x) (arrow b (seg m k .up)) (heading O (p .half)) (heading-moves O (C .plane) x lx) (arrow-moves b (seg m k .up) (seg-rises m K k l)) (heading-moves O (C .plane) (p .half) (p .below))
+    over-as : (k : ℕ) (l : k < edges m) (w : Jumps m k) (b : Bool) (q : Leaves (start O t) b (span m k)) (x : ℕ) → x < halfCount O →
+        lessAngle (heading O x) (arrow b (seg m k .up)) ≡ true → lessAngle (heading O x) (heading O (out k l w b q .half)) ≡ true
+    over-as k l w b q x lx e =
+        let p = out k l w b q in
+        less-same-way (heading O x) (arrow b (seg m k .up)) (heading O (p .half)) (heading-moves O (C .plane) x lx) (arrow-moves b (seg m k .up) (upward-up (m .graph) (K .plane) k l)) (heading-moves O (C .plane) (p .half) (p .below))
         e (same-way-sym (heading O (p .half)) (arrow b (seg m k .up)) (p .along))
 
     -- the first half-edge clockwise bounds a sector that no edge leaves into
     as-sector : Clockwise O t r → Sector m (start O t) (goesUp O t) (upward O (t / 2)) (goesUp O r) (upward O (r / 2))
-    as-sector (inside e n) = inner e (λ k l b q a c. let p = out k l b q in n (p .half) (p .below) (p .leaves) (over-as k l b q r lr a) (under-as k l b q t lt c))
+    as-sector (inside e n) = inner e (λ k l w b q a c. let p = out k l w b q in n (p .half) (p .below) (p .leaves) (over-as k l w b q r lr a) (under-as k l w b q t lt c))
     as-sector (round f n) =
         wrap (λ e. f r lr o e)
-        (λ k l b q c. let p = out k l b q in f (p .half) (p .below) (p .leaves) (under-as k l b q t lt c))
-        (λ k l b q a. let p = out k l b q in n (p .half) (p .below) (p .leaves) (over-as k l b q r lr a))
+        (λ k l w b q c. let p = out k l w b q in f (p .half) (p .below) (p .leaves) (under-as k l w b q t lt c))
+        (λ k l w b q a. let p = out k l w b q in n (p .half) (p .below) (p .leaves) (over-as k l w b q r lr a))
 
     star : Clockwise O t r → leftIn m O r ≡ rightIn m O t
     star c =
         ap (λ (v : ℕ). pot m (atLeft (point O v) (goesUp O r) (upward O (r / 2)))) o
         ∙ sector m K (start O t) (real-at O (C .plane) (origin O t)) (upward O (t / 2)) (upward O (r / 2))
-        (rises-up (upward O (t / 2)) (C .plane .rising (t / 2) (half-below O t lt))) (rises-up (upward O (r / 2)) (C .plane .rising (r / 2) (half-below O r lr))) (goesUp O t) (goesUp O r) (as-sector c)
+        (upward-up O (C .plane) (t / 2) (half-below O t lt)) (upward-up O (C .plane) (r / 2) (half-below O r lr)) (goesUp O t) (goesUp O r) (as-sector c)
 
   -- ── to the follower ──
 

@@ -6,14 +6,12 @@ use lib.Dec.{T}
 use lib.IntN.{pos, _-ℤ_, +ℤ-invr}
 use lib.Signed.{_<ℤ_}
 use Rattle.exact.specs.Sign.{Sign, neg, zer, plus, sgn, isNeg, isZer, isPlus, sums}
-use Rattle.exact.specs.Tests.{never}
+use Rattle.exact.specs.Signs.{neg-is}
 use Rattle.seq.specs.Terms.{ind}
-use Rattle.paper.specs.Plane.{Pt, Seg, nowhere, order, same, leftBy}
-use Rattle.planelaws.specs.Cone.{UpV}
+use Rattle.paper.specs.Plane.{Pt, nowhere, order, same, leftBy}
 use Rattle.planelaws.specs.Points.{after, order-trans}
-use Rattle.planelaws.specs.Ends.{0<1}
-use Rattle.planelaws.specs.Sides.{left-foot, left-head, left-same-sign}
-use Rattle.planelaws.specs.Edges.{seg-up}
+use Rattle.planelaws.specs.Sides.{left-same-sign}
+use Rattle.potential.specs.Spans.{Span, Good}
 use Rattle.potential.specs.Cuts.{lo, hi, reachAbove, above, under, above-through, above-strict, under-through, under-strict}
 
 -- a and b are the signs of v against the lower and the upper end, s that of v against the edge: lower < upper, and where v is an end, it is on the edge
@@ -40,33 +38,28 @@ strict-signs plus neg s t f g = refl
 strict-signs plus zer s t f g = sym (ap isNeg (g refl))
 strict-signs plus plus s t f g = refl
 
-module _ (v : Pt) (d : pos 0 <ℤ v .D) (e : Seg) (u : UpV (e .up)) where
+module _ (v : Pt) (d : pos 0 <ℤ v .D) (e : Span) (u : Good e) where
   -- v against the two ends
   ends : T (sums (order v (lo e)) neg (order v (hi e)))
-  ends = subst (λ (s : Sign). T (sums (order v (lo e)) s (order v (hi e)))) (is-neg (order (lo e) (hi e)) (seg-up e u)) (order-trans v (lo e) (hi e) d 0<1 0<1)
-    where
-      is-neg : (s : Sign) → isNeg s ≡ true → s ≡ neg
-      is-neg neg e = refl
-      is-neg zer e = never e
-      is-neg plus e = never e
+  ends = subst (λ (s : Sign). T (sums (order v (lo e)) s (order v (hi e)))) (neg-is (order (lo e) (hi e)) (u .climbs)) (order-trans v (lo e) (hi e) d (u .p-real) (u .r-real))
 
   -- an end is on the edge
-  lo-at : order v (lo e) ≡ zer → sgn (leftBy e v) ≡ zer
-  lo-at h = left-same-sign e v (lo e) d 0<1 (ap isZer h) ∙ ap sgn (left-foot e)
+  lo-at : order v (lo e) ≡ zer → sgn (leftBy (e .line) v) ≡ zer
+  lo-at h = left-same-sign (e .line) v (lo e) d (u .p-real) (ap isZer h) ∙ ap sgn (u .p-on)
 
-  hi-at : order v (hi e) ≡ zer → sgn (leftBy e v) ≡ zer
-  hi-at h = left-same-sign e v (hi e) d 0<1 (ap isZer h) ∙ ap sgn (left-head e)
+  hi-at : order v (hi e) ≡ zer → sgn (leftBy (e .line) v) ≡ zer
+  hi-at h = left-same-sign (e .line) v (hi e) d (u .r-real) (ap isZer h) ∙ ap sgn (u .r-on)
 
   pub through : ind (above true v nowhere e) -ℤ ind (under true v nowhere e) ≡ ind (same v (lo e)) -ℤ ind (same v (hi e))
   through =
-      let s = sgn (leftBy e v) in
+      let s = sgn (leftBy (e .line) v) in
       (λ i. ind (above-through v e i) -ℤ ind (under-through v e i))
       ∙ (λ i. ind (reachAbove v e && not (isPlus s)) -ℤ ind ((after v (lo e) i && not (after v (hi e) i)) && not (isPlus s)))
       ∙ through-signs (order v (lo e)) (order v (hi e)) s ends lo-at hi-at
 
   pub strict-both : above false v nowhere e ≡ under false v nowhere e
   strict-both =
-      let s = sgn (leftBy e v) in
+      let s = sgn (leftBy (e .line) v) in
       above-strict v e
       ∙ strict-signs (order v (lo e)) (order v (hi e)) s ends lo-at hi-at
       ∙ (λ i. (sym (after v (lo e)) i && not (sym (after v (hi e)) i)) && isNeg s)

@@ -1,32 +1,21 @@
--- What the writer and the reader accept, as facts: neither refuses exactly where these hold (`write-is`, `is-write`, `read-is`, `is-read`). Of a version's layout, and of
+-- What the writer and the reader accept, as facts: false-or refuses exactly where these hold (`write-is`, `is-write`, `read-is`, `is-read`). Of a version's layout, and of
 -- tables of n maps. Assumes nothing.
-use mathlib.Core.Path.{_≡_, refl, ap}
+use mathlib.Core.Path.{_≡_, ap}
 use Prim.Native.Nat.{_<_, _≤_}
 use native.Mathlib.Omega.{arith}
-use borrow.Author.Tests as Test
 use borrow.Author.Tests.{ltb-false, le-ltb, eqb-true, eqb-false, eq-eqb, ne-eqb}
-use Rattle.seq.specs.Seq.{Bool, true, false, not, _||_, List, [], _∷_, _++_, Option, none, some, ℕ, length, ltb, eqb}
-use Rattle.seq.specs.Tests.{or-false}
+use Rattle.seq.specs.Seq.{Bool, true, not, _||_, List, [], _∷_, _++_, Option, none, ℕ, length, ltb, eqb}
+use Rattle.seq.specs.Tests.{or-false, false-or, was-true}
 use Rattle.paper.specs.Limits.{overlayHead}
 use Rattle.paper.specs.Bytes.{ascii, marked, u16}
-use Rattle.paper.specs.Refusal.{Refusal, done, given, atLeast, answer}
+use Rattle.paper.specs.Refusal.{Refusal, given, atLeast}
 use Rattle.paper.specs.Tables.{Counts, Tables}
 use Rattle.paper.specs.Lent.{Lengths, roomIn, roomFaults}
 use Rattle.paper.specs.Ovfile.{Layout, fileLength, soundEdge, over, badVertex, badEdge, writeFault}
 use Rattle.paper.specs.Reader.{countsIn, numbers, headFaults, readFault}
-use Rattle.filelaws.specs.Refusals.{nothing, is-nothing, given-none, none-given, least-none-is, none-least, Fits, not-over}
 use Rattle.readback.specs.Sound.{SoundEdge, sound-is, is-sound, GoodEdge, edge-is, is-edge, GoodVertex, vertex-is, is-vertex}
-
--- done is with what is answered where nothing is refused
-pub done-none : {A : Type 0} (a b : A) (r : Option Refusal) → answer a r ≡ done b → (r ≡ none) × (a ≡ b)
-done-none a b none e = (refl, cc)
-done-none a b (some r) e = absurd (let z : _≡_ {A = ℕ} 0 1 = cc in omega arith)
-
-neither : {a b : Bool} → a ≡ false → b ≡ false → (a || b) ≡ false
-neither e f = rw (e, f)
-
-pub over-not : (room c : Counts) → Fits room c → over room c ≡ false
-over-not room c F = neither (le-ltb (room .vertices) (c .vertices) (F .vertices)) (neither (le-ltb (room .edges) (c .edges) (F .edges)) (le-ltb (room .faces) (c .faces) (F .faces)))
+use Rattle.refusallaws.specs.Refusals.{nothing, is-nothing, given-none, none-given, least-none-is, none-least}
+use Rattle.refusallaws.specs.Room.{Fits, not-over, over-not}
 
 -- ── the writer, into a buffer of n bytes ──
 
@@ -97,12 +86,12 @@ module _ (n versions : ℕ) (l : Layout) (ls : Lengths) (s : List ℕ) (t : Tabl
       let (vz, vk) = or-false (eqb (u16 s 3) 0) (ltb versions (u16 s 3)) (given-none 2 0 (eqb (u16 s 3) 0 || ltb versions (u16 s 3)) v) in
       record {
         long = ltb-false (length s) overlayHead ml;
-        mark = Test.not-false has mm;
+        mark = was-true has mm;
         version = omega (arith, eqb-false (u16 s 3) 0 vz);
         known = ltb-false versions (u16 s 3) vk;
         within = not-over numbers c (given-none 3 0 (over numbers c) o);
-        exact = eqb-true (length s) (fileLength l c) (Test.not-false right (given-none 4 0 (not right) x));
-        sound = λ k b. sound-is n c t k (Test.not-false (soundEdge n c t k) (least-none-is 21 unsound (c .edges) u k b));
+        exact = eqb-true (length s) (fileLength l c) (was-true right (given-none 4 0 (not right) x));
+        sound = λ k b. sound-is n c t k (was-true (soundEdge n c t k) (least-none-is 21 unsound (c .edges) u k b));
         room = record {
           vertices = ltb-false (roomIn n ls .vertices) (c .vertices) (given-none 11 1 (ltb (roomIn n ls .vertices) (c .vertices)) rv);
           edges = ltb-false (roomIn n ls .edges) (c .edges) (given-none 11 2 (ltb (roomIn n ls .edges) (c .edges)) re);
@@ -112,9 +101,9 @@ module _ (n versions : ℕ) (l : Layout) (ls : Lengths) (s : List ℕ) (t : Tabl
 
   pub is-read : Reads n versions l ls s t → readFault n versions l ls s t ≡ none
   is-read R = is-nothing readRules (
-    none-given 1 0 (ltb (length s) overlayHead || not has) (neither (le-ltb (length s) overlayHead (R .long)) (ap not (R .mark))),
+    none-given 1 0 (ltb (length s) overlayHead || not has) (false-or (le-ltb (length s) overlayHead (R .long)) (ap not (R .mark))),
     (
-      none-given 2 0 (eqb (u16 s 3) 0 || ltb versions (u16 s 3)) (neither (ne-eqb (u16 s 3) 0 (λ z. omega (arith, R .version))) (le-ltb versions (u16 s 3) (R .known))),
+      none-given 2 0 (eqb (u16 s 3) 0 || ltb versions (u16 s 3)) (false-or (ne-eqb (u16 s 3) 0 (λ z. omega (arith, R .version))) (le-ltb versions (u16 s 3) (R .known))),
       (
         none-given 3 0 (over numbers c) (over-not numbers c (R .within)),
         (

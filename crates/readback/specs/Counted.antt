@@ -2,15 +2,16 @@
 -- for the counts have them (`room-rows`). Assumes nothing.
 use mathlib.Core.Path.{_≡_, sym, _∙_, ap}
 use Prim.Native.Nat.{_<_, _≤_}
-use native.Mathlib.Nat.{mul-zero, mul-suc, mul-le-mul-left, div-add-mod}
+use native.Mathlib.Nat.{mul-zero, mul-suc}
 use native.Mathlib.Omega.{arith}
 use lib.ListN.{length-drop}
 use lib.Seq.{length-take-le, take-all, take-add, getD-take, getD-drop}
-use Rattle.seq.specs.Seq.{List, _++_, ℕ, zero, suc, _+_, _*_, _/_, length, take, drop, pos, table, cell}
+use Rattle.exact.specs.Digits.{rows-fit}
+use Rattle.seq.specs.Seq.{List, _++_, ℕ, zero, suc, _+_, _*_, length, take, drop, pos, table, cell}
 use Rattle.seq.specs.Table.{table-is, table-ext}
 use Rattle.paper.specs.Tables.{vertexWidth, halfWidth, faceWidth, Counts, Tables}
 use Rattle.paper.specs.Lent.{Lengths, roomIn, lengthsOf}
-use Rattle.filelaws.specs.Refusals.{Fits}
+use Rattle.refusallaws.specs.Room.{Fits}
 use Rattle.filelaws.specs.Agree.{Agree}
 use Rattle.readback.specs.ReadCells.{exactLengths}
 
@@ -42,9 +43,6 @@ room-rows n c ls R = record {
   sources = rows-fit n (c .edges) (ls .sources) (omega (arith, R .edges));
   faces = rows-fit (faceWidth n) (c .faces) (ls .faces) (omega (arith, R .faces));
 }
-  where
-    rows-fit : (w m x : ℕ) → m ≤ x / w → w * m ≤ x
-    rows-fit w m x h = omega (arith, mul-le-mul-left w h, div-add-mod x w)
 
 module _ {A : Type 0} (d : A) (w : ℕ) where
   -- row n of a list

@@ -15,13 +15,14 @@ use Rattle.paper.specs.Tables.{faceWidth, leastHalf, vertexCell, halfCell, orig
 use Rattle.paper.specs.Lent.{Lengths, roomIn, lengthsOf, paddedTables, outcome}
 use Rattle.paper.specs.Ovfile.{Layout, layouts, fileLength, leastStart, overlayFile, writeFault, writeBy}
 use Rattle.paper.specs.Reader.{countsIn, storedOrigin, storedFollower, vertexRead, halfRead, tablesIn, numbers, readFault, layoutOf, readBy, read, write}
+use Rattle.refusallaws.specs.Refusals.{done-none}
 use Rattle.filelaws.specs.Stands.{stands-self}
-use Rattle.filelaws.specs.Refusals.{Fits}
+use Rattle.refusallaws.specs.Room.{Fits}
 use Rattle.filelaws.specs.Agree.{Agree, sound-same}
 use Rattle.filelaws.specs.Placed.{Placed, length-file, file-placed}
 use Rattle.filelaws.specs.Fields.{mark-read, version-read, counts-read, x-read, y-read, d-read, face-read, origin-read, follower-read, face-of-read, source-read}
 use Rattle.readback.specs.Sound.{SoundEdge, sound-is, is-sound, GoodHalf, GoodEdge, GoodVertex}
-use Rattle.readback.specs.Accepts.{done-none, Writes, write-is, Reads, is-read}
+use Rattle.readback.specs.Accepts.{Writes, write-is, Reads, is-read}
 use Rattle.readback.specs.ReadCells.{startsIn, followersIn, exactLengths, vertex-cell, half-cell, source-cell, face-fields, read-lengths}
 use Rattle.readback.specs.Halves.{by-edges, origin-below, face-below, half-sound, predecessor-position}
 use Rattle.readback.specs.Counted.{counted, room-rows, agree-counted}

@@ -2,12 +2,10 @@
 -- `edge-is`, `is-edge`, `vertex-is`, `is-vertex`). Assumes nothing.
 use mathlib.Core.Path.{_≡_, sym, _∙_, ap}
 use Prim.Native.Nat.{_<_}
-use native.Mathlib.Omega.{arith}
-use borrow.Author.Tests as Test
 use borrow.Author.Tests.{ltb-true, lt-ltb, leb-false, lt-leb, eqb-true, eqb-false, eq-eqb, ne-eqb}
 use Rattle.exact.specs.Tests.{eq-t, t-eq, eq-sign}
 use Rattle.seq.specs.Seq.{Bool, true, false, not, _&&_, _||_, ℕ, _+_, _*_, _^_, leb, ltb, eqb, pos, _-ℤ_, someBelow}
-use Rattle.seq.specs.Tests.{or-false, and-both, and-parts}
+use Rattle.seq.specs.Tests.{or-false, and-both, and-parts, false-or, was-false, was-true}
 use Rattle.seq.specs.Least.{some-has, some-witness, no-some, no-some-is}
 use Rattle.paper.specs.Limits.{denominatorBytes}
 use Rattle.paper.specs.Plane.{isZer, sgn}
@@ -45,7 +43,7 @@ module _ (n : ℕ) (c : Counts) (t : Tables) where
         record {
           below = ltb-true (followerOf t h) (2 * c .edges) a;
           starts = eqb-true (originOf t (followerOf t h)) (originOf t (twin h)) b;
-          first = λ j l. eqb-false (followerOf t j) (followerOf t h) (no-some-is taken h (Test.not-true (someBelow taken h) d) j l);
+          first = λ j l. eqb-false (followerOf t j) (followerOf t h) (no-some-is taken h (was-false (someBelow taken h) d) j l);
         }
 
     is-half : SoundHalf c t h → soundFollower c t h ≡ true
@@ -59,7 +57,7 @@ module _ (n : ℕ) (c : Counts) (t : Tables) where
     given i = not (eqb (sourceCell n t k i) 0)
 
     source-is : hasSource n t k ≡ true → (i : ℕ) × (i < n) × (sourceCell n t k i ≡ 0 → ⊥)
-    source-is e = let (i, l, p) = some-witness given n e in (i, l, eqb-false (sourceCell n t k i) 0 (Test.not-true (eqb (sourceCell n t k i) 0) p))
+    source-is e = let (i, l, p) = some-witness given n e in (i, l, eqb-false (sourceCell n t k i) 0 (was-false (eqb (sourceCell n t k i) 0) p))
 
     is-source : (i : ℕ) × (i < n) × (sourceCell n t k i ≡ 0 → ⊥) → hasSource n t k ≡ true
     is-source (i, l, p) = some-has given n i l (ap not (ne-eqb (sourceCell n t k i) 0 p))
@@ -128,7 +126,7 @@ module _ (n : ℕ) (c : Counts) (t : Tables) where
 
     half-good : badHalf c t h ≡ false → GoodHalf c t h
     half-good e =
-        let (a, r) = and-parts otherOne precedes (Test.not-false (otherOne && precedes) e) in
+        let (a, r) = and-parts otherOne precedes (was-true (otherOne && precedes) e) in
         let (b, d) = and-parts (ltb (predecessorOf t h) (2 * c .edges)) (eqb (followerOf t (predecessorOf t h)) h) r in
         record {
           twin-is = eqb-true (twinOf t h) (twin h) a;
@@ -151,17 +149,14 @@ module _ (n : ℕ) (c : Counts) (t : Tables) where
         let (so, na) = or-false (not (soundEdge n c t k)) (wideSource n t k) a in
         let (p, q) = or-false (badHalf c t (2 * k)) (badHalf c t (2 * k + 1)) b in
         record {
-          sound = sound-is n c t k (Test.not-false (soundEdge n c t k) so);
+          sound = sound-is n c t k (was-true (soundEdge n c t k) so);
           narrow = λ i l. leb-false (256 ^ 2) (sourceCell n t k i) (no-some-is wide n na i l);
           good-there = half-good (2 * k) p;
           good-back = half-good (2 * k + 1) q;
         }
 
     pub is-edge : GoodEdge n c t k → badEdge n c t k ≡ false
-    is-edge G = neither (neither (ap not (is-sound n c t k (G .sound))) (no-some wide n (λ i l. lt-leb (256 ^ 2) (sourceCell n t k i) (G .narrow i l)))) (neither (good-half (2 * k) (G .good-there)) (good-half (2 * k + 1) (G .good-back)))
-      where
-        neither : {a b : Bool} → a ≡ false → b ≡ false → (a || b) ≡ false
-        neither e f = rw (e, f)
+    is-edge G = false-or (false-or (ap not (is-sound n c t k (G .sound))) (no-some wide n (λ i l. lt-leb (256 ^ 2) (sourceCell n t k i) (G .narrow i l)))) (false-or (good-half (2 * k) (G .good-there)) (good-half (2 * k + 1) (G .good-back)))
 
 -- "a vertex's X, Y or D does not fit its bytes", "outgoing entry is not the least half-edge with that origin"
 pub record GoodVertex (l : Layout) (c : Counts) (t : Tables) (v : ℕ) : Type 0 where
@@ -185,7 +180,7 @@ module _ (l : Layout) (c : Counts) (t : Tables) (v : ℕ) where
 
   pub vertex-is : badVertex l c t v ≡ false → GoodVertex l c t v
   vertex-is e =
-      let (x, r) = and-parts xFits (yFits && (dFits && outIs)) (Test.not-false (xFits && (yFits && (dFits && outIs))) e) in
+      let (x, r) = and-parts xFits (yFits && (dFits && outIs)) (was-true (xFits && (yFits && (dFits && outIs))) e) in
       let (y, q) = and-parts yFits (dFits && outIs) r in
       let (d, o) = and-parts dFits outIs q in
       record { x-fits = x; y-fits = y; d-fits = d; out-is = eq-t (vertexCell t v 3) (pos (leastStart c t v)) (eq-sign (vertexCell t v 3) (pos (leastStart c t v)) ∙ o) }

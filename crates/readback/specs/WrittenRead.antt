@@ -15,6 +15,7 @@ use Rattle.paper.specs.Tables.{vertexCell, originOf, followerOf, predecessorOf,
 use Rattle.paper.specs.Lent.{Lengths, lengthsOf, paddedTables, zeroTables}
 use Rattle.paper.specs.Ovfile.{Layout, layouts, fileLength, edgeFields, overlayFile, writeBy}
 use Rattle.paper.specs.Reader.{countsIn, edgeField, storedOrigin, storedFollower, tablesIn, readFault, layoutOf, readBy, read, write}
+use Rattle.refusallaws.specs.Refusals.{done-none}
 use Rattle.filelaws.specs.Bytes.{Bytes, Stands, number-below, le-number, leSigned-signed, signed-fits}
 use Rattle.filelaws.specs.Stands.{stands-whole}
 use Rattle.filelaws.specs.Agree.{file-same, padded-agree}
@@ -22,7 +23,7 @@ use Rattle.filelaws.specs.Placed.{vertexAt, edgeAt, faceAt, edgeWidth, Placed, 
 use Rattle.filelaws.specs.EdgeFields.{fields-are}
 use Rattle.filelaws.specs.Fields.{marked-stands}
 use Rattle.readback.specs.Sound.{GoodHalf, GoodEdge, GoodVertex}
-use Rattle.readback.specs.Accepts.{done-none, is-write, Reads, read-is}
+use Rattle.readback.specs.Accepts.{is-write, Reads, read-is}
 use Rattle.readback.specs.ReadCells.{followersIn, vertex-cell, half-cell, source-cell, face-fields, read-lengths}
 use Rattle.readback.specs.Halves.{position-below, position-follows}
 use Rattle.readback.specs.Zeros.{padded-writes}

@@ -8,7 +8,7 @@ use Rattle.seq.specs.Wiped.{length-padded}
 use Rattle.paper.specs.Tables.{Counts, Tables}
 use Rattle.paper.specs.Lent.{Lengths, roomIn, lengthsOf, paddedTables}
 use Rattle.paper.specs.Ovfile.{Layout, fileLength}
-use Rattle.filelaws.specs.Refusals.{Fits}
+use Rattle.refusallaws.specs.Room.{Fits}
 use Rattle.filelaws.specs.Agree.{bad-edge-same, bad-vertex-same, padded-agree}
 use Rattle.readback.specs.Sound.{GoodEdge, edge-is, is-edge, GoodVertex, vertex-is, is-vertex}
 use Rattle.readback.specs.Accepts.{Writes}

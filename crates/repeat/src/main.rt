@@ -5,7 +5,11 @@ mod words; // the number of runs
 use console::load_arg;
 use console::say;
 use console::say_number;
-use tables::answer::Answer;
+use limits::FACE_CELLS;
+use limits::HALF_CELLS;
+use limits::SOURCE_CELLS;
+use limits::VERTEX_CELLS;
+use tables::Answer;
 ghost use Prim.Native.Nat.{_≤_};
 
 fn say_answer(answer: Answer) {
@@ -25,10 +29,10 @@ fn say_answer(answer: Answer) {
 
 // One run, in tables of its own.
 fn run(zones: &[u8], blocks: &[u8]) -> Answer {
-    let mut vertices = [0i64; 4000];
-    let mut halves = [0u16; 20000];
-    let mut sources = [0u32; 4000];
-    let mut faces = [0u16; 5336];
+    let mut vertices = [0i64; VERTEX_CELLS];
+    let mut halves = [0u16; HALF_CELLS];
+    let mut sources = [0u32; SOURCE_CELLS];
+    let mut faces = [0u16; FACE_CELLS];
     overlay::overlay(
         zones,
         blocks,

@@ -1,7 +1,7 @@
 // Seconds. The clock is C's `clock`: the processor time that the program has used, in microseconds.
 use console::say;
 use console::say_number;
-use exact::cast::magnitude;
+use exact::magnitude;
 
 // A number's decimal digits from that of `unit` down, zeros too.
 fn say_digits(n: u64, unit: u64) {

@@ -1,13 +1,15 @@
 -- Counts below a bound. First what a loop asks, then what a theorem asks: the count grows with the bound, each number that is counted has a rank of its
--- own, each rank below the count is some number's, and a property that implies another is had by no more numbers. Assumes nothing.
+-- own, each rank below the count is some number's, a property that implies another is had by no more numbers, and of three properties of which each number has
+-- one the counts add up. Assumes nothing.
+use mathlib.Core.Logic.{_⊎_, inl, inr}
 use mathlib.Core.Path.{_≡_, refl, sym, _∙_, ap}
 use Prim.Native.Nat.{_≤_, _<_}
 use native.Mathlib.Nat.{not-suc-le-zero, le-refl, add-suc, add-zero}
 use native.Mathlib.Numerals.{add-one}
 use native.Mathlib.Decide.{decLt}
 use native.Mathlib.Omega.{arith}
-use Rattle.seq.specs.Seq.{Bool, true, false, cond, ℕ, zero, suc, _+_, count}
-use Rattle.seq.specs.Tests.{clash}
+use Rattle.seq.specs.Seq.{Bool, true, false, cond, not, _||_, ℕ, zero, suc, _+_, count}
+use Rattle.seq.specs.Tests.{clash, never}
 
 module _ (p : ℕ → Bool) where
   -- ── what a loop asks ──
@@ -58,6 +60,10 @@ module _ (p : ℕ → Bool) where
         | yes q ↦ let e : m ≡ suc n = omega arith in rw e (le-refl (count p (suc n)))
         | no q ↦ omega (arith, count-rises m n (omega arith), rise-step (count p n) (p n))
       ]
+
+  -- the lesser count is of the lesser bound
+  pub count-before : (m n : ℕ) → count p m < count p n → m < n
+  count-before m n h = elim (decLt m n) [ yes q ↦ q | no q ↦ absurd (omega (arith, count-rises n m (omega arith))) ]
 
   -- the rank of a number that is counted is below the count
   pub count-below : (n k : ℕ) → k < n → p k ≡ true → count p k < count p n
@@ -117,3 +123,41 @@ module _ (p q : ℕ → Bool) where
         | yes s ↦ fewer-step (count p n) (count q n) (p n) (q n) (h n (omega arith)) (count-fewer n k (λ j m. h j (omega arith)) s e g)
         | no s ↦ let t : k ≡ n = omega arith in rw (ap p (sym t) ∙ e, ap q (sym t) ∙ g) (omega (arith, count-sub n (λ j m. h j (omega arith))))
       ]
+
+-- ── exactly one of three ──
+
+abbrev pub oneOf : Bool → Bool → Bool → Bool
+oneOf a b c = cond a (not (b || c)) (cond b (not c) c)
+
+pub one-of-three : (a b c : Bool) → oneOf a b c ≡ true → (a ≡ true) ⊎ ((b ≡ true) ⊎ (c ≡ true))
+one-of-three true b c e = inl refl
+one-of-three false true c e = inr (inl refl)
+one-of-three false false true e = inr (inr refl)
+one-of-three false false false e = never e
+
+pub one-not-two : (a b c : Bool) → oneOf a b c ≡ true → a ≡ true → b ≡ true → ⊥
+one-not-two true true c e f h = never e
+one-not-two true false c e f h = never h
+one-not-two false b c e f h = never f
+
+pub third-alone : (a b c : Bool) → oneOf a b c ≡ true → c ≡ true → (a ≡ true) ⊎ (b ≡ true) → ⊥
+third-alone true true c e f h = never e
+third-alone true false true e f h = never e
+third-alone true false false e f h = never f
+third-alone false true true e f h = never e
+third-alone false true false e f h = never f
+third-alone false false c e f (inl h) = never h
+third-alone false false c e f (inr h) = never h
+
+one-step : (x y z : ℕ) (a b c : Bool) → oneOf a b c ≡ true → cond a (suc x) x + cond b (suc y) y + cond c (suc z) z ≡ suc (x + y + z)
+one-step x y z true true c e = never e
+one-step x y z true false true e = never e
+one-step x y z true false false e = omega arith
+one-step x y z false true true e = never e
+one-step x y z false true false e = omega arith
+one-step x y z false false true e = omega arith
+one-step x y z false false false e = never e
+
+pub count-three : (p q r : ℕ → Bool) (n : ℕ) → ((k : ℕ) → k < n → oneOf (p k) (q k) (r k) ≡ true) → count p n + count q n + count r n ≡ n
+count-three p q r zero h = refl
+count-three p q r (suc n) h = one-step (count p n) (count q n) (count r n) (p n) (q n) (r n) (h n (omega arith)) ∙ ap suc (count-three p q r n (λ k l. h k (omega arith)))

@@ -7,10 +7,9 @@ use Prim.Native.Nat.{_<_}
 use native.Mathlib.Decide.{ℕ-discrete}
 use native.Mathlib.Omega.{arith}
 use borrow.Author.Tests.{eqb-true, eqb-false, eq-eqb, ne-eqb}
-use borrow.Author.Tests as Not
 use Rattle.seq.specs.Seq.{Bool, true, false, not, Option, none, some, Option·getD, ℕ, eqb, best}
 use Rattle.seq.specs.Terms.{Has, Order, Best, BestIs, marked, Ranked, others, soonerBy, previous}
-use Rattle.seq.specs.Tests.{clash, never, way, not-true, and-both, and-parts}
+use Rattle.seq.specs.Tests.{clash, never, way, not-true, and-both, and-parts, was-false}
 use Rattle.seq.specs.Best.{best-is}
 
 module _ (o : ℕ → ℕ) (less : ℕ → ℕ → Bool) (n : ℕ) where
@@ -23,9 +22,9 @@ module _ (o : ℕ → ℕ) (less : ℕ → ℕ → Bool) (n : ℕ) where
       group {k} h = eqb-true (o k) (o t) (and-parts (eqb (o k) (o t)) (not (eqb k t)) (h .has) .0)
 
       differs : {k : ℕ} → Has (others o less n t) n k → k ≡ t → ⊥
-      differs {k} h = eqb-false k t (Not.not-true (eqb k t) (and-parts (eqb (o k) (o t)) (not (eqb k t)) (h .has) .1))
+      differs {k} h = eqb-false k t (was-false (eqb k t) (and-parts (eqb (o k) (o t)) (not (eqb k t)) (h .has) .1))
 
-      has-other : {k : ℕ} → k < n → o k ≡ o t → (k ≡ t → ⊥) → Has (others o less n t) n k
+      pub has-other : {k : ℕ} → k < n → o k ≡ o t → (k ≡ t → ⊥) → Has (others o less n t) n k
       has-other {k} l e d = record { below = l; has = and-both (eq-eqb (o k) (o t) e) (ap not (ne-eqb k t d)) }
 
       -- ── `soonerBy o less n t` is a strict total order of t's group without t ──

@@ -1,16 +1,15 @@
 -- Searches below a bound: `least`, `someBelow`, `allBelow`. First what a theorem asks of the least number found (it is below, it has the property,
--- no smaller one has it), then what a loop asks (nothing so far, one more, found, what was found is it), then the witnesses of `someBelow` and
+-- no smaller one has it), then what a loop asks (nothing so far, one more, found, what was found is it), then the witnesses of `someBelow`, a search in two parts (`least-on`, `turning`), and
 -- `allBelow`. A lemma goes by the tests that the definition makes, each as a Bool with the equation that says where it comes from. Assumes nothing.
-use mathlib.Core.Path.{_≡_, refl, _∙_, ap}
+use mathlib.Core.Path.{_≡_, refl, _∙_, ap, sym}
 use Prim.Native.Nat.{_≤_, _<_}
 use native.Mathlib.Nat.{not-suc-le-zero, le-refl}
 use native.Mathlib.Decide.{decLt}
 use native.Mathlib.Omega.{arith}
 use native.Mathlib.Numerals.{add-one}
 use borrow.Author.Tests.{ltb-true, ltb-false, lt-ltb, le-ltb}
-use borrow.Author.Tests as Not
-use Rattle.seq.specs.Seq.{Bool, true, false, cond, not, ℕ, zero, suc, _+_, ltb, least, someBelow, allBelow}
-use Rattle.seq.specs.Tests.{clash}
+use Rattle.seq.specs.Seq.{Bool, true, false, cond, not, ℕ, zero, suc, _+_, ltb, least, someBelow, allBelow, _-_}
+use Rattle.seq.specs.Tests.{clash, was-false, was-true}
 
 module _ (p : ℕ → Bool) where
   -- ── what is found ──
@@ -116,6 +115,34 @@ module _ (p : ℕ → Bool) where
   pub some-none : (n : ℕ) → least p n ≡ n → someBelow p n ≡ false
   some-none n e = le-ltb (least p n) n (omega arith)
 
+-- ── in two parts ──
+
+-- the least of m + n: that of the first m, or where they have none, of the next n
+pub least-on : (p : ℕ → Bool) (m n : ℕ) → least p (m + n) ≡ cond (ltb (least p m) m) (least p m) (m + least (λ i. p (m + i)) n)
+least-on p m n =
+    elim (decLt (least p m) m) [
+      | yes q ↦ least-by p (m + n) (least p m) (omega arith) (λ k l. least-min p m k l) (λ l. least-holds p m q) ∙ sym (ap (λ (c : Bool). cond c (least p m) (m + least (λ i. p (m + i)) n)) (lt-ltb (least p m) m q))
+      | no q ↦ least-by p (m + n) (m + least (λ i. p (m + i)) n) (omega (arith, least-le (λ i. p (m + i)) n))
+          (λ k l. before k l (omega arith)) (λ l. least-holds (λ i. p (m + i)) n (omega arith))
+          ∙ sym (ap (λ (c : Bool). cond c (least p m) (m + least (λ i. p (m + i)) n)) (le-ltb (least p m) m (omega arith)))
+    ]
+  where
+    before : (k : ℕ) → k < m + least (λ i. p (m + i)) n → m ≤ least p m → p k ≡ false
+    before k l h =
+        elim (decLt k m) [
+          | yes s ↦ least-min p m k (omega arith)
+          | no s ↦ let e : m + (k - m) ≡ k = omega arith in ap p (sym e) ∙ least-min (λ i. p (m + i)) n (k - m) (omega arith)
+        ]
+
+-- a test that turns on the way turns at some step
+pub turning : (t : ℕ → Bool) (n : ℕ) → t 0 ≡ false → t n ≡ true → (j : ℕ) × (j < n) × (t j ≡ false) × (t (suc j) ≡ true)
+turning t zero e f = absurd (clash f e)
+turning t (suc n) e f = go (t n) refl (turning t n e)
+  where
+    go : (c : Bool) → t n ≡ c → (t n ≡ true → (j : ℕ) × (j < n) × (t j ≡ false) × (t (suc j) ≡ true)) → (j : ℕ) × (j < suc n) × (t j ≡ false) × (t (suc j) ≡ true)
+    go true q ih = let (j, l, x, y) = ih q in (j, omega arith, x, y)
+    go false q ih = (n, omega arith, q, f)
+
 -- ── tests that agree below the bound ──
 
 module _ (p q : ℕ → Bool) where
@@ -130,7 +157,7 @@ module _ (p q : ℕ → Bool) where
 
 module _ (p : ℕ → Bool) where
   pub all-is : (n : ℕ) → allBelow p n ≡ true → (k : ℕ) → k < n → p k ≡ true
-  all-is n e k h = Not.not-false (p k) (no-some-is (λ j. not (p j)) n (Not.not-true (someBelow (λ j. not (p j)) n) e) k h)
+  all-is n e k h = was-true (p k) (no-some-is (λ j. not (p j)) n (was-false (someBelow (λ j. not (p j)) n) e) k h)
 
   pub all-has : (n : ℕ) → ((k : ℕ) → k < n → p k ≡ true) → allBelow p n ≡ true
   all-has n h = ap not (no-some (λ j. not (p j)) n (λ k l. ap not (h k l)))

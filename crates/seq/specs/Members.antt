@@ -1,10 +1,11 @@
--- The members of a list: of two lists end to end, of a mapped list, of gathered lists, and by position. Assumes nothing.
-use mathlib.Core.Path.{_≡_, refl, sym, ap, subst}
+-- The members of a list: of two lists end to end, by position, of a list's start; what holds of every member; of a mapped list, with its cells, and of gathered lists. Assumes nothing.
+use mathlib.Core.Path.{_≡_, refl, sym, _∙_, ap, subst}
+use mathlib.Core.List.{append-assoc}
 use mathlib.Core.Logic.{_⊎_, inl, inr, ⊎-elim}
 use Prim.Native.Nat.{_<_, suc-le-suc}
 use native.Mathlib.Nat.{not-suc-le-zero, le-of-suc-le-suc}
 use native.Mathlib.Omega.{arith}
-use Rattle.seq.specs.Seq.{List, [], _∷_, _++_, map, ℕ, zero, suc, length, getD, gather}
+use Rattle.seq.specs.Seq.{List, [], _∷_, _++_, map, ℕ, zero, suc, length, getD, take, gather}
 use Rattle.seq.specs.Terms.{Among, Every}
 
 module _ {A : Type 0} where
@@ -36,6 +37,13 @@ module _ {A : Type 0} where
   among-at z (x ∷ xs) d (inl e) = (0, omega arith, sym e)
   among-at z (x ∷ xs) d (inr i) = let r = among-at z xs d i in (suc (r .0), suc-le-suc (r .1), r .2)
 
+  -- a member of the start of a list
+  pub take-among : (x : A) (k : ℕ) (l : List A) → Among x (take k l) → Among x l
+  take-among x zero l i = absurd i
+  take-among x (suc k) [] i = absurd i
+  take-among x (suc k) (y ∷ l) (inl e) = inl e
+  take-among x (suc k) (y ∷ l) (inr i) = inr (take-among x k l i)
+
   -- ── every member ──
 
   pub every-in : (P : A → Type 0) (l : List A) → Every P l → (x : A) → Among x l → P x
@@ -64,6 +72,17 @@ module _ {A : Type 0} {B : Type 0} where
   length-map f [] = refl
   length-map f (x ∷ xs) = ap suc (length-map f xs)
 
+  -- functions that agree on the members
+  pub map-ext : (f g : A → B) (l : List A) → ((x : A) → Among x l → f x ≡ g x) → map f l ≡ map g l
+  map-ext f g [] h = refl
+  map-ext f g (x ∷ xs) h = λ i. h x (inl refl) i ∷ map-ext f g xs (λ y j. h y (inr j)) i
+
+  -- a cell, whatever stands past the end
+  pub map-at : (f : A → B) (l : List A) (i : ℕ) (d : A) (e : B) → i < length l → getD (map f l) i e ≡ f (getD l i d)
+  map-at f [] i d e h = absurd (not-suc-le-zero h)
+  map-at f (x ∷ xs) zero d e h = refl
+  map-at f (x ∷ xs) (suc i) d e h = map-at f xs i d e (le-of-suc-le-suc h)
+
   -- ── of gathered lists ──
 
   pub among-gather : (f : A → List B) (z : B) (x : A) (l : List A) → Among x l → Among z (f x) → Among z (gather f l)
@@ -74,3 +93,7 @@ module _ {A : Type 0} {B : Type 0} where
   pub gather-among : (f : A → List B) (z : B) (l : List A) → Among z (gather f l) → (x : A) × Among x l × Among z (f x)
   gather-among f z [] i = absurd i
   gather-among f z (y ∷ ys) i = ⊎-elim (λ j. (y, inl refl, j)) (λ j. let r = gather-among f z ys j in (r .0, inr (r .1), r .2)) (among-++ z (f y) (gather f ys) i)
+
+  pub gather-++ : (f : A → List B) (l k : List A) → gather f (l ++ k) ≡ gather f l ++ gather f k
+  gather-++ f [] k = refl
+  gather-++ f (x ∷ l) k = ap (λ (r : List B). f x ++ r) (gather-++ f l k) ∙ sym (append-assoc (f x) (gather f l) (gather f k))

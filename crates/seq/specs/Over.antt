@@ -6,8 +6,8 @@ use Prim.Native.Nat.{_≤_, _<_, _-_}
 use native.Mathlib.Numerals.{add-one}
 use native.Mathlib.Omega.{arith}
 use lib.ListN.{set, length-append, length-drop, drop-of-length-le, List·getD-append}
-use lib.Seq.{drop-cons, set-at, sets, sets-eq, take-at, drop-at, drop-drop, getD-append-add, getD-drop}
-use Rattle.seq.specs.Seq.{List, [], _∷_, _++_, ℕ, suc, _+_, length, getD, drop, over}
+use lib.Seq.{drop-cons, set-at, sets, sets-eq, take-at, take-append-seam, drop-at, drop-drop, getD-append-add, getD-drop}
+use Rattle.seq.specs.Seq.{List, [], _∷_, _++_, ℕ, suc, _+_, length, getD, take, drop, over}
 
 module _ {A : Type 0} where
   -- with nothing laid over it, it is d
@@ -46,6 +46,11 @@ module _ {A : Type 0} where
   pub over-all : (xs d : List A) → length d ≤ length xs → over xs d ≡ xs
   unfolding over
   over-all xs d h = ap (λ (l : List A). xs ++ l) (drop-of-length-le d h) ∙ append-nil xs
+
+  -- what is laid over it is its start
+  pub take-over : (xs d : List A) → take (length xs) (over xs d) ≡ xs
+  unfolding over
+  take-over xs d = take-append-seam xs (drop (length xs) d)
 
   -- ── cells ──
 

@@ -2,32 +2,17 @@
 -- ranks are the numbers below the length, each once; the list with each cell at its rank rises and has the same members, so it is the list sorted.
 -- Assumes nothing.
 use mathlib.Core.Path.{_≡_, refl, sym, _∙_, ap, subst}
-use Prim.Native.Nat.{_<_, suc-le-suc, zero-le}
-use native.Mathlib.Nat.{not-suc-le-zero, le-of-suc-le-suc}
+use Prim.Native.Nat.{_<_}
 use native.Mathlib.Decide.{decLt, ℕ-discrete}
 use native.Mathlib.Omega.{arith}
-use Rattle.seq.specs.Seq.{Bool, true, false, List, [], _∷_, ℕ, zero, suc, length, getD, rank, inOrderBy}
+use Rattle.seq.specs.Seq.{Bool, true, false, List, ℕ, length, getD, rank, inOrderBy}
 use Rattle.seq.specs.Terms.{Among, Every, Rising, Distinct, Asymmetric, Transitive, Sortable, Injects}
 use Rattle.seq.specs.Tests.{clash, not-false}
 use Rattle.seq.specs.Members.{at-among, among-at, every-in}
+use Rattle.seq.specs.Pairs.{pairs-at, at-rising}
 use Rattle.seq.specs.Count.{count-all, count-fewer}
 use Rattle.seq.specs.Perm.{onto}
 use Rattle.seq.specs.Inserted.{inOrder-is}
-
--- a list rises where each cell is before each later one
-pub rising-at : {A : Type 0} (b : A → A → Bool) (d : A) (l : List A) → ((r s : ℕ) → r < s → s < length l → b (getD l r d) (getD l s d) ≡ true) → Rising b l
-rising-at b d [] h = tt
-rising-at {A} b d (x ∷ xs) h = (
-  λ z i. let q = among-at z xs d i in subst (λ (w : A). b x w ≡ true) (q .2) (h 0 (suc (q .0)) (suc-le-suc zero-le) (suc-le-suc (q .1))),
-  rising-at b d xs (λ r s l m. h (suc r) (suc s) (suc-le-suc l) (suc-le-suc m)),
-)
-
--- no cell is like an earlier one
-pub distinct-at : {A : Type 0} (same : A → A → Bool) (d : A) (l : List A) → Distinct same l → (i j : ℕ) → i < j → j < length l → same (getD l j d) (getD l i d) ≡ false
-distinct-at same d [] h i j l m = absurd (not-suc-le-zero m)
-distinct-at same d (x ∷ xs) h i zero l m = absurd (not-suc-le-zero l)
-distinct-at same d (x ∷ xs) h zero (suc j) l m = h .0 (getD xs j d) (at-among xs j d (le-of-suc-le-suc m))
-distinct-at same d (x ∷ xs) h (suc i) (suc j) l m = distinct-at same d xs (h .1) i j (le-of-suc-le-suc l) (le-of-suc-le-suc m)
 
 -- a list in which no element is like another can be sorted by an order of what has P
 module _ {A : Type 0} (b same : A → A → Bool) (P : A → Type 0) (irr : (x : A) → P x → b x x ≡ false) (trans : Transitive b P)
@@ -35,8 +20,8 @@ module _ {A : Type 0} (b same : A → A → Bool) (P : A → Type 0) (irr : (x :
   apart : (d : A) (l : List A) → Every P l → Distinct same l → (i j : ℕ) → i < length l → j < length l → (i ≡ j → ⊥) → getD l i d ≡ getD l j d → ⊥
   apart d l h k i j hi hj q e =
       elim (decLt i j) [
-        | yes s ↦ clash (alike (getD l j d) (every-in P l h (getD l j d) (at-among l j d hj))) (subst (λ (w : A). same (getD l j d) w ≡ false) e (distinct-at same d l k i j s hj))
-        | no s ↦ clash (alike (getD l i d) (every-in P l h (getD l i d) (at-among l i d hi))) (subst (λ (w : A). same (getD l i d) w ≡ false) (sym e) (distinct-at same d l k j i (omega arith) hi))
+        | yes s ↦ clash (alike (getD l j d) (every-in P l h (getD l j d) (at-among l j d hj))) (subst (λ (w : A). same (getD l j d) w ≡ false) e (pairs-at (λ x z. same z x ≡ false) l d k i j s hj))
+        | no s ↦ clash (alike (getD l i d) (every-in P l h (getD l i d) (at-among l i d hi))) (subst (λ (w : A). same (getD l i d) w ≡ false) (sym e) (pairs-at (λ x z. same z x ≡ false) l d k j i (omega arith) hi))
       ]
 
   pub sortable : (d : A) (l : List A) → Every P l → Distinct same l → Sortable b d l
@@ -96,7 +81,7 @@ module _ {A : Type 0} (b : A → A → Bool) (d : A) (l : List A) (S : Sortable 
             ]
 
     pub ranked-rising : Rising b m
-    ranked-rising = rising-at b d m (λ r s h k. go r s h (omega arith))
+    ranked-rising = at-rising b m d (λ r s h k. go r s h (omega arith))
       where
         go : (r s : ℕ) → r < s → s < length l → b (getD m r d) (getD m s d) ≡ true
         go r s h k =

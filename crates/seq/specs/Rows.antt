@@ -1,8 +1,8 @@
 -- `rows f n`: rows end to end. Of rows of w cells each, the length, the cell j of row i, and the row itself; and rows whose widths differ, by
--- their members. `each` is the rows' width below the bound. Assumes nothing.
+-- their members; rows that are mapped. `each` is the rows' width below the bound. Assumes nothing.
 use mathlib.Core.Path.{_≡_, refl, sym, _∙_, ap}
 use mathlib.Core.Logic.{inl, inr, ⊎-elim}
-use mathlib.Core.List.{append-assoc, append-nil}
+use mathlib.Core.List.{append-assoc, append-nil, map-append}
 use Prim.Native.Nat.{_<_, _*_}
 use native.Mathlib.Nat.{add-suc, add-zero, mul-zero, mul-suc, not-suc-le-zero, mul-le-mul-left}
 use native.Mathlib.Numerals.{add-one}
@@ -10,7 +10,7 @@ use native.Mathlib.Decide.{decLt}
 use native.Mathlib.Omega.{arith}
 use lib.ListN.{length-append, List·getD-append}
 use lib.Seq.{getD-append-add}
-use Rattle.seq.specs.Seq.{List, [], _∷_, _++_, ℕ, zero, suc, _+_, length, getD, table, rows, cell}
+use Rattle.seq.specs.Seq.{List, [], _∷_, _++_, ℕ, zero, suc, _+_, length, getD, table, rows, cell, map}
 use Rattle.seq.specs.Terms.{Among}
 use Rattle.seq.specs.Members.{among-++, ++-among}
 
@@ -41,6 +41,10 @@ module _ {A : Type 0} where
   rows-ext f g zero h = refl
   rows-ext f g (suc n) h = rw (rows-ext f g n (λ k l. h k (omega arith)), h n (omega arith))
 
+  pub rows-none : (n : ℕ) → rows {A = A} (λ i. []) n ≡ []
+  rows-none zero = refl
+  rows-none (suc n) = ap (λ (r : List A). r ++ []) (rows-none n)
+
   -- rows of one cell are a table
   pub rows-one : (f : ℕ → A) (n : ℕ) → rows (λ i. f i ∷ []) n ≡ table f n
   rows-one f zero = refl
@@ -66,3 +70,7 @@ module _ {A : Type 0} where
 
         within : i < n → w * i + j < w * n
         within s = omega (arith, mul-suc w i, mul-le-mul-left w s)
+
+pub map-rows : {A : Type 0} {B : Type 0} (f : A → B) (g : ℕ → List A) (n : ℕ) → map f (rows g n) ≡ rows (λ i. map f (g i)) n
+map-rows f g zero = refl
+map-rows {A} {B} f g (suc n) = map-append f (rows g n) (g n) ∙ ap (λ (r : List B). r ++ map f (g n)) (map-rows f g n)

@@ -1,5 +1,5 @@
--- Sums of integers over a list: congruence, linearity, the exchange of two sums, a sum in which one index counts, a count as a sum, and a sum over the
--- numbers below n in another order. By induction on the list.
+-- Sums of integers over a list: congruence, linearity, the exchange of two sums, a sum in which one index counts, a count as a sum, a sum over the
+-- numbers below n in another order, and by pairs. By induction on the list.
 -- Assumes nothing.
 use mathlib.Core.Path.{_≡_, refl, sym, _∙_, ap}
 use mathlib.Core.Logic.{inl, inr}
@@ -7,14 +7,15 @@ use Prim.Native.Nat.{_≤_, _<_}
 use native.Mathlib.Nat.{not-suc-le-zero}
 use native.Mathlib.Decide.{decLt}
 use native.Mathlib.Omega.{arith}
-use borrow.Author.Tests.{eqb-true, eqb-false, eq-eqb, ne-eqb}
+use borrow.Author.Tests.{eqb-true, eqb-false, ne-eqb}
 use native.Mathlib.Numerals.{one-add}
 use lib.IntN.{+ℤ-idl, +ℤ-idr, +ℤ-assoc, pos-+ℤ-pos, *ℤ-zero, zero-*ℤ}
 use Rattle.exact.specs.Ring.{+ℤ-swap4, *ℤ-distl, one-*ℤ}
 use Rattle.exact.specs.Solve.{ring, reify}
-use Rattle.seq.specs.Seq.{Bool, true, false, cond, List, [], _∷_, _++_, ℕ, zero, suc, eqb, count, ℤ, pos, _+ℤ_, _-ℤ_, _*ℤ_}
+use Rattle.exact.specs.Order.{pos-once}
+use Rattle.seq.specs.Seq.{Bool, true, false, cond, List, [], _∷_, _++_, ℕ, zero, suc, _+_, _*_, eqb, count, ℤ, pos, _+ℤ_, _-ℤ_, _*ℤ_}
 use Rattle.seq.specs.Terms.{Among, Injects, sum, upto, ind}
-use Rattle.seq.specs.Tests.{bool-ext}
+use Rattle.seq.specs.Tests.{eqb-iff}
 use Rattle.seq.specs.Perm.{onto}
 
 pub upto-< : {i : ℕ} (n : ℕ) → Among i (upto n) → i < n
@@ -38,6 +39,9 @@ module _ {A : Type 0} where
   unfolding sum
   sum-zero [] = refl
   sum-zero (x ∷ xs) = ap (λ (t : ℤ). pos 0 +ℤ t) (sum-zero xs)
+
+  pub sum-none : (xs : List A) {f : A → ℤ} → ((x : A) → Among x xs → f x ≡ pos 0) → sum xs f ≡ pos 0
+  sum-none xs h = sum-ext xs h ∙ sum-zero xs
 
   pub sum-+ : (xs : List A) (f g : A → ℤ) → sum xs (λ x. f x +ℤ g x) ≡ sum xs f +ℤ sum xs g
   unfolding sum
@@ -101,9 +105,7 @@ sum-count p (suc n) = ap (λ (t : ℤ). ind (p n) +ℤ t) (sum-count p n) ∙ co
 module _ (f : ℕ → ℕ) (n : ℕ) (I : Injects f n) (g : ℕ → ℤ) where
   -- f takes j at k alone
   taken : (j k : ℕ) → k < n → f k ≡ j → (i : ℕ) → i < n → eqb j (f i) ≡ eqb i k
-  taken j k h e i l =
-      bool-ext (eqb j (f i)) (eqb i k) (λ q. eq-eqb i k (I .once i k l h (sym (eqb-true j (f i) q) ∙ sym e)))
-      (λ q. eq-eqb j (f i) (sym e ∙ ap f (sym (eqb-true i k q))))
+  taken j k h e i l = eqb-iff j (f i) i k (λ q. I .once i k l h (sym q ∙ sym e)) (λ q. sym e ∙ ap f (sym q))
 
   one-of : (j : ℕ) → j < n → sum (upto n) (λ i. ind (eqb j (f i)) *ℤ g j) ≡ g j
   one-of j l =
@@ -117,3 +119,24 @@ module _ (f : ℕ → ℕ) (n : ℕ) (I : Injects f n) (g : ℕ → ℤ) where
       sum-ext (upto n) {f = λ i. g (f i)} {g = λ i. sum (upto n) (λ j. ind (eqb j (f i)) *ℤ g j)} (λ i m. sym (delta n (f i) g (I .into i (upto-< n m))))
       ∙ exchange (upto n) (upto n) (λ i j. ind (eqb j (f i)) *ℤ g j)
       ∙ sum-ext (upto n) {f = λ j. sum (upto n) (λ i. ind (eqb j (f i)) *ℤ g j)} {g = g} (λ j m. one-of j (upto-< n m))
+
+-- so a count does not depend on the order
+pub count-perm : (f : ℕ → ℕ) (n : ℕ) → Injects f n → (p : ℕ → Bool) → count (λ i. p (f i)) n ≡ count p n
+count-perm f n I p = pos-once (count (λ i. p (f i)) n) (count p n) (sym (sum-count (λ i. p (f i)) n) ∙ sum-perm f n I (λ k. ind (p k)) ∙ sum-count p n)
+
+-- ── by pairs ──
+
+pub sum-pairs : (m : ℕ) (f : ℕ → ℤ) → sum (upto (2 * m)) f ≡ sum (upto m) (λ k. f (2 * k) +ℤ f (2 * k + 1))
+unfolding sum upto
+sum-pairs zero f = refl
+sum-pairs (suc m) f =
+    ap (λ (k : ℕ). sum (upto k) f) two ∙ (λ t. f (one t) +ℤ (f (2 * m) +ℤ sum-pairs m f t)) ∙ step (f (2 * m)) (f (2 * m + 1)) (sum (upto m) (λ k. f (2 * k) +ℤ f (2 * k + 1)))
+  where
+    two : 2 * suc m ≡ suc (suc (2 * m))
+    two = omega arith
+
+    one : suc (2 * m) ≡ 2 * m + 1
+    one = omega arith
+
+    step : (a b c : ℤ) → b +ℤ (a +ℤ c) ≡ (a +ℤ b) +ℤ c
+    step a b c = ring (a ∷ b ∷ c ∷ []) (search reify depth 20) tt

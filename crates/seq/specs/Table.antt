@@ -1,7 +1,7 @@
 -- `table f n`: its length, its cells, and that it is determined by them. Assumes nothing.
 use mathlib.Core.Path.{_≡_, refl, sym, _∙_, ap}
 use mathlib.Core.Logic.{⊎-elim}
-use mathlib.Core.List.{append-assoc, append-nil}
+use mathlib.Core.List.{append-assoc, append-nil, map-append}
 use Prim.Native.Nat.{_<_}
 use native.Mathlib.Nat.{add-suc, add-zero, eq-or-lt-of-le, le-of-suc-le-suc}
 use native.Mathlib.Numerals.{add-one}
@@ -65,8 +65,4 @@ module _ {A : Type 0} where
 
 pub table-map : {A : Type 0} {B : Type 0} (g : A → B) (f : ℕ → A) (n : ℕ) → map g (table f n) ≡ table (λ i. g (f i)) n
 table-map g f zero = refl
-table-map {A} {B} g f (suc n) = map-++ (table f n) ∙ rw (table-map g f n)
-  where
-    map-++ : (l : List A) → map g (l ++ (f n ∷ [])) ≡ map g l ++ (g (f n) ∷ [])
-    map-++ [] = refl
-    map-++ (x ∷ xs) = ap (λ (r : List B). g x ∷ r) (map-++ xs)
+table-map g f (suc n) = map-append g (table f n) (f n ∷ []) ∙ rw (table-map g f n)

@@ -1,5 +1,6 @@
 -- The words in which the laws are stated. None of them is computed by an operation; in order:
---   Among, Every, Rising, Ordered    the members of a list, and lists in strict order
+--   Among, Every, Pairs, Chain       the members of a list, any two of them in their order, and any two neighbours
+--   Rising, Ordered, Distinct        lists in strict order, and lists without doubles
 --   Has, Strict, Order, Best         a candidate below a bound, what a comparison has to be, what is best
 --   Ranked, previous                 groups of numbers in cyclic order
 --   iter, orbit, steps, Injects      a function step by step, and one that takes no value twice
@@ -22,6 +23,20 @@ abbrev pub Every : {A : Type 0} → (A → Type 0) → List A → Type 0
 Every P [] = Unit {0}
 Every P (x ∷ xs) = P x × Every P xs
 
+-- of any two members the one that stands first has R to the other
+abbrev pub Pairs : {A : Type 0} → (A → A → Type 0) → List A → Type 0
+Pairs R [] = Unit {0}
+Pairs R (x ∷ xs) = ((z : _) → Among z xs → R x z) × Pairs R xs
+
+-- x has R to the first of a list; each member to the next
+abbrev pub Next : {A : Type 0} → (A → A → Type 0) → A → List A → Type 0
+Next R x [] = Unit {0}
+Next R x (y ∷ ys) = R x y
+
+abbrev pub Chain : {A : Type 0} → (A → A → Type 0) → List A → Type 0
+Chain R [] = Unit {0}
+Chain R (x ∷ xs) = Next R x xs × Chain R xs
+
 -- whether x stands in cell k
 abbrev pub standsAt : ℕ → List ℕ → ℕ → Bool
 standsAt x ys k = eqb x (getD ys k 0)
@@ -34,22 +49,18 @@ module _ {A : Type 0} (b : A → A → Bool) where
   Above x l = (z : A) → Among z l → b x z ≡ true
 
   abbrev pub Rising : List A → Type 0
-  Rising [] = Unit {0}
-  Rising (x ∷ xs) = Above x xs × Rising xs
+  Rising l = Pairs (λ x z. b x z ≡ true) l
 
   -- each is before the next
   abbrev pub Ahead : A → List A → Type 0
-  Ahead x [] = Unit {0}
-  Ahead x (y ∷ ys) = b x y ≡ true
+  Ahead x l = Next (λ y z. b y z ≡ true) x l
 
   abbrev pub Ordered : List A → Type 0
-  Ordered [] = Unit {0}
-  Ordered (x ∷ xs) = Ahead x xs × Ordered xs
+  Ordered l = Chain (λ x y. b x y ≡ true) l
 
   -- no element is, by b, like one that stands before it
   abbrev pub Distinct : List A → Type 0
-  Distinct [] = Unit {0}
-  Distinct (x ∷ xs) = ((z : A) → Among z xs → b z x ≡ false) × Distinct xs
+  Distinct l = Pairs (λ x z. b z x ≡ false) l
 
   -- b is transitive on what has P
   abbrev pub Transitive : (A → Type 0) → Type 0
@@ -82,8 +93,7 @@ pub record Sortable {A : Type 0} (b : A → A → Bool) (d : A) (l : List A) : T
 
 -- numbers in rising order
 abbrev pub Asc : List ℕ → Type 0
-Asc [] = Unit {0}
-Asc (x ∷ xs) = ((z : ℕ) → Among z xs → x < z) × Asc xs
+Asc l = Pairs _<_ l
 
 -- ── candidates ──
 

@@ -1,5 +1,5 @@
 -- The overlay file of an outcome, and the laws by which the code keeps it. Assumes nothing.
-use mathlib.Core.Path.{_≡_, refl, sym, _∙_, ap}
+use mathlib.Core.Path.{_≡_, sym, _∙_, ap}
 use Rattle.seq.specs.Seq.{List, [], ℕ, padded}
 use Rattle.paper.specs.Refusal.{Answer, done, refused}
 use Rattle.paper.specs.Tables.{Counts, Tables}

@@ -1,9 +1,14 @@
 // Two map files laid over each other: the listing of their overlay, and its overlay file.
-use listed::answer::Listed;
-use listed::answer::put;
+use limits::FACE_CELLS;
+use limits::HALF_CELLS;
+use limits::LISTING;
+use limits::SOURCE_CELLS;
+use limits::VERTEX_CELLS;
+use listed::Listed;
+use listed::put;
 use ovwrite::WriteAnswer;
 use seq::wipe_u8;
-use tables::answer::Answer;
+use tables::Answer;
 ghost use mathlib.Core.Path.{_≡_};
 ghost use lib.ListN.{length};
 ghost use Rattle.paper.specs.Lent.{overlay};
@@ -12,13 +17,13 @@ ghost use Rattle.ovwrite.specs.Answers.{writtenOf};
 ghost use Rattle.sheet.specs.Filed.{filed};
 
 // The listing of the overlay of two map files of any bytes, or the line of what is refused.
-pub fn list(zones: &[u8], blocks: &[u8], out: &mut [u8; 85504]) -> Listed
+pub fn list(zones: &[u8], blocks: &[u8], out: &mut [u8; LISTING]) -> Listed
     ensures { λ r. ⌜ ListedOf (overlay fullTables (now (zones .entry)) (now (blocks .entry))) (now (out .entry)) (now (out .exit)) r ⌝ }
 {
-    let mut vertices = [0i64; 4000];
-    let mut halves = [0u16; 20000];
-    let mut sources = [0u32; 4000];
-    let mut faces = [0u16; 5336];
+    let mut vertices = [0i64; VERTEX_CELLS];
+    let mut halves = [0u16; HALF_CELLS];
+    let mut sources = [0u32; SOURCE_CELLS];
+    let mut faces = [0u16; FACE_CELLS];
     let answer = overlay::overlay(
         zones,
         blocks,
@@ -35,10 +40,10 @@ pub fn list(zones: &[u8], blocks: &[u8], out: &mut [u8; 85504]) -> Listed
 pub fn file(zones: &[u8], blocks: &[u8], buffer: &mut [u8]) -> WriteAnswer
     ensures { λ r. ⌜ writtenOf r (now (buffer .exit)) ≡ filed (length (now (buffer .entry))) (overlay fullTables (now (zones .entry)) (now (blocks .entry))) ⌝ }
 {
-    let mut vertices = [0i64; 4000];
-    let mut halves = [0u16; 20000];
-    let mut sources = [0u32; 4000];
-    let mut faces = [0u16; 5336];
+    let mut vertices = [0i64; VERTEX_CELLS];
+    let mut halves = [0u16; HALF_CELLS];
+    let mut sources = [0u32; SOURCE_CELLS];
+    let mut faces = [0u16; FACE_CELLS];
     let answer = overlay::overlay(
         zones,
         blocks,

@@ -1,11 +1,11 @@
 -- The overlay edge record in the definitions' terms, and from four stored numbers. Assumes nothing.
 use Rattle.seq.specs.Seq.{cond, _&&_, Option, none, some, Option·map, ℕ, _^_, leb}
 use Rattle.paper.specs.Lent as paper
-use Rattle.tables.specs.declared.edge.Source.{Source}
-use Rattle.tables.specs.declared.edge.Source.the-variants.{First, Second, Both}
-use Rattle.tables.specs.declared.edge.OverlayEdge.{OverlayEdge}
-use Rattle.tables.specs.declared.edge.Found.{Found}
-use Rattle.tables.specs.declared.edge.Found.the-variants.{Edge, Absent}
+use Rattle.tables.specs.declared.edge_record.Source.{Source}
+use Rattle.tables.specs.declared.edge_record.Source.the-variants.{First, Second, Both}
+use Rattle.tables.specs.declared.edge_record.OverlayEdge.{OverlayEdge}
+use Rattle.tables.specs.declared.edge_record.Found.{Found}
+use Rattle.tables.specs.declared.edge_record.Found.the-variants.{Edge, Absent}
 
 abbrev pub sourceFrom : Source → paper.Source
 sourceFrom (First j) = paper.first j

@@ -1,10 +1,10 @@
 -- The rows that are stored, from the values in local tables. Assumes nothing.
-use Rattle.seq.specs.Seq.{List, [], _∷_, ℕ, _+_, _*_, getD, ℤ, pos, cell}
+use Rattle.seq.specs.Seq.{List, [], _∷_, ℕ, getD, ℤ, pos, cell}
 use Rattle.paper.specs.Graph.{twin}
-use Rattle.tables.specs.declared.vertices.VertexRows.{VertexRows}
-use Rattle.tables.specs.declared.halves.HalfRows.{HalfRows}
-use Rattle.tables.specs.declared.sources.SourceRows.{SourceRows}
-use Rattle.tables.specs.declared.faces.FaceRows.{FaceRows}
+use Rattle.tables.specs.declared.vertex_rows.VertexRows.{VertexRows}
+use Rattle.tables.specs.declared.half_rows.HalfRows.{HalfRows}
+use Rattle.tables.specs.declared.source_rows.SourceRows.{SourceRows}
+use Rattle.tables.specs.declared.face_rows.FaceRows.{FaceRows}
 
 -- X, Y, D, least outgoing half-edge
 abbrev pub vertexOf : VertexRows → ℕ → List ℤ

@@ -8,10 +8,10 @@ use Rattle.paper.specs.Refusal as refusal
 use Rattle.paper.specs.Lent as lent
 use Rattle.tables.specs.declared.answer.Answer.{Answer}
 use Rattle.tables.specs.declared.answer.Answer.the-variants.{Done, Refused}
-use Rattle.tables.specs.declared.edge.Source.{Source}
-use Rattle.tables.specs.declared.edge.Source.the-variants.{First, Second, Both}
-use Rattle.tables.specs.declared.edge.Found.{Found}
-use Rattle.tables.specs.declared.edge.Found.the-variants.{Edge, Absent}
+use Rattle.tables.specs.declared.edge_record.Source.{Source}
+use Rattle.tables.specs.declared.edge_record.Source.the-variants.{First, Second, Both}
+use Rattle.tables.specs.declared.edge_record.Found.{Found}
+use Rattle.tables.specs.declared.edge_record.Found.the-variants.{Edge, Absent}
 use Rattle.tables.specs.Values.{answerOf, tablesBy}
 use Rattle.tables.specs.Found.{sourceFrom, foundOf}
 

@@ -1,6 +1,6 @@
 // "The answer is either the three counts or a refusal with number, map and place."
 use crate::room::Counts;
-use mapfile::refusal::Refusal;
+use mapfile::Refusal;
 
 pub enum Answer {
     Done(Counts),

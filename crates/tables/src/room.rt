@@ -1,8 +1,12 @@
 // The three counts, and the room for them: "Room is the smaller of the lent table and the number above; a half-edge table counts as room for half as many
 // edges, rounded down, and where several lent tables hold one kind the least room counts".
-use crate::limits::OVERLAY_EDGES;
-use crate::limits::OVERLAY_FACES;
-use crate::limits::OVERLAY_VERTICES;
+use limits::FACE_WIDTH;
+use limits::HALF_WIDTH;
+use limits::OVERLAY_EDGES;
+use limits::OVERLAY_FACES;
+use limits::OVERLAY_VERTICES;
+use limits::SOURCE_WIDTH;
+use limits::VERTEX_WIDTH;
 ghost use mathlib.Core.Path.{_≡_};
 ghost use Prim.Native.Nat.{min};
 ghost use Rattle.paper.specs.Limits.{maps};
@@ -30,8 +34,8 @@ fn smaller(number: u16, room: usize) -> u16
 pub fn edge_room(halves: usize, sources: usize) -> usize
     ensures { λ r. ⌜ r ≡ edgeRoom maps (lengthsBy 0 halves sources 0) ⌝ }
 {
-    let a = halves / 5 / 2;
-    let b = sources / 2;
+    let a = halves / HALF_WIDTH / 2;
+    let b = sources / SOURCE_WIDTH;
     if b < a { b } else { a }
 }
 
@@ -40,8 +44,8 @@ pub fn room_in(vertices: usize, halves: usize, sources: usize, faces: usize) -> 
     ensures { λ r. ⌜ countsOf r ≡ roomIn maps (lengthsBy vertices halves sources faces) ⌝ }
 {
     Counts {
-        vertices: smaller(OVERLAY_VERTICES, vertices / 4),
+        vertices: smaller(OVERLAY_VERTICES, vertices / VERTEX_WIDTH),
         edges: smaller(OVERLAY_EDGES, edge_room(halves, sources)),
-        faces: smaller(OVERLAY_FACES, faces / 4),
+        faces: smaller(OVERLAY_FACES, faces / FACE_WIDTH),
     }
 }

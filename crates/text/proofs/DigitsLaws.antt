@@ -1,12 +1,12 @@
 -- A number's digits as the kit's `io` writes them are its decimal text, and a number of 16 bits has at most five. Assumes nothing.
-use mathlib.Core.Path.{_≡_, refl, sym, _∙_, ap, subst}
+use mathlib.Core.Path.{_≡_, refl, sym, _∙_, ap}
 use Prim.Native.Nat.{_≤_, _<_}
 use native.Mathlib.Nat.{pow-suc, one-le-pow, mod-lt, mod-eq-of-lt, pow-le-pow-right}
 use native.Mathlib.Numerals.{unary-clauses}
 use native.Mathlib.Omega.{arith}
 use borrow.Author.Tests.{lt-ltb, le-ltb, ltb-true, ltb-false}
 use Rattle.io.specs.Digits.{digits, Fewest, glyph}
-use Rattle.seq.specs.Seq.{Bool, List, [], _∷_, _++_, true, false, ℕ, zero, suc, _+_, _*_, _-_, _/_, _%_, _^_, ltb, length}
+use Rattle.seq.specs.Seq.{Bool, List, [], _∷_, _++_, true, false, ℕ, zero, suc, _+_, _*_, _-_, _/_, _%_, _^_, ltb}
 use Rattle.paper.specs.Listing.{digitsIn, decimal}
 
 glyph-is : (d : ℕ) → d < 10 → glyph d ≡ 48 + d

@@ -1,4 +1,5 @@
 // The face table: its cells, and the gaps in it.
+use limits::FACE_WIDTH;
 ghost use mathlib.Core.Path.{_≡_};
 ghost use mathlib.Core.Bool.{cond};
 ghost use Prim.Native.Nat.{_+_, _*_, _≤_, _<_};
@@ -11,7 +12,7 @@ pub fn cell(faces: &[u16], face: u16, j: usize) -> u16
     requires { ⌜ j ≤ 3 ⌝ }
     ensures { λ r. ⌜ r ≡ getD (now (faces .entry)) (4 * face + j) 0 ⌝ }
 {
-    let at = 4 * face as usize + j;
+    let at = FACE_WIDTH * face as usize + j;
     if faces.len() <= at {
         return 0;
     }

@@ -4,13 +4,6 @@ mod line; // words and numbers, one behind the other
 mod lines; // the lines
 mod whole; // the whole listing
 
-pub use cells::gaps;
-pub use line::decimal;
-pub use line::field;
-pub use line::words;
-pub use lines::counts_line;
-pub use lines::face_line;
-pub use lines::gaps_line;
 pub use lines::refused_line;
 pub use whole::listing;
 pub use whole::refused_listing;

@@ -2,6 +2,7 @@
 use crate::cells::cell;
 use crate::line::field;
 use crate::line::words;
+use limits::LINE;
 ghost use Prim.Native.Nat.{_+_, _≤_};
 ghost use lib.ListN.{length};
 ghost use Rattle.paper.specs.Listing.{countsLine, refusedLine};
@@ -9,7 +10,7 @@ ghost use Rattle.text.specs.Line.{Put};
 ghost use Rattle.text.specs.Lines.{Line, leastText, labelsText, faceText, gapsText};
 
 // "The first line gives the counts"
-pub fn counts_line(vertices: u16, edges: u16, faces: u16, line: &mut [u8; 64]) -> usize
+pub fn counts_line(vertices: u16, edges: u16, faces: u16, line: &mut [u8; LINE]) -> usize
     ensures { λ r. ⌜ Line 64 (countsLine (record { vertices = vertices; edges = edges; faces = faces })) (now (line .entry)) (now (line .exit)) r ⌝ }
 {
     let at = field(line, 0, b"vertices ", vertices);
@@ -19,7 +20,7 @@ pub fn counts_line(vertices: u16, edges: u16, faces: u16, line: &mut [u8; 64]) -
 }
 
 // "On refusal the only line is `refused N map M place P`"
-pub fn refused_line(number: u16, map: u16, place: u16, line: &mut [u8; 64]) -> usize
+pub fn refused_line(number: u16, map: u16, place: u16, line: &mut [u8; LINE]) -> usize
     ensures { λ r. ⌜ Line 64 (refusedLine (record { number = number; map = map; place = place })) (now (line .entry)) (now (line .exit)) r ⌝ }
 {
     let at = field(line, 0, b"refused ", number);
@@ -50,7 +51,7 @@ fn labels_field(line: &mut [u8], face: u16, first: u16, second: u16) -> usize
 }
 
 // "number, first label, second label, least outer half-edge (`-` for face 0), holes"
-pub fn face_line(face: u16, faces: &[u16], line: &mut [u8; 64]) -> usize
+pub fn face_line(face: u16, faces: &[u16], line: &mut [u8; LINE]) -> usize
     ensures { λ r. ⌜ Line 64 (faceText (now (faces .entry)) face) (now (line .entry)) (now (line .exit)) r ⌝ }
 {
     let at = labels_field(line, face, cell(faces, face, 0), cell(faces, face, 1));
@@ -60,7 +61,7 @@ pub fn face_line(face: u16, faces: &[u16], line: &mut [u8; 64]) -> usize
 }
 
 // "the last line gives the number of gaps"
-pub fn gaps_line(gaps: u16, line: &mut [u8; 64]) -> usize
+pub fn gaps_line(gaps: u16, line: &mut [u8; LINE]) -> usize
     ensures { λ r. ⌜ Line 64 (gapsText gaps) (now (line .entry)) (now (line .exit)) r ⌝ }
 {
     let at = field(line, 0, b"gaps ", gaps);

@@ -6,6 +6,8 @@ use crate::lines::counts_line;
 use crate::lines::face_line;
 use crate::lines::gaps_line;
 use crate::lines::refused_line;
+use limits::LINE;
+use limits::LISTING;
 ghost use Prim.Native.Nat.{_+_, _*_, _≤_};
 ghost use lib.ListN.{length};
 ghost use Rattle.seq.specs.Seq.{rows};
@@ -19,7 +21,7 @@ fn put_counts(vertices: u16, edges: u16, faces: u16, out: &mut [u8]) -> usize
     requires { ⌜ 64 ≤ length (now out) ⌝ }
     ensures { λ r. ⌜ Put (countsLine (record { vertices = vertices; edges = edges; faces = faces })) 64 (now (out .entry)) 0 (now (out .exit)) r ⌝ }
 {
-    let mut line = [0u8; 64];
+    let mut line = [0u8; LINE];
     let n = counts_line(vertices, edges, faces, &mut line);
     words(out, 0, &line[..n])
 }
@@ -28,7 +30,7 @@ fn put_face(out: &mut [u8], at: usize, face: u16, faces: &[u16]) -> usize
     requires { ⌜ at + 64 ≤ length (now out) ⌝ }
     ensures { λ r. ⌜ Put (faceText (now (faces .entry)) face) 64 (now (out .entry)) at (now (out .exit)) r ⌝ }
 {
-    let mut line = [0u8; 64];
+    let mut line = [0u8; LINE];
     let n = face_line(face, faces, &mut line);
     words(out, at, &line[..n])
 }
@@ -52,13 +54,19 @@ fn put_gaps(out: &mut [u8], at: usize, count: u16, faces: &[u16]) -> usize
     requires { ⌜ at + 64 ≤ length (now out) ⌝ }
     ensures { λ r. ⌜ Put (gapsText (gapsIn (now (faces .entry)) count)) 64 (now (out .entry)) at (now (out .exit)) r ⌝ }
 {
-    let mut line = [0u8; 64];
+    let mut line = [0u8; LINE];
     let n = gaps_line(gaps(faces, count), &mut line);
     words(out, at, &line[..n])
 }
 
 // The listing of an overlay with these counts and this face table.
-pub fn listing(vertices: u16, edges: u16, count: u16, faces: &[u16], out: &mut [u8; 85504]) -> usize
+pub fn listing(
+    vertices: u16,
+    edges: u16,
+    count: u16,
+    faces: &[u16],
+    out: &mut [u8; LISTING],
+) -> usize
     requires { ⌜ count ≤ overlayFaces ⌝ }
     ensures { λ r. ⌜ Line 85504 (listingText (record { vertices = vertices; edges = edges; faces = count }) (now (faces .entry))) (now (out .entry)) (now (out .exit)) r ⌝ }
 {
@@ -68,10 +76,10 @@ pub fn listing(vertices: u16, edges: u16, count: u16, faces: &[u16], out: &mut [
 }
 
 // "On refusal the only line is `refused N map M place P`"
-pub fn refused_listing(number: u16, map: u16, place: u16, out: &mut [u8; 85504]) -> usize
+pub fn refused_listing(number: u16, map: u16, place: u16, out: &mut [u8; LISTING]) -> usize
     ensures { λ r. ⌜ Line 85504 (refusedLine (record { number = number; map = map; place = place })) (now (out .entry)) (now (out .exit)) r ⌝ }
 {
-    let mut line = [0u8; 64];
+    let mut line = [0u8; LINE];
     let n = refused_line(number, map, place, &mut line);
     words(out, 0, &line[..n])
 }

@@ -2,8 +2,8 @@
 use console::load_arg;
 use console::say;
 use console::say_number;
-use mapcheck::answer::Checked;
-use mapfile::refusal::Refusal;
+use mapcheck::Checked;
+use mapfile::Refusal;
 
 fn say_name(i: usize) {
     let mut name = io::buffer();

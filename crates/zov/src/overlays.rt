@@ -1,8 +1,9 @@
 // Overlays, listed and written.
 use console::load_arg;
 use console::say;
+use limits::LISTING;
 use ovwrite::WriteAnswer;
-use tables::answer::Answer;
+use tables::Answer;
 
 // A refusal in a sentence, under its line.
 fn explain(answer: Answer) {
@@ -16,8 +17,8 @@ fn explain(answer: Answer) {
 pub fn list_arg(i: usize) {
     let mut file = io::large_buffer();
     let n = load_arg(i, &mut file);
-    let mut out = [0u8; 85504];
-    let listed = listed::file::list(&file[..n], &mut out);
+    let mut out = [0u8; LISTING];
+    let listed = listed::list(&file[..n], &mut out);
     let length = listed.length;
     say(&out[..length]);
     let answer = listed.answer;
@@ -30,7 +31,7 @@ pub fn lay() {
     let n = load_arg(1, &mut zones);
     let mut blocks = io::buffer();
     let m = load_arg(2, &mut blocks);
-    let mut out = [0u8; 85504];
+    let mut out = [0u8; LISTING];
     let listed = sheet::list(&zones[..n], &blocks[..m], &mut out);
     let length = listed.length;
     say(&out[..length]);

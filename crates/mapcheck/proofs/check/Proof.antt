@@ -1,7 +1,6 @@
 -- `mapcheck::check` meets its contract. Assumes nothing.
-use mathlib.Core.Path.{_≡_, sym, ap, _∙_}
+use mathlib.Core.Path.{sym, ap, _∙_}
 use denote.Ref.{now}
-use Rattle.seq.specs.Seq.{ℕ}
 use Rattle.paper.specs.Refusal.{answer, done}
 use Rattle.paper.specs.Map.{vertexCount, edgesIn}
 use Rattle.mapfile.specs.Verdict.{verdict}
@@ -11,14 +10,18 @@ use Rattle.mapcheck.proofs.check.Tie as tie
 
 returns : tie.Need-returns
 returns c =
-    let f = now (c .before .before .before .before .before .args .file) in
-    sym (ap (answer (vertexCount f, edgesIn f)) (sym (c .before .before .before .fault .ensures) ∙ ap verdict (c .before .c .given .1)))
+    let start : tie.Start = search needs in
+    let after-fault : tie.After-fault = search needs in
+    let f = now (start .args .file) in
+    sym (ap (answer (vertexCount f, edgesIn f)) (sym (after-fault .fault .ensures) ∙ ap verdict (c .before .c .given .1)))
 
 returns-2 : tie.Need-returns-2
 returns-2 c =
-    let f = now (c .before .before .before .before .before .before .args .file) in
+    let start : tie.Start = search needs in
+    let after-fault : tie.After-fault = search needs in
+    let f = now (start .args .file) in
     (λ i. done (c .before .vertex-count .ensures i, c .edge-count .ensures i))
-    ∙ sym (ap (answer (vertexCount f, edgesIn f)) (sym (c .before .before .before .before .fault .ensures) ∙ ap verdict (c .before .before .enum-told .given .1)))
+    ∙ sym (ap (answer (vertexCount f, edgesIn f)) (sym (after-fault .fault .ensures) ∙ ap verdict (c .before .before .enum-told .given .1)))
 
 pub check-spec : {M : Type 1} → statement M
 check-spec =

@@ -4,20 +4,23 @@ use borrow.Author.Needs.{needs}
 use denote.Ref.{now}
 use Rattle.paper.specs.Map.{mapOf, formFaults, partFaults}
 use Rattle.mapfile.specs.Verdict.{verdict}
-use Rattle.mapfile.proofs.VerdictLaws.{first-none, first-some}
+use Rattle.refusallaws.specs.Refusals.{first-none, first-some}
 use Rattle.mapfile.proofs.form_and_parts.Statement.{statement}
 use Rattle.mapfile.proofs.form_and_parts.Tie as tie
 
 returns : tie.Need-returns
 returns c =
-    let s = now (c .before .before .before .before .args .file) in
+    let start : tie.Start = search needs in
+    let s = now (start .args .file) in
     let told = ap verdict (c .enum-told .given .1) in
     told ∙ sym (first-some (formFaults s) (partFaults (mapOf s .graph)) (sym (c .before .before .form .ensures) ∙ told))
 
 returns-2 : tie.Need-returns-2
 returns-2 c =
-    let s = now (c .before .before .before .before .before .args .file) in
-    c .parts .ensures ∙ sym (first-none (formFaults s) (partFaults (mapOf s .graph)) (sym (c .before .before .before .form .ensures) ∙ ap verdict (c .before .enum-told2 .given .1)))
+    let start : tie.Start = search needs in
+    let after-form : tie.After-form = search needs in
+    let s = now (start .args .file) in
+    c .parts .ensures ∙ sym (first-none (formFaults s) (partFaults (mapOf s .graph)) (sym (after-form .form .ensures) ∙ ap verdict (c .before .enum-told2 .given .1)))
 
 pub form-and-parts-spec : {M : Type 1} → statement M
 form-and-parts-spec =

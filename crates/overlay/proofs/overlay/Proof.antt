@@ -15,28 +15,42 @@ use Rattle.overlay.proofs.overlay.Tie as tie
 
 read-layers-requires : tie.Need-read-layers-requires
 read-layers-requires c κs =
-    let a = c .before .before .before .before .before .before .before .before .args in
+    let start : tie.Start = search needs in
+    let a = start .args in
     let e = sym (c .before .before .maps-fault .ensures) ∙ ap verdict (c .enum-told .given .1) in
     (parts-none (now (a .zones)) (first-passes (now (a .zones)) (now (a .blocks)) e), parts-none (now (a .blocks)) (second-passes (now (a .zones)) (now (a .blocks)) e))
 
 from-layers-requires : tie.Need-from-layers-requires
 from-layers-requires c κs =
-    let a = c .before .before .before .before .before .before .before .before .before .before .before .before .before .args in
-    let e = sym (c .before .before .before .before .before .before .before .maps-fault .ensures) ∙ ap verdict (c .before .before .before .before .before .enum-told .given .1) in
-    layers-held (now (a .zones)) (now (a .blocks)) _ (c .before .before .before .before .read-layers .ensures) (first-passes (now (a .zones)) (now (a .blocks)) e) (second-passes (now (a .zones)) (now (a .blocks)) e)
+    let start : tie.Start = search needs in
+    let after-maps-fault : tie.After-maps-fault = search needs in
+    let after-enum-told : tie.After-enum-told = search needs in
+    let after-read-layers : tie.After-read-layers = search needs in
+    let a = start .args in
+    let e = sym (after-maps-fault .maps-fault .ensures) ∙ ap verdict (after-enum-told .enum-told .given .1) in
+    layers-held (now (a .zones)) (now (a .blocks)) _ (after-read-layers .read-layers .ensures) (first-passes (now (a .zones)) (now (a .blocks)) e) (second-passes (now (a .zones)) (now (a .blocks)) e)
 
 returns : tie.Need-returns
 returns c =
-    let a = c .before .before .before .before .before .before .before .before .before .before .before .before .before .before .before .before .before .before .before .before .before .args in
-    c .before .before .before .before .before .before .before .refuse .ensures
-    ∙ maps-refused (now (a .zones)) (now (a .blocks)) (lengthsOf (tablesBy (now (a .vertices)) (now (a .halves)) (now (a .sources)) (now (a .faces)))) _ (sym (c .before .before .before .before .before .before .before .before .before .before .before .before .before .before .before .maps-fault .ensures) ∙ ap verdict (c .before .before .before .before .before .before .before .before .before .before .before .before .before .c .given .1))
+    let start : tie.Start = search needs in
+    let after-refuse : tie.After-refuse = search needs in
+    let after-maps-fault : tie.After-maps-fault = search needs in
+    let after-c : tie.After-c = search needs in
+    let a = start .args in
+    after-refuse .refuse .ensures
+    ∙ maps-refused (now (a .zones)) (now (a .blocks)) (lengthsOf (tablesBy (now (a .vertices)) (now (a .halves)) (now (a .sources)) (now (a .faces)))) _ (sym (after-maps-fault .maps-fault .ensures) ∙ ap verdict (after-c .c .given .1))
 
 returns-2 : tie.Need-returns-2
 returns-2 c =
-    let a = c .before .before .before .before .before .before .before .before .before .before .before .before .before .before .before .before .before .before .before .before .before .args in
-    let e = sym (c .before .before .before .before .before .before .before .before .before .before .before .before .before .before .before .maps-fault .ensures) ∙ ap verdict (c .before .before .before .before .before .before .before .before .before .before .before .before .before .enum-told .given .1) in
-    c .before .before .before .before .before .before .before .from-layers .ensures
-    ∙ ap (λ (ms : List Map). overlaid ms (lengthsOf (tablesBy (now (a .vertices)) (now (a .halves)) (now (a .sources)) (now (a .faces))))) (held-maps (now (a .zones)) (now (a .blocks)) _ (c .before .before .before .before .before .before .before .before .before .before .before .before .read-layers .ensures))
+    let start : tie.Start = search needs in
+    let after-maps-fault : tie.After-maps-fault = search needs in
+    let after-enum-told : tie.After-enum-told = search needs in
+    let after-from-layers : tie.After-from-layers = search needs in
+    let after-read-layers : tie.After-read-layers = search needs in
+    let a = start .args in
+    let e = sym (after-maps-fault .maps-fault .ensures) ∙ ap verdict (after-enum-told .enum-told .given .1) in
+    after-from-layers .from-layers .ensures
+    ∙ ap (λ (ms : List Map). overlaid ms (lengthsOf (tablesBy (now (a .vertices)) (now (a .halves)) (now (a .sources)) (now (a .faces))))) (held-maps (now (a .zones)) (now (a .blocks)) _ (after-read-layers .read-layers .ensures))
     ∙ maps-pass (now (a .zones)) (now (a .blocks)) (lengthsOf (tablesBy (now (a .vertices)) (now (a .halves)) (now (a .sources)) (now (a .faces)))) e
 
 pub overlay-spec : {M : Type 1} → statement M

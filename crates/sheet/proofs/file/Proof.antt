@@ -1,5 +1,4 @@
 -- `sheet::file` meets its contract. Assumes nothing.
-use native.Mathlib.Omega.{arith}
 use borrow.Author.Needs.{needs}
 use mathlib.Core.Path.{sym, _∙_, ap}
 use denote.Ref.{now}
@@ -16,21 +15,23 @@ use Rattle.sheet.proofs.file.Tie as tie
 
 returns : tie.Need-returns
 returns c =
-    let o = c .before .before .before .before .before .before .before .before .before .before .before .before .before .before .before in
+    let after-answer : tie.After-answer = search needs in
+    let o : tie.After-overlay = search needs in
     let a = o .before .before .before .before .before .before .before .before .args in
     filed-by
     (length (now (a .buffer)))
     (overlay fullTables (now (a .zones)) (now (a .blocks)))
     (o .overlay .ensures)
-    (ap answerOf (c .before .before .before .before .before .before .before .before .before .answer .given .1))
+    (ap answerOf (after-answer .answer .given .1))
     (c .before .before .write .ensures)
 
 returns-2 : tie.Need-returns-2
 returns-2 c =
-    let o = c .before .before .before .before .before .before .before .before .before .before .before in
+    let after-answer2 : tie.After-answer2 = search needs in
+    let o : tie.After-overlay = search needs in
     let a = o .before .before .before .before .before .before .before .before .args in
     let n = length (now (a .buffer)) in
-    let told = c .before .before .before .before .before .answer2 .given in
+    let told = after-answer2 .answer2 .given in
     filed-by
     n
     (overlay fullTables (now (a .zones)) (now (a .blocks)))

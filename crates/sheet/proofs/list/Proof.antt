@@ -1,5 +1,4 @@
 -- `sheet::list` meets its contract. Assumes nothing.
-use native.Mathlib.Omega.{arith}
 use borrow.Author.Needs.{needs}
 use denote.Ref.{now}
 use Rattle.paper.specs.Lent.{overlay}
@@ -11,13 +10,13 @@ use Rattle.sheet.proofs.list.Tie as tie
 
 put-requires : tie.Need-put-requires
 put-requires c κs =
-    let o = c .before .before .before .before .before .before in
+    let o : tie.After-overlay = search needs in
     let a = o .before .before .before .before .before .before .before .args in
     overlay-answered fullTables (now (a .zones)) (now (a .blocks)) (o .overlay .ensures)
 
 returns : tie.Need-returns
 returns c =
-    let o = c .before .before .before .before .before .before .before in
+    let o : tie.After-overlay = search needs in
     let a = o .before .before .before .before .before .before .before .args in
     listed-of (overlay fullTables (now (a .zones)) (now (a .blocks))) (o .overlay .result) (o .overlay .ensures) (c .put .ensures)
 

@@ -1,5 +1,4 @@
 -- `bonnetewe::answer::of_answer` meets its contract. Assumes nothing.
-use native.Mathlib.Omega.{arith}
 use borrow.Author.Needs.{needs}
 use mathlib.Core.Path.{sym, _∙_, ap}
 use Rattle.tables.specs.declared.answer.Answer.{Answer}

@@ -1,5 +1,4 @@
 -- `bonnetewe::answer::of_checked` meets its contract. Assumes nothing.
-use native.Mathlib.Omega.{arith}
 use borrow.Author.Needs.{needs}
 use mathlib.Core.Path.{sym, _∙_, ap}
 use Rattle.mapcheck.specs.declared.answer.Checked.{Checked}

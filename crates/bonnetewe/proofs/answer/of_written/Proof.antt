@@ -9,7 +9,9 @@ use Rattle.bonnetewe.proofs.answer.of_written.Statement.{statement}
 use Rattle.bonnetewe.proofs.answer.of_written.Tie as tie
 
 mul-result : tie.Need-mul-result
-mul-result c = omega (arith, subst Short (ap answerOf (c .before .answer .given .1)) (c .before .before .before .pre))
+mul-result c =
+    let start : tie.Start = search needs in
+    omega (arith, subst Short (ap answerOf (c .before .answer .given .1)) (start .pre))
 
 returns : tie.Need-returns
 returns c = sym (ap (λ (a : WriteAnswer). toldLength (answerOf a)) (c .before .answer .given .1))

@@ -1,5 +1,4 @@
 -- `bonnetewe::calls::bonnetewe_check` meets its contract. Assumes nothing.
-use native.Mathlib.Omega.{arith}
 use borrow.Author.Needs.{needs}
 use mathlib.Core.Path.{_∙_, ap}
 use Rattle.bonnetewe.specs.Told.{toldMap}

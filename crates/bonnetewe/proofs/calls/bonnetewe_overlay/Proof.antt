@@ -1,5 +1,4 @@
 -- `bonnetewe::calls::bonnetewe_overlay` meets its contract. Assumes nothing.
-use native.Mathlib.Omega.{arith}
 use borrow.Author.Needs.{needs}
 use denote.Ref.{now}
 use Rattle.paper.specs.Lent.{lengthsOf, overlay}
@@ -10,7 +9,7 @@ use Rattle.bonnetewe.proofs.calls.bonnetewe_overlay.Tie as tie
 
 returns : tie.Need-returns
 returns c =
-    let o = c .before .before .before .before .before .before .before .before in
+    let o : tie.After-overlay = search needs in
     let a = o .before .before .before .before .before .before .before .before .before .before .args in
     told-by
     (overlay (lengthsOf (tablesBy (now (a .vertices)) (now (a .halves)) (now (a .sources)) (now (a .faces)))) (now (a .zones)) (now (a .blocks)))

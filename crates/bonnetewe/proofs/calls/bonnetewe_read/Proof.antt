@@ -1,5 +1,4 @@
 -- `bonnetewe::calls::bonnetewe_read` meets its contract. Assumes nothing.
-use native.Mathlib.Omega.{arith}
 use borrow.Author.Needs.{needs}
 use denote.Ref.{now}
 use Rattle.seq.specs.Seq.{length}
@@ -11,7 +10,7 @@ use Rattle.bonnetewe.proofs.calls.bonnetewe_read.Tie as tie
 
 returns : tie.Need-returns
 returns c =
-    let r = c .before .before .before .before .before .before .before .before in
+    let r : tie.After-read = search needs in
     let a = r .before .before .before .before .before .before .before .before .before .args in
     told-by
     (read (lengthsBy (length (now (a .vertices))) (length (now (a .halves))) (length (now (a .sources))) (length (now (a .faces)))) (now (a .file)))

@@ -26,7 +26,7 @@ of-written-requires c κs =
 
 returns : tie.Need-returns
 returns c =
-    let w = c .before .before .before in
+    let w : tie.After-write = search needs in
     let a = w .before .before .before .before .before .before .args in
     told-file
     (write (length (now (a .buffer))) (counts (a .v) (a .e) (a .f)) (tablesBy (now (a .vertices)) (now (a .halves)) (now (a .sources)) (now (a .faces))))

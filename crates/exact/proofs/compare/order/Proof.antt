@@ -4,26 +4,20 @@ use mathlib.Core.Path.{_≡_, sym, ap}
 use mathlib.Core.List.{[], _∷_}
 use native.Mathlib.Omega.{arith}
 use lib.IntN.{ℤ, pos, _-ℤ_}
-use lib.Signed.{_≤ℤ_, _<ℤ_, ltZ-yes, ltZ-no}
-use Rattle.exact.specs.Order.{zomega, sq, sgn, sgn-neg, sgn-plus}
+use lib.Signed.{_≤ℤ_, ltZ-yes, ltZ-no}
+use Rattle.exact.specs.Order.{zomega, sq, <→0<, less-neg, sgn, sgn-neg, sgn-plus}
 use Rattle.exact.specs.Mach.{trbs, taken, left}
 use Rattle.exact.proofs.compare.order.Statement.{statement}
 use Rattle.exact.proofs.compare.order.Tie as tie
-
-less : (p q : ℤ) → p <ℤ q → (p -ℤ q) <ℤ pos 0
-less p q = zomega (p ∷ q ∷ []) (search sq depth 20) (omega arith)
-
-greater : (p q : ℤ) → q <ℤ p → pos 0 <ℤ (p -ℤ q)
-greater p q = zomega (p ∷ q ∷ []) (search sq depth 20) (omega arith)
 
 equal : (p q : ℤ) → q ≤ℤ p → p ≤ℤ q → p -ℤ q ≡ pos 0
 equal p q = zomega (p ∷ q ∷ []) (search sq depth 20) (omega arith)
 
 returns : tie.Need-returns
-returns c = sym (sgn-neg (less (c .before .args .p) (c .before .args .q) (ltZ-yes (taken (c .if1 .taken) (search trbs depth 20) tt))))
+returns c = sym (sgn-neg (less-neg (c .before .args .p) (c .before .args .q) (ltZ-yes (taken (c .if1 .taken) (search trbs depth 20) tt))))
 
 returns-2 : tie.Need-returns-2
-returns-2 c = sym (sgn-plus (greater (c .before .before .args .p) (c .before .before .args .q) (ltZ-yes (taken (c .if2 .taken) (search trbs depth 20) tt))))
+returns-2 c = sym (sgn-plus (<→0< {a = c .before .before .args .q} {b = c .before .before .args .p} (ltZ-yes (taken (c .if2 .taken) (search trbs depth 20) tt))))
 
 returns-3 : tie.Need-returns-3
 returns-3 c =

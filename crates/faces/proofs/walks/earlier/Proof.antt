@@ -12,19 +12,27 @@ returns : tie.Need-returns
 returns c = let a = c .before .before .args in better-none (earlierAt (a .points .now) (a .origins .now)) absent (a .h) (a .r) (c .if1 .taken)
 
 start-requires-2 : tie.Need-start-requires-2
-start-requires-2 c κs = c .before .before .before .pre .2 (c .before .if1 .left)
+start-requires-2 c κs =
+    let start : tie.Start = search needs in
+    start .pre .2 (c .before .if1 .left)
 
 returns-2 : tie.Need-returns-2
 returns-2 c =
-    let a = c .before .before .before .before .before .before .args in
-    better-by (earlierAt (a .points .now) (a .origins .now)) absent (a .h) (a .r) (c .before .before .before .before .if1 .left)
-    ((λ i. before (sym (c .before .before .before .start .ensures .0) i) (sym (c .before .before .start2 .ensures .0) i)) ∙ sym (c .before .before2 .ensures) ∙ c .if2 .taken)
+    let start : tie.Start = search needs in
+    let else1 : tie.Else1 = search needs in
+    let after-start : tie.After-start = search needs in
+    let a = start .args in
+    better-by (earlierAt (a .points .now) (a .origins .now)) absent (a .h) (a .r) (else1 .if1 .left)
+    ((λ i. before (sym (after-start .start .ensures .0) i) (sym (c .before .before .start2 .ensures .0) i)) ∙ sym (c .before .before2 .ensures) ∙ c .if2 .taken)
 
 returns-3 : tie.Need-returns-3
 returns-3 c =
-    let a = c .before .before .before .before .before .before .args in
-    better-by (earlierAt (a .points .now) (a .origins .now)) absent (a .h) (a .r) (c .before .before .before .before .if1 .left)
-    ((λ i. before (sym (c .before .before .before .start .ensures .0) i) (sym (c .before .before .start2 .ensures .0) i)) ∙ sym (c .before .before2 .ensures) ∙ c .if2 .left)
+    let start : tie.Start = search needs in
+    let else1 : tie.Else1 = search needs in
+    let after-start : tie.After-start = search needs in
+    let a = start .args in
+    better-by (earlierAt (a .points .now) (a .origins .now)) absent (a .h) (a .r) (else1 .if1 .left)
+    ((λ i. before (sym (after-start .start .ensures .0) i) (sym (c .before .before .start2 .ensures .0) i)) ∙ sym (c .before .before2 .ensures) ∙ c .if2 .left)
 
 pub earlier-spec : {M : Type 1} → statement M
 earlier-spec =

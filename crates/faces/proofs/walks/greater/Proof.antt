@@ -16,15 +16,21 @@ heading-at-requires c κs = c .before .pre .2 (c .if1 .left)
 
 returns-2 : tie.Need-returns-2
 returns-2 c =
-    let a = c .before .before .before .before .before .args in
-    better-by (greaterAt (a .headings .now)) absent (a .h) (a .r) (c .before .before .before .before .if1 .left)
-    ((λ i. lessAngle (sym (c .before .before .before .heading-at .ensures .0) i) (sym (c .before .before .heading-at2 .ensures .0) i)) ∙ sym (c .before .less-angle .ensures) ∙ c .if2 .taken)
+    let start : tie.Start = search needs in
+    let else1 : tie.Else1 = search needs in
+    let after-heading-at : tie.After-heading-at = search needs in
+    let a = start .args in
+    better-by (greaterAt (a .headings .now)) absent (a .h) (a .r) (else1 .if1 .left)
+    ((λ i. lessAngle (sym (after-heading-at .heading-at .ensures .0) i) (sym (c .before .before .heading-at2 .ensures .0) i)) ∙ sym (c .before .less-angle .ensures) ∙ c .if2 .taken)
 
 returns-3 : tie.Need-returns-3
 returns-3 c =
-    let a = c .before .before .before .before .before .args in
-    better-by (greaterAt (a .headings .now)) absent (a .h) (a .r) (c .before .before .before .before .if1 .left)
-    ((λ i. lessAngle (sym (c .before .before .before .heading-at .ensures .0) i) (sym (c .before .before .heading-at2 .ensures .0) i)) ∙ sym (c .before .less-angle .ensures) ∙ c .if2 .left)
+    let start : tie.Start = search needs in
+    let else1 : tie.Else1 = search needs in
+    let after-heading-at : tie.After-heading-at = search needs in
+    let a = start .args in
+    better-by (greaterAt (a .headings .now)) absent (a .h) (a .r) (else1 .if1 .left)
+    ((λ i. lessAngle (sym (after-heading-at .heading-at .ensures .0) i) (sym (c .before .before .heading-at2 .ensures .0) i)) ∙ sym (c .before .less-angle .ensures) ∙ c .if2 .left)
 
 pub greater-spec : {M : Type 1} → statement M
 greater-spec =

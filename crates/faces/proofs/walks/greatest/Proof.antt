@@ -18,31 +18,33 @@ abbrev μ-loop : tie.MeasureT-loop
 
 loop-holds : tie.Need-loop-holds Inv-loop μ-loop
 loop-holds c =
-    let s = c .before .before .before .before .before .before in
+    let s : tie.Start Inv-loop μ-loop = search needs in
     choose-starts (λ k. originAt (s .args .origins .now) k) (greaterAt (s .args .headings .now)) (s .args .m) (s .args .n) _ (s .args .out .now) (s .pre .1 .1 .1) (c .before .before .fill .ensures)
 
 cast-v : tie.Need-cast-v Inv-loop μ-loop
 cast-v c =
-    let s = c .before .before .before .before .before .before .before .before .before in
+    let s : tie.Start Inv-loop μ-loop = search needs in
     let l = c .before .before .loop in
     omega (arith, s .pre .0 .named (l .h) (c .before .loop-test .taken), l .inv .kept, l .inv .room)
 
 mul-r : tie.Need-mul-r Inv-loop μ-loop
 mul-r c =
-    let s = c .before .before .before .before .before .before .before .before .before in
+    let s : tie.Start Inv-loop μ-loop = search needs in
     let l = c .before .before .loop in
     omega (arith, s .pre .0 .named (l .h) (c .before .loop-test .taken), l .inv .kept, l .inv .room)
 
 slice-read-r : tie.Need-slice-read-r Inv-loop μ-loop
 slice-read-r c =
-    let s = c .before .before .before .before .before .before .before .before .before .before in
-    let l = c .before .before .before .loop in
+    let at-loop : tie.At-loop Inv-loop μ-loop = search needs in
+    let s : tie.Start Inv-loop μ-loop = search needs in
+    let l = at-loop .loop in
     omega (arith, s .pre .0 .named (l .h) (c .before .before .loop-test .taken), l .inv .kept, l .inv .room)
 
 greater-requires : tie.Need-greater-requires Inv-loop μ-loop
 greater-requires c κs =
-    let s = c .before .before .before .before .before .before .before .before .before .before in
-    let l = c .before .before .before .loop in
+    let at-loop : tie.At-loop Inv-loop μ-loop = search needs in
+    let s : tie.Start Inv-loop μ-loop = search needs in
+    let l = at-loop .loop in
     let b = c .before .before .loop-test .taken in
     let m = s .args .m in
     let hs = s .args .headings .now in
@@ -53,27 +55,34 @@ greater-requires c κs =
 
 mul-out : tie.Need-mul-out Inv-loop μ-loop
 mul-out c =
-    let s = c .before .before .before .before .before .before .before .before .before .before .before in
-    let l = c .before .before .before .before .loop in
-    omega (arith, s .pre .0 .named (l .h) (c .before .before .before .loop-test .taken), l .inv .kept, l .inv .room)
+    let at-loop : tie.At-loop Inv-loop μ-loop = search needs in
+    let in-loop : tie.In-loop Inv-loop μ-loop = search needs in
+    let s : tie.Start Inv-loop μ-loop = search needs in
+    let l = at-loop .loop in
+    omega (arith, s .pre .0 .named (l .h) (in-loop .loop-test .taken), l .inv .kept, l .inv .room)
 
 slice-write-out : tie.Need-slice-write-out Inv-loop μ-loop
 slice-write-out c =
-    let s = c .before .before .before .before .before .before .before .before .before .before .before in
-    let l = c .before .before .before .before .loop in
-    omega (arith, s .pre .0 .named (l .h) (c .before .before .before .loop-test .taken), l .inv .kept, l .inv .room)
+    let at-loop : tie.At-loop Inv-loop μ-loop = search needs in
+    let in-loop : tie.In-loop Inv-loop μ-loop = search needs in
+    let s : tie.Start Inv-loop μ-loop = search needs in
+    let l = at-loop .loop in
+    omega (arith, s .pre .0 .named (l .h) (in-loop .loop-test .taken), l .inv .kept, l .inv .room)
 
 loop-again : tie.Need-loop-again Inv-loop μ-loop
 loop-again c =
-    let s = c .before .before .before .before .before .before .before .before .before .before .before in
-    let l = c .before .before .before .before .loop in
-    let b = c .before .before .before .loop-test .taken in
+    let at-loop : tie.At-loop Inv-loop μ-loop = search needs in
+    let in-loop : tie.In-loop Inv-loop μ-loop = search needs in
+    let s : tie.Start Inv-loop μ-loop = search needs in
+    let l = at-loop .loop in
+    let b = in-loop .loop-test .taken in
     choose-turns (λ k. originAt (s .args .origins .now) k) (greaterAt (s .args .headings .now)) (s .args .m) (s .args .n) _ (l .inv) _ _ b (s .pre .1 .0) refl (s .pre .0 .named (l .h) b) (c .greater .ensures)
 
 returns : tie.Need-returns Inv-loop μ-loop
 returns c =
-    let s = c .before .before .before .before .before .before .before .before in
-    choose-ends (λ k. originAt (s .args .origins .now) k) (greaterAt (s .args .headings .now)) (s .args .m) (s .args .n) _ (c .before .loop .inv) (omega arith) (s .args .out .now) (s .pre .1 .1 .1) (c .before .before .before .before .fill .ensures)
+    let after-fill : tie.After-fill Inv-loop μ-loop = search needs in
+    let s : tie.Start Inv-loop μ-loop = search needs in
+    choose-ends (λ k. originAt (s .args .origins .now) k) (greaterAt (s .args .headings .now)) (s .args .m) (s .args .n) _ (c .before .loop .inv) (omega arith) (s .args .out .now) (s .pre .1 .1 .1) (after-fill .fill .ensures)
 
 pub greatest-spec : {M : Type 1} → statement M
 greatest-spec =

@@ -41,15 +41,17 @@ abbrev μ-loop : tie.MeasureT-loop
 
 loop-holds : tie.Need-loop-holds Inv-loop μ-loop
 loop-holds c =
-    let s = c .before .before .before .before .before .before in
+    let s : tie.Start Inv-loop μ-loop = search needs in
     let d = c .before .before .fill in
     starts (s .args .next .now) (s .args .m) (s .pre .0) (s .pre .1 .0) (s .args .lead .now) (d .last .0) (s .pre .1 .1) (d .ensures)
 
 loop-again : tie.Need-loop-again Inv-loop μ-loop
 loop-again c =
-    let s = c .before .before .before .before .before .before .before .before .before .before in
-    let d = c .before .before .before .before .before .before .fill in
-    let l = c .before .before .before .loop in
+    let after-fill : tie.After-fill Inv-loop μ-loop = search needs in
+    let at-loop : tie.At-loop Inv-loop μ-loop = search needs in
+    let s : tie.Start Inv-loop μ-loop = search needs in
+    let d = after-fill .fill in
+    let l = at-loop .loop in
     let b = c .before .before .loop-test .taken in
     ⊎-elim
     (λ w. rw (w .5 ∙ w .2 .ensures) (finds (s .args .next .now) (s .args .m) (s .pre .0) (s .pre .1 .0) (s .args .lead .now) (d .last .0) (s .pre .1 .1) (d .ensures) (l .lead) (l .h) (l .inv) b (w .0 .taken)))
@@ -58,8 +60,9 @@ loop-again c =
 
 returns : tie.Need-returns Inv-loop μ-loop
 returns c =
-    let s = c .before .before .before .before .before .before .before .before in
-    let d = c .before .before .before .before .fill in
+    let after-fill : tie.After-fill Inv-loop μ-loop = search needs in
+    let s : tie.Start Inv-loop μ-loop = search needs in
+    let d = after-fill .fill in
     ends (s .args .next .now) (s .args .m) (s .pre .0) (s .pre .1 .0) (s .args .lead .now) (d .last .0) (s .pre .1 .1) (d .ensures) (c .before .loop .lead) (c .before .loop .h) (c .before .loop .inv) (omega arith)
 
 pub leads-spec : {M : Type 1} → statement M

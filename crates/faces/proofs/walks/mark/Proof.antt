@@ -31,55 +31,66 @@ loop-holds c =
     mark-starts (take m nx) (s .args .h) _ _ _ (front-at nx m (s .pre .0) (s .args .h) (s .pre .1 .1 .0)) (omega (arith, front, front-below nx m (s .pre .0) (s .args .h) (s .pre .1 .1 .0))) (sym front)
 
 same-length : tie.Need-same-length Inv-loop μ-loop
-same-length c = let s = c .before .before .before .before in omega (arith, c .before .before .loop .inv .kept, length-set (s .args .lead .now) (s .args .h) (s .args .h))
+same-length c = let s =
+    let start : tie.Start Inv-loop μ-loop = search needs in
+    start in omega (arith, c .before .before .loop .inv .kept, length-set (s .args .lead .now) (s .args .h) (s .args .h))
 
 returns : tie.Need-returns Inv-loop μ-loop
-returns c = let s = c .before .before .before .before in mark-back (take (s .args .m) (s .args .next .now)) (s .args .h) _ (c .before .before .loop .inv) (c .if1 .taken)
+returns c = let s =
+    let start : tie.Start Inv-loop μ-loop = search needs in
+    start in mark-back (take (s .args .m) (s .args .next .now)) (s .args .h) _ (c .before .before .loop .inv) (c .if1 .taken)
 
 mul-lead-2 : tie.Need-mul-lead-2 Inv-loop μ-loop
 mul-lead-2 c =
-    let s = c .before .before .before .before in
+    let s : tie.Start Inv-loop μ-loop = search needs in
     let l = c .before .before .loop in
     omega (arith, under (s .args .next .now) (s .args .m) (s .args .h) (l .x) (l .left) _ _ (s .pre .0) (l .inv), l .inv .kept, length-set (s .args .lead .now) (s .args .h) (s .args .h), s .pre .1 .1 .1, s .pre .0 .long)
 
 slice-write-lead-2 : tie.Need-slice-write-lead-2 Inv-loop μ-loop
 slice-write-lead-2 c =
-    let s = c .before .before .before .before in
+    let s : tie.Start Inv-loop μ-loop = search needs in
     let l = c .before .before .loop in
     omega (arith, under (s .args .next .now) (s .args .m) (s .args .h) (l .x) (l .left) _ _ (s .pre .0) (l .inv), l .inv .kept, length-set (s .args .lead .now) (s .args .h) (s .args .h), s .pre .1 .1 .1, s .pre .0 .long)
 
 mul-x-2 : tie.Need-mul-x-2 Inv-loop μ-loop
 mul-x-2 c =
-    let s = c .before .before .before .before in
+    let s : tie.Start Inv-loop μ-loop = search needs in
     let l = c .before .before .loop in
     omega (arith, under (s .args .next .now) (s .args .m) (s .args .h) (l .x) (l .left) _ _ (s .pre .0) (l .inv), l .inv .kept, length-set (s .args .lead .now) (s .args .h) (s .args .h), s .pre .1 .1 .1, s .pre .0 .long)
 
 shared-slice-read-x-2 : tie.Need-shared-slice-read-x-2 Inv-loop μ-loop
 shared-slice-read-x-2 c =
-    let s = c .before .before .before .before .before in
-    let l = c .before .before .before .loop in
+    let at-loop : tie.At-loop Inv-loop μ-loop = search needs in
+    let s : tie.Start Inv-loop μ-loop = search needs in
+    let l = at-loop .loop in
     omega (arith, under (s .args .next .now) (s .args .m) (s .args .h) (l .x) (l .left) _ _ (s .pre .0) (l .inv), l .inv .kept, length-set (s .args .lead .now) (s .args .h) (s .args .h), s .pre .1 .1 .1, s .pre .0 .long)
 
 cast-x-2 : tie.Need-cast-x-2 Inv-loop μ-loop
 cast-x-2 c =
-    let s = c .before .before .before .before .before in
-    let l = c .before .before .before .loop in
+    let at-loop : tie.At-loop Inv-loop μ-loop = search needs in
+    let s : tie.Start Inv-loop μ-loop = search needs in
+    let l = at-loop .loop in
     omega (arith, front-below (s .args .next .now) (s .args .m) (s .pre .0) (l .x) (under (s .args .next .now) (s .args .m) (s .args .h) (l .x) (l .left) _ _ (s .pre .0) (l .inv)))
 
 loop-again : tie.Need-loop-again Inv-loop μ-loop
 loop-again c =
-    let s = c .before .before .before .before .before in
-    let l = c .before .before .before .loop in
+    let at-loop : tie.At-loop Inv-loop μ-loop = search needs in
+    let s : tie.Start Inv-loop μ-loop = search needs in
+    let l = at-loop .loop in
     let nx = s .args .next .now in
     let m = s .args .m in
     let u = under (s .args .next .now) (s .args .m) (s .args .h) (l .x) (l .left) _ _ (s .pre .0) (l .inv) in
     mark-turns (take m nx) (s .args .h) _ (l .inv) (c .before .before .loop-test .taken) (c .before .if1 .left) _ (front-at nx m (s .pre .0) (l .x) u) (omega (arith, length-front nx m (s .pre .0), front-below nx m (s .pre .0) (l .x) u))
 
 same-length-2 : tie.Need-same-length-2 Inv-loop μ-loop
-same-length-2 c = let s = c .before .before .before in omega (arith, c .before .loop .inv .kept, length-set (s .args .lead .now) (s .args .h) (s .args .h))
+same-length-2 c = let s =
+    let start : tie.Start Inv-loop μ-loop = search needs in
+    start in omega (arith, c .before .loop .inv .kept, length-set (s .args .lead .now) (s .args .h) (s .args .h))
 
 returns-2 : tie.Need-returns-2 Inv-loop μ-loop
-returns-2 c = let s = c .before .before .before in mark-ends (take (s .args .m) (s .args .next .now)) (s .args .h) _ (c .before .loop .inv) (omega arith)
+returns-2 c = let s =
+    let start : tie.Start Inv-loop μ-loop = search needs in
+    start in mark-ends (take (s .args .m) (s .args .next .now)) (s .args .h) _ (c .before .loop .inv) (omega arith)
 
 pub mark-spec : {M : Type 1} → statement M
 mark-spec =

@@ -11,10 +11,11 @@ use Rattle.graph.proofs.heading.carrier_at.Tie as tie
 
 returns : tie.Need-returns
 returns c =
-    let s = c .before .before .before .before in
+    let after-t6 : tie.After-t6 = search needs in
+    let s : tie.Start = search needs in
     let cs = s .args .carriers .now in
     let at = 4 * s .args .k in
-    let e : segOf _ ≡ carrierAt cs (s .args .k) = λ i. seg (read-first 4 cs (s .args .k) (c .before .before .before .t6 .given) i) (read cs (at + 1) (c .before .before .t10 .given) i) (read cs (at + 2) (c .before .t14 .given) i) (read cs (at + 3) (c .t18 .given) i) in
+    let e : segOf _ ≡ carrierAt cs (s .args .k) = λ i. seg (read-first 4 cs (s .args .k) (after-t6 .t6 .given) i) (read cs (at + 1) (c .before .before .t10 .given) i) (read cs (at + 2) (c .before .t14 .given) i) (read cs (at + 3) (c .t18 .given) i) in
     (e, subst Edge (sym e) (s .pre .near))
 
 pub carrier-at-spec : {M : Type 1} → statement M

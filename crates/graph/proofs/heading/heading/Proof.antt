@@ -15,15 +15,17 @@ by ps os cs h e f = λ i. cond (sym f i) (e i) (opposite (e i))
 
 returns : tie.Need-returns
 returns c =
-    let s = c .before .before .before .before .before in
-    let r = c .before .before .before .carrier-at in
+    let after-carrier-at : tie.After-carrier-at = search needs in
+    let s : tie.Start = search needs in
+    let r = after-carrier-at .carrier-at in
     by (s .args .points .now) (s .args .origins .now) (s .args .carriers .now) (s .args .h)
     (vec-back (r .result .u) (r .result .v) (r .ensures .1 .up-is) ∙ ap (λ (z : Seg). z .up) (r .ensures .0)) (sym (c .before .goes-up .ensures) ∙ c .if1 .taken)
 
 returns-2 : tie.Need-returns-2
 returns-2 c =
-    let s = c .before .before .before .before .before .before in
-    let r = c .before .before .before .before .carrier-at in
+    let after-carrier-at : tie.After-carrier-at = search needs in
+    let s : tie.Start = search needs in
+    let r = after-carrier-at .carrier-at in
     c .opposite .ensures .0
     ∙ by (s .args .points .now) (s .args .origins .now) (s .args .carriers .now) (s .args .h)
     (vec-back (r .result .u) (r .result .v) (r .ensures .1 .up-is) ∙ ap (λ (z : Seg). z .up) (r .ensures .0)) (sym (c .before .before .goes-up .ensures) ∙ c .before .if1 .left)

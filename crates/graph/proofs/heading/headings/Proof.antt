@@ -32,15 +32,17 @@ loop-holds c = lay-starts 2 _ (λ k. refl) _ _ (search needs)
 
 heading-requires : tie.Need-heading-requires Inv-loop μ-loop
 heading-requires c κs =
-    let s = c .before .before .before .before in
+    let s : tie.Start Inv-loop μ-loop = search needs in
     asked (s .args .points .now) (s .args .origins .now) (s .args .carriers .now) (s .args .n) (s .args .e) (c .before .before .loop .h) (s .pre .0) (c .before .loop-test .taken) (s .pre .1 .0)
 
 loop-again : tie.Need-loop-again Inv-loop μ-loop
 loop-again c =
-    let s = c .before .before .before .before .before .before .before in
-    let l = c .before .before .before .before .before .loop in
-    let e = stored (s .args .points .now) (s .args .origins .now) (s .args .carriers .now) (s .args .n) (s .args .e) (l .h) (s .pre .0) (c .before .before .before .before .loop-test .taken) (c .before .before .heading .ensures) in
-    rw (c .before .store .ensures) (lay-turns 2 _ (λ k. refl) (l .inv) _ (c .before .before .before .before .loop-test .taken) e)
+    let at-loop : tie.At-loop Inv-loop μ-loop = search needs in
+    let in-loop : tie.In-loop Inv-loop μ-loop = search needs in
+    let s : tie.Start Inv-loop μ-loop = search needs in
+    let l = at-loop .loop in
+    let e = stored (s .args .points .now) (s .args .origins .now) (s .args .carriers .now) (s .args .n) (s .args .e) (l .h) (s .pre .0) (in-loop .loop-test .taken) (c .before .before .heading .ensures) in
+    rw (c .before .store .ensures) (lay-turns 2 _ (λ k. refl) (l .inv) _ (in-loop .loop-test .taken) e)
 
 returns : tie.Need-returns Inv-loop μ-loop
 returns c = lay-ends 2 _ (λ k. refl) (c .before .loop .inv) (search needs)

@@ -1,11 +1,9 @@
 -- `graph::heading::opposite` meets its contract. Assumes nothing.
 use Rattle.graph.proofs.Rows.{minus}
 -- `graph::heading::opposite` meets its contract. Assumes nothing.
-use mathlib.Core.List.{[], _∷_}
 use mathlib.Core.Path.{_≡_, _∙_}
-use lib.IntN.{ℤ, pos, negℤ, _-ℤ_}
+use lib.IntN.{pos, _-ℤ_}
 use Rattle.exact.specs.Mach.{tr, tru, fits, plain, atmost}
-use Rattle.exact.specs.Solve.{ring, reify}
 use Rattle.paper.specs.Plane.{vec}
 use Rattle.plane.proofs.Machine.{back}
 use Rattle.graph.proofs.heading.opposite.Statement.{statement}

@@ -8,7 +8,7 @@ use Rattle.graph.proofs.heading.point_at.Tie as tie
 
 returns : tie.Need-returns
 returns c =
-    let s = c .before .before .before in
+    let s : tie.Start = search needs in
     let ps = s .args .points .now in
     let at = 4 * s .args .v in
     λ i. pt (read-first 4 ps (s .args .v) (c .before .before .t6 .given) i) (read ps (at + 1) (c .before .t10 .given) i) (read ps (at + 2) (c .t14 .given) i)

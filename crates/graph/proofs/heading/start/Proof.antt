@@ -6,7 +6,9 @@ use Rattle.graph.proofs.heading.start.Statement.{statement}
 use Rattle.graph.proofs.heading.start.Tie as tie
 
 returns : tie.Need-returns
-returns c = (c .point-at .ensures, subst Near (sym (c .point-at .ensures)) (c .before .before .before .pre .near))
+returns c =
+    let start : tie.Start = search needs in
+    (c .point-at .ensures, subst Near (sym (c .point-at .ensures)) (start .pre .near))
 
 pub start-spec : {M : Type 1} → statement M
 start-spec =

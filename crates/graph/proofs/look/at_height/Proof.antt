@@ -14,22 +14,28 @@ by p a b e f = λ i. cond (sym e i) (not (sym f i)) (sym f i)
 
 returns : tie.Need-returns
 returns c =
-    let a = c .before .before .before .before .before .before .args in
+    let start : tie.Start = search needs in
+    let after-start : tie.After-start = search needs in
+    let after-below : tie.After-below = search needs in
+    let a = start .args in
     let p = ptOf (a .p) in
     let ps = a .points .now in
     let os = a .origins .now in
     by p (startAt ps os (2 * a .k)) (startAt ps os (2 * a .k + 1))
-    (ap (below p) (sym (c .before .before .before .before .start .ensures .0)) ∙ sym (c .before .before .before .below .ensures) ∙ c .if1 .taken)
+    (ap (below p) (sym (after-start .start .ensures .0)) ∙ sym (after-below .below .ensures) ∙ c .if1 .taken)
     (ap (below p) (sym (c .before .before .start2 .ensures .0)) ∙ sym (c .before .below2 .ensures))
 
 returns-2 : tie.Need-returns-2
 returns-2 c =
-    let a = c .before .before .before .before .before .before .args in
+    let start : tie.Start = search needs in
+    let after-start : tie.After-start = search needs in
+    let after-below : tie.After-below = search needs in
+    let a = start .args in
     let p = ptOf (a .p) in
     let ps = a .points .now in
     let os = a .origins .now in
     by p (startAt ps os (2 * a .k)) (startAt ps os (2 * a .k + 1))
-    (ap (below p) (sym (c .before .before .before .before .start .ensures .0)) ∙ sym (c .before .before .before .below .ensures) ∙ c .if1 .left)
+    (ap (below p) (sym (after-start .start .ensures .0)) ∙ sym (after-below .below .ensures) ∙ c .if1 .left)
     (ap (below p) (sym (c .before .before .start2 .ensures .0)) ∙ sym (c .before .below2 .ensures))
 
 pub at-height-spec : {M : Type 1} → statement M

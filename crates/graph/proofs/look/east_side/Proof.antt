@@ -12,10 +12,14 @@ goes-up-requires c κs = let s = c .before in
     (s .pre .0, s .pre .1, subst (Starts (s .args .points .now) (s .args .origins .now)) (sym (twin-first (s .args .k))) (s .pre .2))
 
 returns : tie.Need-returns
-returns c = let a = c .before .before .before .args in ap (λ (b : Bool). cond b (2 * a .k + 1) (2 * a .k)) (sym (c .if1 .taken) ∙ c .before .goes-up .ensures)
+returns c = let a =
+    let start : tie.Start = search needs in
+    start .args in ap (λ (b : Bool). cond b (2 * a .k + 1) (2 * a .k)) (sym (c .if1 .taken) ∙ c .before .goes-up .ensures)
 
 returns-2 : tie.Need-returns-2
-returns-2 c = let a = c .before .before .before .args in ap (λ (b : Bool). cond b (2 * a .k + 1) (2 * a .k)) (sym (c .if1 .left) ∙ c .before .goes-up .ensures)
+returns-2 c = let a =
+    let start : tie.Start = search needs in
+    start .args in ap (λ (b : Bool). cond b (2 * a .k + 1) (2 * a .k)) (sym (c .if1 .left) ∙ c .before .goes-up .ensures)
 
 pub east-side-spec : {M : Type 1} → statement M
 east-side-spec =

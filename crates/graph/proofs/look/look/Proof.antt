@@ -20,7 +20,7 @@ abbrev μ-loop : tie.MeasureT-loop
 
 candidate-requires : tie.Need-candidate-requires Inv-loop μ-loop
 candidate-requires c κs =
-    let s = c .before .before .before in
+    let s : tie.Start Inv-loop μ-loop = search needs in
     let ps = s .args .points .now in
     let os = s .args .origins .now in
     let cs = s .args .carriers .now in
@@ -34,27 +34,29 @@ candidate-requires c κs =
 
 nearest-requires : tie.Need-nearest-requires Inv-loop μ-loop
 nearest-requires c κs =
-    let s = c .before .before .before .before .before in
+    let at-loop : tie.At-loop Inv-loop μ-loop = search needs in
+    let s : tie.Start Inv-loop μ-loop = search needs in
     let ps = s .args .points .now in
     let os = s .args .origins .now in
     let cs = s .args .carriers .now in
     let e = s .args .e in
     let p = ptOf (s .args .p) in
     let d = vecOf (s .args .d) in
-    let l = c .before .before .before .loop in
+    let l = at-loop .loop in
     let carried = flat-carried ps os cs (s .args .n) e (s .pre .0) in
     (carried (l .k) (c .before .before .loop-test .taken), λ q. carried (l .r) q, nearest-le ps os cs e p d (l .k) (l .r) (l .inv .0) (l .inv .1), s .pre .1 .1 .0)
 
 loop-again : tie.Need-loop-again Inv-loop μ-loop
 loop-again c =
-    let s = c .before .before .before .before .before in
+    let at-loop : tie.At-loop Inv-loop μ-loop = search needs in
+    let s : tie.Start Inv-loop μ-loop = search needs in
     let ps = s .args .points .now in
     let os = s .args .origins .now in
     let cs = s .args .carriers .now in
     let e = s .args .e in
     let p = ptOf (s .args .p) in
     let d = vecOf (s .args .d) in
-    let l = c .before .before .before .loop in
+    let l = at-loop .loop in
     let t = candidateAt ps os cs p d in
     let b = nearerAt cs p in
     let a = edges-away ps os cs e p d (l .k) (l .inv .0) in
@@ -63,7 +65,7 @@ loop-again c =
 
 cast-t14 : tie.Need-cast-t14 Inv-loop μ-loop
 cast-t14 c =
-    let s = c .before .before .before .before in
+    let s : tie.Start Inv-loop μ-loop = search needs in
     let ps = s .args .points .now in
     let os = s .args .origins .now in
     let cs = s .args .carriers .now in
@@ -75,7 +77,7 @@ cast-t14 c =
 
 returns : tie.Need-returns Inv-loop μ-loop
 returns c =
-    let s = c .before .before .before .before in
+    let s : tie.Start Inv-loop μ-loop = search needs in
     let ps = s .args .points .now in
     let os = s .args .origins .now in
     let cs = s .args .carriers .now in
@@ -89,7 +91,7 @@ returns c =
 
 returns-2 : tie.Need-returns-2 Inv-loop μ-loop
 returns-2 c =
-    let s = c .before .before .before .before in
+    let s : tie.Start Inv-loop μ-loop = search needs in
     let ps = s .args .points .now in
     let os = s .args .origins .now in
     let cs = s .args .carriers .now in

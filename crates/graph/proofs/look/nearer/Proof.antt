@@ -11,13 +11,17 @@ use Rattle.graph.proofs.look.nearer.Tie as tie
 
 returns : tie.Need-returns
 returns c =
-    let a = c .before .before .before .before .before .before .before .before .before .before .before .before .args in
-    let q = c .before .before .before .before .before .before .before .cross-of in
-    let l = c .before .before .before .before .before .before .left-by in
-    let m = c .before .before .before .left-by2 in
+    let start : tie.Start = search needs in
+    let after-cross-of : tie.After-cross-of = search needs in
+    let after-left-by : tie.After-left-by = search needs in
+    let after-left-by2 : tie.After-left-by2 = search needs in
+    let a = start .args in
+    let q = after-cross-of .cross-of in
+    let l = after-left-by .left-by in
+    let m = after-left-by2 .left-by2 in
     let s = a .s in
     let t = a .t in
-    let pre = c .before .before .before .before .before .before .before .before .before .before .before .before .pre in
+    let pre = start .pre in
     let near = l .ensures .1 in
     let far = m .ensures .1 in
     let sv = pre .0 .up-is .y-is in

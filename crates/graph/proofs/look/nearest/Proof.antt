@@ -16,17 +16,23 @@ carrier-at-requires-2 c κs = c .before .before .pre .1 (omega (arith, c .before
 
 returns-2 : tie.Need-returns-2
 returns-2 c =
-    let a = c .before .before .before .before .before .args in
+    let start : tie.Start = search needs in
+    let else1 : tie.Else1 = search needs in
+    let after-carrier-at : tie.After-carrier-at = search needs in
+    let a = start .args in
     let p = ptOf (a .p) in
-    better-by (nearerAt (a .carriers .now) p) (a .none) (a .k) (a .r) (c .before .before .before .before .if1 .left)
-    ((λ i. nearerOf (sym (c .before .before .before .carrier-at .ensures .0) i) (sym (c .before .before .carrier-at2 .ensures .0) i) p) ∙ sym (c .before .nearer .ensures) ∙ c .if2 .taken)
+    better-by (nearerAt (a .carriers .now) p) (a .none) (a .k) (a .r) (else1 .if1 .left)
+    ((λ i. nearerOf (sym (after-carrier-at .carrier-at .ensures .0) i) (sym (c .before .before .carrier-at2 .ensures .0) i) p) ∙ sym (c .before .nearer .ensures) ∙ c .if2 .taken)
 
 returns-3 : tie.Need-returns-3
 returns-3 c =
-    let a = c .before .before .before .before .before .args in
+    let start : tie.Start = search needs in
+    let else1 : tie.Else1 = search needs in
+    let after-carrier-at : tie.After-carrier-at = search needs in
+    let a = start .args in
     let p = ptOf (a .p) in
-    better-by (nearerAt (a .carriers .now) p) (a .none) (a .k) (a .r) (c .before .before .before .before .if1 .left)
-    ((λ i. nearerOf (sym (c .before .before .before .carrier-at .ensures .0) i) (sym (c .before .before .carrier-at2 .ensures .0) i) p) ∙ sym (c .before .nearer .ensures) ∙ c .if2 .left)
+    better-by (nearerAt (a .carriers .now) p) (a .none) (a .k) (a .r) (else1 .if1 .left)
+    ((λ i. nearerOf (sym (after-carrier-at .carrier-at .ensures .0) i) (sym (c .before .before .carrier-at2 .ensures .0) i) p) ∙ sym (c .before .nearer .ensures) ∙ c .if2 .left)
 
 pub nearest-spec : {M : Type 1} → statement M
 nearest-spec =

@@ -21,7 +21,8 @@ east-le ps os k = east-by k (upAt ps os (2 * k))
 
 east-side-requires : tie.Need-east-side-requires
 east-side-requires c κs =
-    let s = c .before .before .before .before .before in
+    let after-look : tie.After-look = search needs in
+    let s : tie.Start = search needs in
     let ps = s .args .points .now in
     let os = s .args .origins .now in
     let cs = s .args .carriers .now in
@@ -30,14 +31,15 @@ east-side-requires c κs =
     let p = ptOf (s .args .p) in
     let d = vecOf (s .args .d) in
     let k = c .before .seen .given .0 .0 in
-    let q = sym (c .before .before .before .look .ensures) ∙ ap seenOf (c .before .seen .given .1) in
+    let q = sym (after-look .look .ensures) ∙ ap seenOf (c .before .seen .given .1) in
     let l = seen-below ps os cs n e (s .pre .0) p (s .pre .1 .1 .0) d k q in
     let ends = flat-ends ps os cs n e (s .pre .0) k l in
     (omega (arith, s .pre .1 .0), ends .0, ends .1)
 
 cast-t13 : tie.Need-cast-t13
 cast-t13 c =
-    let s = c .before .before .before .before .before .before in
+    let after-look : tie.After-look = search needs in
+    let s : tie.Start = search needs in
     let ps = s .args .points .now in
     let os = s .args .origins .now in
     let cs = s .args .carriers .now in
@@ -46,12 +48,12 @@ cast-t13 c =
     let p = ptOf (s .args .p) in
     let d = vecOf (s .args .d) in
     let k = c .before .before .seen .given .0 .0 in
-    let q = sym (c .before .before .before .before .look .ensures) ∙ ap seenOf (c .before .before .seen .given .1) in
+    let q = sym (after-look .look .ensures) ∙ ap seenOf (c .before .before .seen .given .1) in
     omega (arith, s .pre .1 .0, seen-below ps os cs n e (s .pre .0) p (s .pre .1 .1 .0) d k q, c .east-side .ensures, east-le ps os k)
 
 returns : tie.Need-returns
 returns c =
-    let s = c .before .before .before .before in
+    let s : tie.Start = search needs in
     let ps = s .args .points .now in
     let os = s .args .origins .now in
     let cs = s .args .carriers .now in
@@ -63,7 +65,8 @@ returns c =
 
 returns-2 : tie.Need-returns-2
 returns-2 c =
-    let s = c .before .before .before .before .before .before in
+    let after-look : tie.After-look = search needs in
+    let s : tie.Start = search needs in
     let ps = s .args .points .now in
     let os = s .args .origins .now in
     let cs = s .args .carriers .now in
@@ -72,7 +75,7 @@ returns-2 c =
     let p = ptOf (s .args .p) in
     let d = vecOf (s .args .d) in
     let k = c .before .before .seen .given .0 .0 in
-    let q = sym (c .before .before .before .before .look .ensures) ∙ ap seenOf (c .before .before .seen .given .1) in
+    let q = sym (after-look .look .ensures) ∙ ap seenOf (c .before .before .seen .given .1) in
     ap some (c .east-side .ensures) ∙ seen-east ps os cs n e (s .pre .0) p (s .pre .1 .1 .0) d k q
 
 pub seen-half-spec : {M : Type 1} → statement M

@@ -12,13 +12,14 @@ use Rattle.graph.proofs.look.westward.Tie as tie
 
 returns : tie.Need-returns
 returns c =
-    let a = c .before .before .before .before .before .before .before .args in
+    let start : tie.Start = search needs in
+    let a = start .args in
     let q = c .before .before .cross-of in
     let l = c .before .left-by in
     let s = a .s in
     let x : back (q .result) ≡ q .result = plain (search tr depth 20) tt in
     let y : back (pos 0 -ℤ back (l .result)) ≡ pos 0 -ℤ l .result = plain (search tr depth 20) tt in
-    let pre = c .before .before .before .before .before .before .before .pre in
+    let pre = start .pre in
     let turn : cross (vec (back (a .d .x)) (back (a .d .y))) (vec (back (s .u)) (back (s .v))) ≡ cross (vecOf (a .d)) (segOf s .up) =
     λ i. cross (vec-back (a .d .x) (a .d .y) (pre .2) i) (vec-back (s .u) (s .v) (pre .0 .up-is) i) in
     c .rises .ensures ∙ (λ i. rises (vec ((x ∙ q .ensures .0 ∙ turn) i) ((y ∙ minus (l .result) ∙ ap negℤ (l .ensures .0)) i)))

@@ -20,10 +20,15 @@ loop-holds c = places-start _ _ _
 
 -- the number at the place that the loop is at
 below : (c : tie.After-shared-slice-known2 Inv-loop μ-loop) → getD (c .before .before .before .before .before .before .before .before .before .args .xs .now) (c .before .before .loop .i - 1) 0 < c .before .before .before .before .before .before .before .before .before .args .n
-below c = c .before .before .before .before .before .before .before .before .before .pre .0 .named (c .before .before .loop .i - 1) (omega arith)
+below c =
+    let start : tie.Start Inv-loop μ-loop = search needs in
+    start .pre .0 .named (c .before .before .loop .i - 1) (omega arith)
 
 kept : (c : tie.After-shared-slice-known2 Inv-loop μ-loop) → length (c .before .before .before .before .before .fill .last .0) ≡ length (c .before .before .before .before .before .before .before .before .before .args .out .now)
-kept c = ap length (c .before .before .before .before .before .fill .ensures) ∙ length-filled _ _ _ (c .before .before .before .before .before .before .before .before .before .pre .1 .1)
+kept c =
+    let after-fill : tie.After-fill Inv-loop μ-loop = search needs in
+    let start : tie.Start Inv-loop μ-loop = search needs in
+    ap length (after-fill .fill .ensures) ∙ length-filled _ _ _ (start .pre .1 .1)
 
 cast-x : tie.Need-cast-x Inv-loop μ-loop
 cast-x c = omega (arith, below c)
@@ -39,10 +44,11 @@ loop-again c = places-turn _ (c .before .before .loop .inv) _ (omega arith) refl
 
 returns : tie.Need-returns Inv-loop μ-loop
 returns c =
-    let s = c .before .before .before .before .before .before .before .before in
+    let after-fill : tie.After-fill Inv-loop μ-loop = search needs in
+    let s : tie.Start Inv-loop μ-loop = search needs in
     let i = c .before .loop .inv in
     places-end (s .args .xs .now) (s .args .m) (s .args .none) (s .args .n) (s .args .out .now) (s .pre .0) (s .pre .1 .1)
-    (subst (λ (d : List ℕ). Placing (λ k. getD (s .args .xs .now) k 0) (s .args .m) d (c .before .loop .out) (c .before .loop .i)) (c .before .before .before .before .fill .ensures) i) (omega arith)
+    (subst (λ (d : List ℕ). Placing (λ k. getD (s .args .xs .now) k 0) (s .args .m) d (c .before .loop .out) (c .before .loop .i)) (after-fill .fill .ensures) i) (omega arith)
 
 pub first-places-spec : {M : Type 1} → statement M
 first-places-spec =

@@ -9,7 +9,7 @@ use Rattle.layers.proofs.label.label_at.Tie as tie
 
 label-in-requires : tie.Need-label-in-requires
 label-in-requires c κs =
-    let s = c .before .before .before .before .before .before in
+    let s : tie.Start = search needs in
     let k = s .pre .0 in
     let l = length-cells (now (s .args .labels)) (2 * s .args .a) (2 * s .args .b) (k .labels-in) in
     (k .flat, (omega (arith, k .few), (omega (arith, l), (s .pre .1 .0, s .pre .1 .1))))

@@ -8,12 +8,14 @@ use Rattle.layers.proofs.label.label_in.Tie as tie
 
 returns : tie.Need-returns
 returns c =
-    let a = c .before .before .before .before .args in
+    let start : tie.Start = search needs in
+    let a = start .args in
     by-none (flatMap (a .points .now) (a .origins .now) (a .carriers .now) (a .labels .now) (a .n) (a .e)) (a .h) (ptOf (a .p)) (vecOf (a .d)) (a .source) _ (c .before .if1 .taken) (c .seen-label .ensures)
 
 returns-2 : tie.Need-returns-2
 returns-2 c =
-    let a = c .before .before .before .before .args in
+    let start : tie.Start = search needs in
+    let a = start .args in
     by-own (flatMap (a .points .now) (a .origins .now) (a .carriers .now) (a .labels .now) (a .n) (a .e)) (a .h) (ptOf (a .p)) (vecOf (a .d)) (a .source) _ (c .before .if1 .left) (c .own-label .ensures)
 
 pub label-in-spec : {M : Type 1} → statement M

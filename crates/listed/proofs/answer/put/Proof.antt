@@ -8,13 +8,21 @@ use Rattle.listed.proofs.answer.put.Statement.{statement}
 use Rattle.listed.proofs.answer.put.Tie as tie
 
 listing-requires : tie.Need-listing-requires
-listing-requires c κs = roomy-as (sym (ap answerOf (c .before .before .answer .given .1))) (c .before .before .before .before .before .pre)
+listing-requires c κs =
+    let start : tie.Start = search needs in
+    roomy-as (sym (ap answerOf (c .before .before .answer .given .1))) (start .pre)
 
 returns : tie.Need-returns
-returns c = line-as (now (c .before .before .before .before .before .before .args .faces)) (ap answerOf (c .before .before .before .answer .given .1)) (c .listing .ensures)
+returns c =
+    let start : tie.Start = search needs in
+    let after-answer : tie.After-answer = search needs in
+    line-as (now (start .args .faces)) (ap answerOf (after-answer .answer .given .1)) (c .listing .ensures)
 
 returns-2 : tie.Need-returns-2
-returns-2 c = line-as (now (c .before .before .before .before .before .before .args .faces)) (ap answerOf (c .before .before .before .answer2 .given .1)) (c .refused-listing .ensures)
+returns-2 c =
+    let start : tie.Start = search needs in
+    let after-answer2 : tie.After-answer2 = search needs in
+    line-as (now (start .args .faces)) (ap answerOf (after-answer2 .answer2 .given .1)) (c .refused-listing .ensures)
 
 pub put-spec : {M : Type 1} → statement M
 put-spec =

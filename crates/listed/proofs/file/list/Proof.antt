@@ -1,5 +1,4 @@
 -- `listed::file::list` meets its contract. Assumes nothing.
-use native.Mathlib.Omega.{arith}
 use borrow.Author.Needs.{needs}
 use denote.Ref.{now}
 use Rattle.paper.specs.Reader.{read}
@@ -10,12 +9,12 @@ use Rattle.listed.proofs.file.list.Tie as tie
 
 put-requires : tie.Need-put-requires
 put-requires c κs =
-    let r = c .before .before .before .before .before .before in
+    let r : tie.After-read = search needs in
     read-answered fullTables (now (r .before .before .before .before .before .before .args .file)) (r .read .ensures)
 
 returns : tie.Need-returns
 returns c =
-    let r = c .before .before .before .before .before .before .before in
+    let r : tie.After-read = search needs in
     listed-of (read fullTables (now (r .before .before .before .before .before .before .args .file))) (r .read .result) (r .read .ensures) (c .put .ensures)
 
 pub list-spec : {M : Type 1} → statement M

@@ -21,17 +21,23 @@ by-follower : (a b : ℕ) (s : Bool) → (a ≡ b → ⊥) → true ≡ (not (eq
 by-follower a b s f = rw (ne-eqb a b f)
 
 cast-f : tie.Need-cast-f
-cast-f c = let s = c .before .before .before .before in omega (arith, s .pre .0 .next .named (s .args .h) (s .pre .1))
+cast-f c = let s =
+    let start : tie.Start = search needs in
+    start in omega (arith, s .pre .0 .next .named (s .args .h) (s .pre .1))
 
 mul-if1 : tie.Need-mul-if1
-mul-if1 c = let s = c .before .before .before .before .before in omega (arith, s .pre .0 .next .named (s .args .h) (s .pre .1), s .pre .0 .few)
+mul-if1 c = let s =
+    let start : tie.Start = search needs in
+    start in omega (arith, s .pre .0 .next .named (s .args .h) (s .pre .1), s .pre .0 .few)
 
 shared-slice-read-if1 : tie.Need-shared-slice-read-if1
-shared-slice-read-if1 c = let s = c .before .before .before .before .before .before in omega (arith, s .pre .0 .next .named (s .args .h) (s .pre .1), s .pre .0 .labels)
+shared-slice-read-if1 c = let s =
+    let start : tie.Start = search needs in
+    start in omega (arith, s .pre .0 .next .named (s .args .h) (s .pre .1), s .pre .0 .labels)
 
 returns : tie.Need-returns
 returns c =
-    let s = c .before .before .before .before .before .before .before in
+    let s : tie.Start = search needs in
     let a = s .args in
     let ps = a .points .now in
     let os = a .origins .now in
@@ -43,14 +49,15 @@ returns c =
 
 makes-hole-requires : tie.Need-makes-hole-requires
 makes-hole-requires c κs =
-    let s = c .before .before .before .before .before .before .before in
+    let s : tie.Start = search needs in
     let F = s .pre .0 .flat in
     let starts = flat-starts (s .args .points .now) (s .args .origins .now) (s .args .carriers .now) (s .args .n) (s .args .e) F in
     (F .origins .long, s .pre .0 .headings, record { starts = starts; next = s .pre .0 .next }, s .pre .1)
 
 returns-2 : tie.Need-returns-2
 returns-2 c =
-    let s = c .before .before .before .before .before .before .before .before .before .before in
+    let else1 : tie.Else1 = search needs in
+    let s : tie.Start = search needs in
     let a = s .args in
     let ps = a .points .now in
     let os = a .origins .now in
@@ -59,11 +66,11 @@ returns-2 c =
     let made = makesHoleAt ps os (a .headings .now) nx (2 * a .e) (a .h) in
     let seen = eqb (getD ls (a .h) 0) (seenLabel ps os (a .carriers .now) ls (a .n) (a .e) (a .h)) in
     ap (λ (x : ℕ). not (eqb (getD ls (a .h) 0) x)) (c .seen-label .ensures)
-    ∙ by-look (getD ls (a .h) 0) (getD ls (getD nx (a .h) 0) 0) made (not seen) (c .before .before .before .if1 .left) (sym (c .before .before .makes-hole .ensures) ∙ c .before .if2 .taken)
+    ∙ by-look (getD ls (a .h) 0) (getD ls (getD nx (a .h) 0) 0) made (not seen) (else1 .if1 .left) (sym (c .before .before .makes-hole .ensures) ∙ c .before .if2 .taken)
 
 returns-3 : tie.Need-returns-3
 returns-3 c =
-    let s = c .before .before .before .before .before .before .before .before .before in
+    let s : tie.Start = search needs in
     let a = s .args in
     let ps = a .points .now in
     let os = a .origins .now in

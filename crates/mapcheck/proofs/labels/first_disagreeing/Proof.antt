@@ -3,7 +3,7 @@ use mathlib.Core.Path.{_≡_, refl, sym, ap, _∙_}
 use Prim.Native.Nat.{_≤_}
 use native.Mathlib.Omega.{arith}
 use borrow.Author.Needs.{needs}
-use Rattle.seq.specs.Seq.{Bool, ℕ, _*_, _-_, least}
+use Rattle.seq.specs.Seq.{_*_, _-_, least}
 use Rattle.seq.specs.Least.{least-found, least-more}
 use Rattle.mapcheck.specs.Labels.{disagreesAt}
 use Rattle.mapcheck.proofs.labels.first_disagreeing.Statement.{statement}
@@ -17,21 +17,26 @@ abbrev μ-loop : tie.MeasureT-loop
 
 returns : tie.Need-returns Inv-loop μ-loop
 returns c =
-    let a = c .before .before .before .before .before .before .before .args in
+    let start : tie.Start Inv-loop μ-loop = search needs in
+    let at-loop : tie.At-loop Inv-loop μ-loop = search needs in
+    let a = start .args in
     let p = disagreesAt (a .points .now) (a .origins .now) (a .carriers .now) (a .labels .now) (a .headings .now) (a .next .now) (a .n) (a .e) in
-    let l = c .before .before .before .loop in
+    let l = at-loop .loop in
     sym (least-found p (2 * a .e) (l .h) (omega arith) (l .inv .1) (sym (c .before .disagrees .ensures) ∙ c .if1 .taken))
 
 loop-again : tie.Need-loop-again Inv-loop μ-loop
 loop-again c =
-    let a = c .before .before .before .before .before .before .before .args in
+    let start : tie.Start Inv-loop μ-loop = search needs in
+    let at-loop : tie.At-loop Inv-loop μ-loop = search needs in
+    let a = start .args in
     let p = disagreesAt (a .points .now) (a .origins .now) (a .carriers .now) (a .labels .now) (a .headings .now) (a .next .now) (a .n) (a .e) in
-    let l = c .before .before .before .loop in
+    let l = at-loop .loop in
     (omega arith, least-more p (l .h) (l .inv .1) (sym (c .before .disagrees .ensures) ∙ c .if1 .left))
 
 returns-2 : tie.Need-returns-2 Inv-loop μ-loop
 returns-2 c =
-    let a = c .before .before .before .before .before .args in
+    let start : tie.Start Inv-loop μ-loop = search needs in
+    let a = start .args in
     let p = disagreesAt (a .points .now) (a .origins .now) (a .carriers .now) (a .labels .now) (a .headings .now) (a .next .now) (a .n) (a .e) in
     let l = c .before .loop in
     let q : l .h ≡ 2 * a .e = omega arith in

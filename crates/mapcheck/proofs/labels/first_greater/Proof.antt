@@ -19,7 +19,7 @@ abbrev μ-loop : tie.MeasureT-loop
 
 greater-requires : tie.Need-greater-requires Inv-loop μ-loop
 greater-requires c κs =
-    let s = c .before .before .before in
+    let s : tie.Start Inv-loop μ-loop = search needs in
     let a = s .args in
     let x = c .before .loop .x in
     let hs = now (a .headings) in
@@ -27,13 +27,13 @@ greater-requires c κs =
 
 returns : tie.Need-returns Inv-loop μ-loop
 returns c =
-    let at = c .before .before .before in
+    let at : tie.At-loop Inv-loop μ-loop = search needs in
     let a = at .before .before .args in
     sym (least-found (greaterAt (now (a .origins)) (now (a .headings)) (a .h)) (a .m) (at .loop .x) (omega arith) (at .loop .inv .1) (sym (c .before .greater .ensures) ∙ c .if1 .taken))
 
 loop-again : tie.Need-loop-again Inv-loop μ-loop
 loop-again c =
-    let at = c .before .before .before in
+    let at : tie.At-loop Inv-loop μ-loop = search needs in
     let a = at .before .before .args in
     (omega arith, least-more (greaterAt (now (a .origins)) (now (a .headings)) (a .h)) (at .loop .x) (at .loop .inv .1) (sym (c .before .greater .ensures) ∙ c .if1 .left))
 

@@ -12,12 +12,13 @@ use Rattle.mapcheck.proofs.labels.greater.Tie as tie
 
 returns : tie.Need-returns
 returns c =
-    let a = c .before .before .before .before .args in
+    let start : tie.Start = search needs in
+    let a = start .args in
     sym (ap (λ (b : Bool). b && lessAngle (vecAt (now (a .headings)) (a .h)) (vecAt (now (a .headings)) (a .x))) (ne-eqb (originAt (now (a .origins)) (a .x)) (originAt (now (a .origins)) (a .h)) (c .if1 .taken)))
 
 returns-2 : tie.Need-returns-2
 returns-2 c =
-    let s = c .before .before .before in
+    let s : tie.Else1 = search needs in
     let a = s .before .before .before .before .args in
     c .less-angle .ensures ∙ (λ i. lessAngle (c .before .before .heading-at .ensures .0 i) (c .before .heading-at2 .ensures .0 i))
     ∙ sym (ap (λ (b : Bool). b && lessAngle (vecAt (now (a .headings)) (a .h)) (vecAt (now (a .headings)) (a .x))) (eq-eqb (originAt (now (a .origins)) (a .x)) (originAt (now (a .origins)) (a .h)) (s .if1 .left)))

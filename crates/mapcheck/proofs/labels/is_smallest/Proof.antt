@@ -17,61 +17,76 @@ mul-x : tie.Need-mul-x Inv-loop μ-loop
 mul-x c = let s = c .before .before in omega (arith, s .pre .1, s .pre .0 .next .long)
 
 shared-slice-read-x : tie.Need-shared-slice-read-x Inv-loop μ-loop
-shared-slice-read-x c = let s = c .before .before .before in omega (arith, s .pre .1, s .pre .0 .next .long)
+shared-slice-read-x c = let s =
+    let start : tie.Start Inv-loop μ-loop = search needs in
+    start in omega (arith, s .pre .1, s .pre .0 .next .long)
 
 cast-x : tie.Need-cast-x Inv-loop μ-loop
-cast-x c = let s = c .before .before .before in omega (arith, s .pre .0 .next .named (s .args .h) (s .pre .1))
+cast-x c = let s =
+    let start : tie.Start Inv-loop μ-loop = search needs in
+    start in omega (arith, s .pre .0 .next .named (s .args .h) (s .pre .1))
 
 loop-holds : tie.Need-loop-holds Inv-loop μ-loop
 loop-holds c =
-    let s = c .before .before .before in
+    let s : tie.Start Inv-loop μ-loop = search needs in
     let a = s .args in
     walking-starts (earlierAt (a .points .now) (a .origins .now) (a .h)) (a .next .now) (a .h) (a .m) (s .pre .0 .next .named (a .h) (s .pre .1))
 
 returns : tie.Need-returns Inv-loop μ-loop
 returns c =
-    let a = c .before .before .before .before .before .before .args in
+    let start : tie.Start Inv-loop μ-loop = search needs in
+    let a = start .args in
     walking-back (earlierAt (a .points .now) (a .origins .now) (a .h)) (a .next .now) (a .h) (a .m) (c .before .before .loop .inv) (c .if1 .taken)
 
 earlier-requires : tie.Need-earlier-requires Inv-loop μ-loop
 earlier-requires c κs =
-    let s = c .before .before .before .before .before .before in
+    let s : tie.Start Inv-loop μ-loop = search needs in
     let l = c .before .before .loop in
     (s .pre .0 .starts (s .args .h) (s .pre .1), s .pre .0 .starts (l .x) (l .inv .below))
 
 returns-2 : tie.Need-returns-2 Inv-loop μ-loop
 returns-2 c =
-    let a = c .before .before .before .before .before .before .before .before .args in
-    walking-finds (earlierAt (a .points .now) (a .origins .now) (a .h)) (a .next .now) (a .h) (a .m) (c .before .before .before .before .loop .inv)
-    (c .before .before .before .loop-test .taken) (c .before .before .if1 .left) (sym (c .before .earlier .ensures) ∙ c .if2 .taken)
+    let start : tie.Start Inv-loop μ-loop = search needs in
+    let at-loop : tie.At-loop Inv-loop μ-loop = search needs in
+    let in-loop : tie.In-loop Inv-loop μ-loop = search needs in
+    let a = start .args in
+    walking-finds (earlierAt (a .points .now) (a .origins .now) (a .h)) (a .next .now) (a .h) (a .m) (at-loop .loop .inv)
+    (in-loop .loop-test .taken) (c .before .before .if1 .left) (sym (c .before .earlier .ensures) ∙ c .if2 .taken)
 
 mul-x-2 : tie.Need-mul-x-2 Inv-loop μ-loop
 mul-x-2 c =
-    let s = c .before .before .before .before .before .before .before .before in
-    omega (arith, c .before .before .before .before .loop .inv .below, s .pre .0 .next .long)
+    let at-loop : tie.At-loop Inv-loop μ-loop = search needs in
+    let s : tie.Start Inv-loop μ-loop = search needs in
+    omega (arith, at-loop .loop .inv .below, s .pre .0 .next .long)
 
 shared-slice-read-x-2 : tie.Need-shared-slice-read-x-2 Inv-loop μ-loop
 shared-slice-read-x-2 c =
-    let s = c .before .before .before .before .before .before .before .before .before in
-    omega (arith, c .before .before .before .before .before .loop .inv .below, s .pre .0 .next .long)
+    let at-loop : tie.At-loop Inv-loop μ-loop = search needs in
+    let s : tie.Start Inv-loop μ-loop = search needs in
+    omega (arith, at-loop .loop .inv .below, s .pre .0 .next .long)
 
 cast-x-2 : tie.Need-cast-x-2 Inv-loop μ-loop
 cast-x-2 c =
-    let s = c .before .before .before .before .before .before .before .before .before in
-    let l = c .before .before .before .before .before .loop in
+    let at-loop : tie.At-loop Inv-loop μ-loop = search needs in
+    let s : tie.Start Inv-loop μ-loop = search needs in
+    let l = at-loop .loop in
     omega (arith, s .pre .0 .next .named (l .x) (l .inv .below))
 
 loop-again : tie.Need-loop-again Inv-loop μ-loop
 loop-again c =
-    let s = c .before .before .before .before .before .before .before .before .before in
+    let at-loop : tie.At-loop Inv-loop μ-loop = search needs in
+    let in-loop : tie.In-loop Inv-loop μ-loop = search needs in
+    let else1 : tie.Else1 Inv-loop μ-loop = search needs in
+    let s : tie.Start Inv-loop μ-loop = search needs in
     let a = s .args in
-    let l = c .before .before .before .before .before .loop in
+    let l = at-loop .loop in
     walking-turns (earlierAt (a .points .now) (a .origins .now) (a .h)) (a .next .now) (a .h) (a .m) (l .inv)
-    (c .before .before .before .before .loop-test .taken) (c .before .before .before .if1 .left) (sym (c .before .before .earlier .ensures) ∙ c .before .if2 .left) (s .pre .0 .next .named (l .x) (l .inv .below))
+    (in-loop .loop-test .taken) (else1 .if1 .left) (sym (c .before .before .earlier .ensures) ∙ c .before .if2 .left) (s .pre .0 .next .named (l .x) (l .inv .below))
 
 returns-3 : tie.Need-returns-3 Inv-loop μ-loop
 returns-3 c =
-    let a = c .before .before .before .before .before .args in
+    let start : tie.Start Inv-loop μ-loop = search needs in
+    let a = start .args in
     walking-ends (earlierAt (a .points .now) (a .origins .now) (a .h)) (a .next .now) (a .h) (a .m) (c .before .loop .inv) (omega arith)
 
 pub is-smallest-spec : {M : Type 1} → statement M

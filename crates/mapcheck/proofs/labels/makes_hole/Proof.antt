@@ -1,5 +1,5 @@
 -- `mapcheck::labels::makes_hole` meets its contract. Assumes nothing.
-use mathlib.Core.Path.{_≡_, sym, ap, _∙_}
+use mathlib.Core.Path.{sym, ap, _∙_}
 use native.Mathlib.Omega.{arith}
 use borrow.Author.Needs.{needs}
 use borrow.Author.Tests.{lt-ltb, le-ltb}
@@ -11,13 +11,15 @@ use Rattle.mapcheck.proofs.labels.makes_hole.Tie as tie
 
 returns : tie.Need-returns
 returns c =
-    let a = c .before .before .before .before .args in
+    let start : tie.Start = search needs in
+    let a = start .args in
     sym (ap (λ (b : Bool). not b && smallestAt (now (a .points)) (now (a .origins)) (now (a .next)) (a .m) (a .h))
     (lt-ltb (least (greaterAt (now (a .origins)) (now (a .headings)) (a .h)) (a .m)) (a .m) (omega (arith, c .before .first-greater .ensures, c .if1 .taken))))
 
 returns-2 : tie.Need-returns-2
 returns-2 c =
-    let a = c .before .before .before .before .before .args in
+    let start : tie.Start = search needs in
+    let a = start .args in
     c .is-smallest .ensures
     ∙ sym (ap (λ (b : Bool). not b && smallestAt (now (a .points)) (now (a .origins)) (now (a .next)) (a .m) (a .h))
     (le-ltb (least (greaterAt (now (a .origins)) (now (a .headings)) (a .h)) (a .m)) (a .m) (omega (arith, c .before .before .first-greater .ensures, c .before .if1 .left))))

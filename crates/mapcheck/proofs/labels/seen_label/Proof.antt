@@ -1,9 +1,8 @@
 -- `mapcheck::labels::seen_label` meets its contract. Assumes nothing.
-use mathlib.Core.Path.{_≡_, sym, ap, _∙_}
-use Prim.Native.Nat.{_<_}
+use mathlib.Core.Path.{sym, ap, _∙_}
 use native.Mathlib.Omega.{arith}
 use denote.Ref.{now}
-use Rattle.seq.specs.Seq.{ℕ, _*_, getD, orZero}
+use Rattle.seq.specs.Seq.{ℕ, getD, orZero}
 use Rattle.paper.specs.Plane.{Pt, nowhere}
 use Rattle.paper.specs.Graph.{west}
 use Rattle.plane.specs.Values.{ptOf}
@@ -11,7 +10,7 @@ use Rattle.graph.specs.Flat.{flatGraph}
 use Rattle.graph.specs.Decode.{flat-halves}
 use Rattle.graph.specs.Heading.{flat-starts}
 use Rattle.graph.specs.Look.{westOf}
-use Rattle.mapcheck.specs.Seen.{west-below}
+use Rattle.graphlaws.specs.West.{look-below}
 use borrow.Author.Needs.{needs}
 use Rattle.mapcheck.proofs.labels.seen_label.Statement.{statement}
 use Rattle.mapcheck.proofs.labels.seen_label.Tie as tie
@@ -23,27 +22,30 @@ start-requires c κs =
 
 shared-slice-read-result : tie.Need-shared-slice-read-result
 shared-slice-read-result c =
-    let s = c .before .before .before .before .before .before .before .before in
+    let after-seen-half : tie.After-seen-half = search needs in
+    let after-start : tie.After-start = search needs in
+    let s : tie.Start = search needs in
     let ps = s .args .points .now in
     let os = s .args .origins .now in
     let cs = s .args .carriers .now in
     let n = s .args .n in
     let e = s .args .e in
-    let q = sym (c .before .before .before .before .seen-half .ensures) ∙ ap westOf (c .before .before .seen .given .1) in
-    let l = west-below (flatGraph ps os cs n e) (ptOf (c .before .before .before .before .before .start .result)) nowhere (c .before .before .seen .given .0 .0) q in
+    let q = sym (after-seen-half .seen-half .ensures) ∙ ap westOf (c .before .before .seen .given .1) in
+    let l = look-below (flatGraph ps os cs n e) (ptOf (after-start .start .result)) nowhere (c .before .before .seen .given .0 .0) q in
     omega (arith, l, flat-halves ps os cs n e, s .pre .1 .1 .0)
 
 returns : tie.Need-returns
 returns c =
-    let s = c .before .before .before .before .before .before in
+    let after-start : tie.After-start = search needs in
+    let s : tie.Start = search needs in
     let g = flatGraph (s .args .points .now) (s .args .origins .now) (s .args .carriers .now) (s .args .n) (s .args .e) in
-    sym (ap (orZero (λ (x : ℕ). getD (s .args .labels .now) x 0)) (ap (λ (p : Pt). west g p nowhere) (sym (c .before .before .before .start .ensures .0)) ∙ sym (c .before .before .seen-half .ensures) ∙ ap westOf (c .enum-told .given .1)))
+    sym (ap (orZero (λ (x : ℕ). getD (s .args .labels .now) x 0)) (ap (λ (p : Pt). west g p nowhere) (sym (after-start .start .ensures .0)) ∙ sym (c .before .before .seen-half .ensures) ∙ ap westOf (c .enum-told .given .1)))
 
 returns-2 : tie.Need-returns-2
 returns-2 c =
-    let s = c .before .before .before .before .before .before .before .before in
+    let s : tie.Start = search needs in
     let g = flatGraph (s .args .points .now) (s .args .origins .now) (s .args .carriers .now) (s .args .n) (s .args .e) in
-    let at = c .before .before .before .before in
+    let at : tie.After-seen-half = search needs in
     sym (ap (orZero (λ (x : ℕ). getD (s .args .labels .now) x 0)) (ap (λ (p : Pt). west g p nowhere) (sym (at .before .start .ensures .0)) ∙ sym (at .seen-half .ensures) ∙ ap westOf (c .before .before .seen .given .1)))
 
 pub seen-label-spec : {M : Type 1} → statement M

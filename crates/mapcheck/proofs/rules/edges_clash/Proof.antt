@@ -5,7 +5,7 @@ use Rattle.seq.specs.Least.{least-le}
 use Rattle.paper.specs.Graph.{edgeCount}
 use Rattle.paper.specs.Map.{mapOf, clashing}
 use Rattle.mapfile.proofs.KeptLaws.{kept}
-use Rattle.mapfile.proofs.MapLaws.{edges-count}
+use Rattle.graphlaws.specs.Reading.{edges-count}
 use Rattle.mapfile.proofs.VerdictLaws.{at-least}
 use Rattle.mapcheck.proofs.FoundLaws.{loaded-carriers, clashing-found}
 use native.Mathlib.Omega.{arith}
@@ -18,25 +18,29 @@ load-carriers-requires c κs = let s = c .before .before in let k = kept (now (s
 
 first-clashing-requires : tie.Need-first-clashing-requires
 first-clashing-requires c κs =
-    let s = c .before .before .before .before .before .before in
+    let after-load-carriers : tie.After-load-carriers = search needs in
+    let s : tie.Start = search needs in
     let k = kept (now (s .args .file)) (s .pre) in
-    loaded-carriers (now (s .args .file)) _ _ (omega (arith, k .few-edges)) (c .before .before .before .load-carriers .ensures) (c .before .edge-count .ensures) (s .pre)
+    loaded-carriers (now (s .args .file)) _ _ (omega (arith, k .few-edges)) (after-load-carriers .load-carriers .ensures) (c .before .edge-count .ensures) (s .pre)
 
 cast-given : tie.Need-cast-given
 cast-given c =
-    let s = c .before .before .before .before .before .before .before in
+    let after-load-carriers : tie.After-load-carriers = search needs in
+    let s : tie.Start = search needs in
     let f = now (s .args .file) in
     let k = kept f (s .pre) in
-    let found = clashing-found f _ _ (omega (arith, k .few-edges)) (c .before .before .before .before .load-carriers .ensures) (c .before .before .edge-count .ensures) (c .first-clashing .ensures) in
+    let found = clashing-found f _ _ (omega (arith, k .few-edges)) (after-load-carriers .load-carriers .ensures) (c .before .before .edge-count .ensures) (c .first-clashing .ensures) in
     omega (arith, found, least-le (clashing (mapOf f .graph)) (edgeCount (mapOf f .graph)), edges-count f, k .few-edges)
 
 returns : tie.Need-returns
 returns c =
-    let s = c .before .before .before .before .before .before .before .before in
+    let after-edge-count : tie.After-edge-count = search needs in
+    let after-load-carriers : tie.After-load-carriers = search needs in
+    let s : tie.Start = search needs in
     let f = now (s .args .file) in
     let k = kept f (s .pre) in
-    let edges = c .before .before .before .edge-count .ensures in
-    let found = clashing-found f _ _ (omega (arith, k .few-edges)) (c .before .before .before .before .before .load-carriers .ensures) edges (c .before .first-clashing .ensures) in
+    let edges = after-edge-count .edge-count .ensures in
+    let found = clashing-found f _ _ (omega (arith, k .few-edges)) (after-load-carriers .load-carriers .ensures) edges (c .before .first-clashing .ensures) in
     at-least 8 (clashing (mapOf f .graph)) (edgeCount (mapOf f .graph)) _ _ _ (c .given .ensures) found (edges ∙ sym (edges-count f))
 
 pub edges-clash-spec : {M : Type 1} → statement M

@@ -12,12 +12,15 @@ net-requires c κs = sym (c .before .before .form-and-parts .ensures) ∙ ap ver
 
 returns : tie.Need-returns
 returns c =
+    let start : tie.Start = search needs in
     let told = ap verdict (c .enum-told .given .1) in
-    told ∙ sym (fault-some (now (c .before .before .before .before .args .file)) (sym (c .before .before .form-and-parts .ensures) ∙ told))
+    told ∙ sym (fault-some (now (start .args .file)) (sym (c .before .before .form-and-parts .ensures) ∙ told))
 
 returns-2 : tie.Need-returns-2
 returns-2 c =
-    c .net .ensures ∙ sym (fault-none (now (c .before .before .before .before .before .args .file)) (sym (c .before .before .before .form-and-parts .ensures) ∙ ap verdict (c .before .enum-told2 .given .1)))
+    let start : tie.Start = search needs in
+    let after-form-and-parts : tie.After-form-and-parts = search needs in
+    c .net .ensures ∙ sym (fault-none (now (start .args .file)) (sym (after-form-and-parts .form-and-parts .ensures) ∙ ap verdict (c .before .enum-told2 .given .1)))
 
 pub fault-spec : {M : Type 1} → statement M
 fault-spec =

@@ -7,20 +7,26 @@ use Rattle.mapcheck.proofs.rules.first_by_followers.Tie as tie
 
 follow-requires : tie.Need-follow-requires
 follow-requires c κs =
-    let p = c .before .before .before .before .before .before .before .pre in
-    (p .0 .origins, (omega (arith, p .1 .0), (omega (arith, p .1 .1 .0), (made-headings (p .0) (p .1 .1 .0) _ _ (omega (arith, p .1 .1 .0)) (c .before .before .before .headings .ensures), omega (arith, p .1 .1 .0)))))
+    let start : tie.Start = search needs in
+    let after-headings : tie.After-headings = search needs in
+    let p = start .pre in
+    (p .0 .origins, (omega (arith, p .1 .0), (omega (arith, p .1 .1 .0), (made-headings (p .0) (p .1 .1 .0) _ _ (omega (arith, p .1 .1 .0)) (after-headings .headings .ensures), omega (arith, p .1 .1 .0)))))
 
 first-disagreeing-requires : tie.Need-first-disagreeing-requires
 first-disagreeing-requires c κs =
-    let s = c .before .before .before .before .before .before .before .before .before .before .before in
+    let after-headings : tie.After-headings = search needs in
+    let after-follow : tie.After-follow = search needs in
+    let s : tie.Start = search needs in
     let p = s .pre in
-    made-linked (p .0) (p .1 .1 .0) _ _ (omega (arith, p .1 .1 .0)) (c .before .before .before .before .before .before .before .headings .ensures) _ _ (omega (arith, p .1 .1 .0)) (c .before .before .before .follow .ensures) (s .args .labels .now) (p .1 .1 .1 .0)
+    made-linked (p .0) (p .1 .1 .0) _ _ (omega (arith, p .1 .1 .0)) (after-headings .headings .ensures) _ _ (omega (arith, p .1 .1 .0)) (after-follow .follow .ensures) (s .args .labels .now) (p .1 .1 .1 .0)
 
 returns : tie.Need-returns
 returns c =
-    let s = c .before .before .before .before .before .before .before .before .before .before .before .before in
+    let after-headings : tie.After-headings = search needs in
+    let after-follow : tie.After-follow = search needs in
+    let s : tie.Start = search needs in
     let p = s .pre in
-    found-disagrees (p .0) (p .1 .1 .0) _ _ (omega (arith, p .1 .1 .0)) (c .before .before .before .before .before .before .before .before .headings .ensures) _ _ (omega (arith, p .1 .1 .0)) (c .before .before .before .before .follow .ensures) (p .1 .1 .1 .1) (s .args .labels .now) _ (c .first-disagreeing .ensures)
+    found-disagrees (p .0) (p .1 .1 .0) _ _ (omega (arith, p .1 .1 .0)) (after-headings .headings .ensures) _ _ (omega (arith, p .1 .1 .0)) (after-follow .follow .ensures) (p .1 .1 .1 .1) (s .args .labels .now) _ (c .first-disagreeing .ensures)
 
 pub first-by-followers-spec : {M : Type 1} → statement M
 first-by-followers-spec =

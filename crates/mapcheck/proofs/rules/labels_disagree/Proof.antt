@@ -6,7 +6,7 @@ use Rattle.seq.specs.Seq.{ℕ, _*_}
 use Rattle.paper.specs.Graph.{halfCount, followers}
 use Rattle.paper.specs.Map.{mapOf, disagrees}
 use Rattle.mapfile.proofs.KeptLaws.{kept}
-use Rattle.mapfile.proofs.MapLaws.{edges-count}
+use Rattle.graphlaws.specs.Reading.{edges-count}
 use Rattle.mapfile.proofs.VerdictLaws.{at-least}
 use Rattle.mapcheck.proofs.FoundLaws.{loaded-flat, loaded-plane, disagreeing-found}
 use native.Mathlib.Omega.{arith}
@@ -28,42 +28,60 @@ load-labels-requires c κs = let s = c .before .before .before .before .before .
 
 first-by-followers-requires : tie.Need-first-by-followers-requires
 first-by-followers-requires c κs =
-    let s = c .before .before .before .before .before .before .before .before .before .before .before .before .before .before .before .before .before .before .before in
+    let after-vertex-count : tie.After-vertex-count = search needs in
+    let after-edge-count : tie.After-edge-count = search needs in
+    let after-load-points : tie.After-load-points = search needs in
+    let after-load-origins : tie.After-load-origins = search needs in
+    let after-load-carriers : tie.After-load-carriers = search needs in
+    let after-load-labels : tie.After-load-labels = search needs in
+    let s : tie.Start = search needs in
     let f = now (s .args .file) in
     let k = kept f (s .pre .0) in
-    let vertices = c .before .before .before .before .before .vertex-count .ensures in
-    let edges = c .before .before .before .before .edge-count .ensures in
-    let points = c .before .before .before .before .before .before .before .before .before .before .before .before .before .before .before .before .load-points .ensures in
-    let origins = c .before .before .before .before .before .before .before .before .before .before .before .before .before .load-origins .ensures in
-    let carriers = c .before .before .before .before .before .before .before .before .before .before .load-carriers .ensures in
+    let vertices = after-vertex-count .vertex-count .ensures in
+    let edges = after-edge-count .edge-count .ensures in
+    let points = after-load-points .load-points .ensures in
+    let origins = after-load-origins .load-origins .ensures in
+    let carriers = after-load-carriers .load-carriers .ensures in
     let flat = loaded-flat f _ _ _ _ _ _ (omega (arith, k .few-vertices)) points (omega (arith, k .few-edges)) origins (omega (arith, k .few-edges)) carriers vertices edges (s .pre .0) in
     let plane = loaded-plane f _ _ _ _ _ _ (omega (arith, k .few-vertices)) points (omega (arith, k .few-edges)) origins (omega (arith, k .few-edges)) carriers vertices edges (s .pre .0) (s .pre .1) in
-    (flat, (omega (arith, vertices, k .few-vertices), (omega (arith, edges, k .few-edges), (omega (arith, edges, k .few-edges, c .before .before .before .before .before .before .before .load-labels .kept), plane))))
+    (flat, (omega (arith, vertices, k .few-vertices), (omega (arith, edges, k .few-edges), (omega (arith, edges, k .few-edges, after-load-labels .load-labels .kept), plane))))
 
 cast-given : tie.Need-cast-given
 cast-given c =
-    let s = c .before .before .before .before .before .before .before .before .before .before .before .before .before .before .before .before .before .before .before .before in
+    let after-vertex-count : tie.After-vertex-count = search needs in
+    let after-edge-count : tie.After-edge-count = search needs in
+    let after-load-points : tie.After-load-points = search needs in
+    let after-load-origins : tie.After-load-origins = search needs in
+    let after-load-carriers : tie.After-load-carriers = search needs in
+    let after-load-labels : tie.After-load-labels = search needs in
+    let s : tie.Start = search needs in
     let f = now (s .args .file) in
     let k = kept f (s .pre .0) in
-    let vertices = c .before .before .before .before .before .before .vertex-count .ensures in
-    let edges = c .before .before .before .before .before .edge-count .ensures in
-    let points = c .before .before .before .before .before .before .before .before .before .before .before .before .before .before .before .before .before .load-points .ensures in
-    let origins = c .before .before .before .before .before .before .before .before .before .before .before .before .before .before .load-origins .ensures in
-    let carriers = c .before .before .before .before .before .before .before .before .before .before .before .load-carriers .ensures in
-    let found = disagreeing-found f _ _ _ _ _ _ (omega (arith, k .few-vertices)) points (omega (arith, k .few-edges)) origins (omega (arith, k .few-edges)) carriers vertices edges 600 _ (c .before .before .before .before .before .before .before .before .load-labels .ensures) (c .first-by-followers .ensures) in
+    let vertices = after-vertex-count .vertex-count .ensures in
+    let edges = after-edge-count .edge-count .ensures in
+    let points = after-load-points .load-points .ensures in
+    let origins = after-load-origins .load-origins .ensures in
+    let carriers = after-load-carriers .load-carriers .ensures in
+    let found = disagreeing-found f _ _ _ _ _ _ (omega (arith, k .few-vertices)) points (omega (arith, k .few-edges)) origins (omega (arith, k .few-edges)) carriers vertices edges 600 _ (after-load-labels .load-labels .ensures) (c .first-by-followers .ensures) in
     omega (arith, found, least-le (disagrees (mapOf f) (followers (mapOf f .graph))) (halfCount (mapOf f .graph)), edges-count f, k .few-edges)
 
 returns : tie.Need-returns
 returns c =
-    let s = c .before .before .before .before .before .before .before .before .before .before .before .before .before .before .before .before .before .before .before .before .before in
+    let after-vertex-count : tie.After-vertex-count = search needs in
+    let after-edge-count : tie.After-edge-count = search needs in
+    let after-load-points : tie.After-load-points = search needs in
+    let after-load-origins : tie.After-load-origins = search needs in
+    let after-load-carriers : tie.After-load-carriers = search needs in
+    let after-load-labels : tie.After-load-labels = search needs in
+    let s : tie.Start = search needs in
     let f = now (s .args .file) in
     let k = kept f (s .pre .0) in
-    let vertices = c .before .before .before .before .before .before .before .vertex-count .ensures in
-    let edges = c .before .before .before .before .before .before .edge-count .ensures in
-    let points = c .before .before .before .before .before .before .before .before .before .before .before .before .before .before .before .before .before .before .load-points .ensures in
-    let origins = c .before .before .before .before .before .before .before .before .before .before .before .before .before .before .before .load-origins .ensures in
-    let carriers = c .before .before .before .before .before .before .before .before .before .before .before .before .load-carriers .ensures in
-    let found = disagreeing-found f _ _ _ _ _ _ (omega (arith, k .few-vertices)) points (omega (arith, k .few-edges)) origins (omega (arith, k .few-edges)) carriers vertices edges 600 _ (c .before .before .before .before .before .before .before .before .before .load-labels .ensures) (c .before .first-by-followers .ensures) in
+    let vertices = after-vertex-count .vertex-count .ensures in
+    let edges = after-edge-count .edge-count .ensures in
+    let points = after-load-points .load-points .ensures in
+    let origins = after-load-origins .load-origins .ensures in
+    let carriers = after-load-carriers .load-carriers .ensures in
+    let found = disagreeing-found f _ _ _ _ _ _ (omega (arith, k .few-vertices)) points (omega (arith, k .few-edges)) origins (omega (arith, k .few-edges)) carriers vertices edges 600 _ (after-load-labels .load-labels .ensures) (c .before .first-by-followers .ensures) in
     at-least 10 (disagrees (mapOf f) (followers (mapOf f .graph))) (halfCount (mapOf f .graph)) _ _ _ (c .given .ensures) found (ap (λ (m : ℕ). 2 * m) (edges ∙ sym (edges-count f)))
 
 pub labels-disagree-spec : {M : Type 1} → statement M

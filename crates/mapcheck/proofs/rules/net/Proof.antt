@@ -10,21 +10,30 @@ use Rattle.mapcheck.proofs.rules.net.Tie as tie
 
 labels-disagree-requires : tie.Need-labels-disagree-requires
 labels-disagree-requires c κs =
-    let s = c .before .before .before .before .before .before in
+    let after-edges-clash : tie.After-edges-clash = search needs in
+    let after-vertex-alone : tie.After-vertex-alone = search needs in
+    let s : tie.Start = search needs in
     let m = mapOf (now (s .args .file)) in
-    (s .pre, eight-none m (eight-nine m (c .before .before .first .ensures) (c .before .before .before .before .edges-clash .ensures) (c .before .before .before .vertex-alone .ensures) ∙ ap verdict (c .enum-told2 .given .1)))
+    (s .pre, eight-none m (eight-nine m (c .before .before .first .ensures) (after-edges-clash .edges-clash .ensures) (after-vertex-alone .vertex-alone .ensures) ∙ ap verdict (c .enum-told2 .given .1)))
 
 returns : tie.Need-returns
 returns c =
-    let m = mapOf (now (c .before .before .before .before .before .before .args .file)) in
+    let start : tie.Start = search needs in
+    let after-edges-clash : tie.After-edges-clash = search needs in
+    let after-vertex-alone : tie.After-vertex-alone = search needs in
+    let m = mapOf (now (start .args .file)) in
     let told = ap verdict (c .enum-told .given .1) in
-    told ∙ sym (net-some m (eight-nine m (c .before .before .first .ensures) (c .before .before .before .before .edges-clash .ensures) (c .before .before .before .vertex-alone .ensures) ∙ told))
+    told ∙ sym (net-some m (eight-nine m (c .before .before .first .ensures) (after-edges-clash .edges-clash .ensures) (after-vertex-alone .vertex-alone .ensures) ∙ told))
 
 returns-2 : tie.Need-returns-2
 returns-2 c =
-    let m = mapOf (now (c .before .before .before .before .before .before .before .args .file)) in
+    let start : tie.Start = search needs in
+    let after-first : tie.After-first = search needs in
+    let after-edges-clash : tie.After-edges-clash = search needs in
+    let after-vertex-alone : tie.After-vertex-alone = search needs in
+    let m = mapOf (now (start .args .file)) in
     let told = ap verdict (c .before .enum-told2 .given .1) in
-    c .labels-disagree .ensures ∙ sym (net-none m (eight-nine m (c .before .before .before .first .ensures) (c .before .before .before .before .before .edges-clash .ensures) (c .before .before .before .before .vertex-alone .ensures) ∙ told))
+    c .labels-disagree .ensures ∙ sym (net-none m (eight-nine m (after-first .first .ensures) (after-edges-clash .edges-clash .ensures) (after-vertex-alone .vertex-alone .ensures) ∙ told))
 
 pub net-spec : {M : Type 1} → statement M
 net-spec =

@@ -5,7 +5,7 @@ use Rattle.seq.specs.Least.{least-le}
 use Rattle.seq.specs.Seq.{length}
 use Rattle.paper.specs.Map.{mapOf, lonely}
 use Rattle.mapfile.proofs.KeptLaws.{kept}
-use Rattle.mapfile.proofs.MapLaws.{points-count}
+use Rattle.graphlaws.specs.Reading.{points-count}
 use Rattle.mapfile.proofs.VerdictLaws.{at-least}
 use Rattle.mapcheck.proofs.FoundLaws.{lonely-found}
 use native.Mathlib.Omega.{arith}
@@ -18,25 +18,30 @@ load-origins-requires c κs = let s = c .before .before in let k = kept (now (s 
 
 first-lonely-requires : tie.Need-first-lonely-requires
 first-lonely-requires c κs =
-    let s = c .before .before .before .before .before .before .before in
+    let after-load-origins : tie.After-load-origins = search needs in
+    let s : tie.Start = search needs in
     let k = kept (now (s .args .file)) (s .pre) in
-    omega (arith, k .few-edges, c .edge-count .ensures, c .before .before .before .before .load-origins .kept)
+    omega (arith, k .few-edges, c .edge-count .ensures, after-load-origins .load-origins .kept)
 
 cast-given : tie.Need-cast-given
 cast-given c =
-    let s = c .before .before .before .before .before .before .before .before in
+    let after-load-origins : tie.After-load-origins = search needs in
+    let after-vertex-count : tie.After-vertex-count = search needs in
+    let s : tie.Start = search needs in
     let f = now (s .args .file) in
     let k = kept f (s .pre) in
-    let found = lonely-found f _ _ (omega (arith, k .few-edges)) (c .before .before .before .before .before .load-origins .ensures) (c .before .edge-count .ensures) (c .before .before .before .vertex-count .ensures) (c .first-lonely .ensures) in
+    let found = lonely-found f _ _ (omega (arith, k .few-edges)) (after-load-origins .load-origins .ensures) (c .before .edge-count .ensures) (after-vertex-count .vertex-count .ensures) (c .first-lonely .ensures) in
     omega (arith, found, least-le (lonely (mapOf f .graph)) (length (mapOf f .graph .points)), points-count f, k .few-vertices)
 
 returns : tie.Need-returns
 returns c =
-    let s = c .before .before .before .before .before .before .before .before .before in
+    let after-vertex-count : tie.After-vertex-count = search needs in
+    let after-load-origins : tie.After-load-origins = search needs in
+    let s : tie.Start = search needs in
     let f = now (s .args .file) in
     let k = kept f (s .pre) in
-    let vertices = c .before .before .before .before .vertex-count .ensures in
-    let found = lonely-found f _ _ (omega (arith, k .few-edges)) (c .before .before .before .before .before .before .load-origins .ensures) (c .before .before .edge-count .ensures) vertices (c .before .first-lonely .ensures) in
+    let vertices = after-vertex-count .vertex-count .ensures in
+    let found = lonely-found f _ _ (omega (arith, k .few-edges)) (after-load-origins .load-origins .ensures) (c .before .before .edge-count .ensures) vertices (c .before .first-lonely .ensures) in
     at-least 9 (lonely (mapOf f .graph)) (length (mapOf f .graph .points)) _ _ _ (c .given .ensures) found (vertices ∙ sym (points-count f))
 
 pub vertex-alone-spec : {M : Type 1} → statement M

@@ -13,7 +13,8 @@ returns c = sym (u16-past (now (c .before .before .args .file)) (c .before .befo
 
 returns-2 : tie.Need-returns-2
 returns-2 c =
-    let a = c .before .before .before .before .args in
+    let start : tie.Start = search needs in
+    let a = start .args in
     rw (c .before .byte-at .ensures, c .byte-at2 .ensures, add-one (a .at)) (omega arith)
 
 pub u16-at-spec : {M : Type 1} → statement M

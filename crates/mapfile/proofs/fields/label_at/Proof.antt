@@ -12,7 +12,9 @@ add-u16-at : tie.Need-add-u16-at
 add-u16-at c = let known = c .before .shared-slice-known .given in omega (arith, known 5, known 6)
 
 returns : tie.Need-returns
-returns c = c .u16-at .ensures ∙ ap (λ (p : ℕ). u16 (now (c .before .before .before .args .file)) (p + 4)) (c .before .half-place .ensures)
+returns c =
+    let start : tie.Start = search needs in
+    c .u16-at .ensures ∙ ap (λ (p : ℕ). u16 (now (start .args .file)) (p + 4)) (c .before .half-place .ensures)
 
 pub label-at-spec : {M : Type 1} → statement M
 label-at-spec = tie.close (tie.spec (λ c κs. search needs) add-u16-at (λ c κs. search needs) returns)

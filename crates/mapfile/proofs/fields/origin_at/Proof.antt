@@ -7,7 +7,9 @@ use Rattle.mapfile.proofs.fields.origin_at.Statement.{statement}
 use Rattle.mapfile.proofs.fields.origin_at.Tie as tie
 
 returns : tie.Need-returns
-returns c = c .u16-at .ensures ∙ ap (u16 (now (c .before .before .before .args .file))) (c .before .half-place .ensures)
+returns c =
+    let start : tie.Start = search needs in
+    c .u16-at .ensures ∙ ap (u16 (now (start .args .file))) (c .before .half-place .ensures)
 
 pub origin-at-spec : {M : Type 1} → statement M
 origin-at-spec = tie.close (tie.spec (λ c κs. search needs) (λ c κs. search needs) returns)

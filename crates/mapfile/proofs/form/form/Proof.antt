@@ -14,7 +14,7 @@ use Rattle.mapfile.proofs.form.form.Tie as tie
 
 returns : tie.Need-returns
 returns c =
-    let fourth = c .before .before .before in
+    let fourth : tie.After-given4 = search needs in
     let third = fourth .before .before in
     let second = third .before .before in
     let one = second .before .before in

@@ -7,7 +7,7 @@ use Rattle.paper.specs.Map.{cornerAt, originAt}
 use Rattle.paper.specs.Plane.{between}
 use Rattle.plane.specs.Bounds.{Corner}
 use Rattle.mapfile.proofs.KeptLaws.{kept}
-use Rattle.mapfile.proofs.MapLaws.{carrier-is}
+use Rattle.graphlaws.specs.Reading.{carrier-at}
 use Rattle.mapfile.proofs.load.carrier.Statement.{statement}
 use Rattle.mapfile.proofs.load.carrier.Tie as tie
 
@@ -34,7 +34,7 @@ returns c =
     let l = start .pre .0 in
     let a = from .corner .ensures ∙ ap (cornerAt s) (from .before .origin-at .ensures) in
     let b = to .corner2 .ensures ∙ ap (cornerAt s) (to .before .origin-at2 .ensures) in
-    c .between .ensures .0 ∙ (λ i. between (a i) (b i)) ∙ sym (carrier-is s k l (p .from k l) (p .to k l))
+    c .between .ensures .0 ∙ (λ i. between (a i) (b i)) ∙ sym (carrier-at s k l (p .from k l) (p .to k l))
 
 pub carrier-spec : {M : Type 1} → statement M
 carrier-spec =

@@ -19,7 +19,9 @@ abbrev μ-loop : tie.MeasureT-loop
 μ-loop file labels₀ n h₀ labels h = n - h
 
 loop-holds : tie.Need-loop-holds Inv-loop μ-loop
-loop-holds c = (search needs, refl, filled-none (labelAt (now (c .before .before .before .args .file))) (now (c .before .before .before .args .labels)))
+loop-holds c =
+    let start : tie.Start Inv-loop μ-loop = search needs in
+    (search needs, refl, filled-none (labelAt (now (start .args .file))) (now (start .args .labels)))
 
 loop-again : tie.Need-loop-again Inv-loop μ-loop
 loop-again c =

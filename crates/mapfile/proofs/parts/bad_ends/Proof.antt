@@ -11,13 +11,15 @@ use Rattle.mapfile.proofs.parts.bad_ends.Tie as tie
 
 returns : tie.Need-returns
 returns c =
-    let a = c .before .before .before .before .before .args in
+    let start : tie.Start = search needs in
+    let a = start .args in
     let s = now (a .file) in
     no-from (vertexCount s) (originAt s (2 * a .k)) (originAt s (2 * a .k + 1)) (omega arith)
 
 returns-2 : tie.Need-returns-2
 returns-2 c =
-    let a = c .before .before .before .before .before .before .args in
+    let start : tie.Start = search needs in
+    let a = start .args in
     let s = now (a .file) in
     no-to (vertexCount s) (originAt s (2 * a .k)) (originAt s (2 * a .k + 1)) (omega arith) (omega arith)
 

@@ -20,13 +20,13 @@ abbrev μ-loop : tie.MeasureT-loop
 
 returns : tie.Need-returns Inv-loop μ-loop
 returns c =
-    let at = c .before .before .before in
+    let at : tie.At-loop Inv-loop μ-loop = search needs in
     let s = now (at .before .before .before .args .file) in
     sym (least-ends s ∙ least-found (badEndsAt s) (edgesIn s) (at .loop .k) (omega arith) (at .loop .inv .1) (sym (c .before .bad-ends .ensures) ∙ c .if1 .taken))
 
 loop-again : tie.Need-loop-again Inv-loop μ-loop
 loop-again c =
-    let at = c .before .before .before in
+    let at : tie.At-loop Inv-loop μ-loop = search needs in
     (omega arith, least-more (badEndsAt (now (at .before .before .before .args .file))) (at .loop .k) (at .loop .inv .1) (sym (c .before .bad-ends .ensures) ∙ c .if1 .left))
 
 returns-2 : tie.Need-returns-2 Inv-loop μ-loop

@@ -21,13 +21,13 @@ abbrev μ-loop : tie.MeasureT-loop
 
 returns : tie.Need-returns Inv-loop μ-loop
 returns c =
-    let at = c .before .before .before in
+    let at : tie.At-loop Inv-loop μ-loop = search needs in
     let s = now (at .before .before .before .args .file) in
     sym (least-doubled s ∙ least-found (doubledAt s) (vertexCount s) (at .loop .higher) (omega arith) (at .loop .inv .1) (ap (λ (u : ℕ). ltb u (at .loop .higher)) (sym (c .before .first-under .ensures)) ∙ lt-ltb _ _ (c .if1 .taken)))
 
 loop-again : tie.Need-loop-again Inv-loop μ-loop
 loop-again c =
-    let at = c .before .before .before in
+    let at : tie.At-loop Inv-loop μ-loop = search needs in
     (omega arith, least-more (doubledAt (now (at .before .before .before .args .file))) (at .loop .higher) (at .loop .inv .1) (ap (λ (u : ℕ). ltb u (at .loop .higher)) (sym (c .before .first-under .ensures)) ∙ le-ltb _ _ (c .if1 .left)))
 
 returns-2 : tie.Need-returns-2 Inv-loop μ-loop

@@ -20,13 +20,13 @@ abbrev μ-loop : tie.MeasureT-loop
 
 returns : tie.Need-returns Inv-loop μ-loop
 returns c =
-    let at = c .before .before .before in
+    let at : tie.At-loop Inv-loop μ-loop = search needs in
     let s = now (at .before .before .before .args .file) in
     sym (least-far s ∙ least-found (farAt s) (vertexCount s) (at .loop .v) (omega arith) (at .loop .inv .1) (sym (c .before .too-far .ensures) ∙ c .if1 .taken))
 
 loop-again : tie.Need-loop-again Inv-loop μ-loop
 loop-again c =
-    let at = c .before .before .before in
+    let at : tie.At-loop Inv-loop μ-loop = search needs in
     (omega arith, least-more (farAt (now (at .before .before .before .args .file))) (at .loop .v) (at .loop .inv .1) (sym (c .before .too-far .ensures) ∙ c .if1 .left))
 
 returns-2 : tie.Need-returns-2 Inv-loop μ-loop

@@ -18,13 +18,13 @@ abbrev μ-loop : tie.MeasureT-loop
 
 returns : tie.Need-returns Inv-loop μ-loop
 returns c =
-    let at = c .before .before .before in
+    let at : tie.At-loop Inv-loop μ-loop = search needs in
     let a = at .before .before .args in
     sym (least-found (liesOn (now (a .file)) (a .v)) (a .v) (at .loop .u) (omega arith) (at .loop .inv .1) (sym (c .before .lies-on .ensures) ∙ c .if1 .taken))
 
 loop-again : tie.Need-loop-again Inv-loop μ-loop
 loop-again c =
-    let at = c .before .before .before in
+    let at : tie.At-loop Inv-loop μ-loop = search needs in
     let a = at .before .before .args in
     (omega arith, least-more (liesOn (now (a .file)) (a .v)) (at .loop .u) (at .loop .inv .1) (sym (c .before .lies-on .ensures) ∙ c .if1 .left))
 

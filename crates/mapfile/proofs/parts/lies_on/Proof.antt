@@ -3,7 +3,7 @@ use mathlib.Core.Path.{sym, _∙_}
 use borrow.Author.Needs.{needs}
 use mir.Syntax.{w64}
 use denote.Ref.{now}
-use Rattle.exact.specs.Mach.{tr, trbits, test, eq-no, eq-yes, eqZ}
+use Rattle.exact.specs.Mach.{trbits, test, eq-no, eq-yes, eqZ}
 use Rattle.paper.specs.Map.{cornerAt}
 use Rattle.mapfile.proofs.PartsLaws.{other-y, by-x}
 use Rattle.mapfile.proofs.parts.lies_on.Statement.{statement}
@@ -11,7 +11,8 @@ use Rattle.mapfile.proofs.parts.lies_on.Tie as tie
 
 returns : tie.Need-returns
 returns c =
-    let a = c .before .before .before .before .args in
+    let start : tie.Start = search needs in
+    let a = start .args in
     let s = now (a .file) in
     other-y (cornerAt s (a .v)) (cornerAt s (a .u))
     (λ e. eq-no w64 (c .if1 .taken) (search trbits depth 20) (search trbits depth 20) tt (c .before .before .corner-y .ensures ∙ e ∙ sym (c .before .corner-y2 .ensures)))

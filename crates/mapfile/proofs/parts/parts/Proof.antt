@@ -5,7 +5,7 @@ use denote.Ref.{now}
 use Rattle.seq.specs.Seq.{length, least}
 use Rattle.paper.specs.Graph.{edgeCount}
 use Rattle.paper.specs.Map.{mapOf, tooFar, doubled, badEnds}
-use Rattle.mapfile.proofs.MapLaws.{points-count, edges-count}
+use Rattle.graphlaws.specs.Reading.{points-count, edges-count}
 use Rattle.mapfile.proofs.VerdictLaws.{last, before, at-least}
 use Rattle.mapfile.proofs.parts.parts.Statement.{statement}
 use Rattle.mapfile.proofs.parts.parts.Tie as tie

@@ -13,14 +13,15 @@ use Rattle.mapfile.proofs.parts.too_far.Tie as tie
 
 returns : tie.Need-returns
 returns c =
-    let a = c .before .before .before .before .args in
+    let start : tie.Start = search needs in
+    let a = start .args in
     let x = c .before .magnitude .ensures ∙ ap natAbs (toZ-ofZ w64 _ (record { sfits = c .before .before .corner-x .ok }) ∙ c .before .before .corner-x .ensures) in
     let s = now (a .file) in
     beyond reach (natAbs (cornerAt s (a .v) .x)) (ltb reach (natAbs (cornerAt s (a .v) .y))) (rw x at (c .if1 .taken))
 
 returns-2 : tie.Need-returns-2
 returns-2 c =
-    let d = c .before .before .before in
+    let d : tie.After-magnitude = search needs in
     let a = d .before .before .before .args in
     let x = d .magnitude .ensures ∙ ap natAbs (toZ-ofZ w64 _ (record { sfits = d .before .corner-x .ok }) ∙ d .before .corner-x .ensures) in
     let y = c .magnitude2 .ensures ∙ ap natAbs (toZ-ofZ w64 _ (record { sfits = c .before .corner-y .ok }) ∙ c .before .corner-y .ensures) in

@@ -1,7 +1,7 @@
 -- `mapfile::refusal::first` meets its contract. Assumes nothing.
 use mathlib.Core.Path.{sym}
 use borrow.Author.Needs.{needs}
-use Rattle.mapfile.proofs.VerdictLaws.{first-one}
+use Rattle.refusallaws.specs.Refusals.{first-one}
 use Rattle.mapfile.proofs.refusal.first.Statement.{statement}
 use Rattle.mapfile.proofs.refusal.first.Tie as tie
 

@@ -9,8 +9,9 @@ slice-aggregate-carriers c = search needs
 
 carriers-requires : tie.Need-carriers-requires
 carriers-requires c κs =
-    let s = c .before .before .before .before .before .before .before in
-    (omega (arith, slice-aggregate-carriers (c .before .before .before), s .pre .1), (s .pre .0, omega (arith, s .pre .1)))
+    let after-pieces2 : tie.After-pieces2 = search needs in
+    let s : tie.Start = search needs in
+    (omega (arith, slice-aggregate-carriers after-pieces2, s .pre .1), (s .pre .0, omega (arith, s .pre .1)))
 
 pub carriers-of-spec : {M : Type 1} → statement M
 carriers-of-spec =

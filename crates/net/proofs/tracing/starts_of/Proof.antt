@@ -11,7 +11,9 @@ slice-aggregate-origins-2 : tie.Need-slice-aggregate-origins-2
 slice-aggregate-origins-2 c = search needs
 
 origins-requires : tie.Need-origins-requires
-origins-requires c κs = let s = c .before .before .before in (omega (arith, slice-aggregate-origins (c .before), s .pre), omega (arith, slice-aggregate-origins-2 c, s .pre))
+origins-requires c κs = let s =
+    let start : tie.Start = search needs in
+    start in (omega (arith, slice-aggregate-origins (c .before), s .pre), omega (arith, slice-aggregate-origins-2 c, s .pre))
 
 pub starts-of-spec : {M : Type 1} → statement M
 starts-of-spec =

@@ -50,14 +50,14 @@ link-requires c κs = let p = c .before .before in let s = p .before .before .be
 
 enclose-requires : tie.Need-enclose-requires
 enclose-requires c κs =
-    let k = c .before .before .before .before in
+    let k : tie.After-link = search needs in
     let p = k .before .before .before in
     let s = p .before .before .before .before in
     (flat p, (s .pre .1 .1 .1, (planar p, k .link .ensures)))
 
 predecessors-requires : tie.Need-predecessors-requires
 predecessors-requires c κs =
-    let k = c .before .before .before .before .before .before .before .before in
+    let k : tie.After-link = search needs in
     let p = k .before .before .before in
     let s = p .before .before .before .before in
     let a = s .args .c in
@@ -68,10 +68,11 @@ least-outgoing-requires c κs = let p = c .before .before .before .before .befor
 
 returns : tie.Need-returns
 returns c =
-    let k = c .before .before .before .before .before .before .before .before .before .before in
+    let after-enclose : tie.After-enclose = search needs in
+    let k : tie.After-link = search needs in
     let p = k .before .before .before in
     let s = p .before .before .before .before in
-    traced-of (heldMaps (s .args .l)) (s .args .c) _ (s .pre .1 .1 .1) (flat p) (planar p) (is-net p) (k .link .result .lead) (k .link .result .top) (k .link .ensures) (c .before .before .before .before .before .enclose .ensures)
+    traced-of (heldMaps (s .args .l)) (s .args .c) _ (s .pre .1 .1 .1) (flat p) (planar p) (is-net p) (k .link .result .lead) (k .link .result .top) (k .link .ensures) (after-enclose .enclose .ensures)
     (c .before .predecessors .ensures) (c .least-outgoing .ensures)
 
 pub trace-spec : {M : Type 1} → statement M

@@ -10,16 +10,21 @@ use Rattle.overlay.proofs.judge.maps_fault.Tie as tie
 
 returns : tie.Need-returns
 returns c =
-    let a = c .before .before .before .before .before .before .args in
+    let start : tie.Start = search needs in
+    let after-fault : tie.After-fault = search needs in
+    let a = start .args in
     let told = ap verdict (c .enum-told .given .1) in
-    told ∙ sym (zones-refused (now (a .zones)) (now (a .blocks)) (sym (c .before .before .of-map .ensures ∙ ap (ofMap 1) (c .before .before .before .fault .ensures)) ∙ told))
+    told ∙ sym (zones-refused (now (a .zones)) (now (a .blocks)) (sym (c .before .before .of-map .ensures ∙ ap (ofMap 1) (after-fault .fault .ensures)) ∙ told))
 
 returns-2 : tie.Need-returns-2
 returns-2 c =
-    let a = c .before .before .before .before .before .before .before .before .args in
+    let start : tie.Start = search needs in
+    let after-of-map : tie.After-of-map = search needs in
+    let after-fault : tie.After-fault = search needs in
+    let a = start .args in
     let told = ap verdict (c .before .before .enum-told2 .given .1) in
     c .of-map2 .ensures ∙ ap (ofMap 2) (c .before .fault2 .ensures)
-    ∙ sym (zones-pass (now (a .zones)) (now (a .blocks)) (sym (c .before .before .before .before .of-map .ensures ∙ ap (ofMap 1) (c .before .before .before .before .before .fault .ensures)) ∙ told))
+    ∙ sym (zones-pass (now (a .zones)) (now (a .blocks)) (sym (after-of-map .of-map .ensures ∙ ap (ofMap 1) (after-fault .fault .ensures)) ∙ told))
 
 pub maps-fault-spec : {M : Type 1} → statement M
 maps-fault-spec =

@@ -7,7 +7,9 @@ use Rattle.overlay.proofs.judge.over_room.Statement.{statement}
 use Rattle.overlay.proofs.judge.over_room.Tie as tie
 
 returns : tie.Need-returns
-returns c = c .first .ensures ∙ (λ i. firstOf (c .before .before .before .given .ensures i ∷ c .before .given2 .ensures i ∷ []))
+returns c =
+    let after-given : tie.After-given = search needs in
+    c .first .ensures ∙ (λ i. firstOf (after-given .given .ensures i ∷ c .before .given2 .ensures i ∷ []))
 
 pub over-room-spec : {M : Type 1} → statement M
 over-room-spec =

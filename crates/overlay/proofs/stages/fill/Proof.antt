@@ -15,13 +15,16 @@ use Rattle.overlay.proofs.stages.fill.Tie as tie
 
 face-rows-requires : tie.Need-face-rows-requires
 face-rows-requires c κs =
-    let p = c .before .before .before .pre in
+    let start : tie.Start = search needs in
+    let p = start .pre in
     (p .0, (p .1 .0, ((omega (arith, p .1 .1 .0 .vertices), omega (arith, p .1 .1 .0 .edges)), (p .1 .1 .1 .0, omega (arith, p .1 .1 .1 .1)))))
 
 store-requires : tie.Need-store-requires
 store-requires c κs =
-    let p = c .before .before .before .before .before .before .before .before .pre in
-    let n = c .before .before .before .before .face-rows .ensures .0 in
+    let start : tie.Start = search needs in
+    let after-face-rows : tie.After-face-rows = search needs in
+    let p = start .pre in
+    let n = after-face-rows .face-rows .ensures .0 in
     record { vertices = p .1 .1 .0 .vertices; edges = p .1 .1 .0 .edges; faces = omega (arith, n, p .1 .1 .1 .1) }
 
 returns : tie.Need-returns

@@ -13,30 +13,45 @@ use Rattle.overlay.proofs.stages.from_cut.Tie as tie
 
 trace-requires : tie.Need-trace-requires
 trace-requires c κs =
-    let p = c .before .before .before .pre in
+    let start : tie.Start = search needs in
+    let p = start .pre in
     (p .0, (p .1 .0, (omega (arith, p .1 .1 .vertices), omega (arith, p .1 .1 .edges))))
 
 fill-requires : tie.Need-fill-requires
 fill-requires c κs =
-    let p = c .before .before .before .before .before .before .before .before .before .before .before .before .pre in
-    let room = ap (λ (n : Counts). n .faces) (c .before .before .before .before .before .before .before .room-in .ensures) in
-    (p .0, (p .1 .0, (p .1 .1, (c .before .before .before .before .before .before .before .before .trace .ensures, omega (arith, room, c .before .before .before .before .if1)))))
+    let start : tie.Start = search needs in
+    let after-room-in : tie.After-room-in = search needs in
+    let after-trace : tie.After-trace = search needs in
+    let else1 : tie.Else1 = search needs in
+    let p = start .pre in
+    let room = ap (λ (n : Counts). n .faces) (after-room-in .room-in .ensures) in
+    (p .0, (p .1 .0, (p .1 .1, (after-trace .trace .ensures, omega (arith, room, else1 .if1)))))
 
 returns : tie.Need-returns
 returns c =
-    let a = c .before .before .before .before .before .before .before .before .before .before .before .before .before .before .before .before .before .before .before .before .args in
-    let p = c .before .before .before .before .before .before .before .before .before .before .before .before .before .before .before .before .before .before .before .before .pre in
-    let room = ap (λ (n : Counts). n .faces) (c .before .before .before .before .before .before .before .before .before .before .before .before .before .before .before .room-in .ensures) in
-    c .before .before .before .before .before .before .before .refuse .ensures
-    ∙ faces-refused (heldMaps (a .l)) (a .c) (p .1 .0) (lengthsOf (tablesBy (now (a .vertices)) (now (a .halves)) (now (a .sources)) (now (a .faces)))) (p .1 .1) _ (c .before .before .before .before .before .before .before .before .before .before .before .before .before .before .before .before .trace .ensures) (omega (arith, room, c .before .before .before .before .before .before .before .before .before .before .before .before .if1))
+    let start : tie.Start = search needs in
+    let after-room-in : tie.After-room-in = search needs in
+    let after-refuse : tie.After-refuse = search needs in
+    let after-trace : tie.After-trace = search needs in
+    let then1 : tie.Then1 = search needs in
+    let a = start .args in
+    let p = start .pre in
+    let room = ap (λ (n : Counts). n .faces) (after-room-in .room-in .ensures) in
+    after-refuse .refuse .ensures
+    ∙ faces-refused (heldMaps (a .l)) (a .c) (p .1 .0) (lengthsOf (tablesBy (now (a .vertices)) (now (a .halves)) (now (a .sources)) (now (a .faces)))) (p .1 .1) _ (after-trace .trace .ensures) (omega (arith, room, then1 .if1))
 
 returns-2 : tie.Need-returns-2
 returns-2 c =
-    let a = c .before .before .before .before .before .before .before .before .before .before .before .before .before .before .before .before .before .before .before .before .args in
-    let p = c .before .before .before .before .before .before .before .before .before .before .before .before .before .before .before .before .before .before .before .before .pre in
-    let room = ap (λ (n : Counts). n .faces) (c .before .before .before .before .before .before .before .before .before .before .before .before .before .before .before .room-in .ensures) in
-    c .before .before .before .before .before .before .before .fill .ensures
-    ∙ all-within (heldMaps (a .l)) (a .c) (p .1 .0) (lengthsOf (tablesBy (now (a .vertices)) (now (a .halves)) (now (a .sources)) (now (a .faces)))) (p .1 .1) _ (c .before .before .before .before .before .before .before .before .before .before .before .before .before .before .before .before .trace .ensures) (omega (arith, room, c .before .before .before .before .before .before .before .before .before .before .before .before .if1))
+    let start : tie.Start = search needs in
+    let after-room-in : tie.After-room-in = search needs in
+    let after-fill : tie.After-fill = search needs in
+    let after-trace : tie.After-trace = search needs in
+    let else1 : tie.Else1 = search needs in
+    let a = start .args in
+    let p = start .pre in
+    let room = ap (λ (n : Counts). n .faces) (after-room-in .room-in .ensures) in
+    after-fill .fill .ensures
+    ∙ all-within (heldMaps (a .l)) (a .c) (p .1 .0) (lengthsOf (tablesBy (now (a .vertices)) (now (a .halves)) (now (a .sources)) (now (a .faces)))) (p .1 .1) _ (after-trace .trace .ensures) (omega (arith, room, else1 .if1))
 
 pub from-cut-spec : {M : Type 1} → statement M
 from-cut-spec =

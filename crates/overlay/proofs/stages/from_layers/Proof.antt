@@ -14,9 +14,14 @@ use Rattle.overlay.proofs.stages.from_layers.Tie as tie
 
 from-cut-requires : tie.Need-from-cut-requires
 from-cut-requires c κs =
-    let a = c .before .before .before .before .before .before .before .before .before .before .before .before .args in
-    let judged = c .before .before .before .before .before .before .over-room .ensures ∙ (λ i. firstOf (given 11 1 (ltb (c .before .before .before .before .before .before .before .room-in .ensures i .vertices) (c .before .before .before .before .before .before .before .before .cut-layers .result .vertices)) ∷ given 11 2 (ltb (c .before .before .before .before .before .before .before .room-in .ensures i .edges) (c .before .before .before .before .before .before .before .before .cut-layers .result .edges)) ∷ [])) in
-    (c .before .before .before .before .before .before .before .before .before .before .before .before .pre, (c .before .before .before .before .before .before .before .before .cut-layers .ensures, cut-within (heldMaps (a .l)) _ (c .before .before .before .before .before .before .before .before .cut-layers .ensures) (lengthsOf (tablesBy (now (a .vertices)) (now (a .halves)) (now (a .sources)) (now (a .faces)))) (sym judged ∙ ap verdict (c .before .before .before .before .enum-told .given .1))))
+    let start : tie.Start = search needs in
+    let after-over-room : tie.After-over-room = search needs in
+    let after-room-in : tie.After-room-in = search needs in
+    let after-cut-layers : tie.After-cut-layers = search needs in
+    let after-enum-told : tie.After-enum-told = search needs in
+    let a = start .args in
+    let judged = after-over-room .over-room .ensures ∙ (λ i. firstOf (given 11 1 (ltb (after-room-in .room-in .ensures i .vertices) (after-cut-layers .cut-layers .result .vertices)) ∷ given 11 2 (ltb (after-room-in .room-in .ensures i .edges) (after-cut-layers .cut-layers .result .edges)) ∷ [])) in
+    (start .pre, (after-cut-layers .cut-layers .ensures, cut-within (heldMaps (a .l)) _ (after-cut-layers .cut-layers .ensures) (lengthsOf (tablesBy (now (a .vertices)) (now (a .halves)) (now (a .sources)) (now (a .faces)))) (sym judged ∙ ap verdict (after-enum-told .enum-told .given .1))))
 
 returns : tie.Need-returns
 returns c =
@@ -26,7 +31,9 @@ returns c =
     ∙ cut-refused (heldMaps (a .l)) _ (c .before .before .before .before .before .before .before .before .before .before .before .before .before .before .before .before .before .cut-layers .ensures) (lengthsOf (tablesBy (now (a .vertices)) (now (a .halves)) (now (a .sources)) (now (a .faces)))) _ (sym judged ∙ ap verdict (c .before .before .before .before .before .before .before .before .before .before .before .before .before .check .given .1))
 
 returns-2 : tie.Need-returns-2
-returns-2 c = c .before .before .before .before .before .before .before .from-cut .ensures
+returns-2 c =
+    let after-from-cut : tie.After-from-cut = search needs in
+    after-from-cut .from-cut .ensures
 
 pub from-layers-spec : {M : Type 1} → statement M
 from-layers-spec =

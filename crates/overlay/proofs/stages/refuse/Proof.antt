@@ -6,7 +6,12 @@ use Rattle.overlay.proofs.stages.refuse.Statement.{statement}
 use Rattle.overlay.proofs.stages.refuse.Tie as tie
 
 returns : tie.Need-returns
-returns c = λ i. record { answer = refused (refusalOf (c .before .before .before .before .before .before .before .before .before .before .before .before .before .before .before .args .r)); tables = c .before .before .before .before .before .before .before .wipe-all .ensures i }
+returns c = λ i. record {
+  answer = refused (refusalOf (c .before .before .before .before .before .before .before .before .before .before .before .before .before .before .before .args .r));
+  tables =
+      let after-wipe-all : tie.After-wipe-all = search needs in
+      after-wipe-all .wipe-all .ensures i;
+}
 
 pub refuse-spec : {M : Type 1} → statement M
 refuse-spec =

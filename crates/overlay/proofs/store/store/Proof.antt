@@ -5,10 +5,13 @@ use Rattle.overlay.proofs.store.store.Tie as tie
 
 returns : tie.Need-returns
 returns c i =
+    let after-store-vertices : tie.After-store-vertices = search needs in
+    let after-store-halves : tie.After-store-halves = search needs in
+    let after-store-sources : tie.After-store-sources = search needs in
     record {
-      vertices = c .before .before .before .before .before .before .before .before .before .before .before .before .before .before .before .before .before .before .before .store-vertices .ensures i;
-      halves = c .before .before .before .before .before .before .before .before .before .before .before .store-halves .ensures i;
-      sources = c .before .before .before .before .before .before .store-sources .ensures i;
+      vertices = after-store-vertices .store-vertices .ensures i;
+      halves = after-store-halves .store-halves .ensures i;
+      sources = after-store-sources .store-sources .ensures i;
       faces = c .before .before .store-faces .ensures i;
     }
 

@@ -26,20 +26,26 @@ loop-holds : tie.Need-loop-holds Inv-loop μ-loop
 loop-holds c = let a = c .before .before .args in storing-starts 2 (field (now (a .fields))) (two (now (a .fields))) _ _ _ (omega arith)
 
 cast-put : tie.Need-cast-put Inv-loop μ-loop
-cast-put c = omega (arith, c .shared-slice-known2 .given (c .before .before .before .loop .i))
+cast-put c =
+    let at-loop : tie.At-loop Inv-loop μ-loop = search needs in
+    omega (arith, c .shared-slice-known2 .given (at-loop .loop .i))
 
 put-requires : tie.Need-put-requires Inv-loop μ-loop
-put-requires c κs = omega (arith, c .before .before .before .loop .inv .room, c .before .before .before .loop .inv .kept)
+put-requires c κs =
+    let at-loop : tie.At-loop Inv-loop μ-loop = search needs in
+    omega (arith, at-loop .loop .inv .room, at-loop .loop .inv .kept)
 
 loop-again : tie.Need-loop-again Inv-loop μ-loop
 loop-again c =
-    let at = c .before .before .before .before .before .before in
+    let in-loop : tie.In-loop Inv-loop μ-loop = search needs in
+    let at : tie.At-loop Inv-loop μ-loop = search needs in
     let fields = now (at .before .before .before .args .fields) in
-    storing-turns 2 (field fields) (two fields) (at .loop .inv) _ (c .before .before .before .before .before .loop-test .taken) (c .before .before .put .ensures)
+    storing-turns 2 (field fields) (two fields) (at .loop .inv) _ (in-loop .loop-test .taken) (c .before .before .put .ensures)
 
 returns : tie.Need-returns Inv-loop μ-loop
 returns c =
-    let a = c .before .before .before .before .args in
+    let start : tie.Start Inv-loop μ-loop = search needs in
+    let a = start .args in
     storing-ends 2 (field (now (a .fields))) (two (now (a .fields))) (c .before .loop .inv) (c .loop-test .left)
     ∙ ap (sets (now (a .buffer)) (a .at)) (gather-rows (le 2) (now (a .fields)))
 

@@ -45,7 +45,8 @@ sub-result c =
 
 returns : tie.Need-returns
 returns c =
-    let a = c .before .before .before .before .args in
+    let start : tie.Start = search needs in
+    let a = start .args in
     let n = c .before .before .number-at in
     let h = number-is-small (c .before) in
     plain (search trn depth 20) tt
@@ -53,7 +54,8 @@ returns c =
 
 returns-2 : tie.Need-returns-2
 returns-2 c =
-    let a = c .before .before .before .before .args in
+    let start : tie.Start = search needs in
+    let a = start .args in
     let n = c .before .before .number-at in
     let h = number-is-small (c .before) in
     let g = numbers-are-small (c .before) in

@@ -12,14 +12,17 @@ use Rattle.ovfile.proofs.bytes.twos.Statement.{statement}
 use Rattle.ovfile.proofs.bytes.twos.Tie as tie
 
 magnitude-is : (c : tie.After-magnitude) → c .magnitude .result ≡ natAbs (c .before .before .before .args .z)
-magnitude-is c = let s = c .before .before .before in c .magnitude .ensures ∙ ap natAbs (toZ-ofZ w64 (s .args .z) (s .fits .z))
+magnitude-is c = let s =
+    let start : tie.Start = search needs in
+    start in c .magnitude .ensures ∙ ap natAbs (toZ-ofZ w64 (s .args .z) (s .fits .z))
 
 sub-result : tie.Need-sub-result
 sub-result c = omega (arith, magnitude-is c)
 
 returns : tie.Need-returns
 returns c =
-    let a = c .before .before .before .args in
+    let start : tie.Start = search needs in
+    let a = start .args in
     (λ i. c .before .numbers .ensures i - magnitude-is c i)
     ∙ wrapped-high (a .width) (a .z) (ltZ-yes (taken (c .before .before .if1 .taken) (search trbs depth 20) tt))
 

@@ -8,7 +8,8 @@ use Rattle.ovfile.proofs.sound.first_unsound.Tie as tie
 
 first-unsound-by-requires : tie.Need-first-unsound-by-requires
 first-unsound-by-requires c κs =
-    followed-by (now (c .before .before .before .before .before .before .before .args .halves)) (c .before .before .first-places .ensures) (omega (arith, c .before .before .first-places .kept .1 .1 .1 .0))
+    let start : tie.Start = search needs in
+    followed-by (now (start .args .halves)) (c .before .before .first-places .ensures) (omega (arith, c .before .before .first-places .kept .1 .1 .1 .0))
 
 pub first-unsound-spec : {M : Type 1} → statement M
 first-unsound-spec =

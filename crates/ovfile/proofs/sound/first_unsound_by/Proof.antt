@@ -25,16 +25,18 @@ abbrev test : (c : tie.At-loop Inv-loop μ-loop) → ℕ → Bool
 test c = let a = c .before .before .before .before .args in unsound (a .c) (now (a .halves)) (now (a .sources))
 
 loop-holds : tie.Need-loop-holds Inv-loop μ-loop
-loop-holds c = let a = c .before .before .before .args in search-starts (unsound (a .c) (now (a .halves)) (now (a .sources))) (a .c .edges)
+loop-holds c = let a =
+    let start : tie.Start Inv-loop μ-loop = search needs in
+    start .args in search-starts (unsound (a .c) (now (a .halves)) (now (a .sources))) (a .c .edges)
 
 returns : tie.Need-returns Inv-loop μ-loop
 returns c =
-    let at = c .before .before .before in
+    let at : tie.At-loop Inv-loop μ-loop = search needs in
     search-finds (test at) (at .loop .inv) (c .before .before .loop-test .taken) (ap not (sym (c .before .sound-edge .ensures)) ∙ c .if1 .taken)
 
 loop-again : tie.Need-loop-again Inv-loop μ-loop
 loop-again c =
-    let at = c .before .before .before in
+    let at : tie.At-loop Inv-loop μ-loop = search needs in
     search-turns (test at) (at .loop .inv) (c .before .before .loop-test .taken) (ap not (sym (c .before .sound-edge .ensures)) ∙ c .if1 .left)
 
 returns-2 : tie.Need-returns-2 Inv-loop μ-loop

@@ -10,7 +10,8 @@ use Rattle.ovfile.proofs.sound.has_source.Tie as tie
 
 returns : tie.Need-returns
 returns c =
-    let a = c .before .before .before .args in
+    let start : tie.Start = search needs in
+    let a = start .args in
     (λ i. not (eqb (c .before .source-cell .ensures i) 0) || not (eqb (c .source-cell2 .ensures i) 0))
     ∙ some-two (λ i. not (eqb (cell 0 maps (now (a .sources)) (a .k) i) 0))
 

@@ -6,7 +6,7 @@ use Rattle.ovfile.proofs.sound.sound_edge.Tie as tie
 
 returns : tie.Need-returns
 returns c =
-    let d = c .before .before .before .before in
+    let d : tie.After-half-cell4 = search needs in
     let e = d .before .before .before .before in
     let a = e .before .before .before .before .before .args in
     let lower = e .before .half-cell .ensures in

@@ -11,11 +11,12 @@ use Rattle.ovfile.proofs.sound.sound_follower.Tie as tie
 
 returns : tie.Need-returns
 returns c =
-    let d = c .before .before .before .before in
+    let after-half-cell2 : tie.After-half-cell2 = search needs in
+    let d : tie.After-half-cell = search needs in
     let a = d .before .before .before .args in
     let hs = now (a .halves) in
     let follower = d .half-cell .ensures in
-    let starts = c .before .before .before .half-cell2 .ensures ∙ ap (λ (f : ℕ). column hs 0 f) follower in
+    let starts = after-half-cell2 .half-cell2 .ensures ∙ ap (λ (f : ℕ). column hs 0 f) follower in
     let ends = c .before .half-cell3 .ensures ∙ ap (column hs 0) (c .before .before .twin .ensures) in
     let first = c .u16-at .ensures ∙ ap (λ (f : ℕ). getD (now (a .first)) f 0) follower in
     (λ i. ltb (follower i) (2 * a .edges) && (eqb (starts i) (ends i) && eqb (first i) (a .h)))

@@ -17,7 +17,7 @@ counted c = ap (λ (n : Counts). n .faces) (c .counts .ensures)
 
 wipe-from-u16-requires : tie.Need-wipe-from-u16-requires
 wipe-from-u16-requires c κs =
-    let l = c .before .before .before .before .before in
+    let l : tie.After-lay-faces = search needs in
     omega (arith, counted (c .before .before), l .lay-faces .kept .1 .0, l .before .before .before .before .pre)
 
 returns : tie.Need-returns

@@ -17,7 +17,7 @@ counted c = ap (λ (n : Counts). n .edges) (c .counts .ensures)
 
 wipe-from-u32-requires : tie.Need-wipe-from-u32-requires
 wipe-from-u32-requires c κs =
-    let l = c .before .before .before .before .before in
+    let l : tie.After-lay-sources = search needs in
     omega (arith, counted (c .before .before), l .lay-sources .kept .1 .0, l .before .before .before .before .pre)
 
 returns : tie.Need-returns

@@ -18,7 +18,7 @@ counted c = ap (λ (n : Counts). n .vertices) (c .counts .ensures)
 
 wipe-from-i64-requires : tie.Need-wipe-from-i64-requires
 wipe-from-i64-requires c κs =
-    let l = c .before .before .before .before in
+    let l : tie.After-lay-vertices = search needs in
     omega (arith, counted (c .before .before), l .lay-vertices .kept .1 .1 .0, l .before .before .before .before .before .pre .1)
 
 returns : tie.Need-returns

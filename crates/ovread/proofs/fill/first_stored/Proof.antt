@@ -20,14 +20,18 @@ loop-holds : tie.Need-loop-holds Inv-loop μ-loop
 loop-holds c = let a = c .before .before .args in places-start (storedField (now (a .file)) (a .j)) _ _
 
 cast-store-2 : tie.Need-cast-store-2 Inv-loop μ-loop
-cast-store-2 c = omega (arith, c .before .before .before .loop .inv .within)
+cast-store-2 c =
+    let at-loop : tie.At-loop Inv-loop μ-loop = search needs in
+    omega (arith, at-loop .loop .inv .within)
 
 loop-again : tie.Need-loop-again Inv-loop μ-loop
 loop-again c =
-    let at = c .before .before .before .before .before .before in
+    let in-loop : tie.In-loop Inv-loop μ-loop = search needs in
+    let after-edge-field : tie.After-edge-field Inv-loop μ-loop = search needs in
+    let at : tie.At-loop Inv-loop μ-loop = search needs in
     let a = at .before .before .before .args in
-    places-turn (storedField (now (a .file)) (a .j)) (at .loop .inv) _ (c .before .before .before .before .before .loop-test .taken)
-    (c .before .before .store .ensures ∙ ap (λ (x : ℕ). set (at .loop .out) x (at .loop .h - 1)) (c .before .before .before .edge-field .ensures))
+    places-turn (storedField (now (a .file)) (a .j)) (at .loop .inv) _ (in-loop .loop-test .taken)
+    (c .before .before .store .ensures ∙ ap (λ (x : ℕ). set (at .loop .out) x (at .loop .h - 1)) (after-edge-field .edge-field .ensures))
 
 same-length : tie.Need-same-length Inv-loop μ-loop
 same-length c = c .before .loop .inv .kept

@@ -29,22 +29,25 @@ counted c = ap (λ (n : Counts). n .edges) (c .counts .ensures)
 
 loop-holds : tie.Need-loop-holds Inv-loop μ-loop
 loop-holds c =
-    let a = c .before .before .before .before .before .args in
-    laying-starts 5 (row (now (a .file))) (λ k. refl) _ _ (omega (arith, counted (c .before), c .before .before .before .before .before .pre .2))
+    let start : tie.Start Inv-loop μ-loop = search needs in
+    let a = start .args in
+    laying-starts 5 (row (now (a .file))) (λ k. refl) _ _ (omega (arith, counted (c .before), start .pre .2))
 
 cast-store5-u16-2 : tie.Need-cast-store5-u16-2 Inv-loop μ-loop
 cast-store5-u16-2 c =
-    let at = c .before .before .before .before in
-    omega (arith, c .twin .ensures, twin-le (at .loop .h), c .before .before .before .loop-test .taken, counted (at .before .before), at .before .before .before .before .before .before .pre .0 .edges)
+    let in-loop : tie.In-loop Inv-loop μ-loop = search needs in
+    let at : tie.At-loop Inv-loop μ-loop = search needs in
+    omega (arith, c .twin .ensures, twin-le (at .loop .h), in-loop .loop-test .taken, counted (at .before .before), at .before .before .before .before .before .before .pre .0 .edges)
 
 store5-u16-requires : tie.Need-store5-u16-requires Inv-loop μ-loop
 store5-u16-requires c κs =
-    let at = c .before .before .before .before .before .before .before in
-    omega (arith, at .loop .inv .room, at .loop .inv .kept, c .before .before .before .before .before .before .loop-test .taken)
+    let in-loop : tie.In-loop Inv-loop μ-loop = search needs in
+    let at : tie.At-loop Inv-loop μ-loop = search needs in
+    omega (arith, at .loop .inv .room, at .loop .inv .kept, in-loop .loop-test .taken)
 
 loop-again : tie.Need-loop-again Inv-loop μ-loop
 loop-again c =
-    let s = c .before .before .before in
+    let s : tie.After-face Inv-loop μ-loop = search needs in
     let at = s .before .before .before .before .before .before .before in
     let start = at .before .before .before .before .before .before in
     let file = now (start .args .file) in
@@ -64,10 +67,12 @@ same-length c = c .before .loop .inv .kept
 
 returns : tie.Need-returns Inv-loop μ-loop
 returns c =
-    let a = c .before .before .before .before .before .before .before .args in
+    let start : tie.Start Inv-loop μ-loop = search needs in
+    let after-counts : tie.After-counts Inv-loop μ-loop = search needs in
+    let a = start .args in
     let f = row (now (a .file)) in
     storing-ends 5 f (λ k. refl) (c .before .loop .inv) (c .loop-test .left)
-    ∙ ap (λ (n : ℕ). sets (now (a .halves)) 0 (rows f (2 * n))) (counted (c .before .before .before))
+    ∙ ap (λ (n : ℕ). sets (now (a .halves)) 0 (rows f (2 * n))) (counted after-counts)
 
 pub lay-halves-spec : {M : Type 1} → statement M
 lay-halves-spec =

@@ -26,17 +26,18 @@ counted c = ap (λ (n : Counts). n .edges) (c .counts .ensures)
 
 loop-holds : tie.Need-loop-holds Inv-loop μ-loop
 loop-holds c =
-    let a = c .before .before .before .before .args in
+    let start : tie.Start Inv-loop μ-loop = search needs in
+    let a = start .args in
     laying-starts 2 (row (now (a .file))) (λ k. refl) _ _ (omega (arith, counted (c .before)))
 
 store2-u32-requires : tie.Need-store2-u32-requires Inv-loop μ-loop
 store2-u32-requires c κs =
-    let at = c .before .before .before .before in
+    let at : tie.At-loop Inv-loop μ-loop = search needs in
     omega (arith, at .loop .inv .room, at .loop .inv .kept)
 
 loop-again : tie.Need-loop-again Inv-loop μ-loop
 loop-again c =
-    let s = c .before .before .before in
+    let s : tie.After-edge-field2 Inv-loop μ-loop = search needs in
     let at = s .before .before .before .before in
     let file = now (at .before .before .before .before .before .args .file) in
     laying-turns 2 (row file) (λ k. refl) (at .loop .inv) _ _ (s .before .before .before .loop-test .taken)
@@ -48,10 +49,12 @@ same-length c = c .before .loop .inv .kept
 
 returns : tie.Need-returns Inv-loop μ-loop
 returns c =
-    let a = c .before .before .before .before .before .before .args in
+    let start : tie.Start Inv-loop μ-loop = search needs in
+    let after-counts : tie.After-counts Inv-loop μ-loop = search needs in
+    let a = start .args in
     let f = row (now (a .file)) in
     storing-ends 2 f (λ k. refl) (c .before .loop .inv) (c .loop-test .left)
-    ∙ ap (λ (n : ℕ). sets (now (a .sources)) 0 (rows f n)) (counted (c .before .before .before))
+    ∙ ap (λ (n : ℕ). sets (now (a .sources)) 0 (rows f n)) (counted after-counts)
 
 pub lay-sources-spec : {M : Type 1} → statement M
 lay-sources-spec =

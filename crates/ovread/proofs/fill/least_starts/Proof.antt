@@ -16,12 +16,15 @@ counted : (c : tie.After-counts) → c .counts .result .edges ≡ countsIn (now 
 counted c = ap (λ (n : Counts). n .edges) (c .counts .ensures)
 
 first-stored-requires : tie.Need-first-stored-requires
-first-stored-requires c κs = omega (arith, counted (c .before .before), c .before .before .before .before .pre .edges)
+first-stored-requires c κs =
+    let start : tie.Start = search needs in
+    omega (arith, counted (c .before .before), start .pre .edges)
 
 returns : tie.Need-returns
 returns c =
-    let start = c .before .before .before .before .before .before in
-    let e = ap (λ (k : ℕ). 2 * k) (counted (c .before .before .before .before)) in
+    let after-counts : tie.After-counts = search needs in
+    let start : tie.Start = search needs in
+    let e = ap (λ (k : ℕ). 2 * k) (counted after-counts) in
     starts-by (now (start .args .file)) (c .before .first-stored .ensures) e (omega (arith, c .before .first-stored .kept .1 .1 .1 .0, start .pre .vertices))
     (λ v l. getD-replicate 1000 v absent 0 (omega (arith, start .pre .vertices)))
 

@@ -15,16 +15,21 @@ counted : (c : tie.After-counts) → c .counts .result .edges ≡ countsIn (now 
 counted c = ap (λ (n : Counts). n .edges) (c .counts .ensures)
 
 cast-first : tie.Need-cast-first
-cast-first c = omega (arith, counted (c .before), c .before .before .before .pre .edges)
+cast-first c =
+    let start : tie.Start = search needs in
+    omega (arith, counted (c .before), start .pre .edges)
 
 first-stored-requires : tie.Need-first-stored-requires
-first-stored-requires c κs = omega (arith, counted (c .before .before), c .before .before .before .before .pre .edges)
+first-stored-requires c κs =
+    let start : tie.Start = search needs in
+    omega (arith, counted (c .before .before), start .pre .edges)
 
 returns : tie.Need-returns
 returns c =
-    let start = c .before .before .before .before .before .before in
-    let n = c .before .before .before .before .counts .result .edges in
-    let e = ap (λ (k : ℕ). 2 * k) (counted (c .before .before .before .before)) in
+    let after-counts : tie.After-counts = search needs in
+    let start : tie.Start = search needs in
+    let n = after-counts .counts .result .edges in
+    let e = ap (λ (k : ℕ). 2 * k) (counted after-counts) in
     predecessors-by (now (start .args .file)) (c .before .first-stored .ensures) e (omega (arith, c .before .first-stored .kept .1 .1 .1 .0, start .pre .edges))
     (λ h l. getD-replicate 4000 h (2 * n) 0 (omega (arith, e, start .pre .edges)))
 

@@ -10,7 +10,8 @@ use Rattle.ovread.proofs.head.bad_mark.Tie as tie
 
 returns : tie.Need-returns
 returns c =
-    let s = now (c .before .before .before .before .args .file) in
+    let start : tie.Start = search needs in
+    let s = now (start .args .file) in
     (λ i. ltb (length s) overlayHead || not (eqb (c .before .before .byte-at .ensures i) 90 && (eqb (c .before .byte-at2 .ensures i) 79 && eqb (c .byte-at3 .ensures i) 86)))
     ∙ ap (λ (b : Bool). ltb (length s) overlayHead || not b) (mark-is s)
 

@@ -13,7 +13,7 @@ use Rattle.ovread.proofs.head.head.Tie as tie
 
 returns : tie.Need-returns
 returns c =
-    let d = c .before .before .before in
+    let d : tie.After-given4 = search needs in
     let e = d .before .before .before .before .before .before in
     let s = now (e .before .before .before .before .before .args .file) in
     let counted = d .before .before .before .before .before .counts .ensures in

@@ -14,15 +14,19 @@ use Rattle.ovread.proofs.reader.body.Tie as tie
 
 returns : tie.Need-returns
 returns c =
-    let e = c .before .before .before .before .before .before .before .before .before .before .before .before .before .before in
+    let after-given : tie.After-given = search needs in
+    let after-given2 : tie.After-given2 = search needs in
+    let after-given3 : tie.After-given3 = search needs in
+    let after-given4 : tie.After-given4 = search needs in
+    let e : tie.After-unsound = search needs in
     let a = e .before .before .before .before .args in
     let s = now (a .file) in
     let counted = e .before .before .counts .ensures in
     let roomed = e .before .room-in .ensures in
-    let k = at-least 21 (unsoundIn layout s) (countsIn s .edges) _ _ _ (c .before .before .before .before .before .before .before .before .before .before .before .before .given .ensures) (e .unsound .ensures) (ap (λ (n : Counts). n .edges) counted) in
-    let place1 = c .before .before .before .before .before .before .before .before .before .given2 .ensures ∙ (λ i. given 11 1 (ltb (roomed i .vertices) (counted i .vertices))) in
-    let place2 = c .before .before .before .before .before .before .given3 .ensures ∙ (λ i. given 11 2 (ltb (roomed i .edges) (counted i .edges))) in
-    let place3 = c .before .before .before .given4 .ensures ∙ (λ i. given 11 3 (ltb (roomed i .faces) (counted i .faces))) in
+    let k = at-least 21 (unsoundIn layout s) (countsIn s .edges) _ _ _ (after-given .given .ensures) (e .unsound .ensures) (ap (λ (n : Counts). n .edges) counted) in
+    let place1 = after-given2 .given2 .ensures ∙ (λ i. given 11 1 (ltb (roomed i .vertices) (counted i .vertices))) in
+    let place2 = after-given3 .given3 .ensures ∙ (λ i. given 11 2 (ltb (roomed i .edges) (counted i .edges))) in
+    let place3 = after-given4 .given4 .ensures ∙ (λ i. given 11 3 (ltb (roomed i .faces) (counted i .faces))) in
     before (c .first3 .ensures) k (before (c .before .first2 .ensures) place1 (before (c .before .before .first .ensures) place2 (last place3))) .is
 
 pub body-spec : {M : Type 1} → statement M

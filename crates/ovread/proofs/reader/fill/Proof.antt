@@ -6,10 +6,13 @@ use Rattle.ovread.proofs.reader.fill.Tie as tie
 
 returns : tie.Need-returns
 returns c i =
+    let after-fill-vertices : tie.After-fill-vertices = search needs in
+    let after-fill-halves : tie.After-fill-halves = search needs in
+    let after-fill-sources : tie.After-fill-sources = search needs in
     record {
-      vertices = c .before .before .before .before .before .before .before .before .before .before .before .before .before .fill-vertices .ensures i;
-      halves = c .before .before .before .before .before .before .before .before .before .before .fill-halves .ensures i;
-      sources = c .before .before .before .before .before .before .fill-sources .ensures i;
+      vertices = after-fill-vertices .fill-vertices .ensures i;
+      halves = after-fill-halves .fill-halves .ensures i;
+      sources = after-fill-sources .fill-sources .ensures i;
       faces = c .before .before .fill-faces .ensures i;
     }
 

@@ -6,7 +6,8 @@ use Rattle.paper.specs.Refusal.{given, firstOf}
 use Rattle.paper.specs.Ovfile.{layouts, Layout}
 use Rattle.paper.specs.Reader.{headFaults}
 use Rattle.mapfile.specs.Verdict.{verdict}
-use Rattle.mapfile.proofs.VerdictLaws.{before, first-none, first-some}
+use Rattle.mapfile.proofs.VerdictLaws.{before}
+use Rattle.refusallaws.specs.Refusals.{first-none, first-some}
 use Rattle.tables.specs.Values.{lengthsBy}
 use Rattle.ovread.proofs.ReadLaws.{layoutIn, bodyIn, right-layout, right-counts}
 use borrow.Author.Needs.{needs}
@@ -17,18 +18,22 @@ form-is-right : (c : tie.After-enum-told2) → firstOf (headFaults (length layou
 form-is-right c = sym (c .before .before .head .ensures) ∙ ap verdict (c .enum-told2 .given .1)
 
 body-requires : tie.Need-body-requires
-body-requires c κs = right-counts (now (c .before .before .before .before .args .file)) (form-is-right c)
+body-requires c κs =
+    let start : tie.Start = search needs in
+    right-counts (now (start .args .file)) (form-is-right c)
 
 returns : tie.Need-returns
 returns c =
-    let a = c .before .before .before .before .args in
+    let start : tie.Start = search needs in
+    let a = start .args in
     let s = now (a .file) in
     let told = ap verdict (c .enum-told .given .1) in
     told ∙ sym (first-some (headFaults (length layouts) (layoutIn s) s) (bodyIn (layoutIn s) s (lengthsBy (a .vertices) (a .halves) (a .sources) (a .faces))) (sym (c .before .before .head .ensures) ∙ told))
 
 returns-2 : tie.Need-returns-2
 returns-2 c =
-    let a = c .before .before .before .before .before .args in
+    let start : tie.Start = search needs in
+    let a = start .args in
     let s = now (a .file) in
     let ls = lengthsBy (a .vertices) (a .halves) (a .sources) (a .faces) in
     let h = form-is-right (c .before) in

@@ -13,25 +13,36 @@ use Rattle.ovread.proofs.reader.read.Tie as tie
 
 fill-requires : tie.Need-fill-requires
 fill-requires c κs =
-    let a = c .before .before .before .before .before .before .before .before .before .before .before .args in
+    let start : tie.Start = search needs in
+    let after-judge : tie.After-judge = search needs in
+    let after-enum-told : tie.After-enum-told = search needs in
+    let a = start .args in
     let s = now (a .file) in
-    let e = sym (c .before .before .before .before .before .before .judge .ensures) ∙ ap verdict (c .before .before .before .before .enum-told .given .1) in
+    let e = sym (after-judge .judge .ensures) ∙ ap verdict (after-enum-told .enum-told .given .1) in
     (right-counts s (form-right s (lengthsBy (length (now (a .vertices))) (length (now (a .halves))) (length (now (a .sources))) (length (now (a .faces)))) e), room-enough s _ e)
 
 returns : tie.Need-returns
 returns c =
-    let a = c .before .before .before .before .before .before .before .before .before .before .before .before .before .before .before .before .before .before .before .before .args in
+    let start : tie.Start = search needs in
+    let after-check : tie.After-check = search needs in
+    let after-wipe-all : tie.After-wipe-all = search needs in
+    let after-judge : tie.After-judge = search needs in
+    let a = start .args in
     let s = now (a .file) in
-    let told = c .before .before .before .before .before .before .before .before .before .before .before .before .before .check .given in
-    (λ i. record { answer = refused (refusalOf (told .0 .0)); tables = c .before .before .before .before .before .before .before .wipe-all .ensures i })
-    ∙ read-refused s _ _ (sym (c .before .before .before .before .before .before .before .before .before .before .before .before .before .before .before .judge .ensures) ∙ ap verdict (told .1))
+    let told = after-check .check .given in
+    (λ i. record { answer = refused (refusalOf (told .0 .0)); tables = after-wipe-all .wipe-all .ensures i })
+    ∙ read-refused s _ _ (sym (after-judge .judge .ensures) ∙ ap verdict (told .1))
 
 returns-2 : tie.Need-returns-2
 returns-2 c =
-    let a = c .before .before .before .before .before .before .before .before .before .before .before .before .before .before .before .before .before .before .before .before .args in
+    let start : tie.Start = search needs in
+    let after-judge : tie.After-judge = search needs in
+    let after-enum-told : tie.After-enum-told = search needs in
+    let after-fill : tie.After-fill = search needs in
+    let a = start .args in
     let s = now (a .file) in
-    let e = sym (c .before .before .before .before .before .before .before .before .before .before .before .before .before .before .before .judge .ensures) ∙ ap verdict (c .before .before .before .before .before .before .before .before .before .before .before .before .before .enum-told .given .1) in
-    (λ i. record { answer = done (c .counts .ensures i); tables = c .before .before .before .before .before .before .before .before .fill .ensures i })
+    let e = sym (after-judge .judge .ensures) ∙ ap verdict (after-enum-told .enum-told .given .1) in
+    (λ i. record { answer = done (c .counts .ensures i); tables = after-fill .fill .ensures i })
     ∙ read-done s _ e
 
 pub read-spec : {M : Type 1} → statement M

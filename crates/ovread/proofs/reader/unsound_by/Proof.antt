@@ -16,14 +16,20 @@ counted : (c : tie.After-counts) → c .counts .result .edges ≡ countsIn (now 
 counted c = ap (λ (n : Counts). n .edges) (c .counts .ensures)
 
 first-unsound-requires : tie.Need-first-unsound-requires
-first-unsound-requires c κs = omega (arith, counted (c .before .before), c .before .before .before .before .before .before .before .before .before .before .before .before .before .before .pre .0 .edges)
+first-unsound-requires c κs =
+    let start : tie.Start = search needs in
+    omega (arith, counted (c .before .before), start .pre .0 .edges)
 
 returns : tie.Need-returns
 returns c =
-    let a = c .before .before .before .before .before .before .before .before .before .before .before .before .before .before .before .args in
+    let start : tie.Start = search needs in
+    let after-fill-halves : tie.After-fill-halves = search needs in
+    let after-fill-sources : tie.After-fill-sources = search needs in
+    let after-counts : tie.After-counts = search needs in
+    let a = start .args in
     c .first-unsound .ensures
     ∙ least-padded (now (a .file)) _ _ _ (lengthsBy 0 (length (now (a .halves))) (length (now (a .sources))) 0)
-    (c .before .before .before .before .before .before .before .before .before .before .fill-halves .ensures) (c .before .before .before .before .before .before .fill-sources .ensures) (c .before .before .before .counts .ensures)
+    (after-fill-halves .fill-halves .ensures) (after-fill-sources .fill-sources .ensures) (after-counts .counts .ensures)
 
 pub unsound-by-spec : {M : Type 1} → statement M
 unsound-by-spec =

@@ -11,7 +11,8 @@ use Rattle.ovread.proofs.stored.edge_field.Tie as tie
 
 returns : tie.Need-returns
 returns c =
-    let a = c .before .before .before .before .args in
+    let start : tie.Start = search needs in
+    let a = start .args in
     let s = now (a .file) in
     c .u16-at .ensures
     ∙ ap (λ (p : ℕ). u16 s (p + edgeSize layout * a .k + 2 * a .j)) (c .before .edges-at .ensures ∙ ap (edgesAt layout) (c .before .before .counts .ensures))

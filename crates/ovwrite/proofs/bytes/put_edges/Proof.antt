@@ -18,7 +18,7 @@ abbrev μ-loop : tie.MeasureT-loop
 
 loop-holds : tie.Need-loop-holds Inv-loop μ-loop
 loop-holds c =
-    let s = c .before .before .before .before in
+    let s : tie.Start Inv-loop μ-loop = search needs in
     let t = edgeTables (now (s .args .halves)) (now (s .args .sources)) in
     storing-starts 16 (edgeBytes t) (edge-long t) (c .edges-at .result) (s .args .c .edges) (now (s .args .buffer)) (omega (arith, c .edges-at .ensures, s .pre))
 
@@ -27,17 +27,19 @@ put-edge-requires c κs = let at = c .before .before in omega (arith, at .loop .
 
 loop-again : tie.Need-loop-again Inv-loop μ-loop
 loop-again c =
-    let at = c .before .before .before .before .before in
+    let in-loop : tie.In-loop Inv-loop μ-loop = search needs in
+    let at : tie.At-loop Inv-loop μ-loop = search needs in
     let a = at .before .before .before .before .before .args in
     let t = edgeTables (now (a .halves)) (now (a .sources)) in
-    storing-turns 16 (edgeBytes t) (edge-long t) (at .loop .inv) _ (c .before .before .before .before .loop-test .taken) (c .before .before .put-edge .ensures)
+    storing-turns 16 (edgeBytes t) (edge-long t) (at .loop .inv) _ (in-loop .loop-test .taken) (c .before .before .put-edge .ensures)
 
 same-length : tie.Need-same-length Inv-loop μ-loop
 same-length c = c .before .loop .inv .kept
 
 returns : tie.Need-returns Inv-loop μ-loop
 returns c =
-    let a = c .before .before .before .before .before .before .args in
+    let start : tie.Start Inv-loop μ-loop = search needs in
+    let a = start .args in
     let t = edgeTables (now (a .halves)) (now (a .sources)) in
     storing-ends 16 (edgeBytes t) (edge-long t) (c .before .loop .inv) (c .loop-test .left)
     ∙ ap (λ (p : ℕ). sets (now (a .buffer)) p (rows (edgeBytes t) (a .c .edges))) (c .before .before .edges-at .ensures)

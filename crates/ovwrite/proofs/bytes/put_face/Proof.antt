@@ -9,8 +9,9 @@ use Rattle.ovwrite.proofs.bytes.put_face.Tie as tie
 
 returns : tie.Need-returns
 returns c =
-    let d = c .before .before .before .before .before in
-    let a = c .before .before .before .before .before .before .before .before .before .before .before .args in
+    let start : tie.Start = search needs in
+    let d : tie.After-face-cell4 = search needs in
+    let a = start .args in
     c .before .before .put-fields .ensures
     ∙ (λ i. sets (now (a .buffer)) (a .at) (gather (le 2)
     (d .before .before .before .face-cell .ensures i

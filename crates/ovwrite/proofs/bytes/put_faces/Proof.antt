@@ -18,7 +18,7 @@ abbrev μ-loop : tie.MeasureT-loop
 
 loop-holds : tie.Need-loop-holds Inv-loop μ-loop
 loop-holds c =
-    let s = c .before .before .before in
+    let s : tie.Start Inv-loop μ-loop = search needs in
     let t = tablesBy [] [] [] (now (s .args .faces)) in
     storing-starts 8 (faceBytes t) (face-long t) (c .faces-at .result) (s .args .c .faces) (now (s .args .buffer)) (omega (arith, c .faces-at .ensures, s .pre))
 
@@ -27,16 +27,18 @@ put-face-requires c κs = let at = c .before .before in omega (arith, at .loop .
 
 loop-again : tie.Need-loop-again Inv-loop μ-loop
 loop-again c =
-    let at = c .before .before .before .before .before in
+    let in-loop : tie.In-loop Inv-loop μ-loop = search needs in
+    let at : tie.At-loop Inv-loop μ-loop = search needs in
     let t = tablesBy [] [] [] (now (at .before .before .before .before .args .faces)) in
-    storing-turns 8 (faceBytes t) (face-long t) (at .loop .inv) _ (c .before .before .before .before .loop-test .taken) (c .before .before .put-face .ensures)
+    storing-turns 8 (faceBytes t) (face-long t) (at .loop .inv) _ (in-loop .loop-test .taken) (c .before .before .put-face .ensures)
 
 same-length : tie.Need-same-length Inv-loop μ-loop
 same-length c = c .before .loop .inv .kept
 
 returns : tie.Need-returns Inv-loop μ-loop
 returns c =
-    let a = c .before .before .before .before .before .args in
+    let start : tie.Start Inv-loop μ-loop = search needs in
+    let a = start .args in
     let t = tablesBy [] [] [] (now (a .faces)) in
     storing-ends 8 (faceBytes t) (face-long t) (c .before .loop .inv) (c .loop-test .left)
     ∙ ap (λ (p : ℕ). sets (now (a .buffer)) p (rows (faceBytes t) (a .c .faces))) (c .before .before .faces-at .ensures)

@@ -12,8 +12,10 @@ use Rattle.ovwrite.proofs.bytes.put_head.Tie as tie
 
 returns : tie.Need-returns
 returns c =
-    let a = c .before .before .before .before .before .before .before .before .before .before .before .before .before .args in
-    then-behind (now (a .buffer)) 0 (ascii "ZOV") (gather (le 2) (headFields (countsOf (a .c)))) _ _ 3 (c .before .before .before .before .before .before .before .before .before .before .put-mark .ensures) (c .before .before .put-fields .ensures) refl
+    let start : tie.Start = search needs in
+    let after-put-mark : tie.After-put-mark = search needs in
+    let a = start .args in
+    then-behind (now (a .buffer)) 0 (ascii "ZOV") (gather (le 2) (headFields (countsOf (a .c)))) _ _ 3 (after-put-mark .put-mark .ensures) (c .before .before .put-fields .ensures) refl
 
 pub put-head-spec : {M : Type 1} → statement M
 put-head-spec =

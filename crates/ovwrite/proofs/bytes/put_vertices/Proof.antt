@@ -26,21 +26,25 @@ loop-holds c = let s = c .before in let vs = now (s .args .vertices) in storing-
 
 put-vertex-requires : tie.Need-put-vertex-requires Inv-loop μ-loop
 put-vertex-requires c κs =
-    let at = c .before .before .before in
+    let at : tie.At-loop Inv-loop μ-loop = search needs in
     (at .before .before .pre .0 .at (at .loop .v) (c .before .before .loop-test .taken), omega (arith, c .vertex-place .ensures, at .loop .inv .room, at .loop .inv .kept, c .before .before .loop-test .taken))
 
 loop-again : tie.Need-loop-again Inv-loop μ-loop
 loop-again c =
-    let at = c .before .before .before .before .before .before in
+    let in-loop : tie.In-loop Inv-loop μ-loop = search needs in
+    let after-vertex-place : tie.After-vertex-place Inv-loop μ-loop = search needs in
+    let at : tie.At-loop Inv-loop μ-loop = search needs in
     let vs = now (at .before .before .args .vertices) in
-    storing-turns 14 (bytes vs) (vertex-long (tablesBy vs [] [] [])) (at .loop .inv) _ (c .before .before .before .before .before .loop-test .taken)
-    (c .before .before .put-vertex .ensures ∙ ap (λ (p : ℕ). sets (at .loop .buffer) p (bytes vs (at .loop .v))) (c .before .before .before .vertex-place .ensures))
+    storing-turns 14 (bytes vs) (vertex-long (tablesBy vs [] [] [])) (at .loop .inv) _ (in-loop .loop-test .taken)
+    (c .before .before .put-vertex .ensures ∙ ap (λ (p : ℕ). sets (at .loop .buffer) p (bytes vs (at .loop .v))) (after-vertex-place .vertex-place .ensures))
 
 same-length : tie.Need-same-length Inv-loop μ-loop
 same-length c = c .before .loop .inv .kept
 
 returns : tie.Need-returns Inv-loop μ-loop
-returns c = let vs = now (c .before .before .before .args .vertices) in storing-ends 14 (bytes vs) (vertex-long (tablesBy vs [] [] [])) (c .before .loop .inv) (c .loop-test .left)
+returns c = let vs =
+    let start : tie.Start Inv-loop μ-loop = search needs in
+    now (start .args .vertices) in storing-ends 14 (bytes vs) (vertex-long (tablesBy vs [] [] [])) (c .before .loop .inv) (c .loop-test .left)
 
 pub put-vertices-spec : {M : Type 1} → statement M
 put-vertices-spec =

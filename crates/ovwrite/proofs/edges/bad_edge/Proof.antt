@@ -6,7 +6,8 @@ use Rattle.ovwrite.proofs.edges.bad_edge.Tie as tie
 
 returns : tie.Need-returns
 returns c i =
-    (not (c .before .before .before .sound-edge .ensures i) || c .before .before .wide-source .ensures i)
+    let after-sound-edge : tie.After-sound-edge = search needs in
+    (not (after-sound-edge .sound-edge .ensures i) || c .before .before .wide-source .ensures i)
     || (c .before .bad-half .ensures i || c .bad-half2 .ensures i)
 
 pub bad-edge-spec : {M : Type 1} → statement M

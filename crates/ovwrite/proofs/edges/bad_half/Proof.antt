@@ -9,8 +9,10 @@ use Rattle.ovwrite.proofs.edges.bad_half.Tie as tie
 
 returns : tie.Need-returns
 returns c =
-    let p = c .before .before .before .half-cell .ensures in
-    let a = c .before .before .before .before .before .args in
+    let after-half-cell : tie.After-half-cell = search needs in
+    let start : tie.Start = search needs in
+    let p = after-half-cell .half-cell .ensures in
+    let a = start .args in
     let hs = now (a .halves) in
     λ i. not (eqb (c .before .before .half-cell2 .ensures i) (c .before .twin .ensures i)
     && (ltb (p i) (2 * a .edges) && eqb ((c .half-cell3 .ensures ∙ ap (λ (q : ℕ). column hs 2 q) p) i) (a .h)))

@@ -8,7 +8,8 @@ use Rattle.ovwrite.proofs.edges.first_bad_edge.Tie as tie
 
 first-bad-edge-by-requires : tie.Need-first-bad-edge-by-requires
 first-bad-edge-by-requires c κs =
-    followed-by (now (c .before .before .before .before .before .before .before .args .halves)) (c .before .before .first-places .ensures) (omega (arith, c .before .before .first-places .kept .1 .1 .1 .0))
+    let start : tie.Start = search needs in
+    followed-by (now (start .args .halves)) (c .before .before .first-places .ensures) (omega (arith, c .before .before .first-places .kept .1 .1 .1 .0))
 
 pub first-bad-edge-spec : {M : Type 1} → statement M
 first-bad-edge-spec =

@@ -10,7 +10,8 @@ use Rattle.ovwrite.proofs.edges.wide_source.Tie as tie
 
 returns : tie.Need-returns
 returns c =
-    let a = c .before .before .before .args in
+    let start : tie.Start = search needs in
+    let a = start .args in
     (λ i. leb 65536 (c .before .source-cell .ensures i) || leb 65536 (c .source-cell2 .ensures i))
     ∙ some-two (λ i. leb 65536 (cell 0 maps (now (a .sources)) (a .k) i))
 

@@ -11,9 +11,9 @@ use Rattle.ovwrite.proofs.vertices.bad_vertex.Tie as tie
 
 returns : tie.Need-returns
 returns c =
-    let x = c .before .before .before .before .before .before .before in
-    let y = c .before .before .before .before .before in
-    let d = c .before .before .before in
+    let x : tie.After-fits-signed = search needs in
+    let y : tie.After-fits-signed2 = search needs in
+    let d : tie.After-fits-unsigned = search needs in
     let outgoing = c .before .before in
     (λ i. not ((x .fits-signed .ensures ∙ ap (fitsSigned 5) (toZ-ofZ w64 _ (record { sfits = x .before .vertex-cell .ok }) ∙ x .before .vertex-cell .ensures)) i
     && ((y .fits-signed2 .ensures ∙ ap (fitsSigned 5) (toZ-ofZ w64 _ (record { sfits = y .before .vertex-cell2 .ok }) ∙ y .before .vertex-cell2 .ensures)) i

@@ -9,7 +9,7 @@ use Rattle.ovwrite.proofs.vertices.first_bad_vertex.Tie as tie
 
 returns : tie.Need-returns
 returns c =
-    let s = c .before .before .before .before in
+    let s : tie.Start = search needs in
     c .first-bad-vertex-by .ensures ∙ by-table (countsOf (s .args .c)) (now (s .args .vertices)) (now (s .args .halves)) (c .before .before .least-starts .ensures) (s .pre .0)
 
 pub first-bad-vertex-spec : {M : Type 1} → statement M

@@ -22,12 +22,12 @@ loop-holds c = let a = c .before .args in search-starts (badVertexBy (now (a .ve
 
 returns : tie.Need-returns Inv-loop μ-loop
 returns c =
-    let at = c .before .before .before in
+    let at : tie.At-loop Inv-loop μ-loop = search needs in
     search-finds (test at) (at .loop .inv) (c .before .before .loop-test .taken) (sym (c .before .bad-vertex .ensures) ∙ c .if1 .taken)
 
 loop-again : tie.Need-loop-again Inv-loop μ-loop
 loop-again c =
-    let at = c .before .before .before in
+    let at : tie.At-loop Inv-loop μ-loop = search needs in
     search-turns (test at) (at .loop .inv) (c .before .before .loop-test .taken) (sym (c .before .bad-vertex .ensures) ∙ c .if1 .left)
 
 returns-2 : tie.Need-returns-2 Inv-loop μ-loop

@@ -12,14 +12,14 @@ use Rattle.ovwrite.proofs.vertices.fits_signed.Tie as tie
 
 returns : tie.Need-returns
 returns c =
-    let s = c .before .before .before in
+    let s : tie.Start = search needs in
     let z = toZ-ofZ w64 (s .args .z) (s .fits .z) in
     (λ i. leb ((c .magnitude .ensures ∙ ap natAbs z) i) (c .before .before .numbers .ensures i / 2))
     ∙ signed-high (s .args .width) (s .args .z) (ltZ-yes (taken (c .before .if1 .taken) (search trbs depth 20) tt))
 
 returns-2 : tie.Need-returns-2
 returns-2 c =
-    let s = c .before .before .before in
+    let s : tie.Start = search needs in
     let z = toZ-ofZ w64 (s .args .z) (s .fits .z) in
     (λ i. ltb ((c .magnitude2 .ensures ∙ ap natAbs z) i) (c .before .before .numbers .ensures i / 2))
     ∙ signed-low (s .args .width) (s .args .z) (ltZ-no (left (c .before .if1 .left) (search trbs depth 20) tt))

@@ -15,7 +15,7 @@ returns c = let a = c .before .args in unsigned-high (a .width) (a .z) (ltZ-yes 
 
 returns-2 : tie.Need-returns-2
 returns-2 c =
-    let s = c .before .before .before in
+    let s : tie.Start = search needs in
     (λ i. ltb ((c .before .magnitude .ensures ∙ ap natAbs (toZ-ofZ w64 (s .args .z) (s .fits .z))) i) (c .numbers .ensures i))
     ∙ unsigned-low (s .args .width) (s .args .z) (ltZ-no (left (c .before .before .if1 .left) (search trbs depth 20) tt))
 

@@ -10,7 +10,8 @@ use Rattle.ovwrite.proofs.vertices.least_starts.Tie as tie
 
 returns : tie.Need-returns
 returns c =
-    starts-by (now (c .before .before .before .before .args .halves)) (c .before .first-places .ensures) (omega (arith, c .before .first-places .kept .1 .1 .1 .0))
+    let start : tie.Start = search needs in
+    starts-by (now (start .args .halves)) (c .before .first-places .ensures) (omega (arith, c .before .first-places .kept .1 .1 .1 .0))
     (λ v l. getD-replicate 1000 v absent 0 (omega arith))
 
 pub least-starts-spec : {M : Type 1} → statement M

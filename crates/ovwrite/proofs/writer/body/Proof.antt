@@ -14,11 +14,17 @@ use Rattle.ovwrite.proofs.writer.body.Tie as tie
 
 returns : tie.Need-returns
 returns c =
-    let a = c .before .before .before .before .before .before .before .before .before .before .before .before .args in
+    let start : tie.Start = search needs in
+    let after-given : tie.After-given = search needs in
+    let after-first-bad-vertex : tie.After-first-bad-vertex = search needs in
+    let after-given2 : tie.After-given2 = search needs in
+    let after-first-bad-edge : tie.After-first-bad-edge = search needs in
+    let after-file-length : tie.After-file-length = search needs in
+    let a = start .args in
     let hs = now (a .halves) in
-    let vertex = at-least 5 (badVertex layout (countsOf (a .c)) (tablesBy (now (a .vertices)) hs [] [])) (a .c .vertices) _ _ _ (c .before .before .before .before .before .before .given .ensures) (c .before .before .before .before .before .before .before .before .before .first-bad-vertex .ensures) refl in
-    let edge = at-least 21 (badEdge maps (countsOf (a .c)) (edgeTables hs (now (a .sources)))) (a .c .edges) _ _ _ (c .before .before .before .before .given2 .ensures) (c .before .before .before .before .before .before .before .before .first-bad-edge .ensures) refl in
-    let short = c .before .before .given3 .ensures ∙ ap (λ (k : ℕ). given 11 4 (ltb (a .n) k)) (c .before .before .before .file-length .ensures) in
+    let vertex = at-least 5 (badVertex layout (countsOf (a .c)) (tablesBy (now (a .vertices)) hs [] [])) (a .c .vertices) _ _ _ (after-given .given .ensures) (after-first-bad-vertex .first-bad-vertex .ensures) refl in
+    let edge = at-least 21 (badEdge maps (countsOf (a .c)) (edgeTables hs (now (a .sources)))) (a .c .edges) _ _ _ (after-given2 .given2 .ensures) (after-first-bad-edge .first-bad-edge .ensures) refl in
+    let short = c .before .before .given3 .ensures ∙ ap (λ (k : ℕ). given 11 4 (ltb (a .n) k)) (after-file-length .file-length .ensures) in
     before (c .first2 .ensures) vertex (before (c .before .first .ensures) edge (last short)) .is
 
 pub body-spec : {M : Type 1} → statement M

@@ -18,19 +18,24 @@ counts-are : (c : tie.After-given)
 counts-are c = let a = c .before .before .before .before .before .args in c .given .ensures ∙ ap (given 3 0) (c .before .over .ensures ∙ ap (λ (r : paper.Counts). over r (countsOf (a .c))) (c .before .before .room-in .ensures))
 
 body-requires : tie.Need-body-requires
-body-requires c κs = let a = c .before .before .before .before .before .before .before .args in within (lengthsBy (length (now (a .vertices))) (length (now (a .halves))) (length (now (a .sources))) (a .faces)) (countsOf (a .c)) (sym (counts-are (c .before .before)) ∙ ap verdict (c .enum-told2 .given .1))
+body-requires c κs = let a =
+    let start : tie.Start = search needs in
+    start .args in within (lengthsBy (length (now (a .vertices))) (length (now (a .halves))) (length (now (a .sources))) (a .faces)) (countsOf (a .c)) (sym (counts-are (c .before .before)) ∙ ap verdict (c .enum-told2 .given .1))
 
 returns : tie.Need-returns
 returns c =
-    let a = c .before .before .before .before .before .before .before .args in
+    let start : tie.Start = search needs in
+    let a = start .args in
     let told = ap verdict (c .enum-told .given .1) in
     told ∙ (λ i. firstOf ((sym told ∙ counts-are (c .before .before)) i ∷ others (a .n) (countsOf (a .c)) (tablesBy (now (a .vertices)) (now (a .halves)) (now (a .sources)) [])))
 
 returns-2 : tie.Need-returns-2
 returns-2 c =
-    let a = c .before .before .before .before .before .before .before .before .args in
+    let start : tie.Start = search needs in
+    let after-given : tie.After-given = search needs in
+    let a = start .args in
     let told = ap verdict (c .before .enum-told2 .given .1) in
-    c .body .ensures ∙ (λ i. firstOf ((sym told ∙ counts-are (c .before .before .before)) i ∷ others (a .n) (countsOf (a .c)) (tablesBy (now (a .vertices)) (now (a .halves)) (now (a .sources)) [])))
+    c .body .ensures ∙ (λ i. firstOf ((sym told ∙ counts-are after-given) i ∷ others (a .n) (countsOf (a .c)) (tablesBy (now (a .vertices)) (now (a .halves)) (now (a .sources)) [])))
 
 pub judge-spec : {M : Type 1} → statement M
 judge-spec =

@@ -8,10 +8,15 @@ use Rattle.ovwrite.proofs.writer.put_file.Tie as tie
 
 returns : tie.Need-returns
 returns c =
-    let s = c .before .before .before .before .before .before .before .before .before .before .before .before .before .before .before .before .before .before .before .before .before .before .before .before .before in
+    let after-put-head : tie.After-put-head = search needs in
+    let after-put-vertices : tie.After-put-vertices = search needs in
+    let after-put-edges : tie.After-put-edges = search needs in
+    let after-put-faces : tie.After-put-faces = search needs in
+    let after-file-length : tie.After-file-length = search needs in
+    let s : tie.Start = search needs in
     let a = s .args in
     file-put (countsOf (a .c)) (tablesBy (now (a .vertices)) (now (a .halves)) (now (a .sources)) (now (a .faces))) (now (a .buffer)) _ _ _ _ _ _
-    (c .before .before .before .before .before .before .before .before .before .before .before .before .before .before .before .before .before .before .before .put-head .ensures) (c .before .before .before .before .before .before .before .before .before .before .before .before .before .before .before .put-vertices .ensures) (c .before .before .before .before .before .before .before .before .before .before .before .put-edges .ensures) (c .before .before .before .before .before .before .before .put-faces .ensures) (c .before .before .wipe-from-u8 .ensures) (c .before .before .before .file-length .ensures) (s .pre .1)
+    (after-put-head .put-head .ensures) (after-put-vertices .put-vertices .ensures) (after-put-edges .put-edges .ensures) (after-put-faces .put-faces .ensures) (c .before .before .wipe-from-u8 .ensures) (after-file-length .file-length .ensures) (s .pre .1)
 
 pub put-file-spec : {M : Type 1} → statement M
 put-file-spec =

@@ -13,25 +13,34 @@ use Rattle.ovwrite.proofs.writer.write.Tie as tie
 
 put-file-requires : tie.Need-put-file-requires
 put-file-requires c κs =
-    let a = c .before .before .before .before .before .before .before .before .args in
+    let start : tie.Start = search needs in
+    let after-judge : tie.After-judge = search needs in
+    let a = start .args in
     let n = length (now (a .buffer)) in
-    let e = sym (c .before .before .before .judge .ensures) ∙ ap verdict (c .before .enum-told .given .1) in
+    let e = sym (after-judge .judge .ensures) ∙ ap verdict (c .before .enum-told .given .1) in
     (all-fit n (countsOf (a .c)) (now (a .vertices)) (now (a .halves)) (now (a .sources)) (now (a .faces)) e, room-enough n (countsOf (a .c)) (now (a .vertices)) (now (a .halves)) (now (a .sources)) (now (a .faces)) e)
 
 returns : tie.Need-returns
 returns c =
-    let a = c .before .before .before .before .before .before .before .before .before .before .before .before .args in
+    let start : tie.Start = search needs in
+    let after-check : tie.After-check = search needs in
+    let after-judge : tie.After-judge = search needs in
+    let a = start .args in
     let n = length (now (a .buffer)) in
-    let told = c .before .before .before .before .before .check .given in
+    let told = after-check .check .given in
     (λ i. record { answer = refused (refusalOf (told .0 .0)); buffer = (c .before .before .wipe-u8 .ensures ∙ sym (padded-none 0 n)) i })
-    ∙ write-refused n (countsOf (a .c)) (now (a .vertices)) (now (a .halves)) (now (a .sources)) (now (a .faces)) _ (sym (c .before .before .before .before .before .before .before .judge .ensures) ∙ ap verdict (told .1))
+    ∙ write-refused n (countsOf (a .c)) (now (a .vertices)) (now (a .halves)) (now (a .sources)) (now (a .faces)) _ (sym (after-judge .judge .ensures) ∙ ap verdict (told .1))
 
 returns-2 : tie.Need-returns-2
 returns-2 c =
-    let a = c .before .before .before .before .before .before .before .before .before .before .before .before .args in
+    let start : tie.Start = search needs in
+    let after-judge : tie.After-judge = search needs in
+    let after-enum-told : tie.After-enum-told = search needs in
+    let after-put-file : tie.After-put-file = search needs in
+    let a = start .args in
     let n = length (now (a .buffer)) in
-    let e = sym (c .before .before .before .before .before .before .before .judge .ensures) ∙ ap verdict (c .before .before .before .before .before .enum-told .given .1) in
-    (λ i. record { answer = done (c .file-length .ensures i); buffer = c .before .before .before .put-file .ensures i })
+    let e = sym (after-judge .judge .ensures) ∙ ap verdict (after-enum-told .enum-told .given .1) in
+    (λ i. record { answer = done (c .file-length .ensures i); buffer = after-put-file .put-file .ensures i })
     ∙ write-done n (countsOf (a .c)) (now (a .vertices)) (now (a .halves)) (now (a .sources)) (now (a .faces)) e
 
 pub write-spec : {M : Type 1} → statement M

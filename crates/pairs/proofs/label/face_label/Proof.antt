@@ -10,13 +10,14 @@ use Rattle.pairs.proofs.label.face_label.Tie as tie
 
 returns : tie.Need-returns
 returns c =
-    let a = c .before .before .before .before .before .before .args in
+    let start : tie.Start = search needs in
+    let a = start .args in
     outside-label (a .points .now) (a .ends .now) (a .lines .now) (a .pieces .now) (a .m) (a .outers .now)
     (standing (a .corners .now) (a .origins .now) (a .carriers .now) (a .labels .now) (a .v) (a .w) (a .a) (a .b)) (a .f) (c .if1 .taken)
 
 outer-of-requires : tie.Need-outer-of-requires
 outer-of-requires c κs =
-    let s = c .before .before .before .before .before .before in
+    let s : tie.Start = search needs in
     let a = s .args in
     let q = c .if1 .left in
     let l = inner (a .points .now) (a .ends .now) (a .lines .now) (a .pieces .now) (a .m) (a .outers .now) (a .b - a .a) (a .f) q (s .pre .1) in
@@ -24,14 +25,15 @@ outer-of-requires c κs =
 
 half-label-requires : tie.Need-half-label-requires
 half-label-requires c κs =
-    let s = c .before .before .before .before .before .before .before in
+    let s : tie.Start = search needs in
     let a = s .args in
     let l = inner (a .points .now) (a .ends .now) (a .lines .now) (a .pieces .now) (a .m) (a .outers .now) (a .b - a .a) (a .f) (c .before .if1 .left) (s .pre .1) in
     (s .pre .0, subst (λ (h : ℕ). Labelled (a .points .now) (a .ends .now) (a .lines .now) (a .pieces .now) (a .m) (a .b - a .a) h) (sym (c .outer-of .ensures)) (l .1))
 
 returns-2 : tie.Need-returns-2
 returns-2 c =
-    let a = c .before .before .before .before .before .before .before .before .args in
+    let start : tie.Start = search needs in
+    let a = start .args in
     let m = standing (a .corners .now) (a .origins .now) (a .carriers .now) (a .labels .now) (a .v) (a .w) (a .a) (a .b) in
     c .half-label .ensures
     ∙ ap (halfLabel m (a .points .now) (a .ends .now) (a .lines .now) (a .pieces .now) (a .m)) (c .before .outer-of .ensures)

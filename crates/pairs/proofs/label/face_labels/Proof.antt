@@ -16,13 +16,19 @@ abbrev μ-loop : tie.MeasureT-loop
 μ-loop corners origins carriers labels v w a b points ends lines pieces m outers n out₀ f₀ out f = n - f
 
 loop-holds : tie.Need-loop-holds Inv-loop μ-loop
-loop-holds c = fill-starts _ _ _ (c .before .before .before .before .before .before .pre .1 .1 .1)
+loop-holds c =
+    let start : tie.Start Inv-loop μ-loop = search needs in
+    fill-starts _ _ _ (start .pre .1 .1 .1)
 
 face-label-requires : tie.Need-face-label-requires Inv-loop μ-loop
-face-label-requires c κs = let s = c .before .before .before .before .before .before .before .before in (s .pre .0, s .pre .1 .0 (c .before .loop .f) (c .loop-test .taken))
+face-label-requires c κs = let s =
+    let start : tie.Start Inv-loop μ-loop = search needs in
+    start in (s .pre .0, s .pre .1 .0 (c .before .loop .f) (c .loop-test .taken))
 
 mul-out : tie.Need-mul-out Inv-loop μ-loop
-mul-out c = omega (arith, c .before .loop-test .taken, c .before .before .before .before .before .before .before .before .before .pre .1 .1 .0)
+mul-out c =
+    let start : tie.Start Inv-loop μ-loop = search needs in
+    omega (arith, c .before .loop-test .taken, start .pre .1 .1 .0)
 
 loop-again : tie.Need-loop-again Inv-loop μ-loop
 loop-again c = fill-turns _ (c .before .before .loop .inv) _ (c .before .loop-test .taken) (c .face-label .ensures)

@@ -9,7 +9,9 @@ returns : tie.Need-returns
 returns c = let a = c .before .before .args in outside-outer (a .outers .now) (a .f) (c .if1 .taken)
 
 returns-2 : tie.Need-returns-2
-returns-2 c = let a = c .before .before .before .args in c .outer-of .ensures ∙ inner-outer (a .outers .now) (a .f) (c .before .if1 .left)
+returns-2 c = let a =
+    let start : tie.Start = search needs in
+    start .args in c .outer-of .ensures ∙ inner-outer (a .outers .now) (a .f) (c .before .if1 .left)
 
 pub face-outer-spec : {M : Type 1} → statement M
 face-outer-spec = tie.close (tie.spec returns (λ c κs. search needs) returns-2)

@@ -30,19 +30,29 @@ lay-labels-requires : tie.Need-lay-labels-requires
 lay-labels-requires c κs = (whole (c .before), (omega arith, whole (c .before) .few-faces))
 
 lay-labels-requires-2 : tie.Need-lay-labels-requires-2
-lay-labels-requires-2 c κs = let s = c .before .before .before .before in (whole s, (omega arith, whole s .few-faces))
+lay-labels-requires-2 c κs = let s =
+    let start : tie.Start = search needs in
+    start in (whole s, (omega arith, whole s .few-faces))
 
 slice-aggregate-lay-outers : tie.Need-slice-aggregate-lay-outers
-slice-aggregate-lay-outers c = sym (outers-long (c .before .before .before .before .before .before .before .before .before))
+slice-aggregate-lay-outers c =
+    let start : tie.Start = search needs in
+    sym (outers-long start)
 
 lay-outers-requires : tie.Need-lay-outers-requires
-lay-outers-requires c κs = let s = c .before .before .before .before .before .before .before .before .before .before in (omega (arith, outers-long s, whole s .few-faces), whole s .few-faces)
+lay-outers-requires c κs = let s =
+    let start : tie.Start = search needs in
+    start in (omega (arith, outers-long s, whole s .few-faces), whole s .few-faces)
 
 slice-aggregate-lay-holes : tie.Need-slice-aggregate-lay-holes
-slice-aggregate-lay-holes c = sym (holes-long (c .before .before .before .before .before .before .before .before .before .before .before .before .before .before))
+slice-aggregate-lay-holes c =
+    let start : tie.Start = search needs in
+    sym (holes-long start)
 
 lay-holes-requires : tie.Need-lay-holes-requires
-lay-holes-requires c κs = let s = c .before .before .before .before .before .before .before .before .before .before .before .before .before .before .before in (omega (arith, holes-long s, whole s .few-faces), whole s .few-faces)
+lay-holes-requires c κs = let s =
+    let start : tie.Start = search needs in
+    start in (omega (arith, holes-long s, whole s .few-faces), whole s .few-faces)
 
 returns : tie.Need-returns
 returns c =

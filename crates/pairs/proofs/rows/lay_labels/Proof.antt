@@ -43,35 +43,53 @@ outers-long : (s : tie.Start) → length (s .args .t .outers) ≡ 4000
 outers-long s = length-unmapped ℕ (s .args .t .outers) 4000 (s .good .1 .1 .0 .1 .1 .1 .1 .1 .1 .1 .1 .0 .1 .0 .1)
 
 slice-aggregate-face-labels : tie.Need-slice-aggregate-face-labels
-slice-aggregate-face-labels c = sym (corners-long (c .before .before .before .before .before .before .before .before .before .before .before))
+slice-aggregate-face-labels c =
+    let start : tie.Start = search needs in
+    sym (corners-long start)
 
 slice-aggregate-face-labels-2 : tie.Need-slice-aggregate-face-labels-2
-slice-aggregate-face-labels-2 c = sym (origins-long (c .before .before .before .before .before .before .before .before .before .before .before .before))
+slice-aggregate-face-labels-2 c =
+    let start : tie.Start = search needs in
+    sym (origins-long start)
 
 slice-aggregate-face-labels-3 : tie.Need-slice-aggregate-face-labels-3
-slice-aggregate-face-labels-3 c = sym (carriers-long (c .before .before .before .before .before .before .before .before .before .before .before .before .before))
+slice-aggregate-face-labels-3 c =
+    let start : tie.Start = search needs in
+    sym (carriers-long start)
 
 slice-aggregate-face-labels-4 : tie.Need-slice-aggregate-face-labels-4
-slice-aggregate-face-labels-4 c = sym (labels-long (c .before .before .before .before .before .before .before .before .before .before .before .before .before .before))
+slice-aggregate-face-labels-4 c =
+    let start : tie.Start = search needs in
+    sym (labels-long start)
 
 slice-aggregate-face-labels-5 : tie.Need-slice-aggregate-face-labels-5
-slice-aggregate-face-labels-5 c = sym (points-long (c .before .before .before .before .before .before .before .before .before .before .before .before .before .before .before .before .before .before .before))
+slice-aggregate-face-labels-5 c =
+    let start : tie.Start = search needs in
+    sym (points-long start)
 
 slice-aggregate-face-labels-6 : tie.Need-slice-aggregate-face-labels-6
-slice-aggregate-face-labels-6 c = sym (ends-long (c .before .before .before .before .before .before .before .before .before .before .before .before .before .before .before .before .before .before .before .before))
+slice-aggregate-face-labels-6 c =
+    let start : tie.Start = search needs in
+    sym (ends-long start)
 
 slice-aggregate-face-labels-7 : tie.Need-slice-aggregate-face-labels-7
-slice-aggregate-face-labels-7 c = sym (lines-long (c .before .before .before .before .before .before .before .before .before .before .before .before .before .before .before .before .before .before .before .before .before))
+slice-aggregate-face-labels-7 c =
+    let start : tie.Start = search needs in
+    sym (lines-long start)
 
 slice-aggregate-face-labels-8 : tie.Need-slice-aggregate-face-labels-8
-slice-aggregate-face-labels-8 c = sym (pieces-long (c .before .before .before .before .before .before .before .before .before .before .before .before .before .before .before .before .before .before .before .before .before .before))
+slice-aggregate-face-labels-8 c =
+    let start : tie.Start = search needs in
+    sym (pieces-long start)
 
 slice-aggregate-face-labels-9 : tie.Need-slice-aggregate-face-labels-9
-slice-aggregate-face-labels-9 c = sym (outers-long (c .before .before .before .before .before .before .before .before .before .before .before .before .before .before .before .before .before .before .before .before .before .before .before))
+slice-aggregate-face-labels-9 c =
+    let start : tie.Start = search needs in
+    sym (outers-long start)
 
 face-labels-requires : tie.Need-face-labels-requires
 face-labels-requires c κs =
-    let s = c .before .before .before .before .before .before .before .before .before .before .before .before .before .before .before .before .before .before .before .before .before .before .before .before .before in
+    let s : tie.Start = search needs in
     let a = s .args in
     let W = s .pre .0 in
     let b = s .pre .1 .0 in
@@ -79,7 +97,7 @@ face-labels-requires c κs =
 
 returns : tie.Need-returns
 returns c =
-    let s = c .before .before .before .before .before .before .before .before .before .before .before .before .before .before .before .before .before .before .before .before .before .before .before .before .before .before .before .before in
+    let s : tie.Start = search needs in
     let a = s .args in
     let l = a .t1 in
     c .before .before .face-labels .ensures

@@ -9,7 +9,7 @@ use Rattle.plane.proofs.angle.cross.Tie as tie
 
 returns : tie.Need-returns
 returns c =
-    let st = c .before .before .before .before .before in
+    let st : tie.Start = search needs in
     let u = st .args .u in
     let v = st .args .v in
     (plain (search tr depth 20) tt ∙ c .cross-of .ensures .0 ∙ (λ i. cross (vec-back (u .x) (u .y) (st .pre .0) i) (vec-back (v .x) (v .y) (st .pre .1) i)), atmost (search tru depth 20) tt)

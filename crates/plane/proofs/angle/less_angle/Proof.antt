@@ -21,27 +21,37 @@ left-of u v r e = (λ i. ltZ (pos 0) (e i)) ∙ plus-test (cross u v)
 
 returns : tie.Need-returns
 returns c =
-    let a = c .before .before .before .before .before .args in
+    let start : tie.Start = search needs in
+    let after-rises : tie.After-rises = search needs in
+    let then1 : tie.Then1 = search needs in
+    let a = start .args in
     let u = vecOf (a .u) in
     let v = vecOf (a .v) in
-    test (search trb depth 20) tt ∙ left-of u v (c .cross .result) (c .cross .ensures .0) ∙ by u v (sym (c .before .before .before .before .rises .ensures) ∙ c .before .before .before .if1 .taken) (sym (c .before .before .rises2 .ensures) ∙ c .before .if2 .taken)
+    test (search trb depth 20) tt ∙ left-of u v (c .cross .result) (c .cross .ensures .0) ∙ by u v (sym (after-rises .rises .ensures) ∙ then1 .if1 .taken) (sym (c .before .before .rises2 .ensures) ∙ c .before .if2 .taken)
 
 returns-2 : tie.Need-returns-2
 returns-2 c =
-    let a = c .before .before .before .before .args in
-    by (vecOf (a .u)) (vecOf (a .v)) (sym (c .before .before .before .rises .ensures) ∙ c .before .before .if1 .taken) (sym (c .before .rises2 .ensures) ∙ c .if2 .left)
+    let start : tie.Start = search needs in
+    let after-rises : tie.After-rises = search needs in
+    let a = start .args in
+    by (vecOf (a .u)) (vecOf (a .v)) (sym (after-rises .rises .ensures) ∙ c .before .before .if1 .taken) (sym (c .before .rises2 .ensures) ∙ c .if2 .left)
 
 returns-3 : tie.Need-returns-3
 returns-3 c =
-    let a = c .before .before .before .before .args in
-    by (vecOf (a .u)) (vecOf (a .v)) (sym (c .before .before .before .rises .ensures) ∙ c .before .before .if1 .left) (sym (c .before .rises3 .ensures) ∙ c .if3 .taken)
+    let start : tie.Start = search needs in
+    let after-rises : tie.After-rises = search needs in
+    let a = start .args in
+    by (vecOf (a .u)) (vecOf (a .v)) (sym (after-rises .rises .ensures) ∙ c .before .before .if1 .left) (sym (c .before .rises3 .ensures) ∙ c .if3 .taken)
 
 returns-4 : tie.Need-returns-4
 returns-4 c =
-    let a = c .before .before .before .before .before .args in
+    let start : tie.Start = search needs in
+    let after-rises : tie.After-rises = search needs in
+    let else1 : tie.Else1 = search needs in
+    let a = start .args in
     let u = vecOf (a .u) in
     let v = vecOf (a .v) in
-    test (search trb depth 20) tt ∙ left-of u v (c .cross2 .result) (c .cross2 .ensures .0) ∙ by u v (sym (c .before .before .before .before .rises .ensures) ∙ c .before .before .before .if1 .left) (sym (c .before .before .rises3 .ensures) ∙ c .before .if3 .left)
+    test (search trb depth 20) tt ∙ left-of u v (c .cross2 .result) (c .cross2 .ensures .0) ∙ by u v (sym (after-rises .rises .ensures) ∙ else1 .if1 .left) (sym (c .before .before .rises3 .ensures) ∙ c .before .if3 .left)
 
 pub less-angle-spec : {M : Type 1} → statement M
 less-angle-spec =

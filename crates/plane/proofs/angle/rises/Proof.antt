@@ -11,7 +11,8 @@ use Rattle.plane.proofs.angle.rises.Tie as tie
 
 returns : tie.Need-returns
 returns c =
-    let u = c .before .before .before .before .before .args .u in
+    let start : tie.Start = search needs in
+    let u = start .args .u in
     let x : SFits w64 (u .x) = search needs in
     let y : SFits w64 (u .y) = search needs in
     let level : u .y ≡ pos 0 = eq-yes w64 (c .before .before .if1 .taken) (search trbits depth 20) (search trbits depth 20) tt in
@@ -19,7 +20,8 @@ returns c =
 
 returns-2 : tie.Need-returns-2
 returns-2 c =
-    let u = c .before .before .before .before .before .args .u in
+    let start : tie.Start = search needs in
+    let u = start .args .u in
     let y : SFits w64 (u .y) = search needs in
     let not-level : u .y ≡ pos 0 → ⊥ = eq-no w64 (c .before .before .if1 .left) (search trbits depth 20) (search trbits depth 20) tt in
     test (search trbs depth 20) tt ∙ plus-test (u .y) ∙ plus-not (u .y) (u .x) not-level

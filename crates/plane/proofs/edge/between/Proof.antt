@@ -13,15 +13,17 @@ told c = c .before2 .ensures ∙ (λ i. before (c .before .before .whole .ensure
 
 returns : tie.Need-returns
 returns c =
-    let a = vecOf (c .before .before .before .before .before .args .a) in
-    let b = vecOf (c .before .before .before .before .before .args .b) in
+    let start : tie.Start = search needs in
+    let a = vecOf (start .args .a) in
+    let b = vecOf (start .args .b) in
     let first = sym (c .before .if1 .taken) ∙ told (c .before .before) in
     (c .from-to .ensures .0 ∙ (λ i. cond (first i) (fromTo b a) (fromTo a b)), c .from-to .ensures .1)
 
 returns-2 : tie.Need-returns-2
 returns-2 c =
-    let a = vecOf (c .before .before .before .before .before .args .a) in
-    let b = vecOf (c .before .before .before .before .before .args .b) in
+    let start : tie.Start = search needs in
+    let a = vecOf (start .args .a) in
+    let b = vecOf (start .args .b) in
     let first = sym (c .before .if1 .left) ∙ told (c .before .before) in
     (c .from-to2 .ensures .0 ∙ (λ i. cond (first i) (fromTo b a) (fromTo a b)), c .from-to2 .ensures .1)
 

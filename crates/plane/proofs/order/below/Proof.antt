@@ -8,7 +8,7 @@ use Rattle.plane.proofs.order.below.Tie as tie
 
 returns : tie.Need-returns
 returns c =
-    let st = c .before .before .before .before .before .before .before in
+    let st : tie.Start = search needs in
     let p = st .args .p in
     let q = st .args .q in
     c .below-of .ensures ∙ (λ i. below (pt-back (p .x) (p .y) (p .d) (st .pre .0) i) (pt-back (q .x) (q .y) (q .d) (st .pre .1) i))

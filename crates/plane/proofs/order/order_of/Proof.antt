@@ -18,18 +18,22 @@ by-y c =
 
 returns : tie.Need-returns
 returns c =
-    let a = c .before .before .before .args in
+    let start : tie.Start = search needs in
+    let a = start .args in
     λ i. pick ((sym (ap signOf (c .enum-told .given .1)) ∙ by-y (c .before .before)) i) (sgn (a .px *ℤ a .qd -ℤ a .qx *ℤ a .pd))
 
 returns-2 : tie.Need-returns-2
 returns-2 c =
-    let a = c .before .before .before .before .args in
+    let start : tie.Start = search needs in
+    let after-order : tie.After-order = search needs in
+    let a = start .args in
     let e : back (back (a .px) *ℤ back (a .qd)) -ℤ back (back (a .qx) *ℤ back (a .pd)) ≡ a .px *ℤ a .qd -ℤ a .qx *ℤ a .pd = plain (search tr depth 20) tt in
-    c .order2 .ensures ∙ ap sgn e ∙ (λ i. pick ((sym (ap signOf (c .before .enum-told2 .given .1)) ∙ by-y (c .before .before .before)) i) (sgn (a .px *ℤ a .qd -ℤ a .qx *ℤ a .pd)))
+    c .order2 .ensures ∙ ap sgn e ∙ (λ i. pick ((sym (ap signOf (c .before .enum-told2 .given .1)) ∙ by-y after-order) i) (sgn (a .px *ℤ a .qd -ℤ a .qx *ℤ a .pd)))
 
 returns-3 : tie.Need-returns-3
 returns-3 c =
-    let a = c .before .before .before .args in
+    let start : tie.Start = search needs in
+    let a = start .args in
     λ i. pick ((sym (ap signOf (c .enum-told3 .given .1)) ∙ by-y (c .before .before)) i) (sgn (a .px *ℤ a .qd -ℤ a .qx *ℤ a .pd))
 
 pub order-of-spec : {M : Type 1} → statement M

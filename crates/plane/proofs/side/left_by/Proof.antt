@@ -9,7 +9,7 @@ use Rattle.plane.proofs.side.left_by.Tie as tie
 
 returns : tie.Need-returns
 returns c =
-    let st = c .before .before .before .before .before .before .before .before in
+    let st : tie.Start = search needs in
     let s = st .args .s in
     let p = st .args .p in
     (plain (search tr depth 20) tt ∙ c .left-of .ensures .0 ∙ (λ i. leftBy (seg-back (s .x) (s .y) (s .u) (s .v) (st .pre .0) i) (pt-back (p .x) (p .y) (p .d) (st .pre .1) i)), atmost (search tru depth 20) tt)

@@ -6,7 +6,9 @@ use Rattle.seq.proofs.u16s.wipe_u16.Statement.{statement}
 use Rattle.seq.proofs.u16s.wipe_u16.Tie as tie
 
 returns : tie.Need-returns
-returns c = c .before .before .wipe-from-u16 .ensures ∙ wiped-all 0 (c .before .before .before .before .before .args .t .now)
+returns c =
+    let start : tie.Start = search needs in
+    c .before .before .wipe-from-u16 .ensures ∙ wiped-all 0 (start .args .t .now)
 
 pub wipe-u16-spec : {M : Type 1} → statement M
 wipe-u16-spec = tie.close (tie.spec (λ c κs. search needs) (λ c. search needs) returns)

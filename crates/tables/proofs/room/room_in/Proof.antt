@@ -8,8 +8,9 @@ use Rattle.tables.proofs.room.room_in.Tie as tie
 
 returns : tie.Need-returns
 returns c i =
+    let after-smaller : tie.After-smaller = search needs in
     record {
-      vertices = c .before .before .before .smaller .ensures i;
+      vertices = after-smaller .smaller .ensures i;
       edges = (c .before .smaller2 .ensures ∙ ap (min overlayEdges) (c .before .before .edge-room .ensures)) i;
       faces = c .smaller3 .ensures i;
     }

@@ -9,24 +9,34 @@ use Rattle.tables.proofs.wipe.wipe_all.Statement.{statement}
 use Rattle.tables.proofs.wipe.wipe_all.Tie as tie
 
 same-length : tie.Need-same-length
-same-length c = c .before .before .before .before .before .before .before .before .before .before .before .before .before .wipe-i64 .kept .0
+same-length c =
+    let after-wipe-i64 : tie.After-wipe-i64 = search needs in
+    after-wipe-i64 .wipe-i64 .kept .0
 
 same-length-2 : tie.Need-same-length-2
-same-length-2 c = c .before .before .before .before .before .before .before .before .before .before .wipe-u16 .kept .0
+same-length-2 c =
+    let after-wipe-u16 : tie.After-wipe-u16 = search needs in
+    after-wipe-u16 .wipe-u16 .kept .0
 
 same-length-3 : tie.Need-same-length-3
-same-length-3 c = c .before .before .before .before .before .before .wipe-u32 .kept .0
+same-length-3 c =
+    let after-wipe-u32 : tie.After-wipe-u32 = search needs in
+    after-wipe-u32 .wipe-u32 .kept .0
 
 same-length-4 : tie.Need-same-length-4
 same-length-4 c = c .before .before .wipe-u162 .kept .0
 
 returns : tie.Need-returns
 returns c =
-    let a = c .before .before .before .before .before .before .before .before .before .before .before .before .before .before .before .before .before .before .args in
+    let start : tie.Start = search needs in
+    let after-wipe-i64 : tie.After-wipe-i64 = search needs in
+    let after-wipe-u16 : tie.After-wipe-u16 = search needs in
+    let after-wipe-u32 : tie.After-wipe-u32 = search needs in
+    let a = start .args in
     λ i. record {
-      vertices = (c .before .before .before .before .before .before .before .before .before .before .before .before .before .wipe-i64 .ensures ∙ sym (padded-none (pos 0) (length (now (a .vertices))))) i;
-      halves = (c .before .before .before .before .before .before .before .before .before .before .wipe-u16 .ensures ∙ sym (padded-none 0 (length (now (a .halves))))) i;
-      sources = (c .before .before .before .before .before .before .wipe-u32 .ensures ∙ sym (padded-none 0 (length (now (a .sources))))) i;
+      vertices = (after-wipe-i64 .wipe-i64 .ensures ∙ sym (padded-none (pos 0) (length (now (a .vertices))))) i;
+      halves = (after-wipe-u16 .wipe-u16 .ensures ∙ sym (padded-none 0 (length (now (a .halves))))) i;
+      sources = (after-wipe-u32 .wipe-u32 .ensures ∙ sym (padded-none 0 (length (now (a .sources))))) i;
       faces = (c .before .before .wipe-u162 .ensures ∙ sym (padded-none 0 (length (now (a .faces))))) i;
     }
 

@@ -16,7 +16,9 @@ loop-holds : tie.Need-loop-holds Inv-loop μ-loop
 loop-holds c = counting-starts _ _
 
 loop-again : tie.Need-loop-again Inv-loop μ-loop
-loop-again c = counting-turns (c .before .before .before .loop .inv) (c .before .before .loop-test .taken) (c .counted .ensures ∙ ap (λ (x : ℕ). c .before .before .before .loop .found + cond (eqb x 0) 1 0) (c .before .cell .ensures))
+loop-again c =
+    let at-loop : tie.At-loop Inv-loop μ-loop = search needs in
+    counting-turns (at-loop .loop .inv) (c .before .before .loop-test .taken) (c .counted .ensures ∙ ap (λ (x : ℕ). at-loop .loop .found + cond (eqb x 0) 1 0) (c .before .cell .ensures))
 
 returns : tie.Need-returns Inv-loop μ-loop
 returns c = counting-ends (c .before .loop .inv) (c .loop-test .left)

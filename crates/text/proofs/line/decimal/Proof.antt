@@ -9,13 +9,16 @@ use Rattle.text.proofs.line.decimal.Tie as tie
 
 words-requires : tie.Need-words-requires
 words-requires c κs =
+    let start : tie.Start = search needs in
     let d = c .before .before .decimal in
-    omega (arith, fewest-five (c .before .before .before .before .before .args .n) (d .result) (omega arith) (d .ensures .1 .0), d .ensures .0 .1)
+    omega (arith, fewest-five (start .args .n) (d .result) (omega arith) (d .ensures .1 .0), d .ensures .0 .1)
 
 returns : tie.Need-returns
 returns c =
-    let d = c .before .before .before .before .before .decimal in
-    let n = c .before .before .before .before .before .before .before .before .args .n in
+    let after-decimal : tie.After-decimal = search needs in
+    let start : tie.Start = search needs in
+    let d = after-decimal .decimal in
+    let n = start .args .n in
     put-as
     (c .before .before .words .ensures)
     (d .ensures .1 .1 ∙ fewest-decimal n (d .result) (d .ensures .1 .0))

@@ -1,6 +1,5 @@
 -- `text::line::words` meets its contract: before turn i the first i bytes stand. Assumes nothing.
 use borrow.Author.Needs.{needs}
-use native.Mathlib.Omega.{arith}
 use Rattle.seq.specs.Seq.{_-_, length}
 use Rattle.text.proofs.LineLaws.{Putting, putting-starts, putting-turns, putting-ends}
 use Rattle.text.proofs.line.words.Statement.{statement}

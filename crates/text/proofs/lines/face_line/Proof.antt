@@ -12,8 +12,9 @@ use Rattle.text.proofs.lines.face_line.Tie as tie
 
 returns : tie.Need-returns
 returns c =
-    let long : 64 ≤ length (now (c .before .before .before .before .before .before .before .before .before .before .before .before .before .before .before .args .line)) = omega arith in
-    let holes = c .before .before .before in
+    let start : tie.Start = search needs in
+    let long : 64 ≤ length (now (start .args .line)) = omega arith in
+    let holes : tie.After-field = search needs in
     let least = holes .before .before .before .before in
     let labels = least .before .before .before in
     let a = labels .before .before .before .before .before .args in

@@ -6,7 +6,9 @@ use Rattle.text.proofs.lines.gaps_line.Statement.{statement}
 use Rattle.text.proofs.lines.gaps_line.Tie as tie
 
 returns : tie.Need-returns
-returns c = put-line (put-behind (c .before .before .before .field .ensures) (c .words .ensures)) (omega arith) (omega arith)
+returns c =
+    let after-field : tie.After-field = search needs in
+    put-line (put-behind (after-field .field .ensures) (c .words .ensures)) (omega arith) (omega arith)
 
 pub gaps-line-spec : {M : Type 1} → statement M
 gaps-line-spec =

@@ -9,7 +9,7 @@ use Rattle.text.proofs.lines.refused_line.Tie as tie
 
 returns : tie.Need-returns
 returns c =
-    let third = c .before .before .before in
+    let third : tie.After-field3 = search needs in
     let second = third .before .before .before in
     let first = second .before .before .before in
     let a = first .before .before .before .args in

@@ -9,9 +9,11 @@ use Rattle.text.proofs.whole.listing.Tie as tie
 
 returns : tie.Need-returns
 returns c =
-    let a = c .before .before .before .before .before .before .before .args in
+    let start : tie.Start = search needs in
+    let after-put-counts : tie.After-put-counts = search needs in
+    let a = start .args in
     let counts : Counts = record { vertices = a .vertices; edges = a .edges; faces = a .count } in
-    let parts = put-behind (put-behind (c .before .before .before .before .put-counts .ensures) (c .before .before .put-faces .ensures)) (c .put-gaps .ensures) in
+    let parts = put-behind (put-behind (after-put-counts .put-counts .ensures) (c .before .before .put-faces .ensures)) (c .put-gaps .ensures) in
     put-line {m = 85504} (put-as parts (listing-parts counts (now (a .faces))) (omega arith)) (omega arith) (omega arith)
 
 pub listing-spec : {M : Type 1} → statement M

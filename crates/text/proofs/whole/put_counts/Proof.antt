@@ -9,7 +9,9 @@ words-requires : tie.Need-words-requires
 words-requires c κs = omega (arith, c .before .before .counts-line .ensures .within, c .before .before .counts-line .ensures .counts .1)
 
 returns : tie.Need-returns
-returns c = put-lined (c .before .before .before .before .before .counts-line .ensures) (c .before .before .words .ensures)
+returns c =
+    let after-counts-line : tie.After-counts-line = search needs in
+    put-lined (after-counts-line .counts-line .ensures) (c .before .before .words .ensures)
 
 pub put-counts-spec : {M : Type 1} → statement M
 put-counts-spec =

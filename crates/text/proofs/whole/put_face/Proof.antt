@@ -9,7 +9,9 @@ words-requires : tie.Need-words-requires
 words-requires c κs = omega (arith, c .before .before .face-line .ensures .within, c .before .before .face-line .ensures .counts .1)
 
 returns : tie.Need-returns
-returns c = put-lined (c .before .before .before .before .before .face-line .ensures) (c .before .before .words .ensures)
+returns c =
+    let after-face-line : tie.After-face-line = search needs in
+    put-lined (after-face-line .face-line .ensures) (c .before .before .words .ensures)
 
 pub put-face-spec : {M : Type 1} → statement M
 put-face-spec =

@@ -23,7 +23,9 @@ loop-again : tie.Need-loop-again Inv-loop μ-loop
 loop-again c = let l = c .before .before .before .before .before .loop in (put-face-more (now (c .before .before .before .before .before .before .before .before .args .faces)) (l .f) (l .inv .0) (c .before .before .put-face .ensures), omega arith)
 
 returns : tie.Need-returns Inv-loop μ-loop
-returns c = put-faces-all (now (c .before .before .before .before .args .faces)) (c .before .loop .inv .0) (c .before .loop .inv .1) (c .loop-test .left)
+returns c =
+    let start : tie.Start Inv-loop μ-loop = search needs in
+    put-faces-all (now (start .args .faces)) (c .before .loop .inv .0) (c .before .loop .inv .1) (c .loop-test .left)
 
 pub put-faces-spec : {M : Type 1} → statement M
 put-faces-spec =

@@ -12,9 +12,11 @@ words-requires c κs = omega (arith, c .before .before .gaps-line .ensures .with
 
 returns : tie.Need-returns
 returns c =
+    let after-gaps-line : tie.After-gaps-line = search needs in
+    let after-gaps : tie.After-gaps = search needs in
     put-as
-    (put-lined (c .before .before .before .before .before .gaps-line .ensures) (c .before .before .words .ensures))
-    (ap gapsText (c .before .before .before .before .before .before .before .gaps .ensures))
+    (put-lined (after-gaps-line .gaps-line .ensures) (c .before .before .words .ensures))
+    (ap gapsText (after-gaps .gaps .ensures))
     (omega arith)
 
 pub put-gaps-spec : {M : Type 1} → statement M

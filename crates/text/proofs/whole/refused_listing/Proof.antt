@@ -9,7 +9,9 @@ words-requires : tie.Need-words-requires
 words-requires c κs = omega (arith, c .before .before .refused-line .ensures .within, c .before .before .refused-line .ensures .counts .1)
 
 returns : tie.Need-returns
-returns c = put-line (put-lined (c .before .before .before .refused-line .ensures) (c .words .ensures)) (omega arith) (omega arith)
+returns c =
+    let after-refused-line : tie.After-refused-line = search needs in
+    put-line (put-lined (after-refused-line .refused-line .ensures) (c .words .ensures)) (omega arith) (omega arith)
 
 pub refused-listing-spec : {M : Type 1} → statement M
 refused-listing-spec =

@@ -1,0 +1,11 @@
+pub mod Between
+pub mod Boxes
+pub mod Crossings
+pub mod Gathering
+pub mod Remembered
+pub mod EndCuts
+pub mod Linked
+pub mod Joining
+pub mod Agreeing
+pub mod Keys
+pub mod Room

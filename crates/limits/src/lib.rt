@@ -1,0 +1,139 @@
+// The numbers of document 01 that the code compares with, counts from, or makes its tables by, each once, and what follows from them. The proofs of the crates
+// that use them hold them to the definitions (paper, specs/Limits.antt): a wrong number here proves nothing there.
+
+// Maps.
+
+// "Two map files go in"
+pub const MAPS: usize = 2;
+// "the bytes before the first vertex": mark, version and the two counts
+pub const MAP_HEAD: usize = 9;
+// "Length is 9 + 4V + 8E": the bytes of one vertex and edge
+pub const MAP_VERTEX_SIZE: usize = 4;
+
+pub const MAP_EDGE_SIZE: usize = 8;
+// "V ≤ 200, E ≤ 300, coordinates from −2,000 to 2,000"
+pub const MAP_VERTICES: u16 = 200;
+
+pub const MAP_EDGES: u16 = 300;
+
+pub const REACH: u64 = 2000;
+
+// The overlay.
+
+// "The overlay has at most 1,000 vertices, 2,000 edges (4,000 half-edges) and 1,334 faces"
+pub const OVERLAY_VERTICES: u16 = 1000;
+
+pub const OVERLAY_EDGES: u16 = 2000;
+
+pub const OVERLAY_HALVES: u16 = 2 * OVERLAY_EDGES;
+
+pub const OVERLAY_FACES: u16 = 1334;
+// "65,535 for face 0", "65,535 if none": no half-edge
+pub const ABSENT: u16 = 65535;
+
+// The overlay file.
+
+// the newest version of the file
+pub const VERSION: u16 = 1;
+// mark, version and the three counts
+pub const OVERLAY_HEAD: usize = 11;
+// "X and Y in five bytes each (two's complement) and D in four (unsigned)"
+pub const COORDINATE_BYTES: usize = 5;
+
+pub const DENOMINATOR_BYTES: usize = 4;
+// the bytes of one vertex, edge and face: "edges as eight 16-bit numbers", of which one for each map is a source; "faces as four (labels, least half-edge, holes)"
+pub const VERTEX_SIZE: usize = 2 * COORDINATE_BYTES + DENOMINATOR_BYTES;
+
+pub const EDGE_SIZE: usize = 12 + 2 * MAPS;
+
+pub const FACE_SIZE: usize = 4 + 2 * MAPS;
+// where the 16-bit numbers of an edge are, behind lower, upper and for each map the source + 1 or 0: both followers, and both faces
+pub const EDGE_FOLLOWERS: u32 = 2 + MAPS as u32;
+
+pub const EDGE_FACES: u32 = EDGE_FOLLOWERS + 2;
+
+// Cells of a row. The first four are the rows of the lent tables.
+
+// X, Y, D, least outgoing half-edge
+pub const VERTEX_WIDTH: usize = 4;
+// "A half-edge holds origin, twin, follower, predecessor, face"
+pub const HALF_WIDTH: usize = 5;
+// both half-edges of an edge
+pub const EDGE_WIDTH: usize = 2 * HALF_WIDTH;
+// for each map the source + 1 or 0
+pub const SOURCE_WIDTH: usize = MAPS;
+// for each map the label, the least outer half-edge, the count of hole walks
+pub const FACE_WIDTH: usize = MAPS + 2;
+// lower, upper, and for each map the source + 1 or 0: the sources stand from cell PIECE_SOURCES on
+pub const PIECE_SOURCES: usize = 2;
+
+pub const PIECE_WIDTH: usize = PIECE_SOURCES + MAPS;
+// X, Y, D and a spare cell
+pub const POINT_WIDTH: usize = 4;
+// the foot and the direction upward
+pub const CARRIER_WIDTH: usize = 4;
+// a direction
+pub const HEADING_WIDTH: usize = 2;
+
+// Lengths of the lent tables, at most.
+
+pub const VERTICES: usize = OVERLAY_VERTICES as usize;
+
+pub const EDGES: usize = OVERLAY_EDGES as usize;
+
+pub const HALVES: usize = OVERLAY_HALVES as usize;
+
+pub const FACES: usize = OVERLAY_FACES as usize;
+
+pub const VERTEX_CELLS: usize = VERTEX_WIDTH * VERTICES;
+
+pub const HALF_CELLS: usize = HALF_WIDTH * HALVES;
+
+pub const SOURCE_CELLS: usize = SOURCE_WIDTH * EDGES;
+
+pub const FACE_CELLS: usize = FACE_WIDTH * FACES;
+
+// Lengths of the tables that the overlay is made in.
+
+// one row more than the overlay may have, so that a count says whether there are more
+pub const VERTEX_ROWS: usize = VERTICES + 1;
+
+pub const EDGE_ROWS: usize = EDGES + 1;
+
+pub const POINT_CELLS: usize = POINT_WIDTH * VERTEX_ROWS;
+
+pub const PIECE_CELLS: usize = PIECE_WIDTH * EDGE_ROWS;
+
+pub const CARRIER_CELLS: usize = CARRIER_WIDTH * EDGES;
+
+pub const HEADING_CELLS: usize = HEADING_WIDTH * HALVES;
+// a face for each half-edge and face 0: as many as could be numbered
+pub const FACE_ROWS: usize = HALVES + 1;
+
+// Lengths of the tables of one map.
+
+pub const MAP_HALVES: usize = 2 * MAP_EDGES as usize;
+
+pub const MAP_POINT_CELLS: usize = POINT_WIDTH * MAP_VERTICES as usize;
+
+pub const MAP_CARRIER_CELLS: usize = CARRIER_WIDTH * MAP_EDGES as usize;
+
+pub const MAP_HEADING_CELLS: usize = HEADING_WIDTH * MAP_HALVES;
+
+// Lengths of the tables of all maps, one after the other.
+
+// where each map starts, and where the last ends
+pub const LAYER_STARTS: usize = MAPS + 1;
+
+pub const LAYER_HALVES: usize = MAPS * MAP_HALVES;
+
+pub const LAYER_POINT_CELLS: usize = MAPS * MAP_POINT_CELLS;
+
+pub const LAYER_CARRIER_CELLS: usize = MAPS * MAP_CARRIER_CELLS;
+
+// The listing.
+
+// the bytes of a line, at most
+pub const LINE: usize = 64;
+// the counts, the faces and the gaps, a line each
+pub const LISTING: usize = LINE * (FACES + 2);

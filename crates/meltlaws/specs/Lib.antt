@@ -1,0 +1,10 @@
+pub mod Part
+pub mod Melted
+pub mod Thin
+pub mod Melts
+pub mod Stored
+pub mod Neat
+pub mod Fewer
+pub mod MeltEmpty
+pub mod Whole
+pub mod Examples

@@ -1,0 +1,11 @@
+pub mod Mend
+pub mod MapFile
+pub mod Merged
+pub mod Clean
+pub mod Same
+pub mod Kept
+pub mod Listed
+pub mod Faults
+pub mod Mends
+pub mod Outcome
+pub mod Loops

@@ -1,0 +1,13 @@
+pub mod Gap
+pub mod Sweep
+pub mod Scene
+pub mod Next
+pub mod Slots
+pub mod Waiting
+pub mod Queue
+pub mod Turn
+pub mod Step
+pub mod Stops
+pub mod Room
+pub mod Maps
+pub mod Worked
