@@ -1,5 +1,5 @@
 // The numbers and files of a pack, one behind the other. Past its end all numbers are 0.
-use mapfile::u16_at;
+use map_file::u16_at;
 ghost use Prim.Native.Nat.{_≤_};
 ghost use Rattle.io.specs.Counts.{Counts};
 

@@ -6,8 +6,8 @@ use Rattle.seq.specs.Seq.{List, Option, none, some, ℕ, _+_, _*_, _^_, length}
 use Rattle.paper.specs.Refusal.{Answer, done, refused, answer, Refusal}
 use Rattle.paper.specs.Tables.{Counts, Tables}
 use Rattle.paper.specs.Lent.{Outcome, lengthsOf}
-use Rattle.paper.specs.Ovfile.{Written, layouts, fileLength, writeFault}
-use Rattle.paper.specs.Reader.{layoutOf, write}
+use Rattle.paper.specs.Ovfile.{layouts, fileLength, layoutOf}
+use Rattle.paper.specs.Writer.{Written, writeFault, write}
 
 abbrev pub four : ℕ → ℕ → ℕ → ℕ → ℕ
 four a b c d = a + 65536 * (b + 65536 * (c + 65536 * d))

@@ -1,12 +1,12 @@
 // "The answer is either the three counts or a refusal with number, map and place": four numbers of 16 bits in one of 64, the lowest first. The first is 0
 // where it is done, and the counts follow; otherwise it is the refusal's number, and map and place follow.
-use mapcheck::Checked;
-use ovwrite::WriteAnswer;
+use map_check::Checked;
+use ovfile_write::WriteAnswer;
 use tables::Answer;
 ghost use mathlib.Core.Path.{_≡_};
 ghost use Rattle.tables.specs.Values.{answerOf};
-ghost use Rattle.mapcheck.specs.Answer.{answerOf as checkedOf};
-ghost use Rattle.ovwrite.specs.Answers.{answerOf as writtenAnswer};
+ghost use Rattle.map_check.specs.Answer.{answerOf as checkedOf};
+ghost use Rattle.ovfile_write.specs.Answers.{answerOf as writtenAnswer};
 ghost use Rattle.bonnetewe.specs.Told.{four, told, toldMap, toldLength, Short};
 
 fn wide(x: u16) -> u64

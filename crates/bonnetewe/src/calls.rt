@@ -6,8 +6,10 @@ use tables::Counts;
 ghost use mathlib.Core.Path.{_≡_};
 ghost use lib.ListN.{length};
 ghost use Rattle.paper.specs.Map.{check};
-ghost use Rattle.paper.specs.Lent.{lengthsOf, overlay};
-ghost use Rattle.paper.specs.Reader.{read, write};
+ghost use Rattle.paper.specs.Lent.{lengthsOf};
+ghost use Rattle.paper.specs.Overlay.{overlay};
+ghost use Rattle.paper.specs.Reader.{read};
+ghost use Rattle.paper.specs.Writer.{write};
 ghost use Rattle.tables.specs.Values.{lengthsBy, tablesBy};
 ghost use Rattle.bonnetewe.specs.Told.{toldMap, Told, ToldFile, counts};
 
@@ -16,7 +18,7 @@ ghost use Rattle.bonnetewe.specs.Told.{toldMap, Told, ToldFile, counts};
 pub extern "C" fn bonnetewe_check(file: &[u8]) -> u64
     ensures { λ r. ⌜ r ≡ toldMap (check (now (file .entry))) ⌝ }
 {
-    let answer = mapcheck::check(file);
+    let answer = map_check::check(file);
     of_checked(answer)
 }
 
@@ -47,7 +49,7 @@ pub extern "C" fn bonnetewe_read(
 ) -> u64
     ensures { λ r. ⌜ Told (read (lengthsBy (length (now (vertices .entry))) (length (now (halves .entry))) (length (now (sources .entry))) (length (now (faces .entry)))) (now (file .entry))) (tablesBy (now (vertices .exit)) (now (halves .exit)) (now (sources .exit)) (now (faces .exit))) r ⌝ }
 {
-    let answer = ovread::read(file, vertices, halves, sources, faces);
+    let answer = ovfile_read::read(file, vertices, halves, sources, faces);
     of_answer(answer)
 }
 
@@ -70,6 +72,6 @@ pub extern "C" fn bonnetewe_write(
         edges: e,
         faces: f,
     };
-    let answer = ovwrite::write(c, vertices, halves, sources, faces, buffer);
+    let answer = ovfile_write::write(c, vertices, halves, sources, faces, buffer);
     of_written(answer)
 }

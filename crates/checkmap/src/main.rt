@@ -1,6 +1,6 @@
 // Checks map files: a line for each file named as an argument, `ok V E` or `refused N map 0 place P`.
 use libc::STDOUT_FILENO;
-use mapcheck::Checked;
+use map_check::Checked;
 ghost use Rattle.io.specs.Counts.{Counts};
 
 // The file's bytes at the start of buf; a file that cannot be opened has none. The buffer is longer than the longest map, so that a file that does not fit in it is
@@ -35,7 +35,7 @@ fn put(text: &[u8], x: u16) {
 }
 
 fn report(file: &[u8]) {
-    let r = mapcheck::check(file);
+    let r = map_check::check(file);
     match r {
         Checked::Good(c) => {
             put(b"ok ", c.vertices);

@@ -13,7 +13,7 @@ use Rattle.paper.specs.Plane.{Vec, vec, opposite, lessAngle}
 use Rattle.paper.specs.Graph.{twin, origin, leaves, heading, sooner, follower}
 use Rattle.plane.specs.Bounds.{Direction}
 use Rattle.graph.specs.Flat.{originAt, carrierAt, flatGraph, Flat, EdgeAt}
-use Rattle.graph.specs.Decode.{flat-halves, flat-origin}
+use Rattle.graph.specs.Laws.Decode.{flat-halves, flat-origin}
 use Rattle.graph.specs.Heading.{upAt, row, vecAt, twin-under, flat-heading}
 use Rattle.seq.specs.Pick.{pick, better, Away, pick-turn, pick-below}
 

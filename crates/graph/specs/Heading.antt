@@ -5,9 +5,9 @@ use native.Mathlib.Omega.{arith}
 use Rattle.seq.specs.Seq.{Bool, cond, List, [], _∷_, ℕ, _+_, _*_, _/_, ℤ, pos, cell}
 use Rattle.paper.specs.Plane.{Vec, vec, opposite, before}
 use Rattle.paper.specs.Graph.{twin, goesUp, heading}
-use Rattle.graphlaws.specs.Halves.{twin-below}
+use Rattle.laws_graph.specs.Halves.{twin-below}
 use Rattle.graph.specs.Flat.{carrierAt, originAt, startAt, flatGraph, Flat, Starts, Carried}
-use Rattle.graph.specs.Decode.{flat-halves, flat-start, flat-upward}
+use Rattle.graph.specs.Laws.Decode.{flat-halves, flat-start, flat-upward}
 
 abbrev pub upAt : List ℤ → List ℕ → ℕ → Bool
 upAt ps os h = before (startAt ps os h) (startAt ps os (twin h))

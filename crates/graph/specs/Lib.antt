@@ -1,9 +1,8 @@
 pub mod Flat
-pub mod Decode
 pub mod Places
-pub mod Firsts
 pub mod Heading
 pub mod Pick
 pub mod Follow
 pub mod Chains
 pub mod Look
+pub mod Laws

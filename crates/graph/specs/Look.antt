@@ -8,11 +8,11 @@ use Rattle.seq.specs.Best.{best-has}
 use Rattle.seq.specs.BestLoop.{best-ext}
 use Rattle.paper.specs.Plane.{Pt, Vec, Seg, vec, cross, rises, below, leftBy}
 use Rattle.paper.specs.Graph.{atHeight, nearer, eastSide, west}
-use Rattle.graphlaws.specs.West.{candidate}
-use Rattle.graphlaws.specs.Across.{height-between}
+use Rattle.laws_graph.specs.West.{candidate}
+use Rattle.laws_graph.specs.Across.{height-between}
 use Rattle.plane.specs.Bounds.{Near}
 use Rattle.graph.specs.Flat.{carrierAt, originAt, startAt, flatGraph, Flat}
-use Rattle.graph.specs.Decode.{flat-edges, flat-start, flat-upward, flat-left}
+use Rattle.graph.specs.Laws.Decode.{flat-edges, flat-start, flat-upward, flat-left}
 use Rattle.graph.specs.Heading.{upAt, flat-up}
 use Rattle.graph.specs.declared.look.Seen.{Seen}
 use Rattle.graph.specs.declared.look.Seen.the-variants.{Edge, Nothing}

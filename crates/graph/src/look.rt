@@ -14,7 +14,7 @@ ghost use Prim.Native.Nat.{_+_, _*_, _≤_, _<_};
 ghost use Rattle.seq.specs.Seq.{best};
 ghost use Rattle.paper.specs.Limits.{absent};
 ghost use Rattle.paper.specs.Graph.{twin, nearer, west};
-ghost use Rattle.graphlaws.specs.West.{candidate};
+ghost use Rattle.laws_graph.specs.West.{candidate};
 ghost use Rattle.plane.specs.Values.{ptOf, vecOf, segOf};
 ghost use Rattle.plane.specs.Bounds.{Direction, Near, Edge};
 ghost use Rattle.graph.specs.Flat.{flatGraph, Flat, Starts, Carried};

@@ -10,7 +10,7 @@ fn main() {
     let mut blocks = io::buffer();
     let m = load(b"blocks.zmp", &mut blocks);
     let mut out = [0u8; LISTING];
-    let listed = sheet::list(&zones[..n], &blocks[..m], &mut out);
+    let listed = lists::from_maps::list(&zones[..n], &blocks[..m], &mut out);
     let length = listed.length;
     say(&out[..length]);
 }

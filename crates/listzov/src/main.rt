@@ -8,7 +8,7 @@ fn list_arg(i: usize) {
     let mut file = io::large_buffer();
     let n = load_arg(i, &mut file);
     let mut out = [0u8; LISTING];
-    let listed = listed::list(&file[..n], &mut out);
+    let listed = lists::from_file::list(&file[..n], &mut out);
     let length = listed.length;
     say(&out[..length]);
 }

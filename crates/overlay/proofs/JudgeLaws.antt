@@ -15,14 +15,15 @@ use Rattle.paper.specs.Map.{Map, mapOf, fault}
 use Rattle.paper.specs.Pieces.{verticesOf, edgesOf, edgeOf}
 use Rattle.paper.specs.Faces.{Overlay, net, overlayOf}
 use Rattle.paper.specs.Tables.{Counts, countsOf, tablesOf}
-use Rattle.paper.specs.Lent.{Lengths, roomIn, roomFaults, mapFaults, outcome, overlay}
-use Rattle.refusallaws.specs.Refusals.{nothing, given-none, none-given, first-none, first-some, first-one}
+use Rattle.paper.specs.Lent.{Lengths, roomIn, roomFaults, outcome}
+use Rattle.paper.specs.Overlay.{mapFaults, overlay}
+use Rattle.laws_refusals.specs.Refusals.{nothing, given-none, none-given, first-none, first-some, first-one}
 use Rattle.graph.specs.Flat.{pointAt}
-use Rattle.cut.specs.PieceRows.{pieceAt}
-use Rattle.net.specs.Cut.{CutOf}
-use Rattle.net.specs.Traced.{TracedOf}
-use Rattle.net.specs.declared.cutting.Cut.{Cut}
-use Rattle.net.specs.declared.tracing.Traced.{Traced}
+use Rattle.overlay_cut.specs.PieceRows.{pieceAt}
+use Rattle.overlay_graph.specs.Cut.{CutOf}
+use Rattle.overlay_graph.specs.Traced.{TracedOf}
+use Rattle.overlay_graph.specs.declared.cutting.Cut.{Cut}
+use Rattle.overlay_graph.specs.declared.tracing.Traced.{Traced}
 use Rattle.overlay.specs.Judged.{overlaid, doneWith, refusedWith, Within}
 
 -- ── the maps ──

@@ -11,16 +11,16 @@ use Rattle.paper.specs.Map.{Map}
 use Rattle.paper.specs.Pieces.{Piece}
 use Rattle.paper.specs.Faces.{Overlay, net, overlayOf}
 use Rattle.paper.specs.Tables.{plusOne, vertexRow, halfRow, sourceRow, faceRow, countsOf, tablesOf}
-use Rattle.filelaws.specs.Agree.{padded-cell}
+use Rattle.laws_file.specs.Agree.{padded-cell}
 use Rattle.graph.specs.Flat.{pointAt, flatGraph}
-use Rattle.graph.specs.Decode.{flat-points, flat-edges, flat-point, flat-origin}
-use Rattle.cut.specs.PieceRows.{minusOne, pieceAt, piecesIn}
+use Rattle.graph.specs.Laws.Decode.{flat-points, flat-edges, flat-point, flat-origin}
+use Rattle.overlay_cut.specs.PieceRows.{minusOne, pieceAt, piecesIn}
 use Rattle.tables.specs.Rows.{vertexOf, halfOf, sourceOf, faceBy}
 use Rattle.tables.specs.declared.face_rows.FaceRows.{FaceRows}
-use Rattle.net.specs.Cut.{CutOf}
-use Rattle.net.specs.Traced.{TracedOf}
-use Rattle.net.specs.declared.cutting.Cut.{Cut}
-use Rattle.net.specs.declared.tracing.Traced.{Traced}
+use Rattle.overlay_graph.specs.Cut.{CutOf}
+use Rattle.overlay_graph.specs.Traced.{TracedOf}
+use Rattle.overlay_graph.specs.declared.cutting.Cut.{Cut}
+use Rattle.overlay_graph.specs.declared.tracing.Traced.{Traced}
 use Rattle.overlay.specs.Stored.{vertexRows, halfRows, sourceRows, stored, storedCounts}
 
 stored-source : (n : ℕ) → plusOne (minusOne n) ≡ n

@@ -3,7 +3,8 @@ use mathlib.Core.Path.{_≡_, ap}
 use Rattle.seq.specs.Seq.{List, ℕ}
 use Rattle.seq.specs.Unique.{determined}
 use Rattle.paper.specs.Tables.{Tables}
-use Rattle.paper.specs.Lent.{Lengths, Outcome, overlay}
+use Rattle.paper.specs.Lent.{Lengths, Outcome}
+use Rattle.paper.specs.Overlay.{overlay}
 use Rattle.tables.specs.declared.answer.Answer.{Answer}
 use Rattle.tables.specs.Values.{outcomeOf}
 use Rattle.tables.specs.Unique.{answer-once}

@@ -1,16 +1,16 @@
 // What is refused: the maps, and then counts over the room.
-use mapcheck::fault;
-use mapfile::Check;
-use mapfile::Refusal;
-use mapfile::first;
-use mapfile::given;
+use map_check::fault;
+use map_file::Check;
+use map_file::Refusal;
+use map_file::first;
+use map_file::given;
 use tables::Counts;
 ghost use mathlib.Core.Path.{_≡_};
 ghost use mathlib.Core.List.{[], _∷_};
 ghost use lib.Dec.{ltb};
 ghost use Rattle.paper.specs.Refusal.{given, firstOf, ofMap};
-ghost use Rattle.paper.specs.Lent.{mapFaults};
-ghost use Rattle.mapfile.specs.Verdict.{verdict};
+ghost use Rattle.paper.specs.Overlay.{mapFaults};
+ghost use Rattle.map_file.specs.Verdict.{verdict};
 
 // The same refusal, of a map of this number.
 fn of_map(map: u16, c: Check) -> Check

@@ -6,11 +6,12 @@ mod stages; // from layers to tables
 use crate::judge::maps_fault;
 use crate::stages::from_layers;
 use crate::stages::refuse;
-use layers::read_layers;
-use mapfile::Check;
+use map_file::Check;
+use overlay_maps::read_layers;
 use tables::Answer;
 ghost use mathlib.Core.Path.{_≡_};
-ghost use Rattle.paper.specs.Lent.{lengthsOf, overlay};
+ghost use Rattle.paper.specs.Lent.{lengthsOf};
+ghost use Rattle.paper.specs.Overlay.{overlay};
 ghost use Rattle.tables.specs.Values.{tablesBy, outcomeOf};
 
 // The overlay of two files of any bytes in the lent tables: the three counts, or a refusal.

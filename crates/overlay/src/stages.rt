@@ -1,14 +1,14 @@
 // From the layers of two maps that keep the rules to the lent tables. Each stage ends in a refusal or hands on to the next; "room comes last".
 use crate::judge::over_room;
 use crate::store::store;
-use layers::Layers;
-use mapfile::Check;
-use mapfile::Refusal;
-use net::Cut;
-use net::Traced;
-use net::cut_layers;
-use net::trace;
-use pairs::face_rows;
+use map_file::Check;
+use map_file::Refusal;
+use overlay_graph::Cut;
+use overlay_graph::Traced;
+use overlay_graph::cut_layers;
+use overlay_graph::trace;
+use overlay_maps::Layers;
+use overlay_pairs::face_rows;
 use tables::Answer;
 use tables::Counts;
 use tables::room_in;
@@ -19,11 +19,11 @@ ghost use Rattle.paper.specs.Limits.{maps};
 ghost use Rattle.paper.specs.Faces.{overlayOf};
 ghost use Rattle.paper.specs.Tables.{countsOf, tablesOf};
 ghost use Rattle.paper.specs.Lent.{lengthsOf, roomIn};
-ghost use Rattle.mapfile.specs.Verdict.{refusalOf};
+ghost use Rattle.map_file.specs.Verdict.{refusalOf};
 ghost use Rattle.tables.specs.Values.{tablesBy, outcomeOf};
-ghost use Rattle.layers.specs.Held.{Held, heldMaps};
-ghost use Rattle.net.specs.Cut.{CutOf};
-ghost use Rattle.net.specs.Traced.{TracedOf};
+ghost use Rattle.overlay_maps.specs.Held.{Held, heldMaps};
+ghost use Rattle.overlay_graph.specs.Cut.{CutOf};
+ghost use Rattle.overlay_graph.specs.Traced.{TracedOf};
 ghost use Rattle.overlay.specs.Judged.{overlaid, doneWith, refusedWith, Within};
 
 // "Refused: all lent tables are zero."

@@ -1,6 +1,6 @@
 // The lent tables filled from what the stages hold, zeros past the counts.
-use net::Cut;
-use net::Traced;
+use overlay_graph::Cut;
+use overlay_graph::Traced;
 use tables::FaceRows;
 use tables::HalfRows;
 use tables::SourceRows;
@@ -12,7 +12,7 @@ use tables::store_vertices;
 ghost use mathlib.Core.Path.{_≡_};
 ghost use Rattle.paper.specs.Limits.{maps};
 ghost use Rattle.paper.specs.Lent.{lengthsOf, roomIn, paddedTables};
-ghost use Rattle.refusallaws.specs.Room.{Fits};
+ghost use Rattle.laws_refusals.specs.Room.{Fits};
 ghost use Rattle.tables.specs.Values.{tablesBy};
 ghost use Rattle.overlay.specs.Stored.{stored, storedCounts};
 

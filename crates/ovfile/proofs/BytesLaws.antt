@@ -8,7 +8,7 @@ use Rattle.seq.specs.Seq.{List, ℕ, zero, suc, _+_, _*_, _-_, _/_, _%_, _^_, l
 use lib.Signed.{_≤ℤ_, _<ℤ_}
 use Rattle.exact.specs.Order.{≡-of, is-+, pos≮0}
 use Rattle.paper.specs.Bytes.{byteAt, number, le}
-use Rattle.filelaws.specs.Bytes.{Bytes, wrapped, number-below}
+use Rattle.laws_file.specs.Bytes.{Bytes, wrapped, number-below}
 
 -- ── how many numbers there are ──
 

@@ -1,6 +1,6 @@
 // Numbers in bytes, "low byte first", over the width: read from a file, where a byte past the end counts as 0, and stored in a buffer.
 use exact::magnitude;
-use mapfile::byte_at;
+use map_file::byte_at;
 ghost use mathlib.Core.Path.{_≡_};
 ghost use Prim.Native.Nat.{_+_, _*_, _<_, _≤_, _^_};
 ghost use lib.IntN.{natAbs};
@@ -8,7 +8,7 @@ ghost use lib.ListN.{length};
 ghost use lib.Seq.{sets};
 ghost use Rattle.seq.specs.Seq.{gather};
 ghost use Rattle.paper.specs.Bytes.{number, signedAt, le};
-ghost use Rattle.filelaws.specs.Bytes.{wrapped};
+ghost use Rattle.laws_file.specs.Bytes.{wrapped};
 
 // How many numbers w bytes have.
 pub fn numbers(width: usize) -> u64

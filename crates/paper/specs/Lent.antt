@@ -1,11 +1,9 @@
--- What is answered and what the lent tables hold (01, "When a map is refused"): for files and the tables' lengths, everything that comes out.
+-- The lent tables (01, "When a map is refused"): their lengths, the room in them, what they hold when an operation is done or refused.
 -- Assumes nothing.
-use Rattle.seq.specs.Seq.{Bool, cond, _&&_, List, [], _∷_, _++_, map, Option, none, some, Option·map, ℕ, zero, suc, _+_, _*_, _/_, _^_, min, leb, ltb, length, getD, pos, table, padded}
-use Rattle.paper.specs.Limits.{overlayVertices, overlayEdges, overlayFaces, maps}
-use Rattle.paper.specs.Refusal.{given, firstOf, ofMap, answer, unlessRefused, Refusal, Answer}
-use Rattle.paper.specs.Map.{mapOf, fault}
-use Rattle.paper.specs.Faces.{overlayOf}
-use Rattle.paper.specs.Tables.{vertexWidth, halfWidth, faceWidth, originOf, sourceCell, countsOf, tablesOf, Counts, Tables}
+use Rattle.seq.specs.Seq.{List, [], _∷_, Option, ℕ, _/_, min, ltb, length, pos, padded}
+use Rattle.paper.specs.Limits.{overlayVertices, overlayEdges, overlayFaces}
+use Rattle.paper.specs.Refusal.{given, answer, unlessRefused, Refusal, Answer}
+use Rattle.paper.specs.Tables.{vertexWidth, halfWidth, faceWidth, Counts, Tables}
 
 -- the lengths of the four lent tables, in numbers
 pub record Lengths : Type 0 where
@@ -63,52 +61,3 @@ pub record Outcome : Type 0 where
 
 abbrev pub outcome : Lengths → Counts → Tables → Option Refusal → Outcome
 outcome l c t r = record { answer = answer c r; tables = unlessRefused (paddedTables l t) (zeroTables l) r }
-
--- "The first map is checked wholly, then the second"; "The map is 1 for the first, 2 for the second"
-abbrev pub mapFaults : List (List ℕ) → List (Option Refusal)
-mapFaults files = table (λ i. ofMap (suc i) (fault (getD files i []))) (length files)
-
--- the overlay of a list of map files; "room comes last"
-abbrev pub lent : Lengths → List (List ℕ) → Outcome
-lent l files =
-    let ms = map mapOf files in
-    let o = overlayOf ms in
-    let c = countsOf o in
-    outcome l c (tablesOf ms o) (firstOf (mapFaults files ++ roomFaults (roomIn (length files) l) c))
-
--- "Two map files go in"
-abbrev pub overlay : Lengths → List ℕ → List ℕ → Outcome
-overlay l a b = lent l (a ∷ b ∷ [])
-
--- ── the overlay edge record, of two maps ──
-
--- "whether it came from the first map, the second or both, with the edge number in each"
-pub data Source : Type 0 where
-  first : ℕ → Source
-  second : ℕ → Source
-  both : ℕ → ℕ → Source
-
--- from two numbers, each an edge number + 1 or 0; none where both are 0
-abbrev pub sourceBy : ℕ → ℕ → Option Source
-sourceBy zero zero = none
-sourceBy zero (suc k) = some (second k)
-sourceBy (suc j) zero = some (first j)
-sourceBy (suc j) (suc k) = some (both j k)
-
-pub record OverlayEdge : Type 0 where
-  pub lower : ℕ
-  pub upper : ℕ
-  pub source : Source
-
--- the tables have edge k: whole rows, with edge numbers of 16 bits
-abbrev pub hasEdge : Tables → ℕ → Bool
-hasEdge t k =
-    ltb k (edgeRoom maps (lengthsOf t)) && (leb (sourceCell maps t k 0) (256 ^ 2) && leb (sourceCell maps t k 1) (256 ^ 2))
-
--- "it is handed out by edge number, and a number with no edge is answered as absent"
-abbrev pub edgeRecord : Tables → ℕ → Option OverlayEdge
-edgeRecord t k =
-    cond (hasEdge t k)
-    (Option·map (λ s. record { lower = originOf t (2 * k); upper = originOf t (2 * k + 1); source = s })
-    (sourceBy (sourceCell maps t k 0) (sourceCell maps t k 1)))
-    none

@@ -9,7 +9,10 @@ pub mod Guards
 pub mod Faces
 pub mod Tables
 pub mod Lent
+pub mod Overlay
+pub mod Record
 pub mod Ovfile
+pub mod Writer
 pub mod Reader
 pub mod Listing
 pub mod Sample

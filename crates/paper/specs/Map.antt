@@ -4,7 +4,7 @@ use Rattle.paper.specs.Limits.{mapVertices, mapEdges, reach, mapHead}
 use Rattle.paper.specs.Plane.{Vec, vec, nowhere, whole, same, between, clash}
 use Rattle.paper.specs.Graph.{edgeCount, halfCount, point, edge, leaves, followers, makesHole, holeLook, Edge, Graph}
 use Rattle.paper.specs.Bytes.{ascii, marked, u16, signedAt}
-use Rattle.paper.specs.Refusal.{given, atLeast, firstOf, answer, Refusal, Answer}
+use Rattle.paper.specs.Refusal.{given, firstAt, firstOf, answer, Refusal, Answer}
 
 -- a map: its graph, and of each half-edge its label. "half-edge 2k is edge k from `from` to `to` with the left label; 2k+1 is its twin with
 -- the right label"
@@ -87,9 +87,9 @@ badEnds g k = let e = edge g k in let n = length (g .points) in
 
 abbrev pub partFaults : Graph → List (Option Refusal)
 partFaults g =
-    atLeast 5 (tooFar g) (length (g .points))
-    ∷ atLeast 6 (doubled g) (length (g .points))
-    ∷ atLeast 7 (badEnds g) (edgeCount g)
+    firstAt 5 (tooFar g) (length (g .points))
+    ∷ firstAt 6 (doubled g) (length (g .points))
+    ∷ firstAt 7 (badEnds g) (edgeCount g)
     ∷ []
 
 -- 8 "an edge shares with another any point that is not an end of both"
@@ -113,9 +113,9 @@ disagrees m nx h =
 
 abbrev pub netFaults : Map → List (Option Refusal)
 netFaults m = let g = m .graph in let nx = followers g in
-    atLeast 8 (clashing g) (edgeCount g)
-    ∷ atLeast 9 (lonely g) (length (g .points))
-    ∷ atLeast 10 (disagrees m nx) (halfCount g)
+    firstAt 8 (clashing g) (edgeCount g)
+    ∷ firstAt 9 (lonely g) (length (g .points))
+    ∷ firstAt 10 (disagrees m nx) (halfCount g)
     ∷ []
 
 -- "each in this order"

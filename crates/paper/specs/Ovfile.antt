@@ -1,12 +1,9 @@
 -- The overlay file (01, "Overlay file"): its versions' layouts, which edge records are sound, and its writer, which "takes any counts and tables". Assumes nothing.
-use Rattle.seq.specs.Seq.{Bool, not, _&&_, _||_, List, [], _∷_, _++_, Option, ℕ, _+_, _*_, _^_, leb, ltb, eqb, pos, _-ℤ_, someBelow, rows, table, gather, padded}
+use Rattle.seq.specs.Seq.{Bool, _&&_, List, [], _∷_, _++_, ℕ, _+_, _*_, ltb, getD, table, not, _||_, eqb, someBelow, rows, gather, _-_}
 use Rattle.paper.specs.Limits.{overlayHead, coordinateBytes, denominatorBytes, maps}
-use Rattle.paper.specs.Plane.{isZer, sgn}
 use Rattle.paper.specs.Graph.{twin}
-use Rattle.paper.specs.Bytes.{ascii, le, leSigned, fitsSigned, fitsUnsigned}
-use Rattle.paper.specs.Refusal.{given, atLeast, firstOf, answer, unlessRefused, Refusal, Answer}
-use Rattle.paper.specs.Tables.{faceWidth, vertexCell, originOf, twinOf, followerOf, predecessorOf, faceOf, sourceCell, faceCell, leastHalf, Counts, Tables}
-use Rattle.paper.specs.Lent.{roomIn, lengthsOf, Lengths}
+use Rattle.paper.specs.Bytes.{ascii, le, leSigned}
+use Rattle.paper.specs.Tables.{faceWidth, vertexCell, originOf, followerOf, faceOf, sourceCell, faceCell, leastHalf, Counts, Tables}
 
 -- a version: how many bytes X and Y have each, and how many sources and labels are stored
 pub record Layout : Type 0 where
@@ -87,48 +84,10 @@ overlayFile version l c t =
     ++ rows (λ k. gather (le 2) (edgeFields (l .maps) t k)) (c .edges)
     ++ rows (λ f. gather (le 2) (faceFields (l .maps) t f)) (c .faces)
 
--- ── refusals ──
-
--- 3 "a count over its number or its table"
+-- counts over room: 3 "a count over its number or its table"
 abbrev pub over : Counts → Counts → Bool
 over room c = ltb (room .vertices) (c .vertices) || (ltb (room .edges) (c .edges) || ltb (room .faces) (c .faces))
 
--- 5 "X, Y or D does not fit its bytes", or an "outgoing entry is not the least half-edge with that origin"
-abbrev pub badVertex : Layout → Counts → Tables → ℕ → Bool
-badVertex l c t v =
-    not (fitsSigned (l .coordinate) (vertexCell t v 0) && (fitsSigned (l .coordinate) (vertexCell t v 1)
-    && (fitsUnsigned denominatorBytes (vertexCell t v 2) && isZer (sgn (vertexCell t v 3 -ℤ pos (leastStart c t v))))))
-
--- 21 "a half-edge whose twin is not the other half-edge of its edge or whose predecessor is not a half-edge of the tables that has it as follower"
-abbrev pub badHalf : Counts → Tables → ℕ → Bool
-badHalf c t h = let p = predecessorOf t h in
-    not (eqb (twinOf t h) (twin h) && (ltb p (2 * c .edges) && eqb (followerOf t p) h))
-
--- 21 "an edge whose source is number 65,535": one that does not fit two bytes
-abbrev pub wideSource : ℕ → Tables → ℕ → Bool
-wideSource n t k = someBelow (λ i. leb (256 ^ 2) (sourceCell n t k i)) n
-
-abbrev pub badEdge : ℕ → Counts → Tables → ℕ → Bool
-badEdge n c t k =
-    (not (soundEdge n c t k) || wideSource n t k) || (badHalf c t (2 * k) || badHalf c t (2 * k + 1))
-
--- "3 .., 5 .., 21 or 11 (place 4), in that order": into a buffer of n bytes
-abbrev pub writeFault : Layout → ℕ → Lengths → Counts → Tables → Option Refusal
-writeFault l n ls c t = firstOf (
-    given 3 0 (over (roomIn (l .maps) ls) c)
-    ∷ atLeast 5 (badVertex l c t) (c .vertices)
-    ∷ atLeast 21 (badEdge (l .maps) c t) (c .edges)
-    ∷ given 11 4 (ltb n (fileLength l c))
-    ∷ [])
-
--- ── the writer ──
-
-pub record Written : Type 0 where
-  pub answer : Answer ℕ
-  pub buffer : List ℕ
-
--- the file's length and the buffer of n bytes: "then zeroes its buffer. Past the file's length the buffer is zero"
-abbrev pub writeBy : ℕ → Layout → ℕ → Counts → Tables → Written
-writeBy version l n c t =
-    let r = writeFault l n (lengthsOf t) c t in
-    record { answer = answer (fileLength l c) r; buffer = unlessRefused (padded 0 n (overlayFile version l c t)) (padded 0 n []) r }
+-- the layout of a version, among the known ones
+abbrev pub layoutOf : List Layout → ℕ → Layout
+layoutOf known version = getD known (version - 1) (record { coordinate = 0; maps = 0 })

@@ -1,12 +1,12 @@
--- The overlay file's reader, and the writer of the newest version (01, "Overlay file"). Assumes nothing.
-use Rattle.seq.specs.Seq.{cond, not, _||_, List, [], _∷_, _++_, Option, ℕ, _+_, _*_, _-_, _/_, _%_, ltb, eqb, length, getD, ℤ, pos, rows, table, position}
+-- The overlay file's reader (01, "Overlay file"), of all known versions. Assumes nothing.
+use Rattle.seq.specs.Seq.{cond, not, _||_, List, [], _∷_, _++_, Option, ℕ, _+_, _*_, _/_, _%_, ltb, eqb, length, getD, ℤ, pos, rows, table, position}
 use Rattle.paper.specs.Limits.{overlayVertices, overlayEdges, overlayFaces, overlayHead, denominatorBytes, maps}
 use Rattle.paper.specs.Graph.{twin}
 use Rattle.paper.specs.Bytes.{ascii, marked, number, u16, signedAt}
-use Rattle.paper.specs.Refusal.{given, atLeast, firstOf, Refusal}
+use Rattle.paper.specs.Refusal.{given, firstAt, firstOf, Refusal}
 use Rattle.paper.specs.Tables.{leastHalf, Counts, Tables}
 use Rattle.paper.specs.Lent.{roomIn, roomFaults, outcome, Lengths, Outcome}
-use Rattle.paper.specs.Ovfile.{layouts, vertexSize, edgeSize, faceSize, edgesAt, facesAt, fileLength, soundEdge, over, writeBy, Layout, Written}
+use Rattle.paper.specs.Ovfile.{layouts, vertexSize, edgeSize, faceSize, edgesAt, facesAt, fileLength, soundEdge, over, Layout, layoutOf}
 
 -- ── the stored fields ──
 
@@ -80,12 +80,9 @@ headFaults versions l s =
 abbrev pub readFault : ℕ → ℕ → Layout → Lengths → List ℕ → Tables → Option Refusal
 readFault n versions l ls s t = let c = countsIn s in
     firstOf (headFaults versions l s
-    ++ (atLeast 21 (λ k. not (soundEdge n c t k)) (c .edges) ∷ roomFaults (roomIn n ls) c))
+    ++ (firstAt 21 (λ k. not (soundEdge n c t k)) (c .edges) ∷ roomFaults (roomIn n ls) c))
 
--- ── the two operations ──
-
-abbrev pub layoutOf : List Layout → ℕ → Layout
-layoutOf known version = getD known (version - 1) (record { coordinate = 0; maps = 0 })
+-- ── the reader ──
 
 -- into tables of n maps, of any of the known versions
 abbrev pub readBy : ℕ → List Layout → Lengths → List ℕ → Outcome
@@ -96,7 +93,3 @@ readBy n known ls s =
 
 abbrev pub read : Lengths → List ℕ → Outcome
 read = readBy maps layouts
-
--- the newest version is written, into a buffer of n bytes
-abbrev pub write : ℕ → Counts → Tables → Written
-write n c t = writeBy (length layouts) (layoutOf layouts (length layouts)) n c t

@@ -17,8 +17,8 @@ abbrev pub given : ℕ → ℕ → Bool → Option Refusal
 given r k b = cond b (some (record { number = r; map = 0; place = k })) none
 
 -- refusal r with the least place below n that has p
-abbrev pub atLeast : ℕ → (ℕ → Bool) → ℕ → Option Refusal
-atLeast r p n = let k = least p n in given r k (ltb k n)
+abbrev pub firstAt : ℕ → (ℕ → Bool) → ℕ → Option Refusal
+firstAt r p n = let k = least p n in given r k (ltb k n)
 
 -- "in this order": the first that is given
 abbrev pub firstOf : List (Option Refusal) → Option Refusal

@@ -10,9 +10,11 @@ use Rattle.paper.specs.Refusal.{Answer, done, refused}
 use Rattle.paper.specs.Map.{fault, check}
 use Rattle.paper.specs.Faces.{overlayOf}
 use Rattle.paper.specs.Tables.{vertexWidth, halfWidth, faceWidth, faceCell, tablesOf, Counts, Tables}
-use Rattle.paper.specs.Lent.{overlay, edgeRecord, Lengths, Outcome, Source, OverlayEdge, first, second, both}
-use Rattle.paper.specs.Ovfile.{Written, overlayFile}
-use Rattle.paper.specs.Reader.{write}
+use Rattle.paper.specs.Lent.{Lengths, Outcome}
+use Rattle.paper.specs.Overlay.{overlay}
+use Rattle.paper.specs.Record.{edgeRecord, Source, OverlayEdge, first, second, both}
+use Rattle.paper.specs.Ovfile.{overlayFile}
+use Rattle.paper.specs.Writer.{Written, write}
 use Rattle.paper.specs.Listing.{listing}
 use Rattle.paper.specs.SampleFile.{s12File}
 use Rattle.paper.specs.Sample.{at, emptyFile, single, square, zone}

@@ -7,7 +7,8 @@ use native.Mathlib.Omega.{arith}
 use borrow.Author.Tests.{lt-ltb, le-ltb, le-leb, lt-leb}
 use Rattle.seq.specs.Seq.{Bool, true, false, cond, _&&_, List, [], Option, none, some, Option·map, ℕ, suc, _+_, _*_, _-_, _/_, _^_, leb, length, getD}
 use Rattle.paper.specs.Limits.{maps}
-use Rattle.paper.specs.Lent.{edgeRoom, edgeRecord, sourceBy, first, second, both, Source, OverlayEdge}
+use Rattle.paper.specs.Lent.{edgeRoom}
+use Rattle.paper.specs.Record.{edgeRecord, sourceBy, first, second, both, Source, OverlayEdge}
 use Rattle.tables.specs.Values.{tablesBy, lengthsBy}
 use Rattle.tables.specs.Found.{recordBy}
 

@@ -5,7 +5,7 @@ use native.Mathlib.Omega.{arith}
 use Rattle.seq.specs.Seq.{List, ℕ, _+_, _*_, length, rows, laid, padded, wiped}
 use Rattle.seq.specs.Wiped.{wiped-laid}
 use Rattle.paper.specs.Graph.{twin}
-use Rattle.graphlaws.specs.Halves.{twin-half}
+use Rattle.laws_graph.specs.Halves.{twin-half}
 
 pub twin-le : (h : ℕ) → twin h ≤ h + 1
 twin-le h = omega (arith, twin-half h)

@@ -1,6 +1,6 @@
 -- The overlay edge record in the definitions' terms, and from four stored numbers. Assumes nothing.
 use Rattle.seq.specs.Seq.{cond, _&&_, Option, none, some, Option·map, ℕ, _^_, leb}
-use Rattle.paper.specs.Lent as paper
+use Rattle.paper.specs.Record as paper
 use Rattle.tables.specs.declared.edge_record.Source.{Source}
 use Rattle.tables.specs.declared.edge_record.Source.the-variants.{First, Second, Both}
 use Rattle.tables.specs.declared.edge_record.OverlayEdge.{OverlayEdge}

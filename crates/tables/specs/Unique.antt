@@ -5,7 +5,7 @@ use Rattle.seq.specs.Seq.{List, [], Option, none, some, ℕ}
 use Rattle.seq.specs.Unique.{determined}
 use Rattle.paper.specs.Tables as paper
 use Rattle.paper.specs.Refusal as refusal
-use Rattle.paper.specs.Lent as lent
+use Rattle.paper.specs.Record as lent
 use Rattle.tables.specs.declared.answer.Answer.{Answer}
 use Rattle.tables.specs.declared.answer.Answer.the-variants.{Done, Refused}
 use Rattle.tables.specs.declared.edge_record.Source.{Source}

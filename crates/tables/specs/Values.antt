@@ -4,7 +4,7 @@ use Rattle.seq.specs.Seq.{List, ℕ, ℤ}
 use Rattle.paper.specs.Tables as paper
 use Rattle.paper.specs.Refusal as refusal
 use Rattle.paper.specs.Lent.{Lengths, Outcome}
-use Rattle.mapfile.specs.Verdict.{refusalOf}
+use Rattle.map_file.specs.Verdict.{refusalOf}
 use Rattle.tables.specs.declared.room.Counts.{Counts}
 use Rattle.tables.specs.declared.answer.Answer.{Answer}
 use Rattle.tables.specs.declared.answer.Answer.the-variants.{Done, Refused}

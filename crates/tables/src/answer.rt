@@ -1,6 +1,6 @@
 // "The answer is either the three counts or a refusal with number, map and place."
 use crate::room::Counts;
-use mapfile::Refusal;
+use map_file::Refusal;
 
 pub enum Answer {
     Done(Counts),

@@ -4,7 +4,7 @@ use limits::HALF_WIDTH;
 use limits::SOURCE_WIDTH;
 ghost use mathlib.Core.Path.{_≡_};
 ghost use mathlib.Core.List.{[]};
-ghost use Rattle.paper.specs.Lent.{edgeRecord};
+ghost use Rattle.paper.specs.Record.{edgeRecord};
 ghost use Rattle.tables.specs.Values.{tablesBy};
 ghost use Rattle.tables.specs.Found.{foundOf, recordBy};
 

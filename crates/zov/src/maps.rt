@@ -2,8 +2,8 @@
 use console::load_arg;
 use console::say;
 use console::say_number;
-use mapcheck::Checked;
-use mapfile::Refusal;
+use map_check::Checked;
+use map_file::Refusal;
 
 fn say_name(i: usize) {
     let mut name = io::buffer();
@@ -31,7 +31,7 @@ fn say_good(vertices: u16, edges: u16) {
 fn check_arg(i: usize) {
     let mut file = io::buffer();
     let n = load_arg(i, &mut file);
-    let r = mapcheck::check(&file[..n]);
+    let r = map_check::check(&file[..n]);
     match r {
         Checked::Good(c) => say_good(c.vertices, c.edges),
         Checked::Bad(f) => say_bad(i, f),

@@ -2,7 +2,7 @@
 use console::load_arg;
 use console::say;
 use limits::LISTING;
-use ovwrite::WriteAnswer;
+use ovfile_write::WriteAnswer;
 use tables::Answer;
 
 // A refusal in a sentence, under its line.
@@ -18,7 +18,7 @@ pub fn list_arg(i: usize) {
     let mut file = io::large_buffer();
     let n = load_arg(i, &mut file);
     let mut out = [0u8; LISTING];
-    let listed = listed::list(&file[..n], &mut out);
+    let listed = lists::from_file::list(&file[..n], &mut out);
     let length = listed.length;
     say(&out[..length]);
     let answer = listed.answer;
@@ -32,7 +32,7 @@ pub fn lay() {
     let mut blocks = io::buffer();
     let m = load_arg(2, &mut blocks);
     let mut out = [0u8; LISTING];
-    let listed = sheet::list(&zones[..n], &blocks[..m], &mut out);
+    let listed = lists::from_maps::list(&zones[..n], &blocks[..m], &mut out);
     let length = listed.length;
     say(&out[..length]);
     let answer = listed.answer;
@@ -46,7 +46,7 @@ pub fn save() {
     let mut blocks = io::buffer();
     let m = load_arg(2, &mut blocks);
     let mut file = io::large_buffer();
-    let answer = sheet::file(&zones[..n], &blocks[..m], &mut file);
+    let answer = lists::from_maps::file(&zones[..n], &blocks[..m], &mut file);
     match answer {
         WriteAnswer::Done(length) => {
             let k = console::within(length, &file);

@@ -4,9 +4,9 @@ use denote.Ref.{now}
 use Rattle.seq.specs.Seq.{List}
 use Rattle.paper.specs.Map.{Map}
 use Rattle.paper.specs.Lent.{lengthsOf}
-use Rattle.mapfile.specs.Verdict.{verdict}
+use Rattle.map_file.specs.Verdict.{verdict}
 use Rattle.tables.specs.Values.{tablesBy}
-use Rattle.layers.proofs.HeldLaws.{parts-none, held-maps, layers-held}
+use Rattle.overlay_maps.proofs.HeldLaws.{parts-none, held-maps, layers-held}
 use Rattle.overlay.specs.Judged.{overlaid}
 use Rattle.overlay.proofs.JudgeLaws.{first-passes, second-passes, maps-refused, maps-pass}
 use borrow.Author.Needs.{needs}

@@ -3,7 +3,7 @@
 use mathlib.Core.Path.{_≡_, refl, sym, _∙_, ap}
 use Prim.Native.Nat.{_≤_, _<_}
 use native.Mathlib.Omega.{arith}
-use Rattle.seq.specs.Seq.{Bool, true, false, Option, none, some, ℕ, suc, _+_, best}
+use Rattle.seq.specs.Seq.{Bool, true, false, none, some, ℕ, suc, _+_, best}
 use Rattle.seq.specs.Pick.{pick, better, Away, turn-yes, turn-no, pick-none, pick-some, pick-below}
 
 -- r is the best before turn i

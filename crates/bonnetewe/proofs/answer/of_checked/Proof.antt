@@ -1,8 +1,8 @@
 -- `bonnetewe::answer::of_checked` meets its contract. Assumes nothing.
 use borrow.Author.Needs.{needs}
 use mathlib.Core.Path.{sym, _∙_, ap}
-use Rattle.mapcheck.specs.declared.answer.Checked.{Checked}
-use Rattle.mapcheck.specs.Answer.{answerOf}
+use Rattle.map_check.specs.declared.answer.Checked.{Checked}
+use Rattle.map_check.specs.Answer.{answerOf}
 use Rattle.bonnetewe.specs.Told.{toldMap}
 use Rattle.bonnetewe.proofs.answer.of_checked.Statement.{statement}
 use Rattle.bonnetewe.proofs.answer.of_checked.Tie as tie

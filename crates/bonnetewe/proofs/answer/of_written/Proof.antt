@@ -2,8 +2,8 @@
 use native.Mathlib.Omega.{arith}
 use borrow.Author.Needs.{needs}
 use mathlib.Core.Path.{sym, _∙_, ap, subst}
-use Rattle.ovwrite.specs.declared.answer.WriteAnswer.{WriteAnswer}
-use Rattle.ovwrite.specs.Answers.{answerOf}
+use Rattle.ovfile_write.specs.declared.answer.WriteAnswer.{WriteAnswer}
+use Rattle.ovfile_write.specs.Answers.{answerOf}
 use Rattle.bonnetewe.specs.Told.{toldLength, Short}
 use Rattle.bonnetewe.proofs.answer.of_written.Statement.{statement}
 use Rattle.bonnetewe.proofs.answer.of_written.Tie as tie

@@ -1,7 +1,8 @@
 -- `bonnetewe::calls::bonnetewe_overlay` meets its contract. Assumes nothing.
 use borrow.Author.Needs.{needs}
 use denote.Ref.{now}
-use Rattle.paper.specs.Lent.{lengthsOf, overlay}
+use Rattle.paper.specs.Lent.{lengthsOf}
+use Rattle.paper.specs.Overlay.{overlay}
 use Rattle.tables.specs.Values.{tablesBy}
 use Rattle.bonnetewe.specs.Told.{told-by}
 use Rattle.bonnetewe.proofs.calls.bonnetewe_overlay.Statement.{statement}

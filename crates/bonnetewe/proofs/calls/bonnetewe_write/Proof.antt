@@ -3,7 +3,7 @@ use native.Mathlib.Omega.{arith}
 use borrow.Author.Needs.{needs}
 use denote.Ref.{now}
 use Rattle.seq.specs.Seq.{length}
-use Rattle.paper.specs.Reader.{write}
+use Rattle.paper.specs.Writer.{write}
 use Rattle.tables.specs.Values.{tablesBy}
 use Rattle.bonnetewe.specs.Told.{counts, told-file, write-short}
 use Rattle.bonnetewe.proofs.calls.bonnetewe_write.Statement.{statement}

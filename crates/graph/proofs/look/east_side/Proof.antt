@@ -2,7 +2,7 @@
 use mathlib.Core.Path.{sym, _∙_, ap, subst}
 use borrow.Author.Needs.{needs}
 use Rattle.seq.specs.Seq.{Bool, cond, _+_, _*_}
-use Rattle.graphlaws.specs.Halves.{twin-first}
+use Rattle.laws_graph.specs.Halves.{twin-first}
 use Rattle.graph.specs.Flat.{Starts}
 use Rattle.graph.proofs.look.east_side.Statement.{statement}
 use Rattle.graph.proofs.look.east_side.Tie as tie

@@ -2,7 +2,7 @@
 use mathlib.Core.Path.{sym, ap, _∙_}
 use denote.Ref.{now}
 use Rattle.paper.specs.Refusal.{ofMap}
-use Rattle.mapfile.specs.Verdict.{verdict}
+use Rattle.map_file.specs.Verdict.{verdict}
 use Rattle.overlay.proofs.JudgeLaws.{zones-refused, zones-pass}
 use borrow.Author.Needs.{needs}
 use Rattle.overlay.proofs.judge.maps_fault.Statement.{statement}

@@ -7,7 +7,7 @@ use denote.Ref.{now}
 use Rattle.paper.specs.Refusal.{done}
 use Rattle.paper.specs.Lent.{lengthsOf, paddedTables}
 use Rattle.tables.specs.Values.{tablesBy}
-use Rattle.layers.specs.Held.{heldMaps}
+use Rattle.overlay_maps.specs.Held.{heldMaps}
 use Rattle.overlay.proofs.StoredLaws.{counts-are, stored-is}
 use borrow.Author.Needs.{needs}
 use Rattle.overlay.proofs.stages.fill.Statement.{statement}

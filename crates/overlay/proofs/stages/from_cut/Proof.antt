@@ -5,7 +5,7 @@ use denote.Ref.{now}
 use Rattle.paper.specs.Tables.{Counts}
 use Rattle.paper.specs.Lent.{lengthsOf}
 use Rattle.tables.specs.Values.{tablesBy}
-use Rattle.layers.specs.Held.{heldMaps}
+use Rattle.overlay_maps.specs.Held.{heldMaps}
 use Rattle.overlay.proofs.JudgeLaws.{faces-refused, all-within}
 use borrow.Author.Needs.{needs}
 use Rattle.overlay.proofs.stages.from_cut.Statement.{statement}

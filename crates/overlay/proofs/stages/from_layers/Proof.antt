@@ -4,9 +4,9 @@ use denote.Ref.{now}
 use Rattle.seq.specs.Seq.{[], _∷_, ltb}
 use Rattle.paper.specs.Refusal.{given, firstOf}
 use Rattle.paper.specs.Lent.{lengthsOf}
-use Rattle.mapfile.specs.Verdict.{verdict}
+use Rattle.map_file.specs.Verdict.{verdict}
 use Rattle.tables.specs.Values.{tablesBy}
-use Rattle.layers.specs.Held.{heldMaps}
+use Rattle.overlay_maps.specs.Held.{heldMaps}
 use Rattle.overlay.proofs.JudgeLaws.{cut-refused, cut-within}
 use borrow.Author.Needs.{needs}
 use Rattle.overlay.proofs.stages.from_layers.Statement.{statement}

@@ -1,6 +1,6 @@
 -- `overlay::stages::refuse` meets its contract. Assumes nothing.
 use Rattle.paper.specs.Refusal.{refused}
-use Rattle.mapfile.specs.Verdict.{refusalOf}
+use Rattle.map_file.specs.Verdict.{refusalOf}
 use borrow.Author.Needs.{needs}
 use Rattle.overlay.proofs.stages.refuse.Statement.{statement}
 use Rattle.overlay.proofs.stages.refuse.Tie as tie

@@ -5,7 +5,7 @@ use borrow.Author.Needs.{needs}
 use denote.Ref.{now}
 use Rattle.seq.specs.Seq.{List, ℕ, _-_, length, getD, sets}
 use Rattle.paper.specs.Bytes.{le}
-use Rattle.filelaws.specs.Bytes.{length-le}
+use Rattle.laws_file.specs.Bytes.{length-le}
 use Rattle.seq.specs.Loops.Storing.{Storing, store-starts, store-turns, store-ends}
 use Rattle.seq.specs.Rows.{gather-rows}
 use Rattle.ovfile.proofs.bytes.put_fields.Statement.{statement}

@@ -7,7 +7,7 @@ use borrow.Author.Tests.{lt-ltb, le-ltb}
 use denote.Ref.{now}
 use Rattle.seq.specs.Seq.{ℕ, true, false, _+_, _/_, _^_, pos, _-ℤ_}
 use Rattle.exact.specs.Mach.{trn, fits, plain}
-use Rattle.filelaws.specs.Bytes.{signed-by, number-below}
+use Rattle.laws_file.specs.Bytes.{signed-by, number-below}
 use Rattle.ovfile.proofs.BytesLaws.{powers-small, number-small, below-zero}
 use Rattle.ovfile.proofs.bytes.signed_at.Statement.{statement}
 use Rattle.ovfile.proofs.bytes.signed_at.Tie as tie

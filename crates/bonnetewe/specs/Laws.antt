@@ -1,0 +1,2 @@
+-- The laws behind the proofs of this crate: nothing here is cited by a contract.
+pub mod Means

@@ -1,1 +1,0 @@
-// What the overlay's promise says of the lent tables: everything is in specs/. No code.

@@ -1,7 +1,0 @@
-pub mod Lead
-pub mod Turns
-pub mod Walked
-pub mod Linked
-pub mod Linking
-pub mod Kinds
-pub mod Numbered

@@ -1,0 +1,17 @@
+pub mod Good
+pub mod Written
+pub mod Demands
+pub mod Defined
+pub mod Held
+pub mod VertexRows
+pub mod EdgeRows
+pub mod Ways
+pub mod HalfRows
+pub mod Graphs
+pub mod FaceRows
+pub mod Records
+pub mod Promised
+pub mod Wrong
+pub mod SameEdges
+pub mod SameFaces
+pub mod Unique

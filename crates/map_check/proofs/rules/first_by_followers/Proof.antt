@@ -1,0 +1,43 @@
+-- `mapcheck::rules::first_by_followers` meets its contract. Assumes nothing.
+use Rattle.map_check.specs.Laws.LinkedLaws.{made-headings, made-linked, found-disagrees}
+use native.Mathlib.Omega.{arith}
+use borrow.Author.Needs.{needs}
+use Rattle.map_check.proofs.rules.first_by_followers.Statement.{statement}
+use Rattle.map_check.proofs.rules.first_by_followers.Tie as tie
+
+follow-requires : tie.Need-follow-requires
+follow-requires c κs =
+    let start : tie.Start = search needs in
+    let after-headings : tie.After-headings = search needs in
+    let p = start .pre in
+    (p .0 .origins, (omega (arith, p .1 .0), (omega (arith, p .1 .1 .0), (made-headings (p .0) (p .1 .1 .0) _ _ (omega (arith, p .1 .1 .0)) (after-headings .headings .ensures), omega (arith, p .1 .1 .0)))))
+
+first-disagreeing-requires : tie.Need-first-disagreeing-requires
+first-disagreeing-requires c κs =
+    let after-headings : tie.After-headings = search needs in
+    let after-follow : tie.After-follow = search needs in
+    let s : tie.Start = search needs in
+    let p = s .pre in
+    made-linked (p .0) (p .1 .1 .0) _ _ (omega (arith, p .1 .1 .0)) (after-headings .headings .ensures) _ _ (omega (arith, p .1 .1 .0)) (after-follow .follow .ensures) (s .args .labels .now) (p .1 .1 .1 .0)
+
+returns : tie.Need-returns
+returns c =
+    let after-headings : tie.After-headings = search needs in
+    let after-follow : tie.After-follow = search needs in
+    let s : tie.Start = search needs in
+    let p = s .pre in
+    found-disagrees (p .0) (p .1 .1 .0) _ _ (omega (arith, p .1 .1 .0)) (after-headings .headings .ensures) _ _ (omega (arith, p .1 .1 .0)) (after-follow .follow .ensures) (p .1 .1 .1 .1) (s .args .labels .now) _ (c .first-disagreeing .ensures)
+
+pub first-by-followers-spec : {M : Type 1} → statement M
+first-by-followers-spec =
+    tie.close
+    (tie.spec
+    (λ c. search needs)
+    (λ c κs. search needs)
+    (λ c. search needs)
+    (λ c. search needs)
+    follow-requires
+    (λ c. search needs)
+    (λ c. search needs)
+    first-disagreeing-requires
+    returns)

@@ -1,0 +1,6 @@
+-- The laws behind the proofs of this crate: nothing here is cited by a contract.
+pub mod Rows
+pub mod Walking
+pub mod Makers
+pub mod Disagree
+pub mod LinkedLaws

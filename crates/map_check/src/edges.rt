@@ -1,0 +1,117 @@
+// Rules 8 and 9: edges that share more than ends, and vertices without an edge, each a search for its least place.
+use graph::carrier_at;
+use plane::Seg;
+use plane::clash;
+ghost use mathlib.Core.Path.{_≡_};
+ghost use Prim.Native.Nat.{_≤_, _<_};
+ghost use lib.ListN.{length};
+ghost use Rattle.seq.specs.Seq.{least};
+ghost use Rattle.paper.specs.Plane.{clash};
+ghost use Rattle.plane.specs.Values.{segOf};
+ghost use Rattle.plane.specs.Bounds.{Edge};
+ghost use Rattle.graph.specs.Flat.{carrierAt, Carriers};
+ghost use Rattle.map_check.specs.Net.{clashingAt, startsAt, lonelyAt};
+ghost use Rattle.map_check.specs.Later.{laterAt};
+ghost use Rattle.map_check.specs.Heights.{lesser, parted};
+
+// Whether a and b are both less than c and d.
+fn lesser(a: i64, b: i64, c: i64, d: i64) -> bool
+    ensures { λ r. ⌜ r ≡ lesser a b c d ⌝ }
+{
+    if a < c {
+        if a < d {
+            if b < c { b < d } else { false }
+        } else {
+            false
+        }
+    } else {
+        false
+    }
+}
+
+// Whether one of s and t lies wholly below the other.
+fn parted(s: Seg, t: Seg) -> bool
+    requires { ⌜ Edge (segOf s) × Edge (segOf t) ⌝ }
+    ensures { λ r. ⌜ r ≡ parted (segOf s) (segOf t) ⌝ }
+{
+    let top = s.y + s.v;
+    let end = t.y + t.v;
+    if lesser(s.y, top, t.y, end) {
+        true
+    } else {
+        lesser(t.y, end, s.y, top)
+    }
+}
+
+// Whether edges k and j share a point that is not an end of both. No sides are reckoned of two of which one lies wholly below the other.
+fn clashes(carriers: &[i64], e: usize, k: usize, j: usize) -> bool
+    requires { ⌜ Carriers (now carriers) e × (k < e) × (j < e) ⌝ }
+    ensures { λ r. ⌜ r ≡ clash (carrierAt (now (carriers .entry)) k) (carrierAt (now (carriers .entry)) j) ⌝ }
+{
+    let s = carrier_at(carriers, k);
+    let t = carrier_at(carriers, j);
+    if parted(s, t) {
+        return false;
+    }
+    clash(s, t)
+}
+
+// The least edge after k that edge k clashes with, or e.
+fn first_clash(carriers: &[i64], e: usize, k: usize) -> usize
+    requires { ⌜ Carriers (now carriers) e × (k < e) ⌝ }
+    ensures { λ r. ⌜ r ≡ least (laterAt (now (carriers .entry)) k) e ⌝ }
+{
+    let mut j = k + 1;
+    while j < e {
+        if clashes(carriers, e, k, j) {
+            return j;
+        }
+        j += 1;
+    }
+    e
+}
+
+// 8 "an edge shares with another any point that is not an end of both": the least such edge, or e. It clashes with a later one.
+pub fn first_clashing(carriers: &[i64], e: usize) -> usize
+    requires { ⌜ Carriers (now carriers) e ⌝ }
+    ensures { λ r. ⌜ r ≡ least (clashingAt (now (carriers .entry)) e) e ⌝ }
+{
+    let mut k = 0;
+    while k < e {
+        if first_clash(carriers, e, k) < e {
+            return k;
+        }
+        k += 1;
+    }
+    e
+}
+
+// The least of m half-edges that starts from vertex v, or m.
+fn first_start(origins: &[u16], m: usize, v: usize) -> usize
+    requires { ⌜ m ≤ length (now origins) ⌝ }
+    ensures { λ r. ⌜ r ≡ least (startsAt (now (origins .entry)) v) m ⌝ }
+{
+    let mut h = 0;
+    while h < m {
+        if origins[h] as usize == v {
+            return h;
+        }
+        h += 1;
+    }
+    m
+}
+
+// 9 "a vertex has no edge": the least such vertex of n, or n.
+pub fn first_lonely(origins: &[u16], m: usize, n: usize) -> usize
+    requires { ⌜ m ≤ length (now origins) ⌝ }
+    ensures { λ r. ⌜ r ≡ least (lonelyAt (now (origins .entry)) m) n ⌝ }
+{
+    let mut v = 0;
+    while v < n {
+        if first_start(origins, m, v) == m {
+            return v;
+        }
+        v += 1;
+    }
+    n
+}

@@ -1,0 +1,5 @@
+pub mod Verdict
+pub mod Parts
+pub mod Rows
+pub mod Header
+pub mod Laws

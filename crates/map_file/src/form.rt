@@ -1,0 +1,66 @@
+// Rules 1 to 4: the form of a map file.
+use crate::bytes::byte_at;
+use crate::fields::vertex_place;
+use crate::reader::read_header;
+use crate::refusal::Check;
+use crate::refusal::first;
+use crate::refusal::given;
+use limits::MAP_EDGE_SIZE;
+use limits::MAP_EDGES;
+use limits::MAP_HEAD;
+use limits::MAP_VERTICES;
+ghost use mathlib.Core.Path.{_≡_};
+ghost use mathlib.Core.Bool.{not, _||_};
+ghost use Prim.Native.Nat.{_+_, _*_};
+ghost use lib.Dec.{ltb};
+ghost use lib.ListN.{length};
+ghost use Rattle.paper.specs.Limits.{mapHead, mapVertices, mapEdges};
+ghost use Rattle.paper.specs.Bytes.{ascii, marked};
+ghost use Rattle.paper.specs.Refusal.{firstOf};
+ghost use Rattle.paper.specs.Map.{vertexPlace, formFaults};
+ghost use Rattle.map_file.specs.Verdict.{verdict};
+
+// 1 "under 9 bytes, or mark wrong"
+pub fn bad_mark(file: &[u8]) -> bool
+    ensures { λ r. ⌜ r ≡ (ltb (length (now (file .entry))) mapHead || not (marked (ascii "ZMP") (now (file .entry)) 0)) ⌝ }
+{
+    if file.len() < MAP_HEAD {
+        return true;
+    }
+    if byte_at(file, 0) != b'Z' {
+        return true;
+    }
+    if byte_at(file, 1) != b'M' {
+        return true;
+    }
+    byte_at(file, 2) != b'P'
+}
+
+// 3 "V > 200 or E > 300"
+pub fn over_limits(vertices: u16, edges: u16) -> bool
+    ensures { λ r. ⌜ r ≡ (ltb mapVertices vertices || ltb mapEdges edges) ⌝ }
+{
+    if MAP_VERTICES < vertices {
+        return true;
+    }
+    MAP_EDGES < edges
+}
+
+// "Length is 9 + 4V + 8E"
+pub fn map_length(vertices: u16, edges: u16) -> usize
+    ensures { λ r. ⌜ r ≡ vertexPlace vertices + 8 * edges ⌝ }
+{
+    vertex_place(vertices) + MAP_EDGE_SIZE * edges as usize
+}
+
+// The first of rules 1 to 4 that the file breaks.
+pub fn form(file: &[u8]) -> Check
+    ensures { λ r. ⌜ verdict r ≡ firstOf (formFaults (now (file .entry))) ⌝ }
+{
+    let h = read_header(file);
+    let mark = given(1, 0, bad_mark(file));
+    let version = given(2, 0, h.version != 1);
+    let limits = given(3, 0, over_limits(h.vertices, h.edges));
+    let length = given(4, 0, file.len() != map_length(h.vertices, h.edges));
+    first(mark, first(version, first(limits, length)))
+}

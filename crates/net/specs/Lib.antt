@@ -1,5 +1,0 @@
-pub mod Standing
-pub mod Cut
-pub mod CutLaws
-pub mod Traced
-pub mod Tracing

@@ -1,0 +1,13 @@
+-- The laws behind the proofs of this crate: nothing here is cited by a contract.
+pub mod RowInserted
+pub mod Sorting
+pub mod Settling
+pub mod Compared
+pub mod PutTable
+pub mod Holds
+pub mod CrossedAre
+pub mod VerticesAre
+pub mod EdgesAre
+pub mod NetLaws
+pub mod NetAre
+pub mod NetBounds

@@ -1,0 +1,117 @@
+-- The points that are collected are the overlay's vertices: put in order they are `verticesOf` the maps that the tables hold, and where the table is full the
+-- overlay has more vertices than it may. Assumes nothing.
+use mathlib.Core.Path.{_≡_, refl, sym, _∙_, ap, subst}
+use mathlib.Core.Logic.{inl, inr, ⊎-elim}
+use Prim.Native.Nat.{_≤_, _<_}
+use native.Mathlib.Omega.{arith}
+use lib.IntN.{ℤ}
+use Rattle.exact.specs.Lowest.{Pt, Lowest}
+use Rattle.seq.specs.Seq.{List, [], _∷_, _++_, ℕ, _+_, length, rows, collect}
+use Rattle.seq.specs.Terms.{Among, Every}
+use Rattle.seq.specs.Members.{among-++, ++-among, every-in, in-every}
+use Rattle.seq.specs.Table.{length-table}
+use Rattle.seq.specs.Rows.{rows-among}
+use Rattle.seq.specs.Collected.{collect-distinct, collect-from, collect-has}
+use Rattle.seq.specs.Inserted.{inOrder-same}
+use Rattle.paper.specs.Limits.{maps, overlayVertices}
+use Rattle.paper.specs.Plane.{before}
+use Rattle.paper.specs.Map.{Map}
+use Rattle.paper.specs.Pieces.{layer, crossings, inOrder, verticesOf}
+use Rattle.graph.specs.Flat.{pointAt, carrierAt}
+use Rattle.overlay_cut.specs.Rooms.{vertexRows}
+use Rattle.overlay_cut.specs.Lifted.{length-putAt}
+use Rattle.overlay_cut.specs.Placed.{putIn, place, place-le}
+use Rattle.overlay_cut.specs.Laws.Sorting.{sorting}
+use Rattle.overlay_cut.specs.Capped.{Cap, whole, cap-whole, cap-full, collectIn-cap}
+use Rattle.overlay_cut.specs.Points.{pointsOf, noPoint, equal, equal-is, Once, sorted-once, asym, trans, one-point}
+use Rattle.overlay_cut.specs.Cuts.{startOf, edgesFrom}
+use Rattle.overlay_cut.specs.Crossed.{crossRow, crossPart, crossAll}
+use Rattle.overlay_cut.specs.Collecting.{gathered}
+use Rattle.overlay_cut.specs.Laws.Holds.{Holds}
+use Rattle.overlay_cut.specs.Laws.CrossedAre.{crossing-lowest, crossed-from, crossed-has}
+
+-- the n points in a table, put in order, are the vertices of the overlay
+pub record Vertices (ms : List Map) (out : List ℤ) (n : ℕ) : Type 0 where
+  pub once : Once (pointsOf out n)
+  pub ordered : inOrder (pointsOf out n) ≡ verticesOf ms
+  pub many : n ≡ length (verticesOf ms)
+
+-- a list put in order is as long
+length-sorting : (l xs : List Pt) → length (sorting before noPoint l xs) ≡ length l + length xs
+unfolding putIn
+length-sorting l [] = omega arith
+length-sorting l (x ∷ xs) = length-sorting (putIn before noPoint x l) xs ∙ omega (arith, length-putAt (place before noPoint x l) x l (place-le before noPoint x l))
+
+pub length-ordered : (l : List Pt) → Once l → length (inOrder l) ≡ length l
+length-ordered l o = ap length (sym (sorted-once l o)) ∙ length-sorting [] l ∙ omega arith
+
+module _ {ms : List Map} {corners : List ℤ} {c : ℕ} {cs : List ℤ} {st : List ℕ} (H : Holds ms corners c cs st) (low : Every Lowest (pointsOf corners c)) where
+  -- what the tables say, and what the definition says
+  abbrev found : List Pt
+  found = pointsOf corners c ++ crossAll cs st
+
+  abbrev defined : List Pt
+  defined = rows (λ i. layer ms i .graph .points) (length ms) ++ crossings ms
+
+  found-from : (z : Pt) → Among z found → Among z defined
+  found-from z i =
+      ++-among z (rows (λ i. layer ms i .graph .points) (length ms)) (crossings ms)
+      (⊎-elim (λ j. inl (subst (Among z) (H .corners-are) j)) (λ j. inr (crossed-from H z j)) (among-++ z (pointsOf corners c) (crossAll cs st) i))
+
+  found-has : (z : Pt) → Among z defined → Among z found
+  found-has z i =
+      ++-among z (pointsOf corners c) (crossAll cs st)
+      (⊎-elim (λ j. inl (subst (Among z) (sym (H .corners-are)) j)) (λ j. inr (crossed-has H z j)) (among-++ z (rows (λ i. layer ms i .graph .points) (length ms)) (crossings ms) i))
+
+  -- all are in lowest terms
+  crossed-low : (z : Pt) → Among z (crossAll cs st) → Lowest z
+  crossed-low z a =
+      let m = rows-among (crossPart cs st) maps z a in
+      let k = rows-among (λ k. crossRow cs (startOf st (m .0)) (carrierAt cs (startOf st (m .0) + k))) (edgesFrom st (m .0)) z (m .2) in
+      let j = rows-among (λ j. _) (startOf st (m .0)) z (k .2) in
+      crossing-lowest (carrierAt cs (j .0)) (carrierAt cs (startOf st (m .0) + k .0)) z (j .2)
+
+  found-low : Every Lowest found
+  found-low = in-every Lowest found (λ z i. ⊎-elim (λ j. every-in Lowest (pointsOf corners c) low z j) (λ j. crossed-low z j) (among-++ z (pointsOf corners c) (crossAll cs st) i))
+
+  -- ── collected ──
+
+  abbrev pub each : List Pt
+  each = collect equal [] found
+
+  each-from : (z : Pt) → Among z each → Among z found
+  each-from z i = ⊎-elim (λ j. absurd j) (λ j. j) (collect-from equal z [] found i)
+
+  pub each-once : Once each
+  each-once = record { lowest = in-every Lowest each (λ z i. every-in Lowest found found-low z (each-from z i)); once = collect-distinct equal [] found tt }
+
+  -- put in order they are the vertices
+  pub each-ordered : inOrder each ≡ verticesOf ms
+  each-ordered =
+      inOrder-same before (λ p q. q) (λ p q. refl) Lowest one-point trans asym each defined (each-once .lowest)
+      (in-every Lowest defined (λ z i. every-in Lowest found found-low z (found-has z i)))
+      (λ z i. found-from z (each-from z i))
+      (λ z i. collect-has equal Lowest (λ p q a b. equal-is p q) z [] found (λ y j. absurd j) found-low (found-has z i))
+
+  pub each-many : length each ≡ length (verticesOf ms)
+  each-many = sym (length-ordered each each-once) ∙ ap length each-ordered
+
+  -- ── in a table with room for one more than the overlay may have ──
+
+  module _ (out : List ℤ) (n : ℕ) (e : pointsOf out n ≡ gathered vertexRows [] found) where
+    cap : Cap vertexRows (pointsOf out n) each
+    cap = subst (λ (l : List Pt). Cap vertexRows l each) (sym e) (collectIn-cap equal vertexRows [] [] found (whole refl (omega arith)))
+
+    -- they are the vertices, if they are no more than the overlay may have
+    pub vertices-are : n ≤ overlayVertices → Vertices ms out n
+    vertices-are h =
+        let q : pointsOf out n ≡ each = cap-whole cap (omega (arith, length-table (pointAt out) n)) in
+        record {
+          once = subst Once (sym q) each-once;
+          ordered = ap inOrder q ∙ each-ordered;
+          many = sym (length-table (pointAt out) n) ∙ ap length q ∙ each-many;
+        }
+
+    -- and otherwise the overlay has more
+    pub vertices-over : overlayVertices < n → overlayVertices < length (verticesOf ms)
+    vertices-over h = omega (arith, cap-full cap (omega (arith, length-table (pointAt out) n)), each-many)

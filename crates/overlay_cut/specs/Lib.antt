@@ -1,0 +1,13 @@
+pub mod Lifted
+pub mod Placed
+pub mod Points
+pub mod Capped
+pub mod PieceRows
+pub mod Put
+pub mod Rooms
+pub mod Cutting
+pub mod Cuts
+pub mod Collecting
+pub mod Crossed
+pub mod Net
+pub mod Laws

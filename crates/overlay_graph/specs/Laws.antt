@@ -1,0 +1,4 @@
+-- The laws behind the proofs of this crate: nothing here is cited by a contract.
+pub mod Standing
+pub mod CutLaws
+pub mod Tracing

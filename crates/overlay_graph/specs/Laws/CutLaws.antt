@@ -1,0 +1,64 @@
+-- The points that are collected from held layers, put in order, and the pieces between them, are the overlay's vertices and edges. Assumes nothing.
+use mathlib.Core.Path.{_≡_, _∙_}
+use Prim.Native.Nat.{_≤_, _<_}
+use native.Mathlib.Omega.{arith}
+use Rattle.seq.specs.Seq.{List, [], _++_, ℕ, _*_, length, ℤ}
+use Rattle.paper.specs.Limits.{maps}
+use Rattle.paper.specs.Pieces.{inOrder, verticesOf}
+use Rattle.graph.specs.Flat.{Points}
+use Rattle.overlay_cut.specs.Rooms.{vertexRows, edgeRows}
+use Rattle.overlay_cut.specs.Points.{pointsOf, Once}
+use Rattle.overlay_cut.specs.Collecting.{gathered}
+use Rattle.overlay_cut.specs.Crossed.{crossAll}
+use Rattle.overlay_cut.specs.Cuts.{cutAll}
+use Rattle.overlay_cut.specs.PieceRows.{piecesIn}
+use Rattle.overlay_cut.specs.Cutting.{puts}
+use Rattle.overlay_cut.specs.Laws.VerticesAre.{Vertices, vertices-are, vertices-over}
+use Rattle.overlay_cut.specs.Laws.EdgesAre.{edges-are, edges-over}
+use Rattle.overlay_maps.specs.Held.{vertexStart, heldMaps, Held}
+use Rattle.overlay_maps.specs.declared.stack.Layers.{Layers}
+use Rattle.overlay_graph.specs.Laws.Standing.{holds, corners-lowest, vertices-near, unordered-near}
+use Rattle.overlay_graph.specs.Cut.{CutOf}
+
+-- the n points in a table are those that are collected
+abbrev pub Collected : Layers → List ℤ → ℕ → Type 0
+Collected l out n = pointsOf out n ≡ gathered vertexRows [] (pointsOf (l .corners) (vertexStart l maps) ++ crossAll (l .carriers) (l .edges))
+
+module _ (l : Layers) (H : Held l) (out : List ℤ) (n : ℕ) (e : Collected l out n) where
+  -- no more of them than the overlay may have
+  module _ (few : n < vertexRows) where
+    each : Vertices (heldMaps l) out n
+    each = vertices-are (holds l H) (corners-lowest l H) out n e (omega arith)
+
+    pub collected-once : Once (pointsOf out n)
+    collected-once = each .once
+
+    pub collected-near : 4 * n ≤ length out → Points out n
+    collected-near h = unordered-near l H out n h each
+
+    -- put in order
+    module _ (ps : List ℤ) (o : pointsOf ps n ≡ inOrder (pointsOf out n)) where
+      ordered-are : pointsOf ps n ≡ verticesOf (heldMaps l)
+      ordered-are = o ∙ each .ordered
+
+      pub ordered-near : 4 * n ≤ length ps → Points ps n
+      ordered-near h = vertices-near l H ps n h ordered-are
+
+      -- and the pieces between them
+      module _ (rows : List ℕ) (r : ℕ) (p : piecesIn rows r ≡ puts edgeRows [] (cutAll ps n (l .carriers) (l .edges))) where
+        pub cut-is : CutOf (heldMaps l) (record { vertices = n; points = ps; edges = r; pieces = rows })
+        cut-is = record {
+          vertices-are = λ h. ordered-are;
+          vertices-over = λ h. absurd (omega arith);
+          edges-are = λ h q. edges-are ps n (holds l H) (verticesOf (heldMaps l)) ordered-are rows r p q .are;
+          edges-over = λ h q. edges-over ps n (holds l H) (verticesOf (heldMaps l)) ordered-are rows r p q;
+        }
+
+  -- more of them: no more is said
+  pub cut-over : vertexRows ≤ n → (ps : List ℤ) (rows : List ℕ) (r : ℕ) → CutOf (heldMaps l) (record { vertices = n; points = ps; edges = r; pieces = rows })
+  cut-over more ps rows r = record {
+    vertices-are = λ h. absurd (omega arith);
+    vertices-over = λ h. vertices-over (holds l H) (corners-lowest l H) out n e h;
+    edges-are = λ h q. absurd (omega arith);
+    edges-over = λ h q. absurd (omega arith);
+  }

@@ -1,0 +1,150 @@
+-- What the stages of tracing make of the overlay's vertices and edges: the tables of its graph, of its walks and of its faces. Each stage takes the equation that
+-- its function promises. Assumes nothing.
+use mathlib.Core.Path.{_≡_, refl, sym, _∙_, ap, subst}
+use Prim.Native.Nat.{_≤_, _<_}
+use native.Mathlib.Omega.{arith}
+use lib.ListN.{length-replicate}
+use Rattle.seq.specs.Seq.{List, ℕ, suc, _*_, length, getD, replicate, table, position, filled, laid, padded, ℤ, pos}
+use Rattle.seq.specs.Filled.{filled-at, Holds}
+use Rattle.seq.specs.Laid.{length-laid}
+use Rattle.seq.specs.Wiped.{length-padded, padded-at}
+use Rattle.paper.specs.Limits.{overlayVertices, overlayEdges, absent}
+use Rattle.paper.specs.Graph.{Graph, halfCount, follower, followers, leaves}
+use Rattle.paper.specs.Map.{Map}
+use Rattle.paper.specs.Pieces.{verticesOf, graphOf}
+use Rattle.paper.specs.Faces.{net, overlayOf, holesOf}
+use Rattle.paper.specs.Tables.{leastHalf}
+use Rattle.laws_graph.specs.Plane.{Plane}
+use Rattle.laws_graph.specs.Follow.{followers-length, followers-at, follower-below}
+use Rattle.laws_overlay.specs.Places.{places}
+use Rattle.laws_overlay.specs.NetPlane.{net-plane}
+use Rattle.graph.specs.Flat.{Numbers, Flat, flatGraph}
+use Rattle.graph.specs.Laws.Decode.{flat-points, flat-halves, flat-origin}
+use Rattle.graph.specs.Places.{firstPlace}
+use Rattle.graph.specs.Laws.Firsts.{place-least, place-predecessor}
+use Rattle.graph_faces.specs.Linked.{halfRows, Linked, facesOf, Numbered}
+use Rattle.overlay_cut.specs.Net.{endsOf, carrierIn, segRow}
+use Rattle.overlay_cut.specs.Laws.NetAre as NetAre
+use Rattle.overlay_cut.specs.Laws.NetBounds.{carriers-near}
+use Rattle.overlay_maps.specs.Held.{heldMaps, Held}
+use Rattle.overlay_maps.specs.declared.stack.Layers.{Layers}
+use Rattle.overlay_graph.specs.Laws.Standing.{keep, holds, starts, vertices-near}
+use Rattle.overlay_graph.specs.Cut.{CutOf}
+use Rattle.overlay_graph.specs.Traced.{TracedOf}
+use Rattle.overlay_graph.specs.declared.cutting.Cut.{Cut}
+use Rattle.overlay_graph.specs.declared.tracing.Traced.{Traced}
+
+-- ── the graph ──
+
+module _ (l : Layers) (H : Held l) (c : Cut) (C : CutOf (heldMaps l) c) (few-vertices : c .vertices ≤ overlayVertices) (few-edges : c .edges ≤ overlayEdges) (long : 4 * c .vertices ≤ length (c .points))
+    (os : List ℕ) (bs : List ℤ) (o : os ≡ laid (c .edges) (endsOf (c .pieces)) (replicate 4000 0))
+    (b : bs ≡ laid (c .edges) (λ k. segRow (carrierIn (c .pieces) (l .carriers) (l .edges) k)) (replicate 8000 (pos 0))) where
+  abbrev n : ℕ
+  n = c .vertices
+
+  abbrev e : ℕ
+  e = c .edges
+
+  abbrev ms : List Map
+  ms = heldMaps l
+
+  pub net-is : flatGraph (c .points) os bs (c .vertices) (c .edges) ≡ net (overlayOf (heldMaps l))
+  unfolding overlayOf
+  net-is =
+      NetAre.net-is (holds l H) (c .pieces) e os (replicate 4000 0) bs (replicate 8000 (pos 0)) o b (c .points) n
+      ∙ (λ i. graphOf ms (C .vertices-are few-vertices i) (C .edges-are few-vertices few-edges i))
+
+  pub net-planar : Plane (flatGraph (c .points) os bs (c .vertices) (c .edges))
+  unfolding overlayOf
+  net-planar = subst Plane (sym net-is) (net-plane ms (keep l H) (verticesOf ms) (places ms (keep l H)))
+
+  named : (h : ℕ) → h < 2 * e → getD os h 0 < n
+  named h q =
+      omega (arith, flat-origin (c .points) os bs n e h q, flat-points (c .points) os bs n e, net-planar .starts h (omega (arith, flat-halves (c .points) os bs n e)))
+
+  room-os : 2 * e ≤ length (replicate {A = ℕ} 4000 0)
+  room-os = rw (length-replicate {A = ℕ} 4000 0) (omega arith)
+
+  room-bs : 4 * e ≤ length (replicate {A = ℤ} 8000 (pos 0))
+  room-bs = rw (length-replicate {A = ℤ} 8000 (pos 0)) (omega arith)
+
+  pub net-flat : Flat (c .points) os bs (c .vertices) (c .edges)
+  net-flat = record {
+    points = vertices-near l H (c .points) n long (C .vertices-are few-vertices);
+    origins = record { long = omega (arith, ap length o ∙ length-laid 2 (endsOf (c .pieces)) (λ i. refl) e (replicate 4000 0) room-os, room-os); named = named };
+    carriers = carriers-near (starts l H) (c .pieces) e bs (replicate 8000 (pos 0)) room-bs b;
+  }
+
+-- ── walks ──
+
+module _ (ps : List ℤ) (os : List ℕ) (cs : List ℤ) (n e : ℕ) (P : Plane (flatGraph ps os cs n e)) (small : e ≤ overlayEdges) where
+  abbrev g : Graph
+  g = flatGraph ps os cs n e
+
+  halves : halfCount g ≡ 2 * e
+  halves = flat-halves ps os cs n e
+
+  module _ (next : List ℕ) (is : next ≡ padded 0 halfRows (followers g)) where
+    length-next : length next ≡ halfRows
+    length-next = ap length is ∙ length-padded 0 halfRows (followers g) (omega (arith, followers-length g P, halves))
+
+    next-holds : Holds (follower g) next (halfCount g)
+    next-holds = record {
+      long = omega (arith, length-next, halves);
+      at = λ i l. ap (λ (x : List ℕ). getD x i 0) is ∙ padded-at 0 halfRows i (followers g) 0 (omega (arith, followers-length g P)) ∙ followers-at g P i l;
+    }
+
+    pub next-numbers : Numbers next (2 * e) (2 * e)
+    next-numbers = record {
+      long = omega (arith, length-next);
+      named = λ i l. omega (arith, next-holds .at i (omega (arith, halves)), follower-below g P i (omega (arith, halves)), halves);
+    }
+
+    -- "The predecessor is the inverse"
+    pub prev-is : (prev d : List ℕ) → prev ≡ filled (2 * e) (firstPlace next (2 * e) absent) d → (h : ℕ) → h < 2 * e → getD prev h 0 ≡ position h (followers g)
+    prev-is prev d q h l =
+        ap (λ (x : List ℕ). getD x h 0) q ∙ filled-at (firstPlace next (2 * e) absent) (2 * e) h d 0 l ∙ ap (λ (j : ℕ). firstPlace next j absent h) (sym halves)
+        ∙ place-predecessor g P next absent h next-holds (omega (arith, halves))
+
+  -- "its least outgoing half-edge"
+  pub least-is : (least d : List ℕ) → least ≡ filled n (firstPlace os (2 * e) absent) d → (v : ℕ) → v < n → getD least v 0 ≡ leastHalf (leaves g v) (halfCount g)
+  least-is least d q v l = ap (λ (x : List ℕ). getD x v 0) q ∙ filled-at (firstPlace os (2 * e) absent) n v d 0 l ∙ place-least ps os cs n e v
+
+-- ── the overlay's ──
+
+module _ (ms : List Map) (g : Graph) (q : g ≡ net (overlayOf ms)) where
+  walked : followers g ≡ overlayOf ms .walks .next
+  unfolding overlayOf
+  walked = ap followers q
+
+  faced : facesOf g .face ≡ overlayOf ms .face
+  unfolding overlayOf
+  faced = ap (λ (x : Graph). facesOf x .face) q
+
+  outer : facesOf g .outers ≡ overlayOf ms .outers
+  unfolding overlayOf
+  outer = ap (λ (x : Graph). facesOf x .outers) q
+
+  holed : (k : ℕ) → table (holesOf (facesOf g)) k ≡ table (holesOf (overlayOf ms)) k
+  unfolding overlayOf
+  holed k = ap (λ (x : Graph). table (holesOf (facesOf x)) k) q
+
+module _ (ms : List Map) (c : Cut) (t : Traced) (small : c .edges ≤ overlayEdges) (F : Flat (c .points) (t .origins) (t .carriers) (c .vertices) (c .edges))
+    (P : Plane (flatGraph (c .points) (t .origins) (t .carriers) (c .vertices) (c .edges))) (q : flatGraph (c .points) (t .origins) (t .carriers) (c .vertices) (c .edges) ≡ net (overlayOf ms)) where
+  abbrev f : Graph
+  f = flatGraph (c .points) (t .origins) (t .carriers) (c .vertices) (c .edges)
+
+  pub traced-of : (lead top : List ℕ) → Linked f (t .next) lead top → Numbered f (t .face) (t .outers) (t .holes) (t .count)
+      → t .prev ≡ filled (2 * c .edges) (firstPlace (t .next) (2 * c .edges) absent) (replicate 4000 0)
+      → t .least ≡ filled (c .vertices) (firstPlace (t .origins) (2 * c .edges) absent) (replicate 1000 0) → TracedOf ms c t
+  traced-of lead top A N p l = record {
+    flat = F;
+    net-is = q;
+    next-is = A .next-is ∙ ap (padded 0 halfRows) (walked ms f q);
+    prev-is = λ h b. prev-is (c .points) (t .origins) (t .carriers) (c .vertices) (c .edges) P small (t .next) (A .next-is) (t .prev) (replicate 4000 0) p h b ∙ ap (position h) (walked ms f q);
+    least-is = λ v b. least-is (c .points) (t .origins) (t .carriers) (c .vertices) (c .edges) P small (t .least) (replicate 1000 0) l v b ∙ ap (λ (x : Graph). leastHalf (leaves x v) (halfCount x)) q;
+    face-is = N .face-is ∙ ap (padded 0 halfRows) (faced ms f q);
+    outers-is = N .outers-is ∙ ap (padded 0 halfRows) (outer ms f q);
+    count-is = N .count-is ∙ ap length (outer ms f q);
+    holes-is = N .holes-is ∙ ap (padded 0 (suc halfRows)) (holed ms f q (suc (t .count)));
+  }

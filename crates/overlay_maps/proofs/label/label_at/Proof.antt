@@ -1,0 +1,46 @@
+-- `layers::label::label_at` meets its contract. Assumes nothing.
+use Prim.Native.Nat.{_*_}
+use native.Mathlib.Omega.{arith}
+use borrow.Author.Needs.{needs}
+use denote.Ref.{now}
+use Rattle.overlay_maps.specs.Standing.{length-cells}
+use Rattle.overlay_maps.proofs.label.label_at.Statement.{statement}
+use Rattle.overlay_maps.proofs.label.label_at.Tie as tie
+
+label-in-requires : tie.Need-label-in-requires
+label-in-requires c κs =
+    let s : tie.Start = search needs in
+    let k = s .pre .0 in
+    let l = length-cells (now (s .args .labels)) (2 * s .args .a) (2 * s .args .b) (k .labels-in) in
+    (k .flat, (omega (arith, k .few), (omega (arith, l), (s .pre .1 .0, s .pre .1 .1))))
+
+pub label-at-spec : {M : Type 1} → statement M
+label-at-spec =
+    tie.close
+    (tie.spec
+    (λ c. search needs)
+    (λ c. search needs)
+    (λ c. search needs)
+    (λ c. search needs)
+    (λ c. search needs)
+    (λ c. search needs)
+    (λ c. search needs)
+    (λ c. search needs)
+    (λ c. search needs)
+    (λ c. search needs)
+    (λ c. search needs)
+    (λ c. search needs)
+    (λ c. search needs)
+    (λ c. search needs)
+    (λ c. search needs)
+    (λ c. search needs)
+    (λ c. search needs)
+    (λ c. search needs)
+    (λ c. search needs)
+    (λ c. search needs)
+    (λ c. search needs)
+    (λ c. search needs)
+    (λ c. search needs)
+    (λ c. search needs)
+    label-in-requires
+    (λ c. search needs))

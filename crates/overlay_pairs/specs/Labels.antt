@@ -1,0 +1,58 @@
+-- The label in a map of a half-edge and of a face of the overlay, from the flat tables that the code has of the overlay. Assumes nothing.
+use mathlib.Core.Path.{_≡_, sym, ap, subst}
+use Prim.Native.Nat.{_≤_, _<_}
+use native.Mathlib.Omega.{arith}
+use Rattle.seq.specs.Seq.{List, ℕ, zero, suc, _+_, _*_, _-_, _/_, length, getD, ℤ}
+use Rattle.paper.specs.Limits.{maps, absent}
+use Rattle.paper.specs.Map.{Map}
+use Rattle.graph.specs.Flat.{startAt, carrierAt, Starts, Carried}
+use Rattle.overlay_cut.specs.PieceRows.{pieceWidth}
+use Rattle.overlay_cut.specs.Net.{sourceIn}
+use Rattle.overlay_maps.specs.Label.{labelBy}
+
+-- half-edge h, in map m that is number i: from the lower end of its edge, the upward direction, and the stored source
+abbrev pub halfLabel : Map → List ℤ → List ℕ → List ℤ → List ℕ → ℕ → ℕ → ℕ
+halfLabel m ps os cs pieces i h = labelBy m h (startAt ps os (2 * (h / 2))) (carrierAt cs (h / 2) .up) (sourceIn pieces (h / 2) i)
+
+-- face f, where outers are the least outer half-edges of the faces other than 0
+abbrev pub faceLabel : Map → List ℤ → List ℕ → List ℤ → List ℕ → ℕ → List ℕ → ℕ → ℕ
+faceLabel m ps os cs pieces i outers zero = 0
+faceLabel m ps os cs pieces i outers (suc f) = halfLabel m ps os cs pieces i (getD outers f 0)
+
+-- "that number (65,535 for face 0)"
+abbrev pub outerOf : List ℕ → ℕ → ℕ
+outerOf outers zero = absent
+outerOf outers (suc f) = getD outers f 0
+
+-- ── what the code reads ──
+
+-- of half-edge h the edge's lower end, its carrier, and its source in map i, which is one of e edges
+pub record Labelled (ps : List ℤ) (os : List ℕ) (cs : List ℤ) (pieces : List ℕ) (i e h : ℕ) : Type 0 where
+  pub of-maps : i < maps
+  pub starts : Starts ps os (2 * (h / 2))
+  pub carried : Carried cs (h / 2)
+  pub row : pieceWidth * (h / 2) + pieceWidth ≤ length pieces
+  pub source-most : sourceIn pieces (h / 2) i ≤ e
+
+-- of face f its least outer half-edge, where it is not face 0
+abbrev pub Labels : List ℤ → List ℕ → List ℤ → List ℕ → ℕ → ℕ → List ℕ → ℕ → Type 0
+Labels ps os cs pieces i e outers zero = Unit
+Labels ps os cs pieces i e outers (suc f) = (f < length outers) × Labelled ps os cs pieces i e (getD outers f 0)
+
+-- ── by whether it is face 0 ──
+
+module _ (ps : List ℤ) (os : List ℕ) (cs : List ℤ) (pieces : List ℕ) (i : ℕ) (outers : List ℕ) where
+  pub outside-label : (m : Map) (f : ℕ) → f ≡ 0 → 0 ≡ faceLabel m ps os cs pieces i outers f
+  outside-label m f q = ap (faceLabel m ps os cs pieces i outers) (sym q)
+
+  pub inner-label : (m : Map) (f : ℕ) → (f ≡ 0 → ⊥) → halfLabel m ps os cs pieces i (getD outers (f - 1) 0) ≡ faceLabel m ps os cs pieces i outers f
+  inner-label m f q = let w : f ≡ suc (f - 1) = omega arith in ap (faceLabel m ps os cs pieces i outers) (sym w)
+
+  pub inner : (e f : ℕ) → (f ≡ 0 → ⊥) → Labels ps os cs pieces i e outers f → (f - 1 < length outers) × Labelled ps os cs pieces i e (getD outers (f - 1) 0)
+  inner e f q l = let w : f ≡ suc (f - 1) = omega arith in subst (Labels ps os cs pieces i e outers) w l
+
+pub outside-outer : (outers : List ℕ) (f : ℕ) → f ≡ 0 → absent ≡ outerOf outers f
+outside-outer outers f q = ap (outerOf outers) (sym q)
+
+pub inner-outer : (outers : List ℕ) (f : ℕ) → (f ≡ 0 → ⊥) → getD outers (f - 1) 0 ≡ outerOf outers f
+inner-outer outers f q = let w : f ≡ suc (f - 1) = omega arith in ap (outerOf outers) (sym w)

@@ -1,1 +1,0 @@
-// The overlay and its file: everything is in specs/. No code.
