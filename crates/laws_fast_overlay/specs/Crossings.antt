@@ -1,5 +1,5 @@
 -- The crossings of any number of maps by one pass from below over all their edges, each edge met only by the standing edges of other maps: they are the crossings (`pass-crossings`), so the overlay's vertices are
--- the corners and what the pass gives, in point order (`pass-vertices`). The edges come in any order f that a pass allows (`Passing` of fastlaws), each as a map and an edge of it (`Lists`). Pairs that
+-- the corners and what the pass gives, in point order (`pass-vertices`). The edges come in any order f that a pass allows (`Passing` of laws_fast), each as a map and an edge of it (`Lists`). Pairs that
 -- are not met have no common point. Assumes nothing.
 use mathlib.Core.Path.{_≡_, sym, ap, subst}
 use mathlib.Core.Logic.{inr}

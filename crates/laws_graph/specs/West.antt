@@ -1,5 +1,5 @@
 -- Looking west in a plane graph, from a point along a direction. In order: what the tests of a candidate say; a candidate is not level; `nearer` is a strict
--- order of the edges at one height, by one identity (it is membership in the cone of planelaws); so what a look sees is the east side of a candidate than
+-- order of the edges at one height, by one identity (it is membership in the cone of laws_plane); so what a look sees is the east side of a candidate than
 -- which none is nearer, and it sees nothing only where there is no candidate (`west-sees`). Assumes nothing.
 use native.Mathlib.Omega.{arith}
 use lib.IntN.{+ℤ-invr}

@@ -1,6 +1,6 @@
 -- What the move along a segment assumes (`Apart` of Slide), from geometry: an edge e that has no end strictly inside the segment p → r of f and, where it is not
 -- parallel to f, no point in common with f strictly inside, is apart from it (`apart`). An edge that covers the segment needs no clause. If the signs were
--- otherwise, the lines of e and f would meet at a point strictly inside, by the signs of planelaws' Meeting. Assumes nothing.
+-- otherwise, the lines of e and f would meet at a point strictly inside, by the signs of laws_plane' Meeting. Assumes nothing.
 use mathlib.Core.Path.{_≡_, sym, _∙_, ap, subst}
 use mathlib.Core.Bool.{true, false}
 use lib.Dec.{T}

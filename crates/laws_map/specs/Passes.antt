@@ -1,5 +1,5 @@
 -- A file passes exactly if it keeps the rules: `passes-form` and `passes-rules`, and back, `rules-pass`. In order: each test as the fact that it
--- stands for, and back (6 to 8 are in graphlaws' Rules); rules 1 to 4 (`nothing-form`, `form-nothing`); the ten of them in the chain. Assumes nothing.
+-- stands for, and back (6 to 8 are in laws_graph' Rules); rules 1 to 4 (`nothing-form`, `form-nothing`); the ten of them in the chain. Assumes nothing.
 use mathlib.Core.Path.{_≡_, refl, sym, ap}
 use Prim.Native.Nat.{_≤_, _<_}
 use borrow.Author.Tests.{ltb-false, lt-leb, le-ltb, eqb-true, eqb-false, eq-eqb, ne-eqb}

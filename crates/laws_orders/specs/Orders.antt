@@ -1,5 +1,5 @@
 -- Ask 11, over a list of map files in another order: file i of the one list is file `to i` of the other (`FilesRenumbered`). Where all pass the answer is the same, a refusal for room too, and so
--- are the lent vertices and half-edges, whole (`orders-done`); sources and labels go with the maps (`orders-source`, and overlaylaws' `renumber-face`). Where one file alone is bad both
+-- are the lent vertices and half-edges, whole (`orders-done`); sources and labels go with the maps (`orders-source`, and laws_overlay' `renumber-face`). Where one file alone is bad both
 -- refuse for it, each under its own map number, and all tables are zero (`orders-bad`). Where several are bad the first handed in is named (`first-named`). Two files exchanged are `exchanged`.
 -- Assumes nothing.
 use mathlib.Core.Path.{_≡_, refl, sym, _∙_, ap, subst}

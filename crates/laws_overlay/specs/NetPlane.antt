@@ -1,5 +1,5 @@
 -- The graph of the overlay is a plane graph (`net-plane`), in which no two edges share a stretch (`net-clear`): no two half-edges with one origin have the same angle, as two
--- pieces on one line with one end in common have the other in common, and pieces with the same ends stand once. So all laws of `graphlaws` hold of the overlay:
+-- pieces on one line with one end in common have the other in common, and pieces with the same ends stand once. So all laws of `laws_graph` hold of the overlay:
 -- followers are a permutation, walks close, faces obey their recursion. Assumes nothing.
 use mathlib.Core.Path.{_≡_, sym, _∙_, ap, subst}
 use Prim.Native.Nat.{_<_}

@@ -1,5 +1,5 @@
 -- The order of two edges along the line that passes over the plane, when it stands at a point p. The line is level but for an infinitely small tilt: the west is a little higher, so
--- that it meets points in point order, and a level edge is like any other. `gap p e f` is the way along that line from e to f, up to positive factors: in the cone of planelaws where e is
+-- that it meets points in point order, and a level edge is like any other. `gap p e f` is the way along that line from e to f, up to positive factors: in the cone of laws_plane where e is
 -- west of f, nowhere where both meet the line in one point. It changes from point to point by the turn alone (`pass-x`, `pass-y`):
 --     D of p · gap r = D of r · gap p + turn f e · (the way from p to r)
 -- In order: the gap; the order just above p (`West`) and that at a point which the line reaches (`Upto`); `carried`: from just above p up to r, where the two do not cross strictly between;

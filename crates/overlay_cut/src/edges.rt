@@ -32,12 +32,11 @@ pub fn origins(pieces: &[u16], e: usize, out: &mut [u16])
 }
 
 // What the piece in row k has for map m: its source + 1 or 0.
-fn source_in(pieces: &[u16], k: usize, m: usize) -> usize
+pub fn source_in(pieces: &[u16], k: usize, m: usize) -> u16
     requires { ⌜ pieceWidth * k + pieceWidth ≤ length (now pieces) ⌝ ∗ ⌜ m < maps ⌝ }
-    ensures is { λ r. ⌜ r ≡ sourceIn (now (pieces .entry)) k m ⌝ }
-    ensures bound { λ r. ⌜ r < 2 ^ 16 ⌝ }
+    ensures { λ r. ⌜ r ≡ sourceIn (now (pieces .entry)) k m ⌝ }
 {
-    pieces[PIECE_WIDTH * k + PIECE_SOURCES + m] as usize
+    pieces[PIECE_WIDTH * k + PIECE_SOURCES + m]
 }
 
 // The first map that the piece in row k comes from, or MAPS.
@@ -92,7 +91,7 @@ fn carrier_of(pieces: &[u16], k: usize, starts: &[usize], carriers: &[i64]) -> S
     if MAPS <= m {
         return nothing();
     }
-    edge_in(starts, carriers, m, source_in(pieces, k, m) - 1)
+    edge_in(starts, carriers, m, source_in(pieces, k, m) as usize - 1)
 }
 
 // Of e edges the carriers.

@@ -10,4 +10,5 @@ pub use collecting::collect;
 pub use cutting::pieces;
 pub use edges::carriers;
 pub use edges::origins;
+pub use edges::source_in;
 pub use ordering::order;

@@ -1,8 +1,7 @@
 // "A face holds the pair of its least outer half-edge": one label of the pair, in one map.
 use graph::carrier_at;
 use graph::start;
-use limits::PIECE_SOURCES;
-use limits::PIECE_WIDTH;
+use overlay_cut::source_in;
 use overlay_maps::label_at;
 use plane::Vector;
 ghost use mathlib.Core.Path.{_≡_};
@@ -26,14 +25,6 @@ fn upward(lines: &[i64], k: usize) -> Vector
 {
     let s = carrier_at(lines, k);
     Vector { x: s.u, y: s.v }
-}
-
-// What the piece in row k has for map m: its source + 1 or 0.
-fn source_in(pieces: &[u16], k: usize, m: usize) -> u16
-    requires { ⌜ pieceWidth * k + pieceWidth ≤ length (now pieces) ⌝ ∗ ⌜ m < maps ⌝ }
-    ensures { λ r. ⌜ r ≡ sourceIn (now (pieces .entry)) k m ⌝ }
-{
-    pieces[PIECE_WIDTH * k + PIECE_SOURCES + m]
 }
 
 // The least outer half-edge of face f, which is not face 0.

@@ -1,4 +1,4 @@
--- `mapcheck::check` meets its contract. Assumes nothing.
+-- `map_check::check` meets its contract. Assumes nothing.
 use mathlib.Core.Path.{sym, ap, _∙_}
 use denote.Ref.{now}
 use Rattle.paper.specs.Refusal.{answer, done}

@@ -1,4 +1,4 @@
--- `mapfile::form_and_parts` meets its contract: rules 5 to 7 follow where rules 1 to 4 give nothing. Assumes nothing.
+-- `map_file::form_and_parts` meets its contract: rules 5 to 7 follow where rules 1 to 4 give nothing. Assumes nothing.
 use mathlib.Core.Path.{sym, ap, _∙_}
 use borrow.Author.Needs.{needs}
 use denote.Ref.{now}

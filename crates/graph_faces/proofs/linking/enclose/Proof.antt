@@ -1,4 +1,4 @@
--- `faces::linking::enclose` meets its contract. First what is known from the start and of each table as it is made; then the needs, call by call. Assumes nothing.
+-- `graph_faces::linking::enclose` meets its contract. First what is known from the start and of each table as it is made; then the needs, call by call. Assumes nothing.
 use mathlib.Core.Path.{_≡_, sym, _∙_, ap, subst}
 use Prim.Native.Nat.{_≤_, _<_}
 use native.Mathlib.Numerals.{add-one}

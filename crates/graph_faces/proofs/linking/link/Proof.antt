@@ -1,4 +1,4 @@
--- `faces::linking::link` meets its contract. Assumes nothing.
+-- `graph_faces::linking::link` meets its contract. Assumes nothing.
 use mathlib.Core.Path.{_∙_, ap}
 use native.Mathlib.Omega.{arith}
 use borrow.Author.Needs.{needs}

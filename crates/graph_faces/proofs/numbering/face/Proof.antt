@@ -1,4 +1,4 @@
--- `faces::numbering::face` meets its contract. Assumes nothing.
+-- `graph_faces::numbering::face` meets its contract. Assumes nothing.
 use mathlib.Core.Path.{_≡_, refl, sym, _∙_}
 use Prim.Native.Nat.{_<_}
 use native.Mathlib.Omega.{arith}

@@ -1,4 +1,4 @@
--- `faces::numbering::faces` meets its contract. Assumes nothing.
+-- `graph_faces::numbering::faces` meets its contract. Assumes nothing.
 use borrow.Author.Needs.{needs}
 use Rattle.seq.specs.Seq.{_-_}
 use Rattle.seq.specs.Loops.Filling.{Filling, fill-starts, fill-turns, fill-ends}

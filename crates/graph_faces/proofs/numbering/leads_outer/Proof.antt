@@ -1,4 +1,4 @@
--- `faces::numbering::leads_outer` meets its contract. Assumes nothing.
+-- `graph_faces::numbering::leads_outer` meets its contract. Assumes nothing.
 use mathlib.Core.Path.{sym, _∙_, ap}
 use native.Mathlib.Omega.{arith}
 use borrow.Author.Needs.{needs}

@@ -1,4 +1,4 @@
--- `faces::numbering::number` meets its contract. Assumes nothing.
+-- `graph_faces::numbering::number` meets its contract. Assumes nothing.
 use mathlib.Core.Logic.{⊎-elim}
 use mathlib.Core.Path.{sym, _∙_, ap}
 use native.Mathlib.Numerals.{add-one}

@@ -1,4 +1,4 @@
--- `faces::numbering::outers` meets its contract. Assumes nothing.
+-- `graph_faces::numbering::outers` meets its contract. Assumes nothing.
 use mathlib.Core.Logic.{⊎-elim}
 use mathlib.Core.Path.{sym, _∙_}
 use native.Mathlib.Omega.{arith}

@@ -1,4 +1,4 @@
--- `faces::numbering::seen_by` meets its contract. Assumes nothing.
+-- `graph_faces::numbering::seen_by` meets its contract. Assumes nothing.
 use mathlib.Core.Path.{sym, _∙_, ap}
 use native.Mathlib.Omega.{arith}
 use borrow.Author.Needs.{needs}

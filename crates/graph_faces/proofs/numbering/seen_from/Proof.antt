@@ -1,4 +1,4 @@
--- `faces::numbering::seen_from` meets its contract. Assumes nothing.
+-- `graph_faces::numbering::seen_from` meets its contract. Assumes nothing.
 use mathlib.Core.Path.{sym, _∙_, ap}
 use borrow.Author.Needs.{needs}
 use Rattle.seq.specs.Seq.{Option, Option·getD, ℕ}

@@ -1,4 +1,4 @@
--- `faces::numbering::sees` meets its contract. Assumes nothing.
+-- `graph_faces::numbering::sees` meets its contract. Assumes nothing.
 use native.Mathlib.Omega.{arith}
 use borrow.Author.Needs.{needs}
 use Rattle.seq.specs.Seq.{_-_, _*_}

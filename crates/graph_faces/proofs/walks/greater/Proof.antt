@@ -1,4 +1,4 @@
--- `faces::walks::greater` meets its contract. Assumes nothing.
+-- `graph_faces::walks::greater` meets its contract. Assumes nothing.
 use mathlib.Core.Path.{sym, _∙_}
 use borrow.Author.Needs.{needs}
 use Rattle.paper.specs.Limits.{absent}

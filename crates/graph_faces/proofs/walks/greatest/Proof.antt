@@ -1,4 +1,4 @@
--- `faces::walks::greatest` meets its contract. Assumes nothing.
+-- `graph_faces::walks::greatest` meets its contract. Assumes nothing.
 use mathlib.Core.Path.{refl}
 use Prim.Native.Nat.{_<_}
 use native.Mathlib.Omega.{arith}

@@ -1,4 +1,4 @@
--- `faces::walks::leads` meets its contract. Assumes nothing.
+-- `graph_faces::walks::leads` meets its contract. Assumes nothing.
 use mathlib.Core.Logic.{⊎-elim}
 use mathlib.Core.Path.{_≡_, sym, _∙_, ap}
 use Prim.Native.Nat.{_≤_, _<_}

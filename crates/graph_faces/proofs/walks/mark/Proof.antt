@@ -1,4 +1,4 @@
--- `faces::walks::mark` meets its contract. Assumes nothing.
+-- `graph_faces::walks::mark` meets its contract. Assumes nothing.
 use mathlib.Core.Path.{sym}
 use Prim.Native.Nat.{_<_}
 use native.Mathlib.Omega.{arith}

@@ -1,4 +1,4 @@
--- `mapcheck::edges::clashes` meets its contract. Assumes nothing.
+-- `map_check::edges::clashes` meets its contract. Assumes nothing.
 use mathlib.Core.Path.{_≡_, sym, _∙_}
 use borrow.Author.Needs.{needs}
 use denote.Ref.{now}

@@ -1,4 +1,4 @@
--- `mapcheck::edges::first_clash` meets its contract: nothing below the counter has been found. Assumes nothing.
+-- `map_check::edges::first_clash` meets its contract: nothing below the counter has been found. Assumes nothing.
 use mathlib.Core.Path.{sym, _∙_}
 use Prim.Native.Nat.{_<_}
 use native.Mathlib.Omega.{arith}

@@ -1,4 +1,4 @@
--- `mapcheck::edges::first_clashing` meets its contract: nothing below the counter has been found. Assumes nothing.
+-- `map_check::edges::first_clashing` meets its contract: nothing below the counter has been found. Assumes nothing.
 use mathlib.Core.Path.{sym, ap, _∙_}
 use native.Mathlib.Omega.{arith}
 use borrow.Author.Needs.{needs}

@@ -1,4 +1,4 @@
--- `mapcheck::edges::first_lonely` meets its contract: nothing below the counter has been found. Assumes nothing.
+-- `map_check::edges::first_lonely` meets its contract: nothing below the counter has been found. Assumes nothing.
 use mathlib.Core.Path.{ap}
 use native.Mathlib.Omega.{arith}
 use borrow.Author.Needs.{needs}

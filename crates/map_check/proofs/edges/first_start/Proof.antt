@@ -1,4 +1,4 @@
--- `mapcheck::edges::first_start` meets its contract: nothing below the counter has been found. Assumes nothing.
+-- `map_check::edges::first_start` meets its contract: nothing below the counter has been found. Assumes nothing.
 use borrow.Author.Tests.{eq-eqb, ne-eqb}
 use Rattle.seq.specs.Seq.{_-_}
 use Rattle.map_check.specs.Net.{startsAt}

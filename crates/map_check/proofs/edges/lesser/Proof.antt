@@ -1,4 +1,4 @@
--- `mapcheck::edges::lesser` meets its contract. Assumes nothing.
+-- `map_check::edges::lesser` meets its contract. Assumes nothing.
 use mathlib.Core.Path.{_≡_, sym, _∙_}
 use mathlib.Core.Bool.{true, false, _&&_}
 use lib.Signed.{ltZ}

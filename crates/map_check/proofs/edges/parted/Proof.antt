@@ -1,4 +1,4 @@
--- `mapcheck::edges::parted` meets its contract. Assumes nothing.
+-- `map_check::edges::parted` meets its contract. Assumes nothing.
 use mathlib.Core.Path.{_≡_, sym, _∙_}
 use mathlib.Core.Bool.{true, false, _||_}
 use lib.IntN.{_+ℤ_}

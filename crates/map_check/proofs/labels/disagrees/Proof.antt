@@ -1,4 +1,4 @@
--- `mapcheck::labels::disagrees` meets its contract. Assumes nothing.
+-- `map_check::labels::disagrees` meets its contract. Assumes nothing.
 use mathlib.Core.Path.{_≡_, sym, ap, _∙_}
 use native.Mathlib.Omega.{arith}
 use borrow.Author.Tests.{eq-eqb, ne-eqb}

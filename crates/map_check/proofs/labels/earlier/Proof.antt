@@ -1,4 +1,4 @@
--- `mapcheck::labels::earlier` meets its contract. Assumes nothing.
+-- `map_check::labels::earlier` meets its contract. Assumes nothing.
 use mathlib.Core.Path.{_∙_}
 use borrow.Author.Needs.{needs}
 use Rattle.paper.specs.Plane.{before}

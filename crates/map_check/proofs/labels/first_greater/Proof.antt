@@ -1,4 +1,4 @@
--- `mapcheck::labels::first_greater` meets its contract: nothing below the counter has been found. Assumes nothing.
+-- `map_check::labels::first_greater` meets its contract: nothing below the counter has been found. Assumes nothing.
 use mathlib.Core.Path.{sym, _∙_}
 use native.Mathlib.Omega.{arith}
 use borrow.Author.Needs.{needs}

@@ -1,4 +1,4 @@
--- `mapcheck::labels::greater` meets its contract. Assumes nothing.
+-- `map_check::labels::greater` meets its contract. Assumes nothing.
 use mathlib.Core.Path.{sym, ap, _∙_}
 use borrow.Author.Tests.{eq-eqb, ne-eqb}
 use denote.Ref.{now}

@@ -1,4 +1,4 @@
--- `mapcheck::labels::is_smallest` meets its contract: what is left of the walk has none exactly if the walk has none. Assumes nothing.
+-- `map_check::labels::is_smallest` meets its contract: what is left of the walk has none exactly if the walk has none. Assumes nothing.
 use mathlib.Core.Path.{sym, _∙_}
 use native.Mathlib.Omega.{arith}
 use borrow.Author.Needs.{needs}

@@ -1,4 +1,4 @@
--- `mapcheck::labels::makes_hole` meets its contract. Assumes nothing.
+-- `map_check::labels::makes_hole` meets its contract. Assumes nothing.
 use mathlib.Core.Path.{sym, ap, _∙_}
 use native.Mathlib.Omega.{arith}
 use borrow.Author.Needs.{needs}

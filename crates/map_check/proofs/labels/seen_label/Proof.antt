@@ -1,4 +1,4 @@
--- `mapcheck::labels::seen_label` meets its contract. Assumes nothing.
+-- `map_check::labels::seen_label` meets its contract. Assumes nothing.
 use mathlib.Core.Path.{sym, ap, _∙_}
 use native.Mathlib.Omega.{arith}
 use denote.Ref.{now}

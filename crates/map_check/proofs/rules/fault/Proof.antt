@@ -1,4 +1,4 @@
--- `mapcheck::rules::fault` meets its contract: rules 8 to 10 follow where rules 1 to 7 give nothing. Assumes nothing.
+-- `map_check::rules::fault` meets its contract: rules 8 to 10 follow where rules 1 to 7 give nothing. Assumes nothing.
 use mathlib.Core.Path.{sym, ap, _∙_}
 use denote.Ref.{now}
 use Rattle.map_file.specs.Verdict.{verdict}

@@ -1,4 +1,4 @@
--- `mapcheck::rules::first_by_followers` meets its contract. Assumes nothing.
+-- `map_check::rules::first_by_followers` meets its contract. Assumes nothing.
 use Rattle.map_check.specs.Laws.LinkedLaws.{made-headings, made-linked, found-disagrees}
 use native.Mathlib.Omega.{arith}
 use borrow.Author.Needs.{needs}

@@ -1,4 +1,4 @@
--- `mapcheck::rules::labels_disagree` meets its contract. Assumes nothing.
+-- `map_check::rules::labels_disagree` meets its contract. Assumes nothing.
 use mathlib.Core.Path.{sym, ap, _∙_}
 use denote.Ref.{now}
 use Rattle.seq.specs.Least.{least-le}

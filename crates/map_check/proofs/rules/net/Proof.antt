@@ -1,4 +1,4 @@
--- `mapcheck::rules::net` meets its contract: rule 10 follows where rules 8 and 9 give nothing. Assumes nothing.
+-- `map_check::rules::net` meets its contract: rule 10 follows where rules 8 and 9 give nothing. Assumes nothing.
 use mathlib.Core.Path.{sym, ap, _∙_}
 use denote.Ref.{now}
 use Rattle.paper.specs.Map.{mapOf}

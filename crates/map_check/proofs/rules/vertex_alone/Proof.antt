@@ -1,4 +1,4 @@
--- `mapcheck::rules::vertex_alone` meets its contract. Assumes nothing.
+-- `map_check::rules::vertex_alone` meets its contract. Assumes nothing.
 use mathlib.Core.Path.{sym, _∙_}
 use denote.Ref.{now}
 use Rattle.seq.specs.Least.{least-le}

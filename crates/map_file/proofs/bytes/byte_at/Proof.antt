@@ -1,4 +1,4 @@
--- `mapfile::bytes::byte_at` meets its contract. Assumes nothing.
+-- `map_file::bytes::byte_at` meets its contract. Assumes nothing.
 use mathlib.Core.Path.{sym}
 use borrow.Author.Needs.{needs}
 use denote.Ref.{now}

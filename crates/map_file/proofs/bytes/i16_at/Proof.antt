@@ -1,4 +1,4 @@
--- `mapfile::bytes::i16_at` meets its contract: the upper half of the 16-bit numbers stands for the negative ones. Assumes nothing.
+-- `map_file::bytes::i16_at` meets its contract: the upper half of the 16-bit numbers stands for the negative ones. Assumes nothing.
 use mathlib.Core.Path.{sym, ap, _∙_}
 use native.Mathlib.Omega.{arith}
 use borrow.Author.Needs.{needs}

@@ -1,4 +1,4 @@
--- `mapfile::bytes::u16_at` meets its contract: past the end both bytes are 0, and before it the next place can be counted. Assumes nothing.
+-- `map_file::bytes::u16_at` meets its contract: past the end both bytes are 0, and before it the next place can be counted. Assumes nothing.
 use mathlib.Core.Path.{sym}
 use native.Mathlib.Numerals.{add-one}
 use native.Mathlib.Omega.{arith}

@@ -1,4 +1,4 @@
--- `mapfile::fields::corner` meets its contract. Assumes nothing.
+-- `map_file::fields::corner` meets its contract. Assumes nothing.
 use mathlib.Core.Path.{_∙_}
 use borrow.Author.Needs.{needs}
 use mir.Syntax.{w64}

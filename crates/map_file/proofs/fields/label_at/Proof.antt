@@ -1,4 +1,4 @@
--- `mapfile::fields::label_at` meets its contract: the place can be counted on, since a vertex count has 16 bits. Assumes nothing.
+-- `map_file::fields::label_at` meets its contract: the place can be counted on, since a vertex count has 16 bits. Assumes nothing.
 use mathlib.Core.Path.{ap, _∙_}
 use native.Mathlib.Omega.{arith}
 use borrow.Author.Needs.{needs}

@@ -1,4 +1,4 @@
--- `mapfile::fields::origin_at` meets its contract. Assumes nothing.
+-- `map_file::fields::origin_at` meets its contract. Assumes nothing.
 use mathlib.Core.Path.{ap, _∙_}
 use borrow.Author.Needs.{needs}
 use denote.Ref.{now}

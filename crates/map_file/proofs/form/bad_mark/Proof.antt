@@ -1,4 +1,4 @@
--- `mapfile::form::bad_mark` meets its contract: the length first, then the mark's bytes one after the other. Assumes nothing.
+-- `map_file::form::bad_mark` meets its contract: the length first, then the mark's bytes one after the other. Assumes nothing.
 use mathlib.Core.Path.{sym, ap, _∙_}
 use borrow.Author.Needs.{needs}
 use denote.Ref.{now}

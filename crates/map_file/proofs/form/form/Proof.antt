@@ -1,4 +1,4 @@
--- `mapfile::form::form` meets its contract: each check is a line of the definition, and the chain is its list. Assumes nothing.
+-- `map_file::form::form` meets its contract: each check is a line of the definition, and the chain is its list. Assumes nothing.
 use mathlib.Core.Path.{ap, _∙_}
 use borrow.Author.Needs.{needs}
 use denote.Ref.{now}

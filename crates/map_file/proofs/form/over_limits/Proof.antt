@@ -1,4 +1,4 @@
--- `mapfile::form::over_limits` meets its contract. Assumes nothing.
+-- `map_file::form::over_limits` meets its contract. Assumes nothing.
 use Rattle.seq.specs.Seq.{ltb}
 use Rattle.paper.specs.Limits.{mapVertices, mapEdges}
 use Rattle.map_file.proofs.FormLaws.{beyond, within}

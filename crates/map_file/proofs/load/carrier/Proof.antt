@@ -1,4 +1,4 @@
--- `mapfile::load::carrier` meets its contract: both ends name a vertex within range, since the file passes. Assumes nothing.
+-- `map_file::load::carrier` meets its contract: both ends name a vertex within range, since the file passes. Assumes nothing.
 use mathlib.Core.Path.{sym, ap, _∙_, subst}
 use borrow.Author.Needs.{needs}
 use denote.Ref.{now}

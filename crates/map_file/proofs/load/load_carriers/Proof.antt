@@ -1,4 +1,4 @@
--- `mapfile::load::load_carriers` meets its contract: below the counter the rows are the map's, and the other cells as they were. Assumes nothing.
+-- `map_file::load::load_carriers` meets its contract: below the counter the rows are the map's, and the other cells as they were. Assumes nothing.
 use mathlib.Core.Path.{refl, ap, _∙_}
 use native.Mathlib.Omega.{arith}
 use borrow.Author.Needs.{needs}

@@ -1,4 +1,4 @@
--- `mapfile::load::load_labels` meets its contract: below the counter the cells are those of the file, and the others as they were. Assumes nothing.
+-- `map_file::load::load_labels` meets its contract: below the counter the cells are those of the file, and the others as they were. Assumes nothing.
 use mathlib.Core.Path.{_∙_}
 use native.Mathlib.Omega.{arith}
 use borrow.Author.Needs.{needs}

@@ -1,4 +1,4 @@
--- `mapfile::load::load_points` meets its contract: below the counter the rows are those of the file, and the other cells as they were. Assumes nothing.
+-- `map_file::load::load_points` meets its contract: below the counter the rows are those of the file, and the other cells as they were. Assumes nothing.
 use mathlib.Core.Path.{refl, _∙_}
 use native.Mathlib.Omega.{arith}
 use borrow.Author.Needs.{needs}

@@ -1,4 +1,4 @@
--- `mapfile::parts::bad_ends` meets its contract. Assumes nothing.
+-- `map_file::parts::bad_ends` meets its contract. Assumes nothing.
 use mathlib.Core.Path.{_∙_}
 use native.Mathlib.Omega.{arith}
 use borrow.Author.Needs.{needs}

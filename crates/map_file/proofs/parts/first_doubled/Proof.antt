@@ -1,4 +1,4 @@
--- `mapfile::parts::first_doubled` meets its contract: nothing below the counter has been found. Assumes nothing.
+-- `map_file::parts::first_doubled` meets its contract: nothing below the counter has been found. Assumes nothing.
 use mathlib.Core.Path.{sym, ap, _∙_}
 use native.Mathlib.Omega.{arith}
 use borrow.Author.Needs.{needs}

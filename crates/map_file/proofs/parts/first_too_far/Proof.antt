@@ -1,4 +1,4 @@
--- `mapfile::parts::first_too_far` meets its contract: nothing below the counter has been found. Assumes nothing.
+-- `map_file::parts::first_too_far` meets its contract: nothing below the counter has been found. Assumes nothing.
 use mathlib.Core.Path.{sym, _∙_}
 use native.Mathlib.Omega.{arith}
 use borrow.Author.Needs.{needs}

@@ -1,4 +1,4 @@
--- `mapfile::parts::lies_on` meets its contract: two corners are one point where both coordinates are equal. Assumes nothing.
+-- `map_file::parts::lies_on` meets its contract: two corners are one point where both coordinates are equal. Assumes nothing.
 use mathlib.Core.Path.{sym, _∙_}
 use borrow.Author.Needs.{needs}
 use mir.Syntax.{w64}

@@ -1,4 +1,4 @@
--- `mapfile::parts::parts` meets its contract: each check is a line of the definition, at the least place that its search found. Assumes nothing.
+-- `map_file::parts::parts` meets its contract: each check is a line of the definition, at the least place that its search found. Assumes nothing.
 use mathlib.Core.Path.{sym, ap, _∙_}
 use borrow.Author.Needs.{needs}
 use denote.Ref.{now}

@@ -1,4 +1,4 @@
--- `mapfile::parts::too_far` meets its contract. Assumes nothing.
+-- `map_file::parts::too_far` meets its contract. Assumes nothing.
 use mathlib.Core.Path.{ap, _∙_}
 use borrow.Author.Needs.{needs}
 use mir.Syntax.{w64}

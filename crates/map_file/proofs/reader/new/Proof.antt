@@ -1,4 +1,4 @@
--- `mapfile::reader::new` meets its contract: a walk of its MIR, by hand. A `Reader` is made of the slice passed and 0, in the result's local.
+-- `map_file::reader::new` meets its contract: a walk of its MIR, by hand. A `Reader` is made of the slice passed and 0, in the result's local.
 -- A `&[u8]` is Copy, so what it owns is had twice: once for the file at exit, and once inside the result, beside the facts of at.
 -- Assumes nothing.
 use mathlib.Core.Path.{refl}
@@ -38,7 +38,7 @@ use denote.Exit.{yes}
 use Rattle.map_file.specs.declared.reader.Reader.{Reader}
 use Rattle.map_file.proofs.reader.Reader as T
 use Rattle.map_file.proofs.reader.Reader.Laws as T′
-use Rattle.map_file.proofs.reader.new.Key.{name as #mapfile·reader·new}
+use Rattle.map_file.proofs.reader.new.Key.{name as #map_file·reader·new}
 use Rattle.map_file.proofs.reader.new as new
 use Rattle.map_file.proofs.reader.new.Statement as stated
 use Rattle.map_file.proofs.reader.new.Code as code
@@ -95,5 +95,5 @@ pub new-spec : {M : Type 1} → stated.statement M
 unfolding code.routine tablesOf
 new-spec 𝓤 H 𝓜 𝓖 𝓡 =
     entered 𝓤 H (tripleOf 𝓤 H (𝓖 .A) new.signature (new.spec 𝓤 H (𝓖 .A) (𝓜 .mem) (𝓡 .run)))
-    (tables 𝓤 H 𝓜 𝓡 code.env .C) (tables 𝓤 H 𝓜 𝓡 code.env .Λ) #mapfile·reader·new code.function (code.unfolded 𝓤 H 𝓜 𝓡)
+    (tables 𝓤 H 𝓜 𝓡 code.env .C) (tables 𝓤 H 𝓜 𝓡 code.env .Λ) #map_file·reader·new code.function (code.unfolded 𝓤 H 𝓜 𝓡)
     (new-meets 𝓤 H (𝓖 .A) (givenOf 𝓤 H 𝓜 𝓖) (𝓜 .mem) (𝓡 .run) (tablesOf 𝓤 H 𝓜 (tables 𝓤 H 𝓜 𝓡 code.env)))

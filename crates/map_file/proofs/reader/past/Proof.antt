@@ -1,4 +1,4 @@
--- `mapfile::reader::past` meets its contract: a walk of its MIR, by hand. A struct is made anew of the slice that the one passed holds, and another number.
+-- `map_file::reader::past` meets its contract: a walk of its MIR, by hand. A struct is made anew of the slice that the one passed holds, and another number.
 -- The struct is Copy: what it owns is had twice, one copy is kept whole for the exit, and the other, with the facts of the number in the place of at's, is what the result owns.
 -- Assumes nothing.
 use mathlib.Core.Path.{refl}
@@ -37,7 +37,7 @@ use denote.Exit.{yes}
 use Rattle.map_file.specs.declared.reader.Reader.{Reader}
 use Rattle.map_file.proofs.reader.Reader as T
 use Rattle.map_file.proofs.reader.Reader.Laws as T′
-use Rattle.map_file.proofs.reader.past.Key.{name as #mapfile·reader·past}
+use Rattle.map_file.proofs.reader.past.Key.{name as #map_file·reader·past}
 use Rattle.map_file.proofs.reader.past as past
 use Rattle.map_file.proofs.reader.past.Statement as stated
 use Rattle.map_file.proofs.reader.past.Code as code
@@ -99,5 +99,5 @@ pub past-spec : {M : Type 1} → stated.statement M
 unfolding code.routine tablesOf
 past-spec 𝓤 H 𝓜 𝓖 𝓡 =
     entered 𝓤 H (tripleOf 𝓤 H (𝓖 .A) past.signature (past.spec 𝓤 H (𝓖 .A) (𝓜 .mem) (𝓡 .run)))
-    (tables 𝓤 H 𝓜 𝓡 code.env .C) (tables 𝓤 H 𝓜 𝓡 code.env .Λ) #mapfile·reader·past code.function (code.unfolded 𝓤 H 𝓜 𝓡)
+    (tables 𝓤 H 𝓜 𝓡 code.env .C) (tables 𝓤 H 𝓜 𝓡 code.env .Λ) #map_file·reader·past code.function (code.unfolded 𝓤 H 𝓜 𝓡)
     (past-meets 𝓤 H (𝓖 .A) (givenOf 𝓤 H 𝓜 𝓖) (𝓜 .mem) (𝓡 .run) (tablesOf 𝓤 H 𝓜 (tables 𝓤 H 𝓜 𝓡 code.env)))

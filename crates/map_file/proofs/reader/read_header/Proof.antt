@@ -1,4 +1,4 @@
--- `mapfile::reader::read_header` meets its contract: a walk of its MIR, by hand. A reader is made of the file, and goes on past the mark and then past each number; where it
+-- `map_file::reader::read_header` meets its contract: a walk of its MIR, by hand. A reader is made of the file, and goes on past the mark and then past each number; where it
 -- stands the number is read. All that the proof knows of `new`, `past` and `word` is that each meets its contract.
 -- A reader is Copy: what it owns is had twice where a number is read and the reader goes on. `Stands` says where a reader has come to.
 -- Assumes nothing.
@@ -52,17 +52,17 @@ use Rattle.map_file.proofs.reader.Header as N
 use Rattle.map_file.proofs.reader.Header.Laws as N′
 use Rattle.map_file.proofs.reader.new as new
 use Rattle.map_file.proofs.reader.new.Symbol as new-def
-use Rattle.map_file.proofs.reader.new.Symbol.{name as #mapfile·reader·new}
+use Rattle.map_file.proofs.reader.new.Symbol.{name as #map_file·reader·new}
 use Rattle.map_file.proofs.reader.new.Met as new-thm
 use Rattle.map_file.proofs.reader.past as past
 use Rattle.map_file.proofs.reader.past.Symbol as past-def
-use Rattle.map_file.proofs.reader.past.Symbol.{name as #mapfile·reader·past}
+use Rattle.map_file.proofs.reader.past.Symbol.{name as #map_file·reader·past}
 use Rattle.map_file.proofs.reader.past.Met as past-thm
 use Rattle.map_file.proofs.reader.word as word
 use Rattle.map_file.proofs.reader.word.Symbol as word-def
-use Rattle.map_file.proofs.reader.word.Symbol.{name as #mapfile·reader·word}
+use Rattle.map_file.proofs.reader.word.Symbol.{name as #map_file·reader·word}
 use Rattle.map_file.proofs.reader.word.Met as word-thm
-use Rattle.map_file.proofs.reader.read_header.Key.{name as #mapfile·reader·read-header}
+use Rattle.map_file.proofs.reader.read_header.Key.{name as #map_file·reader·read-header}
 use Rattle.map_file.proofs.reader.read_header as read-header
 use Rattle.map_file.proofs.reader.read_header.Statement as stated
 use Rattle.map_file.proofs.reader.read_header.Code as code
@@ -181,7 +181,7 @@ module _ {M : Type 1} (𝓤 : URA M) (H : Heap 𝓤) (A : Atoms 𝓤) (W : Given
       nothing ! $ owned ! u16 (Is u16) (uint-makes 𝓤 H A W w16) c _ (refl, fc) $ fjoin ! $ owned ! u16 (Is u16) (uint-makes 𝓤 H A W w16) b _ (refl, fb) $ fjoin ! $
       owned ! u16 (Is u16) (uint-makes 𝓤 H A W w16) a _ (refl, fa) $ fjoin ! $ by ! (own-shut 𝓤 H A W N.the-type N′.the-laws (a, (b, (c, tt))))
 
-  module _ (C : Calls 𝓤 H) (Λ : Loops 𝓤 H) (fm : FmC 𝓤 H (W .laws) C) (known-new : Triple 𝓤 (C #mapfile·reader·new) (New 𝓤 H A mem run)) (known-past : Triple 𝓤 (C #mapfile·reader·past) (Past 𝓤 H A mem run)) (known-word : Triple 𝓤 (C #mapfile·reader·word) (Word 𝓤 H A mem run)) where
+  module _ (C : Calls 𝓤 H) (Λ : Loops 𝓤 H) (fm : FmC 𝓤 H (W .laws) C) (known-new : Triple 𝓤 (C #map_file·reader·new) (New 𝓤 H A mem run)) (known-past : Triple 𝓤 (C #map_file·reader·past) (Past 𝓤 H A mem run)) (known-word : Triple 𝓤 (C #map_file·reader·word) (Word 𝓤 H A mem run)) where
     walk : Is (ShrSlice (named 0) κ u8) s (v ∷ []) → ent 𝓤 (onEntry 𝓤 H A read-header.signature (κ, tt) (q, tt) (s, tt) (v ∷ [], tt)) (WpFn 𝓤 H C Λ code.function (v ∷ []) Post)
     walk p =
         qed W (raw (onEntry 𝓤 H A read-header.signature (κ, tt) (q, tt) (s, tt) (v ∷ [], tt)) ∷ []) ∵ enter ! C Λ code.function (v ∷ []) _ $
@@ -251,13 +251,13 @@ module _ {M : Type 1} (𝓤 : URA M) (H : Heap 𝓤) (A : Atoms 𝓤) (W : Given
         by ! (exits a b c (isₐ .1) (isᵇ .1) (isᶜ .1) (λ i. made (number (further (record { file-is = e₀ .0; at-is = e₀ .1 }) 3 r₁ e₁) a eₐ i) (number (further (further (record { file-is = e₀ .0; at-is = e₀ .1 }) 3 r₁ e₁) 2 r₂ e₂) b eᵇ i) (number (further (further (further (record { file-is = e₀ .0; at-is = e₀ .1 }) 3 r₁ e₁) 2 r₂ e₂) 2 r₃ e₃) c eᶜ i)))))))))))))))))))))))))))))))))))))))))))))
 
 module _ {M : Type 1} (𝓤 : URA M) (H : Heap 𝓤) (A : Atoms 𝓤) (W : Given 𝓤 H A) (mem : Memory → SProp 𝓤) (run : Routine → Fun 𝓤) where
-  read-header-walks : (C : Calls 𝓤 H) (Λ : Loops 𝓤 H) → FmC 𝓤 H (W .laws) C → Triple 𝓤 (C #mapfile·reader·new) (New 𝓤 H A mem run) → Triple 𝓤 (C #mapfile·reader·past) (Past 𝓤 H A mem run) → Triple 𝓤 (C #mapfile·reader·word) (Word 𝓤 H A mem run)
+  read-header-walks : (C : Calls 𝓤 H) (Λ : Loops 𝓤 H) → FmC 𝓤 H (W .laws) C → Triple 𝓤 (C #map_file·reader·new) (New 𝓤 H A mem run) → Triple 𝓤 (C #map_file·reader·past) (Past 𝓤 H A mem run) → Triple 𝓤 (C #map_file·reader·word) (Word 𝓤 H A mem run)
       → Walks 𝓤 H A read-header.ended stayed (WpFn 𝓤 H C Λ code.function) (read-header.clauses 𝓤 H A mem run)
   read-header-walks C Λ fm known-new known-past known-word = walked 𝓤 H A read-header.ended stayed (read-header.clauses 𝓤 H A mem run) (WpFn 𝓤 H C Λ code.function) (λ κs. (slice-vals, tt)) (λ κs. (shr-slice-tells (named 0) (κs .0) u8, tt))
       (λ κs qs bounds a g are. via 𝓤 _ (fst∗ 𝓤 _ (emp 𝓤)) (walk 𝓤 H A W mem run (κs .0) (qs .0) (a .0) C Λ fm known-new known-past known-word (are .0)))
 
 read-header-meets : {M : Type 1} (𝓤 : URA M) (H : Heap 𝓤) (A : Atoms 𝓤) (W : Given 𝓤 H A) (mem : Memory → SProp 𝓤) (run : Routine → Fun 𝓤) (𝓣 : Tables 𝓤 H)
-    → Triple 𝓤 (𝓣 .C #mapfile·reader·new) (New 𝓤 H A mem run) → Triple 𝓤 (𝓣 .C #mapfile·reader·past) (Past 𝓤 H A mem run) → Triple 𝓤 (𝓣 .C #mapfile·reader·word) (Word 𝓤 H A mem run)
+    → Triple 𝓤 (𝓣 .C #map_file·reader·new) (New 𝓤 H A mem run) → Triple 𝓤 (𝓣 .C #map_file·reader·past) (Past 𝓤 H A mem run) → Triple 𝓤 (𝓣 .C #map_file·reader·word) (Word 𝓤 H A mem run)
     → Meets 𝓤 H A read-header.signature (WpFn 𝓤 H (𝓣 .C) (𝓣 .Λ) code.function) (read-header.spec 𝓤 H A mem run)
 read-header-meets 𝓤 H A W mem run 𝓣 known-new known-past known-word = walk-meets 𝓤 H A read-header.ended stayed W (goes-none-slice 𝓤 H A W 1 (0 ∷ []) tt (plain (λ _. u8)) yes, tt) (read-header.clauses 𝓤 H A mem run) (WpFn 𝓤 H (𝓣 .C) (𝓣 .Λ) code.function) (WpFn-mono 𝓤 H (W .laws) 𝓣 code.function)
     (read-header-walks 𝓤 H A W mem run (𝓣 .C) (𝓣 .Λ) (fmOf 𝓤 H (W .laws) 𝓣) known-new known-past known-word)
@@ -266,8 +266,8 @@ pub read-header-spec : {M : Type 1} → stated.statement M
 unfolding code.routine tablesOf
 read-header-spec 𝓤 H 𝓜 𝓖 𝓡 =
     entered 𝓤 H (tripleOf 𝓤 H (𝓖 .A) read-header.signature (read-header.spec 𝓤 H (𝓖 .A) (𝓜 .mem) (𝓡 .run)))
-    (tables 𝓤 H 𝓜 𝓡 code.env .C) (tables 𝓤 H 𝓜 𝓡 code.env .Λ) #mapfile·reader·read-header code.function (code.unfolded 𝓤 H 𝓜 𝓡)
+    (tables 𝓤 H 𝓜 𝓡 code.env .C) (tables 𝓤 H 𝓜 𝓡 code.env .Λ) #map_file·reader·read-header code.function (code.unfolded 𝓤 H 𝓜 𝓡)
     (read-header-meets 𝓤 H (𝓖 .A) (givenOf 𝓤 H 𝓜 𝓖) (𝓜 .mem) (𝓡 .run) (tablesOf 𝓤 H 𝓜 (tables 𝓤 H 𝓜 𝓡 code.env))
-    (cited 𝓤 H (New 𝓤 H (𝓖 .A) (𝓜 .mem) (𝓡 .run)) 𝓜 𝓡 code.env #mapfile·reader·new new-def.routine code.calls-map-file·reader·new (new-thm.met 𝓤 H 𝓜 𝓖 𝓡))
-    (cited 𝓤 H (Past 𝓤 H (𝓖 .A) (𝓜 .mem) (𝓡 .run)) 𝓜 𝓡 code.env #mapfile·reader·past past-def.routine code.calls-map-file·reader·past (past-thm.met 𝓤 H 𝓜 𝓖 𝓡))
-    (cited 𝓤 H (Word 𝓤 H (𝓖 .A) (𝓜 .mem) (𝓡 .run)) 𝓜 𝓡 code.env #mapfile·reader·word word-def.routine code.calls-map-file·reader·word (word-thm.met 𝓤 H 𝓜 𝓖 𝓡)))
+    (cited 𝓤 H (New 𝓤 H (𝓖 .A) (𝓜 .mem) (𝓡 .run)) 𝓜 𝓡 code.env #map_file·reader·new new-def.routine code.calls-map-file·reader·new (new-thm.met 𝓤 H 𝓜 𝓖 𝓡))
+    (cited 𝓤 H (Past 𝓤 H (𝓖 .A) (𝓜 .mem) (𝓡 .run)) 𝓜 𝓡 code.env #map_file·reader·past past-def.routine code.calls-map-file·reader·past (past-thm.met 𝓤 H 𝓜 𝓖 𝓡))
+    (cited 𝓤 H (Word 𝓤 H (𝓖 .A) (𝓜 .mem) (𝓡 .run)) 𝓜 𝓡 code.env #map_file·reader·word word-def.routine code.calls-map-file·reader·word (word-thm.met 𝓤 H 𝓜 𝓖 𝓡)))

@@ -1,4 +1,4 @@
--- `mapfile::reader::word` meets its contract: a walk of its MIR, by hand. The struct is taken apart, and `u16_at` is called on the slice and the number. All that the proof knows of `u16_at` is that it meets its contract.
+-- `map_file::reader::word` meets its contract: a walk of its MIR, by hand. The struct is taken apart, and `u16_at` is called on the slice and the number. All that the proof knows of `u16_at` is that it meets its contract.
 -- The struct is Copy: what it owns is had twice, one copy is kept whole for the exit, and of the other what file owns goes to the callee, beside the lifetime's token, which comes back.
 -- Assumes nothing.
 use mathlib.Core.Path.{_≡_, refl}
@@ -48,9 +48,9 @@ use Rattle.map_file.proofs.reader.Reader as T
 use Rattle.map_file.proofs.reader.Reader.Laws as T′
 use Rattle.map_file.proofs.bytes.u16_at as u16-at
 use Rattle.map_file.proofs.bytes.u16_at.Symbol as u16-at-def
-use Rattle.map_file.proofs.bytes.u16_at.Symbol.{name as #mapfile·bytes·u16-at}
+use Rattle.map_file.proofs.bytes.u16_at.Symbol.{name as #map_file·bytes·u16-at}
 use Rattle.map_file.proofs.bytes.u16_at.Met as u16-at-thm
-use Rattle.map_file.proofs.reader.word.Key.{name as #mapfile·reader·word}
+use Rattle.map_file.proofs.reader.word.Key.{name as #map_file·reader·word}
 use Rattle.map_file.proofs.reader.word as word
 use Rattle.map_file.proofs.reader.word.Statement as stated
 use Rattle.map_file.proofs.reader.word.Code as code
@@ -124,7 +124,7 @@ module _ {M : Type 1} (𝓤 : URA M) (H : Heap 𝓤) (A : Atoms 𝓤) (W : Given
       suffices ! _ (ends-at 𝓤 H A word.ended stayed (word.clauses 𝓤 H A mem run) W (((κ, tt), (q, tt), tt, (d, tt), (mach ∷ [], tt)), tt) u r (tt, tt) (tt, tt)) $ says ! e $
       move ! (1 ∷ []) $ frame ! $ nothing ! $ move ! (2 ∷ 0 ∷ []) $ fjoin ! $ frame ! $ done !
 
-  module _ (C : Calls 𝓤 H) (Λ : Loops 𝓤 H) (fm : FmC 𝓤 H (W .laws) C) (known : Triple 𝓤 (C #mapfile·bytes·u16-at) (U16At 𝓤 H A mem run)) where
+  module _ (C : Calls 𝓤 H) (Λ : Loops 𝓤 H) (fm : FmC 𝓤 H (W .laws) C) (known : Triple 𝓤 (C #map_file·bytes·u16-at) (U16At 𝓤 H A mem run)) where
     walk : Holds (hasTy (T′.mir (named 0)) mach) × WT mach → ent 𝓤 (onEntry 𝓤 H A word.signature (κ, tt) (q, tt) (d, tt) (mach ∷ [], tt)) (WpFn 𝓤 H C Λ code.function (mach ∷ []) Post)
     walk wt =
         qed W (raw (onEntry 𝓤 H A word.signature (κ, tt) (q, tt) (d, tt) (mach ∷ [], tt)) ∷ []) ∵ enter ! C Λ code.function (mach ∷ []) _ $
@@ -142,13 +142,13 @@ module _ {M : Type 1} (𝓤 : URA M) (H : Heap 𝓤) (A : Atoms 𝓤) (W : Given
         move ! (9 ∷ 10 ∷ []) $ free1 ! $ move ! (7 ∷ 8 ∷ []) $ free1 ! $ move ! (5 ∷ 6 ∷ []) $ free1 ! $ move ! (3 ∷ 4 ∷ []) $ free1 ! $ free0 ! $ by ! (exits r u e)))))))))
 
 module _ {M : Type 1} (𝓤 : URA M) (H : Heap 𝓤) (A : Atoms 𝓤) (W : Given 𝓤 H A) (mem : Memory → SProp 𝓤) (run : Routine → Fun 𝓤) where
-  word-walks : (C : Calls 𝓤 H) (Λ : Loops 𝓤 H) → FmC 𝓤 H (W .laws) C → Triple 𝓤 (C #mapfile·bytes·u16-at) (U16At 𝓤 H A mem run)
+  word-walks : (C : Calls 𝓤 H) (Λ : Loops 𝓤 H) → FmC 𝓤 H (W .laws) C → Triple 𝓤 (C #map_file·bytes·u16-at) (U16At 𝓤 H A mem run)
       → Walks 𝓤 H A word.ended stayed (WpFn 𝓤 H C Λ code.function) (word.clauses 𝓤 H A mem run)
   word-walks C Λ fm known = walked 𝓤 H A word.ended stayed (word.clauses 𝓤 H A mem run) (WpFn 𝓤 H C Λ code.function) (λ κs. (LL.vals (T.the-type (namedLft 1 0 tt κs)) (T′.the-laws (namedLft 1 0 tt κs)), tt)) (λ κs. (LL.tells (T.the-type (namedLft 1 0 tt κs)) (T′.the-laws (namedLft 1 0 tt κs)), tt))
       (λ κs qs bounds a g are. via 𝓤 _ (fst∗ 𝓤 _ (emp 𝓤)) (walk 𝓤 H A W mem run (κs .0) (qs .0) (a .0) C Λ fm known (LL.lawful (T.the-type (namedLft 1 0 tt κs)) (T′.the-laws (namedLft 1 0 tt κs)) 𝓤 H A W .typed (a .0) _ (are .0) .0)))
 
 word-meets : {M : Type 1} (𝓤 : URA M) (H : Heap 𝓤) (A : Atoms 𝓤) (W : Given 𝓤 H A) (mem : Memory → SProp 𝓤) (run : Routine → Fun 𝓤) (𝓣 : Tables 𝓤 H)
-    → Triple 𝓤 (𝓣 .C #mapfile·bytes·u16-at) (U16At 𝓤 H A mem run)
+    → Triple 𝓤 (𝓣 .C #map_file·bytes·u16-at) (U16At 𝓤 H A mem run)
     → Meets 𝓤 H A word.signature (WpFn 𝓤 H (𝓣 .C) (𝓣 .Λ) code.function) (word.spec 𝓤 H A mem run)
 word-meets 𝓤 H A W mem run 𝓣 known = walk-meets 𝓤 H A word.ended stayed W (goes-none 𝓤 H A W 1 B yes (λ κs x f. refl), tt) (word.clauses 𝓤 H A mem run) (WpFn 𝓤 H (𝓣 .C) (𝓣 .Λ) code.function) (WpFn-mono 𝓤 H (W .laws) 𝓣 code.function)
     (word-walks 𝓤 H A W mem run (𝓣 .C) (𝓣 .Λ) (fmOf 𝓤 H (W .laws) 𝓣) known)
@@ -157,6 +157,6 @@ pub word-spec : {M : Type 1} → stated.statement M
 unfolding code.routine tablesOf
 word-spec 𝓤 H 𝓜 𝓖 𝓡 =
     entered 𝓤 H (tripleOf 𝓤 H (𝓖 .A) word.signature (word.spec 𝓤 H (𝓖 .A) (𝓜 .mem) (𝓡 .run)))
-    (tables 𝓤 H 𝓜 𝓡 code.env .C) (tables 𝓤 H 𝓜 𝓡 code.env .Λ) #mapfile·reader·word code.function (code.unfolded 𝓤 H 𝓜 𝓡)
+    (tables 𝓤 H 𝓜 𝓡 code.env .C) (tables 𝓤 H 𝓜 𝓡 code.env .Λ) #map_file·reader·word code.function (code.unfolded 𝓤 H 𝓜 𝓡)
     (word-meets 𝓤 H (𝓖 .A) (givenOf 𝓤 H 𝓜 𝓖) (𝓜 .mem) (𝓡 .run) (tablesOf 𝓤 H 𝓜 (tables 𝓤 H 𝓜 𝓡 code.env))
-    (cited 𝓤 H (U16At 𝓤 H (𝓖 .A) (𝓜 .mem) (𝓡 .run)) 𝓜 𝓡 code.env #mapfile·bytes·u16-at u16-at-def.routine code.calls-map-file·bytes·u16-at (u16-at-thm.met 𝓤 H 𝓜 𝓖 𝓡)))
+    (cited 𝓤 H (U16At 𝓤 H (𝓖 .A) (𝓜 .mem) (𝓡 .run)) 𝓜 𝓡 code.env #map_file·bytes·u16-at u16-at-def.routine code.calls-map-file·bytes·u16-at (u16-at-thm.met 𝓤 H 𝓜 𝓖 𝓡)))

@@ -1,4 +1,4 @@
--- `mapfile::refusal::first` meets its contract. Assumes nothing.
+-- `map_file::refusal::first` meets its contract. Assumes nothing.
 use mathlib.Core.Path.{sym}
 use borrow.Author.Needs.{needs}
 use Rattle.laws_refusals.specs.Refusals.{first-one}

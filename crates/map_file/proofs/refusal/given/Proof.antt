@@ -1,4 +1,4 @@
--- `mapfile::refusal::given` meets its contract. Assumes nothing.
+-- `map_file::refusal::given` meets its contract. Assumes nothing.
 use borrow.Author.Needs.{needs}
 use Rattle.map_file.proofs.refusal.given.Statement.{statement}
 use Rattle.map_file.proofs.refusal.given.Tie as tie

@@ -1,4 +1,4 @@
--- `cut::collecting::append_new` meets its contract. Assumes nothing.
+-- `overlay_cut::collecting::append_new` meets its contract. Assumes nothing.
 use Rattle.plane.specs.Values.{ptOf}
 use Rattle.plane.proofs.Machine.{pt-back}
 use Rattle.overlay_cut.specs.Rooms.{vertexRows}

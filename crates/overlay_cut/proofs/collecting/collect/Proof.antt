@@ -1,4 +1,4 @@
--- `cut::collecting::collect` meets its contract: the corners, and then the crossings. Assumes nothing.
+-- `overlay_cut::collecting::collect` meets its contract: the corners, and then the crossings. Assumes nothing.
 use mathlib.Core.Path.{sym, _∙_, ap}
 use mathlib.Core.List.{List, []}
 use Rattle.paper.specs.Plane.{Pt}

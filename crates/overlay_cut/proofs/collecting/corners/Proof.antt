@@ -1,4 +1,4 @@
--- `cut::collecting::corners` meets its contract. Assumes nothing.
+-- `overlay_cut::collecting::corners` meets its contract. Assumes nothing.
 use mathlib.Core.Path.{sym, _∙_, ap, subst}
 use mathlib.Core.List.{[], _∷_}
 use Prim.Native.Nat.{_-_}

@@ -1,4 +1,4 @@
--- `cut::collecting::cross_pair` meets its contract, whatever the answer of `crossing`. Assumes nothing.
+-- `overlay_cut::collecting::cross_pair` meets its contract, whatever the answer of `crossing`. Assumes nothing.
 use mathlib.Core.Path.{sym, _∙_, ap, subst}
 use Rattle.seq.specs.Seq.{Option, optional}
 use Rattle.paper.specs.Plane.{Pt}

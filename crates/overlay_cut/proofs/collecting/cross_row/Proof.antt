@@ -1,4 +1,4 @@
--- `cut::collecting::cross_row` meets its contract. Assumes nothing.
+-- `overlay_cut::collecting::cross_row` meets its contract. Assumes nothing.
 use mathlib.Core.Path.{_∙_, ap}
 use Prim.Native.Nat.{_-_}
 use Rattle.seq.specs.Seq.{optional}

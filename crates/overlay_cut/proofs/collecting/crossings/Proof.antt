@@ -1,4 +1,4 @@
--- `cut::collecting::crossings` meets its contract. Assumes nothing.
+-- `overlay_cut::collecting::crossings` meets its contract. Assumes nothing.
 use Prim.Native.Nat.{_-_}
 use Rattle.paper.specs.Limits.{maps}
 use Rattle.overlay_cut.specs.Rooms.{vertexRows}

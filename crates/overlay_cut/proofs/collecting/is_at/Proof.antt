@@ -1,4 +1,4 @@
--- `cut::collecting::is_at` meets its contract: three numbers, one after the other. Assumes nothing.
+-- `overlay_cut::collecting::is_at` meets its contract: three numbers, one after the other. Assumes nothing.
 use mathlib.Core.Path.{_≡_, sym, _∙_, ap}
 use mathlib.Core.List.{List}
 use Prim.Native.Nat.{ℕ, _*_}

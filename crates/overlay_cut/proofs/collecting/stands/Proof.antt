@@ -1,4 +1,4 @@
--- `cut::collecting::stands` meets its contract: none of the rows that the loop has passed is the point. Assumes nothing.
+-- `overlay_cut::collecting::stands` meets its contract: none of the rows that the loop has passed is the point. Assumes nothing.
 use mathlib.Core.Path.{sym, _∙_}
 use Prim.Native.Nat.{_-_}
 use Rattle.plane.specs.Values.{ptOf}

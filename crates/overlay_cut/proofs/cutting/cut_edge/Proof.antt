@@ -1,4 +1,4 @@
--- `cut::cutting::cut_edge` meets its contract: what is left to put in, put into the table, gives the whole. Assumes nothing.
+-- `overlay_cut::cutting::cut_edge` meets its contract: what is left to put in, put into the table, gives the whole. Assumes nothing.
 use mathlib.Core.Path.{_≡_, refl, sym, _∙_, ap, subst}
 use Prim.Native.Nat.{_-_}
 use lib.ListN.{length}

@@ -1,4 +1,4 @@
--- `cut::cutting::cut_map` meets its contract. Assumes nothing.
+-- `overlay_cut::cutting::cut_map` meets its contract. Assumes nothing.
 use mathlib.Core.Path.{_≡_, refl, _∙_, ap}
 use Prim.Native.Nat.{_+_, _-_, _≤_}
 use lib.ListN.{length}

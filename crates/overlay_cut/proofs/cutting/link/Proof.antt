@@ -1,4 +1,4 @@
--- `cut::cutting::link` meets its contract. Assumes nothing.
+-- `overlay_cut::cutting::link` meets its contract. Assumes nothing.
 use mathlib.Core.Path.{_∙_}
 use Rattle.paper.specs.Limits.{maps}
 use Rattle.paper.specs.Pieces.{only}

@@ -1,4 +1,4 @@
--- `cut::cutting::pieces` meets its contract. Assumes nothing.
+-- `overlay_cut::cutting::pieces` meets its contract. Assumes nothing.
 use mathlib.Core.Path.{_≡_, refl, _∙_}
 use mathlib.Core.List.{[]}
 use Prim.Native.Nat.{_-_, _≤_}

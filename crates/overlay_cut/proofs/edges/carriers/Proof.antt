@@ -1,4 +1,4 @@
--- `cut::edges::carriers` meets its contract. Assumes nothing.
+-- `overlay_cut::edges::carriers` meets its contract. Assumes nothing.
 use mathlib.Core.Path.{refl, _∙_, ap}
 use Prim.Native.Nat.{_-_}
 use Rattle.plane.proofs.Machine.{seg-back}

@@ -1,4 +1,4 @@
--- `cut::edges::edge_in` meets its contract. Assumes nothing.
+-- `overlay_cut::edges::edge_in` meets its contract. Assumes nothing.
 use mathlib.Core.Path.{_∙_}
 use Prim.Native.Nat.{_+_, _<_}
 use Rattle.overlay_cut.specs.Cuts.{startOf, edgesFrom, part-carried}

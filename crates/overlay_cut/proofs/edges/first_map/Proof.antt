@@ -1,4 +1,4 @@
--- `cut::edges::first_map` meets its contract: none of the maps that the loop has passed has a source. Assumes nothing.
+-- `overlay_cut::edges::first_map` meets its contract: none of the maps that the loop has passed has a source. Assumes nothing.
 use mathlib.Core.Path.{sym, _∙_, ap}
 use Prim.Native.Nat.{_-_}
 use borrow.Author.Tests.{lt-ltb, le-ltb}
@@ -20,12 +20,12 @@ abbrev μ-loop : tie.MeasureT-loop
 returns : tie.Need-returns Inv-loop μ-loop
 returns c =
     let at : tie.At-loop Inv-loop μ-loop = search needs in
-    search-finds (at .loop .inv) (omega arith) (ap (ltb 0) (sym (c .before .source-in .ensures .0)) ∙ lt-ltb _ _ (c .if1 .taken))
+    search-finds (at .loop .inv) (omega arith) (ap (ltb 0) (sym (c .before .source-in .ensures)) ∙ lt-ltb _ _ (c .if1 .taken))
 
 loop-again : tie.Need-loop-again Inv-loop μ-loop
 loop-again c =
     let at : tie.At-loop Inv-loop μ-loop = search needs in
-    search-turns (at .loop .inv) (omega arith) (ap (ltb 0) (sym (c .before .source-in .ensures .0)) ∙ le-ltb _ _ (c .if1 .left))
+    search-turns (at .loop .inv) (omega arith) (ap (ltb 0) (sym (c .before .source-in .ensures)) ∙ le-ltb _ _ (c .if1 .left))
 
 pub first-map-spec : {M : Type 1} → statement M
 first-map-spec =

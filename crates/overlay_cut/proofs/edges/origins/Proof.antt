@@ -1,4 +1,4 @@
--- `cut::edges::origins` meets its contract. Assumes nothing.
+-- `overlay_cut::edges::origins` meets its contract. Assumes nothing.
 use mathlib.Core.Path.{refl}
 use Prim.Native.Nat.{_-_}
 use lib.ListN.{length-set}

@@ -1,4 +1,4 @@
--- `cut::edges::source_in` meets its contract. Assumes nothing.
+-- `overlay_cut::edges::source_in` meets its contract. Assumes nothing.
 use mathlib.Core.Path.{_≡_, ap}
 use Prim.Native.Nat.{ℕ, _+_, _*_}
 use lib.ListN.{getD}
@@ -7,14 +7,11 @@ use borrow.Author.Needs.{needs}
 use Rattle.overlay_cut.proofs.edges.source_in.Statement.{statement}
 use Rattle.overlay_cut.proofs.edges.source_in.Tie as tie
 
-cast-result : tie.Need-cast-result
-cast-result c = let a = c .before .args in omega (arith, c .shared-slice-known .given (4 * a .k + 2 + a .m))
-
 returns : tie.Need-returns
 returns c =
     let a = c .before .args in
     let e : 4 * a .k + 2 + a .m ≡ 4 * a .k + (2 + a .m) = omega arith in
-    (ap (λ (i : ℕ). getD (a .pieces .now) i 0) e, omega (arith, c .shared-slice-known .given (4 * a .k + 2 + a .m)))
+    ap (λ (i : ℕ). getD (a .pieces .now) i 0) e
 
 pub source-in-spec : {M : Type 1} → statement M
 source-in-spec =
@@ -25,5 +22,4 @@ source-in-spec =
     (λ c. search needs)
     (λ c. search needs)
     (λ c. search needs)
-    cast-result
     returns)

@@ -1,4 +1,4 @@
--- `cut::rows::lift_i64` meets its contract. Assumes nothing.
+-- `overlay_cut::rows::lift_i64` meets its contract. Assumes nothing.
 use Prim.Native.Nat.{_-_}
 use lib.IntN.{pos}
 use Rattle.seq.specs.Loops.Lifting.{Lifting, lift-starts, lift-turns, lift-ends}

@@ -1,4 +1,4 @@
--- `cut::rows::lift_u16` meets its contract. Assumes nothing.
+-- `overlay_cut::rows::lift_u16` meets its contract. Assumes nothing.
 use mathlib.Core.Path.{refl}
 use Rattle.seq.specs.Loops.Lifting.{Lifting, lift-starts, lift-turns, lift-ends}
 use borrow.Author.Needs.{needs}

@@ -1,4 +1,4 @@
--- `net::cutting::cut_layers` meets its contract. Assumes nothing.
+-- `overlay_graph::cutting::cut_layers` meets its contract. Assumes nothing.
 use native.Mathlib.Omega.{arith}
 use borrow.Author.Needs.{needs}
 use Rattle.seq.specs.Seq.{replicate}

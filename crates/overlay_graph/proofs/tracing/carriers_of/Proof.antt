@@ -1,4 +1,4 @@
--- `net::tracing::carriers_of` meets its contract. Assumes nothing.
+-- `overlay_graph::tracing::carriers_of` meets its contract. Assumes nothing.
 use native.Mathlib.Omega.{arith}
 use borrow.Author.Needs.{needs}
 use Rattle.overlay_graph.proofs.tracing.carriers_of.Statement.{statement}

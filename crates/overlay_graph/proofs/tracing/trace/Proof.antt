@@ -1,4 +1,4 @@
--- `net::tracing::trace` meets its contract. Assumes nothing.
+-- `overlay_graph::tracing::trace` meets its contract. Assumes nothing.
 use mathlib.Core.Path.{_≡_}
 use Prim.Native.Nat.{_*_, _≤_}
 use native.Mathlib.Omega.{arith}

@@ -1,4 +1,4 @@
--- `layers::label::label_at` meets its contract. Assumes nothing.
+-- `overlay_maps::label::label_at` meets its contract. Assumes nothing.
 use Prim.Native.Nat.{_*_}
 use native.Mathlib.Omega.{arith}
 use borrow.Author.Needs.{needs}

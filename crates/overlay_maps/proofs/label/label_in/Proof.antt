@@ -1,4 +1,4 @@
--- `layers::label::label_in` meets its contract. Assumes nothing.
+-- `overlay_maps::label::label_in` meets its contract. Assumes nothing.
 use borrow.Author.Needs.{needs}
 use Rattle.plane.specs.Values.{ptOf, vecOf}
 use Rattle.overlay_maps.specs.Label.{flatMap}

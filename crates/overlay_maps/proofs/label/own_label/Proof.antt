@@ -1,4 +1,4 @@
--- `layers::label::own_label` meets its contract. Assumes nothing.
+-- `overlay_maps::label::own_label` meets its contract. Assumes nothing.
 use mathlib.Core.Path.{_≡_, _∙_, ap}
 use Prim.Native.Nat.{_+_, _*_, _<_}
 use native.Mathlib.Omega.{arith}

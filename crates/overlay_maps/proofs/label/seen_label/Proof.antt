@@ -1,4 +1,4 @@
--- `layers::label::seen_label` meets its contract. Assumes nothing.
+-- `overlay_maps::label::seen_label` meets its contract. Assumes nothing.
 use mathlib.Core.Path.{sym, ap, _∙_}
 use native.Mathlib.Omega.{arith}
 use borrow.Author.Needs.{needs}

@@ -1,4 +1,4 @@
--- `layers::stack::lay_labels` meets its contract: the second map from where the first ends. Assumes nothing.
+-- `overlay_maps::stack::lay_labels` meets its contract: the second map from where the first ends. Assumes nothing.
 use mathlib.Core.Path.{sym, _∙_, ap}
 use borrow.Author.Needs.{needs}
 use denote.Ref.{now}

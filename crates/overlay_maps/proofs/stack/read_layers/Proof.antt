@@ -1,4 +1,4 @@
--- `layers::stack::read_layers` meets its contract. Assumes nothing.
+-- `overlay_maps::stack::read_layers` meets its contract. Assumes nothing.
 use mathlib.Core.List.{[], _∷_}
 use Prim.Native.Nat.{_+_}
 use native.Mathlib.Omega.{arith}

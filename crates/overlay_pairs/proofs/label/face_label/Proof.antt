@@ -1,4 +1,4 @@
--- `pairs::label::face_label` meets its contract: face 0, and another. Assumes nothing.
+-- `overlay_pairs::label::face_label` meets its contract: face 0, and another. Assumes nothing.
 use mathlib.Core.Path.{sym, _∙_, ap, subst}
 use Prim.Native.Nat.{ℕ, _-_}
 use native.Mathlib.Omega.{arith}

@@ -1,4 +1,4 @@
--- `pairs::label::face_labels` meets its contract: before turn f the labels of the first f faces stand. Assumes nothing.
+-- `overlay_pairs::label::face_labels` meets its contract: before turn f the labels of the first f faces stand. Assumes nothing.
 use Prim.Native.Nat.{_-_}
 use native.Mathlib.Omega.{arith}
 use borrow.Author.Needs.{needs}

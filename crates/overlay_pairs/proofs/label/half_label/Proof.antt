@@ -1,4 +1,4 @@
--- `pairs::label::half_label` meets its contract. Assumes nothing.
+-- `overlay_pairs::label::half_label` meets its contract. Assumes nothing.
 use mathlib.Core.Path.{_∙_}
 use native.Mathlib.Omega.{arith}
 use borrow.Author.Needs.{needs}

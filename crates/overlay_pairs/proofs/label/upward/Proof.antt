@@ -1,4 +1,4 @@
--- `pairs::label::upward` meets its contract. Assumes nothing.
+-- `overlay_pairs::label::upward` meets its contract. Assumes nothing.
 use mathlib.Core.Path.{sym, _∙_, ap, subst}
 use borrow.Author.Needs.{needs}
 use Rattle.paper.specs.Plane.{Seg}

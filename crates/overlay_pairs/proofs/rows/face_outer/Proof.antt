@@ -1,4 +1,4 @@
--- `pairs::rows::face_outer` meets its contract: face 0, and another. Assumes nothing.
+-- `overlay_pairs::rows::face_outer` meets its contract: face 0, and another. Assumes nothing.
 use mathlib.Core.Path.{_∙_}
 use borrow.Author.Needs.{needs}
 use Rattle.overlay_pairs.specs.Labels.{outside-outer, inner-outer}

@@ -1,4 +1,4 @@
--- `pairs::rows::face_rows` meets its contract. Assumes nothing.
+-- `overlay_pairs::rows::face_rows` meets its contract. Assumes nothing.
 use mathlib.Core.Path.{_≡_, refl, sym}
 use Prim.Native.Nat.{ℕ}
 use native.Mathlib.Omega.{arith}

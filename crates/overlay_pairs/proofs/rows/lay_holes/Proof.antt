@@ -1,4 +1,4 @@
--- `pairs::rows::lay_holes` meets its contract. Assumes nothing.
+-- `overlay_pairs::rows::lay_holes` meets its contract. Assumes nothing.
 use mathlib.Core.Path.{refl}
 use Prim.Native.Nat.{ℕ, _-_}
 use lib.ListN.{getD}

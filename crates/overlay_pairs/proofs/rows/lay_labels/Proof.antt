@@ -1,4 +1,4 @@
--- `pairs::rows::lay_labels` meets its contract. Assumes nothing.
+-- `overlay_pairs::rows::lay_labels` meets its contract. Assumes nothing.
 use mathlib.Core.Path.{_≡_, sym, _∙_}
 use Prim.Native.Nat.{ℕ, _+_}
 use native.Mathlib.Omega.{arith}

@@ -1,4 +1,4 @@
--- `pairs::rows::lay_outers` meets its contract. Assumes nothing.
+-- `overlay_pairs::rows::lay_outers` meets its contract. Assumes nothing.
 use Prim.Native.Nat.{_-_}
 use borrow.Author.Needs.{needs}
 use Rattle.seq.specs.Loops.Filling.{Filling, fill-starts, fill-turns, fill-ends}

@@ -1,4 +1,4 @@
--- `ovread::fill::first_stored` meets its contract. Assumes nothing.
+-- `ovfile_read::fill::first_stored` meets its contract. Assumes nothing.
 use mathlib.Core.Path.{ap, _∙_}
 use native.Mathlib.Omega.{arith}
 use lib.ListN.{set}

@@ -1,4 +1,4 @@
--- `ovread::fill::lay_faces` meets its contract. Assumes nothing.
+-- `ovfile_read::fill::lay_faces` meets its contract. Assumes nothing.
 use mathlib.Core.Path.{_≡_, refl, ap}
 use native.Mathlib.Omega.{arith}
 use denote.Ref.{now}

@@ -1,4 +1,4 @@
--- `ovread::fill::lay_halves` meets its contract. Assumes nothing.
+-- `ovfile_read::fill::lay_halves` meets its contract. Assumes nothing.
 use mathlib.Core.Path.{_≡_, refl, sym, ap, _∙_}
 use Prim.Native.Nat.{_<_}
 use native.Mathlib.Omega.{arith}

@@ -1,4 +1,4 @@
--- `ovread::fill::lay_vertices` meets its contract. Assumes nothing.
+-- `ovfile_read::fill::lay_vertices` meets its contract. Assumes nothing.
 use mathlib.Core.Path.{_≡_, refl, ap, _∙_}
 use native.Mathlib.Omega.{arith}
 use denote.Ref.{now}

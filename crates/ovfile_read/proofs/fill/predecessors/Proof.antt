@@ -1,4 +1,4 @@
--- `ovread::fill::predecessors` meets its contract. Assumes nothing.
+-- `ovfile_read::fill::predecessors` meets its contract. Assumes nothing.
 use mathlib.Core.Path.{_≡_, ap}
 use native.Mathlib.Omega.{arith}
 use denote.Ref.{now}

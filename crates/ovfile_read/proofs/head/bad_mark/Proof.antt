@@ -1,4 +1,4 @@
--- `ovread::head::bad_mark` meets its contract. Assumes nothing.
+-- `ovfile_read::head::bad_mark` meets its contract. Assumes nothing.
 use mathlib.Core.Path.{ap, _∙_}
 use denote.Ref.{now}
 use Rattle.seq.specs.Seq.{Bool, not, _&&_, _||_, ltb, eqb, length}

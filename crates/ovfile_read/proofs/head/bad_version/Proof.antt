@@ -1,4 +1,4 @@
--- `ovread::head::bad_version` meets its contract. Assumes nothing.
+-- `ovfile_read::head::bad_version` meets its contract. Assumes nothing.
 use Rattle.seq.specs.Seq.{_||_, ltb, eqb}
 use borrow.Author.Needs.{needs}
 use Rattle.ovfile_read.proofs.head.bad_version.Statement.{statement}

@@ -1,4 +1,4 @@
--- `ovread::head::head` meets its contract. Assumes nothing.
+-- `ovfile_read::head::head` meets its contract. Assumes nothing.
 use mathlib.Core.Path.{ap, _∙_}
 use denote.Ref.{now}
 use Rattle.seq.specs.Seq.{ℕ, not, eqb, length}

@@ -1,4 +1,4 @@
--- `ovread::reader::body` meets its contract. Assumes nothing.
+-- `ovfile_read::reader::body` meets its contract. Assumes nothing.
 use mathlib.Core.Path.{ap, _∙_}
 use denote.Ref.{now}
 use Rattle.seq.specs.Seq.{ltb}

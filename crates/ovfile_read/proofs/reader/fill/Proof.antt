@@ -1,4 +1,4 @@
--- `ovread::reader::fill` meets its contract. Assumes nothing.
+-- `ovfile_read::reader::fill` meets its contract. Assumes nothing.
 use Rattle.map_file.proofs.VerdictLaws.{before}
 use borrow.Author.Needs.{needs}
 use Rattle.ovfile_read.proofs.reader.fill.Statement.{statement}

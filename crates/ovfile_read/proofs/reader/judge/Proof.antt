@@ -1,4 +1,4 @@
--- `ovread::reader::judge` meets its contract. Assumes nothing.
+-- `ovfile_read::reader::judge` meets its contract. Assumes nothing.
 use mathlib.Core.Path.{_≡_, sym, ap, _∙_}
 use denote.Ref.{now}
 use Rattle.seq.specs.Seq.{none, length}

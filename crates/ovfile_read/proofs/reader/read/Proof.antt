@@ -1,4 +1,4 @@
--- `ovread::reader::read` meets its contract. Assumes nothing.
+-- `ovfile_read::reader::read` meets its contract. Assumes nothing.
 use mathlib.Core.Path.{sym, ap, _∙_}
 use denote.Ref.{now}
 use Rattle.seq.specs.Seq.{length}

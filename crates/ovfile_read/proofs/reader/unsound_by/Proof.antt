@@ -1,4 +1,4 @@
--- `ovread::reader::unsound_by` meets its contract. Assumes nothing.
+-- `ovfile_read::reader::unsound_by` meets its contract. Assumes nothing.
 use mathlib.Core.Path.{_≡_, ap, _∙_}
 use native.Mathlib.Omega.{arith}
 use denote.Ref.{now}

@@ -1,4 +1,4 @@
--- `ovread::stored::counts` meets its contract. Assumes nothing.
+-- `ovfile_read::stored::counts` meets its contract. Assumes nothing.
 use borrow.Author.Needs.{needs}
 use Rattle.ovfile_read.proofs.stored.counts.Statement.{statement}
 use Rattle.ovfile_read.proofs.stored.counts.Tie as tie

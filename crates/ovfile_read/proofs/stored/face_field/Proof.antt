@@ -1,4 +1,4 @@
--- `ovread::stored::face_field` meets its contract. Assumes nothing.
+-- `ovfile_read::stored::face_field` meets its contract. Assumes nothing.
 use mathlib.Core.Path.{ap, _∙_}
 use denote.Ref.{now}
 use Rattle.seq.specs.Seq.{ℕ, _+_, _*_}

@@ -1,4 +1,4 @@
--- `ovwrite::bytes::put_edge` meets its contract. Assumes nothing.
+-- `ovfile_write::bytes::put_edge` meets its contract. Assumes nothing.
 use mathlib.Core.Path.{_∙_}
 use denote.Ref.{now}
 use Rattle.seq.specs.Seq.{[], _∷_, sets, gather}

@@ -1,4 +1,4 @@
--- `ovwrite::bytes::put_edges` meets its contract. Assumes nothing.
+-- `ovfile_write::bytes::put_edges` meets its contract. Assumes nothing.
 use mathlib.Core.Path.{ap, _∙_}
 use denote.Ref.{now}
 use Rattle.seq.specs.Seq.{ℕ, _-_, sets, rows}

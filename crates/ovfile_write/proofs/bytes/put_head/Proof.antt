@@ -1,4 +1,4 @@
--- `ovwrite::bytes::put_head` meets its contract. Assumes nothing.
+-- `ovfile_write::bytes::put_head` meets its contract. Assumes nothing.
 use mathlib.Core.Path.{refl}
 use denote.Ref.{now}
 use Rattle.seq.specs.Seq.{gather}

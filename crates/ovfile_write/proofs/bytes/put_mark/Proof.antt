@@ -1,4 +1,4 @@
--- `ovwrite::bytes::put_mark` meets its contract. Assumes nothing.
+-- `ovfile_write::bytes::put_mark` meets its contract. Assumes nothing.
 use mathlib.Core.Path.{refl}
 use lib.ListN.{length-set}
 use native.Mathlib.Omega.{arith}

@@ -1,4 +1,4 @@
--- `ovwrite::bytes::put_vertex` meets its contract. Assumes nothing.
+-- `ovfile_write::bytes::put_vertex` meets its contract. Assumes nothing.
 use mathlib.Core.Path.{ap, _∙_}
 use denote.Ref.{now}
 use mir.Syntax.{w64}

@@ -1,4 +1,4 @@
--- `ovwrite::bytes::put_vertices` meets its contract. Assumes nothing.
+-- `ovfile_write::bytes::put_vertices` meets its contract. Assumes nothing.
 use mathlib.Core.Path.{ap, _∙_}
 use denote.Ref.{now}
 use Rattle.seq.specs.Seq.{[], List, ℕ, ℤ, _-_, sets}

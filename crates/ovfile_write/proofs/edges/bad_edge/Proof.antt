@@ -1,4 +1,4 @@
--- `ovwrite::edges::bad_edge` meets its contract. Assumes nothing.
+-- `ovfile_write::edges::bad_edge` meets its contract. Assumes nothing.
 use Rattle.seq.specs.Seq.{not, _||_}
 use borrow.Author.Needs.{needs}
 use Rattle.ovfile_write.proofs.edges.bad_edge.Statement.{statement}

@@ -1,4 +1,4 @@
--- `ovwrite::edges::bad_half` meets its contract. Assumes nothing.
+-- `ovfile_write::edges::bad_half` meets its contract. Assumes nothing.
 use mathlib.Core.Path.{ap, _∙_}
 use denote.Ref.{now}
 use Rattle.seq.specs.Seq.{not, _&&_, ℕ, _*_, ltb, eqb}

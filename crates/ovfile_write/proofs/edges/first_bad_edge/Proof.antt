@@ -1,4 +1,4 @@
--- `ovwrite::edges::first_bad_edge` meets its contract. Assumes nothing.
+-- `ovfile_write::edges::first_bad_edge` meets its contract. Assumes nothing.
 use denote.Ref.{now}
 use Rattle.ovfile.proofs.SoundLaws.{followed-by}
 use native.Mathlib.Omega.{arith}

@@ -1,4 +1,4 @@
--- `ovwrite::edges::first_bad_edge_by` meets its contract: nothing below the counter has been found. Assumes nothing.
+-- `ovfile_write::edges::first_bad_edge_by` meets its contract: nothing below the counter has been found. Assumes nothing.
 use mathlib.Core.Path.{sym, _∙_}
 use Rattle.seq.specs.Seq.{Bool, List, ℕ, _-_}
 use Rattle.paper.specs.Limits.{maps}

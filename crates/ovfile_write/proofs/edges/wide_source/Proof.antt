@@ -1,4 +1,4 @@
--- `ovwrite::edges::wide_source` meets its contract. Assumes nothing.
+-- `ovfile_write::edges::wide_source` meets its contract. Assumes nothing.
 use mathlib.Core.Path.{_∙_}
 use denote.Ref.{now}
 use Rattle.seq.specs.Seq.{_||_, leb, cell}

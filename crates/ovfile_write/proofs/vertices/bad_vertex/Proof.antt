@@ -1,4 +1,4 @@
--- `ovwrite::vertices::bad_vertex` meets its contract. Assumes nothing.
+-- `ovfile_write::vertices::bad_vertex` meets its contract. Assumes nothing.
 use mathlib.Core.Path.{ap, _∙_}
 use mir.Syntax.{w64}
 use mir.ValLaws.{toZ-ofZ}

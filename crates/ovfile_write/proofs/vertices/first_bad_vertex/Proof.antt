@@ -1,4 +1,4 @@
--- `ovwrite::vertices::first_bad_vertex` meets its contract. Assumes nothing.
+-- `ovfile_write::vertices::first_bad_vertex` meets its contract. Assumes nothing.
 use mathlib.Core.Path.{_∙_}
 use denote.Ref.{now}
 use Rattle.tables.specs.Values.{countsOf}

@@ -1,4 +1,4 @@
--- `ovwrite::vertices::first_bad_vertex_by` meets its contract: nothing below the counter has been found. Assumes nothing.
+-- `ovfile_write::vertices::first_bad_vertex_by` meets its contract: nothing below the counter has been found. Assumes nothing.
 use mathlib.Core.Path.{sym, _∙_}
 use Rattle.seq.specs.Seq.{_-_}
 use Rattle.seq.specs.Loops.Searching.{Searching, search-starts, search-turns, search-finds, search-ends}

@@ -1,4 +1,4 @@
--- `ovwrite::vertices::fits_signed` meets its contract. Assumes nothing.
+-- `ovfile_write::vertices::fits_signed` meets its contract. Assumes nothing.
 use mathlib.Core.Path.{ap, _∙_}
 use lib.Signed.{ltZ-yes, ltZ-no}
 use mir.Syntax.{w64}

@@ -1,4 +1,4 @@
--- `ovwrite::vertices::least_starts` meets its contract. Assumes nothing.
+-- `ovfile_write::vertices::least_starts` meets its contract. Assumes nothing.
 use denote.Ref.{now}
 use lib.ListN.{getD-replicate}
 use Rattle.paper.specs.Limits.{absent}

@@ -1,4 +1,4 @@
--- `ovwrite::writer::body` meets its contract. Assumes nothing.
+-- `ovfile_write::writer::body` meets its contract. Assumes nothing.
 use mathlib.Core.Path.{refl, ap, _∙_}
 use denote.Ref.{now}
 use Rattle.seq.specs.Seq.{[], ℕ, ltb}

@@ -1,4 +1,4 @@
--- `ovwrite::writer::judge` meets its contract. Assumes nothing.
+-- `ovfile_write::writer::judge` meets its contract. Assumes nothing.
 use mathlib.Core.Path.{_≡_, sym, ap, _∙_}
 use denote.Ref.{now}
 use Rattle.seq.specs.Seq.{[], _∷_, length}

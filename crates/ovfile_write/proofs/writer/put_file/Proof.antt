@@ -1,4 +1,4 @@
--- `ovwrite::writer::put_file` meets its contract. Assumes nothing.
+-- `ovfile_write::writer::put_file` meets its contract. Assumes nothing.
 use denote.Ref.{now}
 use Rattle.tables.specs.Values.{countsOf, tablesBy}
 use Rattle.ovfile_write.proofs.PutLaws.{file-put}

@@ -1,4 +1,4 @@
--- `ovwrite::writer::write` meets its contract. Assumes nothing.
+-- `ovfile_write::writer::write` meets its contract. Assumes nothing.
 use mathlib.Core.Path.{sym, ap, _∙_}
 use denote.Ref.{now}
 use Rattle.seq.specs.Seq.{length}
