@@ -3,11 +3,11 @@ use mathlib.Core.Path.{_≡_, sym, _∙_, ap}
 use Prim.Native.Nat.{_<_}
 use native.Mathlib.Omega.{arith}
 use lib.Signed.{_<ℤ_}
-use Rattle.seq.specs.Seq.{Bool, cond, not, _&&_, List, Option, none, some, Option·map, ℕ, _+_, _*_, ℤ, pos, negℤ, _-ℤ_, _*ℤ_, best}
+use Rattle.seq.specs.Seq.{Bool, cond, not, _&&_, List, Option, none, some, Option·map, ℕ, _+_, _*_, ℤ, pos, negℤ, _-ℤ_, _*ℤ_, best, getD, orZero}
 use Rattle.seq.specs.Best.{best-has}
 use Rattle.seq.specs.BestLoop.{best-ext}
 use Rattle.paper.specs.Plane.{Pt, Vec, Seg, vec, cross, rises, below, leftBy}
-use Rattle.paper.specs.Graph.{atHeight, nearer, eastSide, west}
+use Rattle.paper.specs.Graph.{Graph, atHeight, nearer, eastSide, west}
 use Rattle.laws_graph.specs.West.{candidate}
 use Rattle.laws_graph.specs.Across.{height-between}
 use Rattle.plane.specs.Bounds.{Near}
@@ -53,6 +53,10 @@ nearerAt cs p k r = nearerOf (carrierAt cs k) (carrierAt cs r) p
 
 abbrev pub eastAt : List ℤ → List ℕ → ℕ → ℕ
 eastAt ps os k = cond (upAt ps os (2 * k)) (2 * k + 1) (2 * k)
+
+-- the label of what is seen from p along d, of the labels of half-edges; "or 0 where the outside is seen"
+abbrev pub seenLabel : Graph → List ℕ → Pt → Vec → ℕ
+seenLabel g ls p d = orZero (λ x. getD ls x 0) (west g p d)
 
 -- ── the definition's ──
 

@@ -15,5 +15,6 @@ pub use heading::twin;
 pub use look::West;
 pub use look::east_side;
 pub use look::seen_half;
+pub use look::seen_label;
 pub use places::fill;
 pub use places::first_places;

@@ -11,6 +11,7 @@ use plane::left_by;
 use plane::rises;
 ghost use mathlib.Core.Path.{_≡_};
 ghost use Prim.Native.Nat.{_+_, _*_, _≤_, _<_};
+ghost use lib.ListN.{length};
 ghost use Rattle.seq.specs.Seq.{best};
 ghost use Rattle.paper.specs.Limits.{absent};
 ghost use Rattle.paper.specs.Graph.{twin, nearer, west};
@@ -19,7 +20,7 @@ ghost use Rattle.plane.specs.Values.{ptOf, vecOf, segOf};
 ghost use Rattle.plane.specs.Bounds.{Direction, Near, Edge};
 ghost use Rattle.graph.specs.Flat.{flatGraph, Flat, Starts, Carried};
 ghost use Rattle.graph.specs.Pick.{better};
-ghost use Rattle.graph.specs.Look.{seenOf, westOf, heightAt, westwardOf, nearerOf, candidateAt, nearerAt, eastAt};
+ghost use Rattle.graph.specs.Look.{seenOf, westOf, heightAt, westwardOf, nearerOf, candidateAt, nearerAt, eastAt, seenLabel};
 
 // The nearest edge, or no candidate.
 pub enum Seen {
@@ -154,5 +155,26 @@ pub fn seen_half(
     match seen {
         Seen::Nothing => West::Outside,
         Seen::Edge(k) => West::Half(east_side(points, origins, k as usize) as u16),
+    }
+}
+
+// The label of what is seen from p along d, of labels by half-edge; 0 where the outside is seen.
+pub fn seen_label(
+    points: &[i64],
+    origins: &[u16],
+    carriers: &[i64],
+    labels: &[u16],
+    n: usize,
+    e: usize,
+    p: Point,
+    d: Vector,
+) -> u16
+    requires { ⌜ Flat (now points) (now origins) (now carriers) n e ⌝ ∗ ⌜ 2 * e ≤ absent ⌝ ∗ ⌜ 2 * e ≤ length (now labels) ⌝ ∗ ⌜ Near (ptOf p) ⌝ ∗ ⌜ Direction (vecOf d) ⌝ }
+    ensures { λ r. ⌜ r ≡ seenLabel (flatGraph (now (points .entry)) (now (origins .entry)) (now (carriers .entry)) n e) (now (labels .entry)) (ptOf p) (vecOf d) ⌝ }
+{
+    let seen = seen_half(points, origins, carriers, n, e, p, d);
+    match seen {
+        West::Outside => 0,
+        West::Half(x) => labels[x as usize],
     }
 }

@@ -7,6 +7,7 @@ use Rattle.paper.specs.Graph.{west}
 use Rattle.graph.specs.Flat.{originAt, startAt, flatGraph, Flat, Starts, Numbers}
 use Rattle.graph.specs.Heading.{vecAt}
 use Rattle.graph.specs.Follow.{Headings}
+use Rattle.graph.specs.Look.{seenLabel}
 
 -- no element of a list has p
 abbrev pub noneOf : (ℕ → Bool) → List ℕ → Bool
@@ -34,12 +35,12 @@ abbrev pub makesHoleAt : List ℤ → List ℕ → List ℤ → List ℕ → ℕ
 makesHoleAt ps os hs nx m h = not (someBelow (greaterAt os hs h) m) && smallestAt ps os nx m h
 
 -- the label of what is seen strictly west of where h starts, "or 0 where the outside is seen"
-abbrev pub seenLabel : List ℤ → List ℕ → List ℤ → List ℕ → ℕ → ℕ → ℕ → ℕ
-seenLabel ps os cs ls n e h = orZero (λ x. getD ls x 0) (west (flatGraph ps os cs n e) (startAt ps os h) nowhere)
+abbrev pub seenWest : List ℤ → List ℕ → List ℤ → List ℕ → ℕ → ℕ → ℕ → ℕ
+seenWest ps os cs ls n e h = seenLabel (flatGraph ps os cs n e) ls (startAt ps os h) nowhere
 
 -- 10 "Labels disagree at a half-edge"
 abbrev pub disagreesAt : List ℤ → List ℕ → List ℤ → List ℕ → List ℤ → List ℕ → ℕ → ℕ → ℕ → Bool
-disagreesAt ps os cs ls hs nx n e h = unlike ls nx h || (makesHoleAt ps os hs nx (2 * e) h && not (eqb (getD ls h 0) (seenLabel ps os cs ls n e h)))
+disagreesAt ps os cs ls hs nx n e h = unlike ls nx h || (makesHoleAt ps os hs nx (2 * e) h && not (eqb (getD ls h 0) (seenWest ps os cs ls n e h)))
 
 -- ── the tables ──
 

@@ -1,7 +1,6 @@
 // Rule 10: half-edges at which labels disagree, a search for the least, over the tables of a map with its headings and followers.
-use graph::West;
 use graph::heading_at;
-use graph::seen_half;
+use graph::seen_label;
 use graph::start;
 use plane::Vector;
 use plane::before;
@@ -13,7 +12,7 @@ ghost use Rattle.seq.specs.Seq.{least};
 ghost use Rattle.paper.specs.Limits.{absent};
 ghost use Rattle.graph.specs.Flat.{Starts, Flat};
 ghost use Rattle.graph.specs.Follow.{Headed, Headings};
-ghost use Rattle.map_check.specs.Labels.{greaterAt, earlierAt, smallestAt, makesHoleAt, seenLabel, disagreesAt, Walked, Linked};
+ghost use Rattle.map_check.specs.Labels.{greaterAt, earlierAt, smallestAt, makesHoleAt, seenWest, disagreesAt, Walked, Linked};
 
 // Whether half-edge x leaves from where h does, with a greater angle.
 fn greater(origins: &[u16], headings: &[i64], h: usize, x: usize) -> bool
@@ -88,7 +87,7 @@ fn makes_hole(
 }
 
 // The label of the half-edge seen strictly west of where h starts, or 0 where the outside is seen.
-fn seen_label(
+fn seen_west(
     points: &[i64],
     origins: &[u16],
     carriers: &[i64],
@@ -98,14 +97,19 @@ fn seen_label(
     h: usize,
 ) -> u16
     requires { ⌜ Flat (now points) (now origins) (now carriers) n e ⌝ ∗ ⌜ 2 * e ≤ absent ⌝ ∗ ⌜ 2 * e ≤ length (now labels) ⌝ ∗ ⌜ h < 2 * e ⌝ }
-    ensures { λ r. ⌜ r ≡ seenLabel (now (points .entry)) (now (origins .entry)) (now (carriers .entry)) (now (labels .entry)) n e h ⌝ }
+    ensures { λ r. ⌜ r ≡ seenWest (now (points .entry)) (now (origins .entry)) (now (carriers .entry)) (now (labels .entry)) n e h ⌝ }
 {
     let p = start(points, origins, h);
-    let seen = seen_half(points, origins, carriers, n, e, p, Vector { x: 0, y: 0 });
-    match seen {
-        West::Outside => 0,
-        West::Half(k) => labels[k as usize],
-    }
+    seen_label(
+        points,
+        origins,
+        carriers,
+        labels,
+        n,
+        e,
+        p,
+        Vector { x: 0, y: 0 },
+    )
 }
 
 // Whether labels disagree at half-edge h.
@@ -129,7 +133,7 @@ fn disagrees(
         return true;
     }
     if makes_hole(points, origins, headings, next, 2 * e, h) {
-        label != seen_label(points, origins, carriers, labels, n, e, h)
+        label != seen_west(points, origins, carriers, labels, n, e, h)
     } else {
         false
     }

@@ -1,8 +1,7 @@
 // "The label of a half-edge in a map: if it lies along an edge of that map, the label of that edge on that side; otherwise the label of what is seen looking
 // west in that map from its lower end along it."
-use graph::West;
 use graph::east_side;
-use graph::seen_half;
+use graph::seen_label;
 use graph::twin;
 use limits::CARRIER_WIDTH;
 use limits::POINT_WIDTH;
@@ -15,7 +14,7 @@ ghost use Rattle.paper.specs.Limits.{absent};
 ghost use Rattle.plane.specs.Values.{ptOf, vecOf};
 ghost use Rattle.plane.specs.Bounds.{Direction, Near};
 ghost use Rattle.graph.specs.Flat.{Flat};
-ghost use Rattle.overlay_maps.specs.Label.{flatMap, ownLabel, seenLabel, labelBy};
+ghost use Rattle.overlay_maps.specs.Label.{flatMap, ownLabel, labelBy};
 ghost use Rattle.overlay_maps.specs.Standing.{Stands, standing};
 
 // The label of edge k of the map at the left of half-edge h that lies along it, where 2k' goes up and 2k' + 1 down.
@@ -37,27 +36,6 @@ fn own_label(
         labels[twin(down)]
     } else {
         labels[down]
-    }
-}
-
-// The label of what is seen looking west in the map from p along d; 0 where the outside is seen.
-fn seen_label(
-    points: &[i64],
-    origins: &[u16],
-    carriers: &[i64],
-    labels: &[u16],
-    n: usize,
-    e: usize,
-    p: Point,
-    d: Vector,
-) -> u16
-    requires { ⌜ Flat (now points) (now origins) (now carriers) n e ⌝ ∗ ⌜ 2 * e ≤ absent ⌝ ∗ ⌜ 2 * e ≤ length (now labels) ⌝ ∗ ⌜ Near (ptOf p) ⌝ ∗ ⌜ Direction (vecOf d) ⌝ }
-    ensures { λ r. ⌜ r ≡ seenLabel (flatMap (now (points .entry)) (now (origins .entry)) (now (carriers .entry)) (now (labels .entry)) n e) (ptOf p) (vecOf d) ⌝ }
-{
-    let seen = seen_half(points, origins, carriers, n, e, p, d);
-    match seen {
-        West::Outside => 0,
-        West::Half(x) => labels[x as usize],
     }
 }
 

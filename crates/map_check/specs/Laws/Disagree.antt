@@ -15,7 +15,7 @@ use Rattle.graph.specs.Flat.{flatGraph, Flat}
 use Rattle.graph.specs.Laws.Decode.{flat-halves, flat-origin, flat-start}
 use Rattle.seq.specs.Filled.{Holds}
 use Rattle.graph.specs.Follow.{Heads}
-use Rattle.map_check.specs.Labels.{noneOf, greaterAt, earlierAt, makesHoleAt, seenLabel, disagreesAt}
+use Rattle.map_check.specs.Labels.{noneOf, greaterAt, earlierAt, makesHoleAt, seenWest, disagreesAt}
 use Rattle.map_check.specs.Laws.Makers.{none-of-ext, greater, earlier, after, maker-is, makes-smallest}
 
 -- two lists of followers that agree below m have the same walks there
@@ -73,17 +73,17 @@ module _ (ps : List ℤ) (os : List ℕ) (cs : List ℤ) (n e : ℕ) (F : Flat p
         abbrev map : Map
         map = record { graph = g; labels = ls }
 
-        seen-is : makesHole g (followers g) h ≡ true → seenLabel ps os cs ls n e h ≡ orZero (label map) (holeLook g (followers g) h)
+        seen-is : makesHole g (followers g) h ≡ true → seenWest ps os cs ls n e h ≡ orZero (label map) (holeLook g (followers g) h)
         seen-is t =
             ap (λ (p : Pt). orZero (label map) (west g p nowhere))
             (sym (flat-start ps os cs n e (F .origins) h l) ∙ ap (point g) (sym (makes-smallest g P h (half l) t)))
 
         look-by : (c : Bool) → makesHole g (followers g) h ≡ c →
-            (c && not (eqb (getD ls h 0) (seenLabel ps os cs ls n e h))) ≡ (c && not (eqb (label map h) (orZero (label map) (holeLook g (followers g) h))))
+            (c && not (eqb (getD ls h 0) (seenWest ps os cs ls n e h))) ≡ (c && not (eqb (label map h) (orZero (label map) (holeLook g (followers g) h))))
         look-by true t = ap (λ (x : ℕ). not (eqb (getD ls h 0) x)) (seen-is t)
         look-by false t = refl
 
         pub flat-disagrees : disagreesAt ps os cs ls hs nx n e h ≡ disagrees map (followers g) h
         flat-disagrees =
-            (λ i. not (eqb (getD ls h 0) (getD ls (next-is h l i) 0)) || (makes-is i && not (eqb (getD ls h 0) (seenLabel ps os cs ls n e h))))
+            (λ i. not (eqb (getD ls h 0) (getD ls (next-is h l i) 0)) || (makes-is i && not (eqb (getD ls h 0) (seenWest ps os cs ls n e h))))
             ∙ ap (λ (b : Bool). not (eqb (getD ls h 0) (getD ls (getD (followers g) h 0) 0)) || b) (look-by (makesHole g (followers g) h) refl)

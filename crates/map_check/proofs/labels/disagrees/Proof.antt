@@ -5,7 +5,7 @@ use borrow.Author.Tests.{eq-eqb, ne-eqb}
 use denote.Ref.{now}
 use Rattle.seq.specs.Seq.{Bool, true, false, not, _&&_, _||_, ℕ, _*_, eqb, getD}
 use Rattle.graph.specs.Heading.{flat-starts}
-use Rattle.map_check.specs.Labels.{makesHoleAt, seenLabel}
+use Rattle.map_check.specs.Labels.{makesHoleAt, seenWest}
 use borrow.Author.Needs.{needs}
 use Rattle.map_check.proofs.labels.disagrees.Statement.{statement}
 use Rattle.map_check.proofs.labels.disagrees.Tie as tie
@@ -44,7 +44,7 @@ returns c =
     let ls = a .labels .now in
     let nx = a .next .now in
     let made = makesHoleAt ps os (a .headings .now) nx (2 * a .e) (a .h) in
-    let seen = eqb (getD ls (a .h) 0) (seenLabel ps os (a .carriers .now) ls (a .n) (a .e) (a .h)) in
+    let seen = eqb (getD ls (a .h) 0) (seenWest ps os (a .carriers .now) ls (a .n) (a .e) (a .h)) in
     by-follower (getD ls (a .h) 0) (getD ls (getD nx (a .h) 0) 0) (made && not seen) (c .if1 .taken)
 
 makes-hole-requires : tie.Need-makes-hole-requires
@@ -64,8 +64,8 @@ returns-2 c =
     let ls = a .labels .now in
     let nx = a .next .now in
     let made = makesHoleAt ps os (a .headings .now) nx (2 * a .e) (a .h) in
-    let seen = eqb (getD ls (a .h) 0) (seenLabel ps os (a .carriers .now) ls (a .n) (a .e) (a .h)) in
-    ap (λ (x : ℕ). not (eqb (getD ls (a .h) 0) x)) (c .seen-label .ensures)
+    let seen = eqb (getD ls (a .h) 0) (seenWest ps os (a .carriers .now) ls (a .n) (a .e) (a .h)) in
+    ap (λ (x : ℕ). not (eqb (getD ls (a .h) 0) x)) (c .seen-west .ensures)
     ∙ by-look (getD ls (a .h) 0) (getD ls (getD nx (a .h) 0) 0) made (not seen) (else1 .if1 .left) (sym (c .before .before .makes-hole .ensures) ∙ c .before .if2 .taken)
 
 returns-3 : tie.Need-returns-3
@@ -77,7 +77,7 @@ returns-3 c =
     let ls = a .labels .now in
     let nx = a .next .now in
     let made = makesHoleAt ps os (a .headings .now) nx (2 * a .e) (a .h) in
-    let seen = eqb (getD ls (a .h) 0) (seenLabel ps os (a .carriers .now) ls (a .n) (a .e) (a .h)) in
+    let seen = eqb (getD ls (a .h) 0) (seenWest ps os (a .carriers .now) ls (a .n) (a .e) (a .h)) in
     no-look (getD ls (a .h) 0) (getD ls (getD nx (a .h) 0) 0) made (not seen) (c .before .before .if1 .left) (sym (c .before .makes-hole .ensures) ∙ c .if2 .left)
 
 pub disagrees-spec : {M : Type 1} → statement M

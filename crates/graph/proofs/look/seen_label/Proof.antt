@@ -1,15 +1,15 @@
--- `overlay_maps::label::seen_label` meets its contract. Assumes nothing.
+-- `graph::look::seen_label` meets its contract. Assumes nothing.
 use mathlib.Core.Path.{sym, ap, _∙_}
 use native.Mathlib.Omega.{arith}
 use borrow.Author.Needs.{needs}
 use Rattle.seq.specs.Seq.{ℕ, getD, orZero}
 use Rattle.plane.specs.Values.{ptOf, vecOf}
 use Rattle.graph.specs.Flat.{flatGraph}
 use Rattle.graph.specs.Laws.Decode.{flat-halves}
 use Rattle.graph.specs.Look.{westOf}
 use Rattle.laws_graph.specs.West.{look-below}
-use Rattle.overlay_maps.proofs.label.seen_label.Statement.{statement}
-use Rattle.overlay_maps.proofs.label.seen_label.Tie as tie
+use Rattle.graph.proofs.look.seen_label.Statement.{statement}
+use Rattle.graph.proofs.look.seen_label.Tie as tie
 
 shared-slice-read-result : tie.Need-shared-slice-read-result
 shared-slice-read-result c =
