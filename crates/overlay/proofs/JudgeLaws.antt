@@ -20,10 +20,8 @@ use Rattle.paper.specs.Overlay.{mapFaults, overlay}
 use Rattle.laws_refusals.specs.Refusals.{nothing, given-none, none-given, first-none, first-some, first-one}
 use Rattle.graph.specs.Flat.{pointAt}
 use Rattle.overlay_cut.specs.PieceRows.{pieceAt}
-use Rattle.overlay_graph.specs.Cut.{CutOf}
-use Rattle.overlay_graph.specs.Traced.{TracedOf}
-use Rattle.overlay_graph.specs.declared.cutting.Cut.{Cut}
-use Rattle.overlay_graph.specs.declared.tracing.Traced.{Traced}
+use Rattle.overlay_graph.specs.Cut.{Cut, CutOf}
+use Rattle.overlay_graph.specs.Traced.{Traced, TracedOf}
 use Rattle.overlay.specs.Judged.{overlaid, doneWith, refusedWith, Within}
 
 -- ── the maps ──
@@ -143,7 +141,7 @@ module _ (ms : List Map) (c : Cut) (C : CutOf ms c) where
           λ i. firstOf (p i ∷ q i ∷ [])
 
       faces-are : countsOf o .faces ≡ t .count + 1
-      faces-are = ap suc (sym (T .count-is)) ∙ sym (add-one (t .count))
+      faces-are = ap suc (sym (T .faces-by .count-is)) ∙ sym (add-one (t .count))
 
       faces-last : firstOf (roomFaults room (countsOf o)) ≡ given 11 3 (ltb (room .faces) (t .count + 1))
       faces-last =

@@ -17,10 +17,8 @@ use Rattle.graph.specs.Laws.Decode.{flat-points, flat-edges, flat-point, flat-o
 use Rattle.overlay_cut.specs.PieceRows.{minusOne, pieceAt, piecesIn}
 use Rattle.tables.specs.Rows.{vertexOf, halfOf, sourceOf, faceBy}
 use Rattle.tables.specs.declared.face_rows.FaceRows.{FaceRows}
-use Rattle.overlay_graph.specs.Cut.{CutOf}
-use Rattle.overlay_graph.specs.Traced.{TracedOf}
-use Rattle.overlay_graph.specs.declared.cutting.Cut.{Cut}
-use Rattle.overlay_graph.specs.declared.tracing.Traced.{Traced}
+use Rattle.overlay_graph.specs.Cut.{Cut, CutOf}
+use Rattle.overlay_graph.specs.Traced.{Traced, TracedOf}
 use Rattle.overlay.specs.Stored.{vertexRows, halfRows, sourceRows, stored, storedCounts}
 
 stored-source : (n : ℕ) → plusOne (minusOne n) ≡ n
@@ -51,36 +49,36 @@ module _ (ms : List Map) (c : Cut) (C : CutOf ms c) (few : c .vertices ≤ overl
     -- ── the counts ──
 
     vertices-count : c .vertices ≡ length (net o .points)
-    vertices-count = sym (flat-points (c .points) (t .origins) (t .carriers) (c .vertices) (c .edges)) ∙ ap (λ (g : Graph). length (g .points)) (T .net-is)
+    vertices-count = sym (flat-points (c .points) (t .origins) (t .carriers) (c .vertices) (c .edges)) ∙ ap (λ (g : Graph). length (g .points)) (T .net-by .net-is)
 
     edges-count : c .edges ≡ edgeCount (net o)
-    edges-count = sym (flat-edges (c .points) (t .origins) (t .carriers) (c .vertices) (c .edges)) ∙ ap edgeCount (T .net-is)
+    edges-count = sym (flat-edges (c .points) (t .origins) (t .carriers) (c .vertices) (c .edges)) ∙ ap edgeCount (T .net-by .net-is)
 
     -- ── rows ──
 
     point-is : (v : ℕ) → v < c .vertices → pointAt (c .points) v ≡ point (net o) v
-    point-is v l = sym (flat-point (c .points) (t .origins) (t .carriers) (c .vertices) (c .edges) v l) ∙ ap (λ (g : Graph). point g v) (T .net-is)
+    point-is v l = sym (flat-point (c .points) (t .origins) (t .carriers) (c .vertices) (c .edges) v l) ∙ ap (λ (g : Graph). point g v) (T .net-by .net-is)
 
     vertex-row : (v : ℕ) → v < c .vertices → vertexOf (vertexRows c t) v ≡ vertexRow (net o) v
     vertex-row v l = λ i. point-is v l i .X ∷ point-is v l i .Y ∷ point-is v l i .D ∷ pos (T .least-is v l i) ∷ []
 
     origin-is : (h : ℕ) → h < 2 * c .edges → getD (t .origins) h 0 ≡ origin (net o) h
-    origin-is h l = sym (flat-origin (c .points) (t .origins) (t .carriers) (c .vertices) (c .edges) h l) ∙ ap (λ (g : Graph). origin g h) (T .net-is)
+    origin-is h l = sym (flat-origin (c .points) (t .origins) (t .carriers) (c .vertices) (c .edges) h l) ∙ ap (λ (g : Graph). origin g h) (T .net-by .net-is)
 
     cell-is : (xs ys : List ℕ) (n h : ℕ) → xs ≡ padded 0 n ys → getD xs h 0 ≡ getD ys h 0
     cell-is xs ys n h e = ap (λ (l : List ℕ). getD l h 0) e ∙ padded-cell 0 n ys h
 
     half-row : (h : ℕ) → h < 2 * c .edges → halfOf (halfRows c t) h ≡ halfRow o h
     half-row h l =
-        let next = cell-is (t .next) (o .walks .next) _ h (T .next-is) in
-        let face = cell-is (t .face) (o .face) _ h (T .face-is) in
+        let next = cell-is (t .next) (o .walks .next) _ h (T .faces-by .next-is) in
+        let face = cell-is (t .face) (o .face) _ h (T .faces-by .face-is) in
         λ i. origin-is h l i ∷ twin h ∷ next i ∷ T .prev-is h l i ∷ face i ∷ []
 
     -- ── the tables ──
 
     module _ (f : FaceRows) (count : f .count ≡ t .count + 1) (faces : rows (faceBy f) (f .count) ≡ rows (faceRow ms o) (t .count + 1)) where
       faces-count : t .count + 1 ≡ suc (length (o .outers))
-      faces-count = add-one (t .count) ∙ ap suc (T .count-is)
+      faces-count = add-one (t .count) ∙ ap suc (T .faces-by .count-is)
 
       pub counts-are : storedCounts c f ≡ countsOf o
       counts-are = λ i. record { vertices = vertices-count i; edges = edges-count i; faces = (count ∙ faces-count) i }

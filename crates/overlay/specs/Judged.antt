@@ -7,7 +7,7 @@ use Rattle.paper.specs.Map.{Map}
 use Rattle.paper.specs.Faces.{overlayOf}
 use Rattle.paper.specs.Tables.{Counts, countsOf, Tables, tablesOf}
 use Rattle.paper.specs.Lent.{Lengths, roomIn, roomFaults, paddedTables, zeroTables, outcome, Outcome}
-use Rattle.overlay_graph.specs.declared.cutting.Cut.{Cut}
+use Rattle.overlay_graph.specs.Cut.{Cut}
 
 -- of the maps ms, in tables of these lengths
 abbrev pub overlaid : List Map → Lengths → Outcome

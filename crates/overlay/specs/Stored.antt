@@ -6,8 +6,8 @@ use Rattle.tables.specs.declared.vertex_rows.VertexRows.{VertexRows}
 use Rattle.tables.specs.declared.half_rows.HalfRows.{HalfRows}
 use Rattle.tables.specs.declared.source_rows.SourceRows.{SourceRows}
 use Rattle.tables.specs.declared.face_rows.FaceRows.{FaceRows}
-use Rattle.overlay_graph.specs.declared.cutting.Cut.{Cut}
-use Rattle.overlay_graph.specs.declared.tracing.Traced.{Traced}
+use Rattle.overlay_graph.specs.Cut.{Cut}
+use Rattle.overlay_graph.specs.Traced.{Traced}
 
 abbrev pub vertexRows : Cut → Traced → VertexRows
 vertexRows c t = record { count = c .vertices; points = c .points; least = t .least }

@@ -22,8 +22,10 @@ ghost use Rattle.paper.specs.Lent.{lengthsOf, roomIn};
 ghost use Rattle.map_file.specs.Verdict.{refusalOf};
 ghost use Rattle.tables.specs.Values.{tablesBy, outcomeOf};
 ghost use Rattle.overlay_maps.specs.Held.{Held, heldMaps};
+ghost use Rattle.overlay_maps.specs.LayersOf.{layersOf};
 ghost use Rattle.overlay_graph.specs.Cut.{CutOf};
 ghost use Rattle.overlay_graph.specs.Traced.{TracedOf};
+ghost use Rattle.overlay_graph.specs.TracedOf.{cutOf, tracedOf};
 ghost use Rattle.overlay.specs.Judged.{overlaid, doneWith, refusedWith, Within};
 
 // "Refused: all lent tables are zero."
@@ -50,8 +52,8 @@ fn fill(
     sources: &mut [u32],
     faces: &mut [u16],
 ) -> Answer
-    requires { ⌜ Held l ⌝ ∗ ⌜ CutOf (heldMaps l) c ⌝ ∗ ⌜ Within c (lengthsOf (tablesBy (now vertices) (now halves) (now sources) (now faces))) ⌝ ∗ ⌜ TracedOf (heldMaps l) c t ⌝ ∗ ⌜ t .count + 1 ≤ roomIn maps (lengthsOf (tablesBy (now vertices) (now halves) (now sources) (now faces))) .faces ⌝ }
-    ensures { λ a. ⌜ outcomeOf a (tablesBy (now (vertices .exit)) (now (halves .exit)) (now (sources .exit)) (now (faces .exit))) ≡ doneWith (lengthsOf (tablesBy (now (vertices .entry)) (now (halves .entry)) (now (sources .entry)) (now (faces .entry)))) (countsOf (overlayOf (heldMaps l))) (tablesOf (heldMaps l) (overlayOf (heldMaps l))) ⌝ }
+    requires { ⌜ Held (layersOf l) ⌝ ∗ ⌜ CutOf (heldMaps (layersOf l)) (cutOf c) ⌝ ∗ ⌜ Within (cutOf c) (lengthsOf (tablesBy (now vertices) (now halves) (now sources) (now faces))) ⌝ ∗ ⌜ TracedOf (heldMaps (layersOf l)) (cutOf c) (tracedOf t) ⌝ ∗ ⌜ t .count + 1 ≤ roomIn maps (lengthsOf (tablesBy (now vertices) (now halves) (now sources) (now faces))) .faces ⌝ }
+    ensures { λ a. ⌜ outcomeOf a (tablesBy (now (vertices .exit)) (now (halves .exit)) (now (sources .exit)) (now (faces .exit))) ≡ doneWith (lengthsOf (tablesBy (now (vertices .entry)) (now (halves .entry)) (now (sources .entry)) (now (faces .entry)))) (countsOf (overlayOf (heldMaps (layersOf l)))) (tablesOf (heldMaps (layersOf l)) (overlayOf (heldMaps (layersOf l)))) ⌝ }
 {
     let f = face_rows(l, c, t);
     store(c, t, f, vertices, halves, sources, faces);
@@ -71,8 +73,8 @@ fn from_cut(
     sources: &mut [u32],
     faces: &mut [u16],
 ) -> Answer
-    requires { ⌜ Held l ⌝ ∗ ⌜ CutOf (heldMaps l) c ⌝ ∗ ⌜ Within c (lengthsOf (tablesBy (now vertices) (now halves) (now sources) (now faces))) ⌝ }
-    ensures { λ a. ⌜ outcomeOf a (tablesBy (now (vertices .exit)) (now (halves .exit)) (now (sources .exit)) (now (faces .exit))) ≡ overlaid (heldMaps l) (lengthsOf (tablesBy (now (vertices .entry)) (now (halves .entry)) (now (sources .entry)) (now (faces .entry)))) ⌝ }
+    requires { ⌜ Held (layersOf l) ⌝ ∗ ⌜ CutOf (heldMaps (layersOf l)) (cutOf c) ⌝ ∗ ⌜ Within (cutOf c) (lengthsOf (tablesBy (now vertices) (now halves) (now sources) (now faces))) ⌝ }
+    ensures { λ a. ⌜ outcomeOf a (tablesBy (now (vertices .exit)) (now (halves .exit)) (now (sources .exit)) (now (faces .exit))) ≡ overlaid (heldMaps (layersOf l)) (lengthsOf (tablesBy (now (vertices .entry)) (now (halves .entry)) (now (sources .entry)) (now (faces .entry)))) ⌝ }
 {
     let t = trace(l, c);
     let room = room_in(vertices.len(), halves.len(), sources.len(), faces.len());
@@ -96,8 +98,8 @@ pub fn from_layers(
     sources: &mut [u32],
     faces: &mut [u16],
 ) -> Answer
-    requires { ⌜ Held l ⌝ }
-    ensures { λ a. ⌜ outcomeOf a (tablesBy (now (vertices .exit)) (now (halves .exit)) (now (sources .exit)) (now (faces .exit))) ≡ overlaid (heldMaps l) (lengthsOf (tablesBy (now (vertices .entry)) (now (halves .entry)) (now (sources .entry)) (now (faces .entry)))) ⌝ }
+    requires { ⌜ Held (layersOf l) ⌝ }
+    ensures { λ a. ⌜ outcomeOf a (tablesBy (now (vertices .exit)) (now (halves .exit)) (now (sources .exit)) (now (faces .exit))) ≡ overlaid (heldMaps (layersOf l)) (lengthsOf (tablesBy (now (vertices .entry)) (now (halves .entry)) (now (sources .entry)) (now (faces .entry)))) ⌝ }
 {
     let c = cut_layers(l);
     let room = room_in(vertices.len(), halves.len(), sources.len(), faces.len());

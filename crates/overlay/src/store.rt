@@ -14,6 +14,7 @@ ghost use Rattle.paper.specs.Limits.{maps};
 ghost use Rattle.paper.specs.Lent.{lengthsOf, roomIn, paddedTables};
 ghost use Rattle.laws_refusals.specs.Room.{Fits};
 ghost use Rattle.tables.specs.Values.{tablesBy};
+ghost use Rattle.overlay_graph.specs.TracedOf.{cutOf, tracedOf};
 ghost use Rattle.overlay.specs.Stored.{stored, storedCounts};
 
 // "Done: places past the counts are zero."
@@ -26,8 +27,8 @@ pub fn store(
     sources: &mut [u32],
     faces: &mut [u16],
 )
-    requires { ⌜ Fits (roomIn maps (lengthsOf (tablesBy (now vertices) (now halves) (now sources) (now faces)))) (storedCounts c f) ⌝ }
-    ensures { λ _. ⌜ tablesBy (now (vertices .exit)) (now (halves .exit)) (now (sources .exit)) (now (faces .exit)) ≡ paddedTables (lengthsOf (tablesBy (now (vertices .entry)) (now (halves .entry)) (now (sources .entry)) (now (faces .entry)))) (stored c t f) ⌝ }
+    requires { ⌜ Fits (roomIn maps (lengthsOf (tablesBy (now vertices) (now halves) (now sources) (now faces)))) (storedCounts (cutOf c) f) ⌝ }
+    ensures { λ _. ⌜ tablesBy (now (vertices .exit)) (now (halves .exit)) (now (sources .exit)) (now (faces .exit)) ≡ paddedTables (lengthsOf (tablesBy (now (vertices .entry)) (now (halves .entry)) (now (sources .entry)) (now (faces .entry)))) (stored (cutOf c) (tracedOf t) f) ⌝ }
 {
     let points = c.points;
     let least = t.least;

@@ -1,3 +1,4 @@
 pub mod Cut
 pub mod Traced
+pub mod TracedOf
 pub mod Laws

@@ -1,27 +1,70 @@
--- The overlay's half-edges, walks and faces in tables, zeros past the counts. Assumes nothing.
+-- The overlay's half-edges, walks and faces in tables, zeros past the counts: a record of lists, which contracts name and no function holds. In order: the net,
+-- the faces, and all of it with predecessors and least outgoing half-edges. Assumes nothing.
 use mathlib.Core.Path.{_≡_}
 use Prim.Native.Nat.{_<_}
-use Rattle.seq.specs.Seq.{List, ℕ, suc, _*_, length, getD, table, position, padded}
+use Rattle.seq.specs.Seq.{List, ℕ, suc, _*_, length, getD, ℤ, table, position, padded}
 use Rattle.paper.specs.Map.{Map}
 use Rattle.paper.specs.Graph.{halfCount, leaves}
 use Rattle.paper.specs.Faces.{Overlay, net, overlayOf, holesOf}
 use Rattle.paper.specs.Tables.{leastHalf}
 use Rattle.graph.specs.Flat.{Flat, flatGraph}
 use Rattle.graph_faces.specs.Linked.{halfRows}
-use Rattle.overlay_graph.specs.declared.cutting.Cut.{Cut}
-use Rattle.overlay_graph.specs.declared.tracing.Traced.{Traced}
+use Rattle.overlay_graph.specs.Cut.{Cut}
 
--- of the overlay o with the vertices and edges in c
+-- of each half-edge where it starts, its follower, its predecessor and its face; of each edge the input edge that it lies along; of each vertex the least outgoing
+-- half-edge; the least half-edges of the outer walks and how many there are; of each face its hole walks
+pub record Traced : Type 0 where
+  pub origins : List ℕ
+  pub carriers : List ℤ
+  pub next : List ℕ
+  pub prev : List ℕ
+  pub least : List ℕ
+  pub face : List ℕ
+  pub outers : List ℕ
+  pub holes : List ℕ
+  pub count : ℕ
+
+-- of the tables that a function has
+abbrev pub tracedBy : List ℕ → List ℤ → List ℕ → List ℕ → List ℕ → List ℕ → List ℕ → List ℕ → ℕ → Traced
+tracedBy os cs next prev least face outers holes n = record {
+  origins = os;
+  carriers = cs;
+  next = next;
+  prev = prev;
+  least = least;
+  face = face;
+  outers = outers;
+  holes = holes;
+  count = n;
+}
+
+-- ── of the overlay o with the vertices and edges in c ──
+
+-- the half-edges, by where they start and what they lie along
+pub record NetBy (o : Overlay) (c : Cut) (origins : List ℕ) (carriers : List ℤ) : Type 0 where
+  pub flat : Flat (c .points) origins carriers (c .vertices) (c .edges)
+  pub net-is : flatGraph (c .points) origins carriers (c .vertices) (c .edges) ≡ net o
+
+-- followers and faces
+pub record FacesBy (o : Overlay) (next face outers holes : List ℕ) (count : ℕ) : Type 0 where
+  pub next-is : next ≡ padded 0 halfRows (o .walks .next)
+  pub face-is : face ≡ padded 0 halfRows (o .face)
+  pub outers-is : outers ≡ padded 0 halfRows (o .outers)
+  pub count-is : count ≡ length (o .outers)
+  pub holes-is : holes ≡ padded 0 (suc halfRows) (table (holesOf o) (suc count))
+
+-- predecessors, and the least outgoing half-edges
+abbrev pub PrevBy : Overlay → Cut → List ℕ → Type 0
+PrevBy o c prev = (h : ℕ) → h < 2 * c .edges → getD prev h 0 ≡ position h (o .walks .next)
+
+abbrev pub LeastBy : Overlay → Cut → List ℕ → Type 0
+LeastBy o c least = (v : ℕ) → v < c .vertices → getD least v 0 ≡ leastHalf (leaves (net o) v) (halfCount (net o))
+
 pub record TracedBy (o : Overlay) (c : Cut) (t : Traced) : Type 0 where
-  pub flat : Flat (c .points) (t .origins) (t .carriers) (c .vertices) (c .edges)
-  pub net-is : flatGraph (c .points) (t .origins) (t .carriers) (c .vertices) (c .edges) ≡ net o
-  pub next-is : t .next ≡ padded 0 halfRows (o .walks .next)
-  pub prev-is : (h : ℕ) → h < 2 * c .edges → getD (t .prev) h 0 ≡ position h (o .walks .next)
-  pub least-is : (v : ℕ) → v < c .vertices → getD (t .least) v 0 ≡ leastHalf (leaves (net o) v) (halfCount (net o))
-  pub face-is : t .face ≡ padded 0 halfRows (o .face)
-  pub outers-is : t .outers ≡ padded 0 halfRows (o .outers)
-  pub count-is : t .count ≡ length (o .outers)
-  pub holes-is : t .holes ≡ padded 0 (suc halfRows) (table (holesOf o) (suc (t .count)))
+  pub net-by : NetBy o c (t .origins) (t .carriers)
+  pub faces-by : FacesBy o (t .next) (t .face) (t .outers) (t .holes) (t .count)
+  pub prev-is : PrevBy o c (t .prev)
+  pub least-is : LeastBy o c (t .least)
 
 -- of the maps ms
 abbrev pub TracedOf : List Map → Cut → Traced → Type 0

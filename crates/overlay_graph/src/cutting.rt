@@ -8,7 +8,9 @@ use overlay_cut::order;
 use overlay_cut::pieces;
 use overlay_maps::Layers;
 ghost use Rattle.overlay_maps.specs.Held.{heldMaps, Held};
+ghost use Rattle.overlay_maps.specs.LayersOf.{layersOf};
 ghost use Rattle.overlay_graph.specs.Cut.{CutOf};
+ghost use Rattle.overlay_graph.specs.TracedOf.{cutOf};
 
 // The vertices, rows of X, Y, D and a spare cell; the edges, rows of lower, upper, and for each map the source + 1 or 0. There is one row more than the overlay
 // may have, so that a count says whether there are more.
@@ -21,8 +23,8 @@ pub struct Cut {
 
 // The vertices and edges of the overlay of the maps that the layers hold; where there are too many vertices, no edges.
 pub fn cut_layers(l: Layers) -> Cut
-    requires { ⌜ Held l ⌝ }
-    ensures { λ r. ⌜ CutOf (heldMaps l) r ⌝ }
+    requires { ⌜ Held (layersOf l) ⌝ }
+    ensures { λ r. ⌜ CutOf (heldMaps (layersOf l)) (cutOf r) ⌝ }
 {
     let corners = l.corners;
     let carriers = l.carriers;

@@ -22,8 +22,10 @@ ghost use Rattle.graph.specs.Places.{firstPlace};
 ghost use Rattle.overlay_cut.specs.Cuts.{Starts};
 ghost use Rattle.overlay_cut.specs.Net.{endsOf, carrierIn, segRow};
 ghost use Rattle.overlay_maps.specs.Held.{heldMaps, Held};
+ghost use Rattle.overlay_maps.specs.LayersOf.{layersOf};
 ghost use Rattle.overlay_graph.specs.Cut.{CutOf};
 ghost use Rattle.overlay_graph.specs.Traced.{TracedOf};
+ghost use Rattle.overlay_graph.specs.TracedOf.{cutOf, tracedOf};
 
 // Of each half-edge where it starts, its follower, its predecessor and its face; of each edge the input edge that it lies along; of each vertex the least outgoing
 // half-edge; the least half-edges of the outer walks and how many there are; of each face its hole walks.
@@ -87,8 +89,8 @@ fn least_outgoing(from: [u16; HALVES], n: usize, e: usize) -> [u16; VERTICES]
 
 // The half-edges, walks and faces of the overlay that was cut from the layers.
 pub fn trace(l: Layers, c: Cut) -> Traced
-    requires { ⌜ Held l ⌝ ∗ ⌜ CutOf (heldMaps l) c ⌝ ∗ ⌜ c .vertices ≤ overlayVertices ⌝ ∗ ⌜ c .edges ≤ overlayEdges ⌝ }
-    ensures { λ r. ⌜ TracedOf (heldMaps l) c r ⌝ }
+    requires { ⌜ Held (layersOf l) ⌝ ∗ ⌜ CutOf (heldMaps (layersOf l)) (cutOf c) ⌝ ∗ ⌜ c .vertices ≤ overlayVertices ⌝ ∗ ⌜ c .edges ≤ overlayEdges ⌝ }
+    ensures { λ r. ⌜ TracedOf (heldMaps (layersOf l)) (cutOf c) (tracedOf r) ⌝ }
 {
     let n = c.vertices;
     let e = c.edges;

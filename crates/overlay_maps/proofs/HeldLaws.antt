@@ -26,9 +26,8 @@ use Rattle.map_file.proofs.KeptLaws.{kept}
 use Rattle.map_check.proofs.LoadedLaws.{point-held, carrier-held, origin-held, held-points, held-carriers, held-origins, graph-held}
 use Rattle.overlay_maps.specs.Label.{flatMap}
 use Rattle.overlay_maps.specs.Standing.{cells, standing, Stands}
-use Rattle.overlay_maps.specs.Layers.{Layered}
+use Rattle.overlay_maps.specs.Layers.{Layers, Layered}
 use Rattle.overlay_maps.specs.Held.{vertexStart, edgeStart, heldMap, heldMaps, Held}
-use Rattle.overlay_maps.specs.declared.stack.Layers.{Layers}
 
 -- ── a table that was filled in two parts ──
 

@@ -6,7 +6,7 @@ use Rattle.paper.specs.Limits.{maps}
 use Rattle.paper.specs.Map.{Map}
 use Rattle.laws_map.specs.Keeps.{Keeps}
 use Rattle.overlay_maps.specs.Standing.{Stands, standing}
-use Rattle.overlay_maps.specs.declared.stack.Layers.{Layers}
+use Rattle.overlay_maps.specs.Layers.{Layers}
 
 -- where the vertices and the edges of map i start; after the last map, where they end
 abbrev pub vertexStart : Layers → ℕ → ℕ

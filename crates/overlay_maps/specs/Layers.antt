@@ -1,10 +1,22 @@
--- The tables of two maps, one after the other. Assumes nothing.
+-- The tables of all maps, one map after the other: a record of lists, which contracts name and no function holds; and those of two files. Assumes nothing.
 use mathlib.Core.Path.{_≡_}
-use Rattle.seq.specs.Seq.{List, [], _∷_, _++_, ℕ, _+_, _*_, replicate, pos, rows, table, over}
+use Rattle.seq.specs.Seq.{List, [], _∷_, _++_, ℕ, _+_, _*_, replicate, ℤ, pos, rows, table, over}
 use Rattle.paper.specs.Graph.{origin}
 use Rattle.paper.specs.Map.{mapOf, vertexCount, edgesIn, label}
 use Rattle.map_file.specs.Rows.{pointRow, carrierRow}
-use Rattle.overlay_maps.specs.declared.stack.Layers.{Layers}
+
+-- where each map's vertices and edges start, and after the last where they end; then the rows and cells of the maps
+pub record Layers : Type 0 where
+  pub vertices : List ℕ
+  pub edges : List ℕ
+  pub corners : List ℤ
+  pub origins : List ℕ
+  pub carriers : List ℤ
+  pub labels : List ℕ
+
+-- of the tables that a function is lent
+abbrev pub layersBy : List ℕ → List ℕ → List ℤ → List ℕ → List ℤ → List ℕ → Layers
+layersBy vs es ps os cs ls = record { vertices = vs; edges = es; corners = ps; origins = os; carriers = cs; labels = ls }
 
 -- the maps of the files a and b: where each map's vertices and edges start, and after the last where they end; then a row or a cell for each
 pub record Layered (a b : List ℕ) (l : Layers) : Type 0 where

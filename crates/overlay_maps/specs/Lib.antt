@@ -1,4 +1,5 @@
 pub mod Label
 pub mod Standing
 pub mod Layers
+pub mod LayersOf
 pub mod Held

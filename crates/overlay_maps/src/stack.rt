@@ -22,6 +22,7 @@ ghost use Rattle.paper.specs.Refusal.{firstOf};
 ghost use Rattle.paper.specs.Map.{mapOf, vertexCount, edgesIn, label, formFaults, partFaults};
 ghost use Rattle.map_file.specs.Rows.{pointRow, carrierRow};
 ghost use Rattle.overlay_maps.specs.Layers.{Layered};
+ghost use Rattle.overlay_maps.specs.LayersOf.{layersOf};
 
 pub struct Layers {
     pub vertices: [usize; LAYER_STARTS],
@@ -75,7 +76,7 @@ fn lay_labels(zones: &[u8], blocks: &[u8], out: &mut [u16])
 // The layers of two files that pass rules 1 to 7.
 pub fn read_layers(zones: &[u8], blocks: &[u8]) -> Layers
     requires { ⌜ firstOf (formFaults (now zones) ++ partFaults (mapOf (now zones) .graph)) ≡ none ⌝ ∗ ⌜ firstOf (formFaults (now blocks) ++ partFaults (mapOf (now blocks) .graph)) ≡ none ⌝ }
-    ensures { λ r. ⌜ Layered (now (zones .entry)) (now (blocks .entry)) r ⌝ }
+    ensures { λ r. ⌜ Layered (now (zones .entry)) (now (blocks .entry)) (layersOf r) ⌝ }
 {
     let mut corners = [0i64; LAYER_POINT_CELLS];
     lay_corners(zones, blocks, &mut corners);

@@ -33,12 +33,10 @@ use Rattle.tables.specs.Rows.{faceBy}
 use Rattle.tables.specs.declared.face_rows.FaceRows.{FaceRows}
 use Rattle.overlay_maps.specs.Label.{labelBy, stored, label-by}
 use Rattle.overlay_maps.specs.Held.{Held, heldMap, heldMaps, edgeStart}
-use Rattle.overlay_maps.specs.declared.stack.Layers.{Layers}
-use Rattle.overlay_graph.specs.declared.cutting.Cut.{Cut}
-use Rattle.overlay_graph.specs.declared.tracing.Traced.{Traced}
+use Rattle.overlay_maps.specs.Layers.{Layers}
 use Rattle.overlay_graph.specs.Laws.Standing.{layer-is, keep, held-edges}
-use Rattle.overlay_graph.specs.Cut.{CutOf}
-use Rattle.overlay_graph.specs.Traced.{TracedOf}
+use Rattle.overlay_graph.specs.Cut.{Cut, CutOf}
+use Rattle.overlay_graph.specs.Traced.{Traced, TracedOf}
 use Rattle.overlay_pairs.specs.Labels.{halfLabel, faceLabel, outerOf, Labels}
 
 -- the label of face f in map i: "Face 0 is the outside, pair (0, 0)", another has that of its least outer half-edge
@@ -84,7 +82,7 @@ module _ (l : Layers) (c : Cut) (t : Traced) (W : Whole l c t) where
   flat = flatGraph (c .points) (t .origins) (t .carriers) (c .vertices) (c .edges)
 
   flat-is : flat ≡ overlaid ms
-  flat-is = T .net-is ∙ Parts.net-is ms
+  flat-is = T .net-by .net-is ∙ Parts.net-is ms
 
   edges-are : edgeCount (overlaid ms) ≡ c .edges
   edges-are = ap edgeCount (sym flat-is) ∙ flat-edges (c .points) (t .origins) (t .carriers) (c .vertices) (c .edges)
@@ -113,12 +111,12 @@ module _ (l : Layers) (c : Cut) (t : Traced) (W : Whole l c t) where
     low-at : startAt (c .points) (t .origins) (2 * k) ≡ low (net o) k
     low-at =
         let K = keep l H in
-        sym (flat-start (c .points) (t .origins) (t .carriers) (c .vertices) (c .edges) (T .flat .origins) (2 * k) (omega arith))
+        sym (flat-start (c .points) (t .origins) (t .carriers) (c .vertices) (c .edges) (T .net-by .flat .origins) (2 * k) (omega arith))
         ∙ ap (λ (g : Graph). start g (2 * k)) flat-is ∙ ap (pointIn (verticesOf ms)) (origin-first k (overlaid ms))
         ∙ sym (low-is ms K (verticesOf ms) (places ms K) k within) ∙ ap (λ (g : Graph). low g k) (sym (Parts.net-is ms))
 
     up-at : carrierAt (t .carriers) k .up ≡ upward (net o) k
-    up-at = sym (flat-upward (c .points) (t .origins) (t .carriers) (c .vertices) (c .edges) k b) ∙ ap (λ (g : Graph). upward g k) (T .net-is)
+    up-at = sym (flat-upward (c .points) (t .origins) (t .carriers) (c .vertices) (c .edges) k b) ∙ ap (λ (g : Graph). upward g k) (T .net-by .net-is)
 
   -- the label of half-edge h in map i
   label-is : (i h : ℕ) → i < maps → h < 2 * c .edges → halfLabel (heldMap l i) (c .points) (t .origins) (t .carriers) (c .pieces) i h ≡ labelIn (layer ms i) (net o) h (getD (sourcesOf o (h / 2)) i none)
@@ -131,14 +129,14 @@ module _ (l : Layers) (c : Cut) (t : Traced) (W : Whole l c t) where
   -- ── faces ──
 
   outer-at : (f : ℕ) → f < t .count → getD (t .outers) f 0 ≡ getD (o .outers) f 0
-  outer-at f b = ap (λ (x : List ℕ). getD x f 0) (T .outers-is) ∙ padded-at 0 halfRows f (o .outers) 0 (omega (arith, T .count-is))
+  outer-at f b = ap (λ (x : List ℕ). getD x f 0) (T .faces-by .outers-is) ∙ padded-at 0 halfRows f (o .outers) 0 (omega (arith, T .faces-by .count-is))
 
   outer-below : (f : ℕ) → f < t .count → getD (t .outers) f 0 < 2 * c .edges
   outer-below f b =
       let p = leadsOuter (walksOf (overlaid ms)) in
       let n = halfCount (overlaid ms) in
       let e : getD (t .outers) f 0 ≡ getD (select p n) f 0 = outer-at f b ∙ ap (λ (x : List ℕ). getD x f 0) (Parts.outers-are ms) in
-      let q = select-from p n (getD (select p n) f 0) (at-among (select p n) f 0 (omega (arith, T .count-is, ap length (Parts.outers-are ms)))) .0 in
+      let q = select-from p n (getD (select p n) f 0) (at-among (select p n) f 0 (omega (arith, T .faces-by .count-is, ap length (Parts.outers-are ms)))) .0 in
       omega (arith, e, q, edges-are)
 
   -- what the code reads is there
@@ -149,8 +147,8 @@ module _ (l : Layers) (c : Cut) (t : Traced) (W : Whole l c t) where
       let r : f < t .count = omega arith in
       let h = getD (t .outers) f 0 in
       let k : h / 2 < c .edges = omega (arith, outer-below f r) in
-      let F = T .flat in (
-        omega (arith, outers-long, T .count-is),
+      let F = T .net-by .flat in (
+        omega (arith, outers-long, T .faces-by .count-is),
         record {
           of-maps = b;
           starts = flat-starts (c .points) (t .origins) (t .carriers) (c .vertices) (c .edges) F (2 * (h / 2)) (omega arith);
@@ -161,7 +159,7 @@ module _ (l : Layers) (c : Cut) (t : Traced) (W : Whole l c t) where
       )
     where
       outers-long : length (o .outers) ≤ length (t .outers)
-      outers-long = omega (arith, ap length (T .outers-is), length-append (o .outers) (replicate (halfRows - length (o .outers)) 0))
+      outers-long = omega (arith, ap length (T .faces-by .outers-is), length-append (o .outers) (replicate (halfRows - length (o .outers)) 0))
 
   -- ── the rows of the faces ──
 
@@ -173,7 +171,7 @@ module _ (l : Layers) (c : Cut) (t : Traced) (W : Whole l c t) where
 
   holes-at : (f : ℕ) → f < t .count + 1 → getD (t .holes) f 0 ≡ holesOf o f
   holes-at f q =
-      ap (λ (x : List ℕ). getD x f 0) (T .holes-is) ∙ padded-at 0 (suc halfRows) f (table (holesOf o) (suc (t .count))) 0 (omega (arith, length-table (holesOf o) (suc (t .count))))
+      ap (λ (x : List ℕ). getD x f 0) (T .faces-by .holes-is) ∙ padded-at 0 (suc halfRows) f (table (holesOf o) (suc (t .count))) 0 (omega (arith, length-table (holesOf o) (suc (t .count))))
       ∙ table-at (holesOf o) (suc (t .count)) f 0 (omega arith)
 
   -- four columns filled face by face

@@ -16,15 +16,17 @@ ghost use Rattle.paper.specs.Faces.{overlayOf};
 ghost use Rattle.paper.specs.Tables.{faceRow};
 ghost use Rattle.tables.specs.Rows.{faceBy};
 ghost use Rattle.overlay_maps.specs.Held.{Held, heldMaps};
+ghost use Rattle.overlay_maps.specs.LayersOf.{layersOf};
 ghost use Rattle.overlay_graph.specs.Cut.{CutOf};
 ghost use Rattle.overlay_graph.specs.Traced.{TracedOf};
+ghost use Rattle.overlay_graph.specs.TracedOf.{cutOf, tracedOf};
 ghost use Rattle.overlay_pairs.specs.Labels.{outerOf};
 ghost use Rattle.overlay_pairs.specs.Pairs.{labelOf, Whole};
 
 // The labels of all faces in map m.
 fn lay_labels(l: Layers, c: Cut, t: Traced, m: usize, out: &mut [u16])
-    requires { ⌜ Whole l c t ⌝ ∗ ⌜ m < maps ⌝ ∗ ⌜ t .count + 1 ≤ length (now out) ⌝ }
-    ensures { λ _. ⌜ now (out .exit) ≡ filled (t .count + 1) (labelOf (heldMaps l) (overlayOf (heldMaps l)) m) (now (out .entry)) ⌝ }
+    requires { ⌜ Whole (layersOf l) (cutOf c) (tracedOf t) ⌝ ∗ ⌜ m < maps ⌝ ∗ ⌜ t .count + 1 ≤ length (now out) ⌝ }
+    ensures { λ _. ⌜ now (out .exit) ≡ filled (t .count + 1) (labelOf (heldMaps (layersOf l)) (overlayOf (heldMaps (layersOf l))) m) (now (out .entry)) ⌝ }
 {
     let corners = l.corners;
     let origins = l.origins;
@@ -92,9 +94,9 @@ fn lay_holes(holes: &[u16], n: usize, out: &mut [u16])
 
 // The row of every face of the overlay of the maps that the layers hold.
 pub fn face_rows(l: Layers, c: Cut, t: Traced) -> FaceRows
-    requires { ⌜ Held l ⌝ ∗ ⌜ CutOf (heldMaps l) c ⌝ ∗ ⌜ (c .vertices ≤ overlayVertices) × (c .edges ≤ overlayEdges) ⌝ ∗ ⌜ TracedOf (heldMaps l) c t ⌝ ∗ ⌜ t .count + 1 ≤ overlayFaces ⌝ }
+    requires { ⌜ Held (layersOf l) ⌝ ∗ ⌜ CutOf (heldMaps (layersOf l)) (cutOf c) ⌝ ∗ ⌜ (c .vertices ≤ overlayVertices) × (c .edges ≤ overlayEdges) ⌝ ∗ ⌜ TracedOf (heldMaps (layersOf l)) (cutOf c) (tracedOf t) ⌝ ∗ ⌜ t .count + 1 ≤ overlayFaces ⌝ }
     ensures count { λ r. ⌜ r .count ≡ t .count + 1 ⌝ }
-    ensures is { λ r. ⌜ rows (faceBy r) (r .count) ≡ rows (faceRow (heldMaps l) (overlayOf (heldMaps l))) (t .count + 1) ⌝ }
+    ensures is { λ r. ⌜ rows (faceBy r) (r .count) ≡ rows (faceRow (heldMaps (layersOf l)) (overlayOf (heldMaps (layersOf l)))) (t .count + 1) ⌝ }
 {
     let mut first = [0u16; FACES];
     lay_labels(l, c, t, 0, &mut first);

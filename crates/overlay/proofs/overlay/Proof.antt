@@ -6,6 +6,7 @@ use Rattle.paper.specs.Map.{Map}
 use Rattle.paper.specs.Lent.{lengthsOf}
 use Rattle.map_file.specs.Verdict.{verdict}
 use Rattle.tables.specs.Values.{tablesBy}
+use Rattle.overlay_maps.specs.LayersOf.{layersOf}
 use Rattle.overlay_maps.proofs.HeldLaws.{parts-none, held-maps, layers-held}
 use Rattle.overlay.specs.Judged.{overlaid}
 use Rattle.overlay.proofs.JudgeLaws.{first-passes, second-passes, maps-refused, maps-pass}
@@ -28,7 +29,7 @@ from-layers-requires c κs =
     let after-read-layers : tie.After-read-layers = search needs in
     let a = start .args in
     let e = sym (after-maps-fault .maps-fault .ensures) ∙ ap verdict (after-enum-told .enum-told .given .1) in
-    layers-held (now (a .zones)) (now (a .blocks)) _ (after-read-layers .read-layers .ensures) (first-passes (now (a .zones)) (now (a .blocks)) e) (second-passes (now (a .zones)) (now (a .blocks)) e)
+    layers-held (now (a .zones)) (now (a .blocks)) (layersOf _) (after-read-layers .read-layers .ensures) (first-passes (now (a .zones)) (now (a .blocks)) e) (second-passes (now (a .zones)) (now (a .blocks)) e)
 
 returns : tie.Need-returns
 returns c =
@@ -50,7 +51,7 @@ returns-2 c =
     let a = start .args in
     let e = sym (after-maps-fault .maps-fault .ensures) ∙ ap verdict (after-enum-told .enum-told .given .1) in
     after-from-layers .from-layers .ensures
-    ∙ ap (λ (ms : List Map). overlaid ms (lengthsOf (tablesBy (now (a .vertices)) (now (a .halves)) (now (a .sources)) (now (a .faces))))) (held-maps (now (a .zones)) (now (a .blocks)) _ (after-read-layers .read-layers .ensures))
+    ∙ ap (λ (ms : List Map). overlaid ms (lengthsOf (tablesBy (now (a .vertices)) (now (a .halves)) (now (a .sources)) (now (a .faces))))) (held-maps (now (a .zones)) (now (a .blocks)) (layersOf _) (after-read-layers .read-layers .ensures))
     ∙ maps-pass (now (a .zones)) (now (a .blocks)) (lengthsOf (tablesBy (now (a .vertices)) (now (a .halves)) (now (a .sources)) (now (a .faces)))) e
 
 pub overlay-spec : {M : Type 1} → statement M

@@ -16,9 +16,9 @@ use Rattle.overlay_cut.specs.Cutting.{puts}
 use Rattle.overlay_cut.specs.Laws.VerticesAre.{Vertices, vertices-are, vertices-over}
 use Rattle.overlay_cut.specs.Laws.EdgesAre.{edges-are, edges-over}
 use Rattle.overlay_maps.specs.Held.{vertexStart, heldMaps, Held}
-use Rattle.overlay_maps.specs.declared.stack.Layers.{Layers}
+use Rattle.overlay_maps.specs.Layers.{Layers}
 use Rattle.overlay_graph.specs.Laws.Standing.{holds, corners-lowest, vertices-near, unordered-near}
-use Rattle.overlay_graph.specs.Cut.{CutOf}
+use Rattle.overlay_graph.specs.Cut.{cutBy, CutOf}
 
 -- the n points in a table are those that are collected
 abbrev pub Collected : Layers → List ℤ → ℕ → Type 0
@@ -46,7 +46,7 @@ module _ (l : Layers) (H : Held l) (out : List ℤ) (n : ℕ) (e : Collected l o
 
       -- and the pieces between them
       module _ (rows : List ℕ) (r : ℕ) (p : piecesIn rows r ≡ puts edgeRows [] (cutAll ps n (l .carriers) (l .edges))) where
-        pub cut-is : CutOf (heldMaps l) (record { vertices = n; points = ps; edges = r; pieces = rows })
+        pub cut-is : CutOf (heldMaps l) (cutBy n ps r rows)
         cut-is = record {
           vertices-are = λ h. ordered-are;
           vertices-over = λ h. absurd (omega arith);
@@ -55,7 +55,7 @@ module _ (l : Layers) (H : Held l) (out : List ℤ) (n : ℕ) (e : Collected l o
         }
 
   -- more of them: no more is said
-  pub cut-over : vertexRows ≤ n → (ps : List ℤ) (rows : List ℕ) (r : ℕ) → CutOf (heldMaps l) (record { vertices = n; points = ps; edges = r; pieces = rows })
+  pub cut-over : vertexRows ≤ n → (ps : List ℤ) (rows : List ℕ) (r : ℕ) → CutOf (heldMaps l) (cutBy n ps r rows)
   cut-over more ps rows r = record {
     vertices-are = λ h. absurd (omega arith);
     vertices-over = λ h. vertices-over (holds l H) (corners-lowest l H) out n e h;

@@ -36,7 +36,7 @@ use Rattle.overlay_cut.specs.Laws.Holds.{Holds, edgesIn, owner}
 use Rattle.overlay_cut.specs.Laws.VerticesAre.{Vertices}
 use Rattle.overlay_maps.specs.Standing.{cells}
 use Rattle.overlay_maps.specs.Held.{vertexStart, edgeStart, heldMap, heldMaps, Held}
-use Rattle.overlay_maps.specs.declared.stack.Layers.{Layers}
+use Rattle.overlay_maps.specs.Layers.{Layers}
 
 -- ── a part of a table ──
 

@@ -27,12 +27,10 @@ use Rattle.overlay_cut.specs.Net.{endsOf, carrierIn, segRow}
 use Rattle.overlay_cut.specs.Laws.NetAre as NetAre
 use Rattle.overlay_cut.specs.Laws.NetBounds.{carriers-near}
 use Rattle.overlay_maps.specs.Held.{heldMaps, Held}
-use Rattle.overlay_maps.specs.declared.stack.Layers.{Layers}
+use Rattle.overlay_maps.specs.Layers.{Layers}
 use Rattle.overlay_graph.specs.Laws.Standing.{keep, holds, starts, vertices-near}
-use Rattle.overlay_graph.specs.Cut.{CutOf}
-use Rattle.overlay_graph.specs.Traced.{TracedOf}
-use Rattle.overlay_graph.specs.declared.cutting.Cut.{Cut}
-use Rattle.overlay_graph.specs.declared.tracing.Traced.{Traced}
+use Rattle.overlay_graph.specs.Cut.{Cut, CutOf}
+use Rattle.overlay_graph.specs.Traced.{Traced, FacesBy, PrevBy, LeastBy, TracedOf}
 
 -- ── the graph ──
 
@@ -129,22 +127,37 @@ module _ (ms : List Map) (g : Graph) (q : g ≡ net (overlayOf ms)) where
   unfolding overlayOf
   holed k = ap (λ (x : Graph). table (holesOf (facesOf x)) k) q
 
-module _ (ms : List Map) (c : Cut) (t : Traced) (small : c .edges ≤ overlayEdges) (F : Flat (c .points) (t .origins) (t .carriers) (c .vertices) (c .edges))
-    (P : Plane (flatGraph (c .points) (t .origins) (t .carriers) (c .vertices) (c .edges))) (q : flatGraph (c .points) (t .origins) (t .carriers) (c .vertices) (c .edges) ≡ net (overlayOf ms)) where
+module _ (ms : List Map) (c : Cut) (os : List ℕ) (bs : List ℤ) (small : c .edges ≤ overlayEdges)
+    (P : Plane (flatGraph (c .points) os bs (c .vertices) (c .edges))) (q : flatGraph (c .points) os bs (c .vertices) (c .edges) ≡ net (overlayOf ms)) where
   abbrev f : Graph
-  f = flatGraph (c .points) (t .origins) (t .carriers) (c .vertices) (c .edges)
+  f = flatGraph (c .points) os bs (c .vertices) (c .edges)
 
-  pub traced-of : (lead top : List ℕ) → Linked f (t .next) lead top → Numbered f (t .face) (t .outers) (t .holes) (t .count)
-      → t .prev ≡ filled (2 * c .edges) (firstPlace (t .next) (2 * c .edges) absent) (replicate 4000 0)
-      → t .least ≡ filled (c .vertices) (firstPlace (t .origins) (2 * c .edges) absent) (replicate 1000 0) → TracedOf ms c t
-  traced-of lead top A N p l = record {
-    flat = F;
-    net-is = q;
+  pub faces-of : (next lead top face outers holes : List ℕ) (n : ℕ) → Linked f next lead top → Numbered f face outers holes n → FacesBy (overlayOf ms) next face outers holes n
+  faces-of next lead top face outers holes n A N = record {
     next-is = A .next-is ∙ ap (padded 0 halfRows) (walked ms f q);
-    prev-is = λ h b. prev-is (c .points) (t .origins) (t .carriers) (c .vertices) (c .edges) P small (t .next) (A .next-is) (t .prev) (replicate 4000 0) p h b ∙ ap (position h) (walked ms f q);
-    least-is = λ v b. least-is (c .points) (t .origins) (t .carriers) (c .vertices) (c .edges) P small (t .least) (replicate 1000 0) l v b ∙ ap (λ (x : Graph). leastHalf (leaves x v) (halfCount x)) q;
     face-is = N .face-is ∙ ap (padded 0 halfRows) (faced ms f q);
     outers-is = N .outers-is ∙ ap (padded 0 halfRows) (outer ms f q);
     count-is = N .count-is ∙ ap length (outer ms f q);
-    holes-is = N .holes-is ∙ ap (padded 0 (suc halfRows)) (holed ms f q (suc (t .count)));
+    holes-is = N .holes-is ∙ ap (padded 0 (suc halfRows)) (holed ms f q (suc n));
+  }
+
+  pub prev-of : (next : List ℕ) → next ≡ padded 0 halfRows (followers f) → (prev d : List ℕ) → prev ≡ filled (2 * c .edges) (firstPlace next (2 * c .edges) absent) d → PrevBy (overlayOf ms) c prev
+  prev-of next is prev d p h b = prev-is (c .points) os bs (c .vertices) (c .edges) P small next is prev d p h b ∙ ap (position h) (walked ms f q)
+
+  pub least-of : (least d : List ℕ) → least ≡ filled (c .vertices) (firstPlace os (2 * c .edges) absent) d → LeastBy (overlayOf ms) c least
+  least-of least d l v b = least-is (c .points) os bs (c .vertices) (c .edges) P small least d l v b ∙ ap (λ (x : Graph). leastHalf (leaves x v) (halfCount x)) q
+
+module _ (ms : List Map) (c : Cut) (t : Traced) (small : c .edges ≤ overlayEdges) (F : Flat (c .points) (t .origins) (t .carriers) (c .vertices) (c .edges))
+    (P : Plane (flatGraph (c .points) (t .origins) (t .carriers) (c .vertices) (c .edges))) (q : flatGraph (c .points) (t .origins) (t .carriers) (c .vertices) (c .edges) ≡ net (overlayOf ms)) where
+  abbrev k : Graph
+  k = flatGraph (c .points) (t .origins) (t .carriers) (c .vertices) (c .edges)
+
+  pub traced-of : (lead top : List ℕ) → Linked k (t .next) lead top → Numbered k (t .face) (t .outers) (t .holes) (t .count)
+      → t .prev ≡ filled (2 * c .edges) (firstPlace (t .next) (2 * c .edges) absent) (replicate 4000 0)
+      → t .least ≡ filled (c .vertices) (firstPlace (t .origins) (2 * c .edges) absent) (replicate 1000 0) → TracedOf ms c t
+  traced-of lead top A N p l = record {
+    net-by = record { flat = F; net-is = q };
+    faces-by = faces-of ms c (t .origins) (t .carriers) small P q (t .next) lead top (t .face) (t .outers) (t .holes) (t .count) A N;
+    prev-is = prev-of ms c (t .origins) (t .carriers) small P q (t .next) (A .next-is) (t .prev) (replicate 4000 0) p;
+    least-is = least-of ms c (t .origins) (t .carriers) small P q (t .least) (replicate 1000 0) l;
   }

@@ -8,6 +8,8 @@ use Rattle.paper.specs.Refusal.{done}
 use Rattle.paper.specs.Lent.{lengthsOf, paddedTables}
 use Rattle.tables.specs.Values.{tablesBy}
 use Rattle.overlay_maps.specs.Held.{heldMaps}
+use Rattle.overlay_maps.specs.LayersOf.{layersOf}
+use Rattle.overlay_graph.specs.TracedOf.{cutOf, tracedOf}
 use Rattle.overlay.proofs.StoredLaws.{counts-are, stored-is}
 use borrow.Author.Needs.{needs}
 use Rattle.overlay.proofs.stages.fill.Statement.{statement}
@@ -34,8 +36,8 @@ returns c =
     let f = c .before .before .before .before .before .before .before .before .before .before .before .before .before .before .face-rows in
     let few : a .c .vertices ≤ overlayVertices = omega (arith, p .1 .1 .0 .vertices) in
     let short : a .c .edges ≤ overlayEdges = omega (arith, p .1 .1 .0 .edges) in
-    let counted = counts-are (heldMaps (a .l)) (a .c) (p .1 .0) few short (a .t) (p .1 .1 .1 .0) (f .result) (f .ensures .0) (f .ensures .1) in
-    let stored = c .before .before .before .before .before .before .before .before .before .store .ensures ∙ ap (paddedTables (lengthsOf (tablesBy (now (a .vertices)) (now (a .halves)) (now (a .sources)) (now (a .faces))))) (stored-is (heldMaps (a .l)) (a .c) (p .1 .0) few short (a .t) (p .1 .1 .1 .0) (f .result) (f .ensures .0) (f .ensures .1)) in
+    let counted = counts-are (heldMaps (layersOf (a .l))) (cutOf (a .c)) (p .1 .0) few short (tracedOf (a .t)) (p .1 .1 .1 .0) (f .result) (f .ensures .0) (f .ensures .1) in
+    let stored = c .before .before .before .before .before .before .before .before .before .store .ensures ∙ ap (paddedTables (lengthsOf (tablesBy (now (a .vertices)) (now (a .halves)) (now (a .sources)) (now (a .faces))))) (stored-is (heldMaps (layersOf (a .l))) (cutOf (a .c)) (p .1 .0) few short (tracedOf (a .t)) (p .1 .1 .1 .0) (f .result) (f .ensures .0) (f .ensures .1)) in
     λ i. record { answer = done (counted i); tables = stored i }
 
 pub fill-spec : {M : Type 1} → statement M

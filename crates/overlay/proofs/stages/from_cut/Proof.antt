@@ -6,6 +6,8 @@ use Rattle.paper.specs.Tables.{Counts}
 use Rattle.paper.specs.Lent.{lengthsOf}
 use Rattle.tables.specs.Values.{tablesBy}
 use Rattle.overlay_maps.specs.Held.{heldMaps}
+use Rattle.overlay_maps.specs.LayersOf.{layersOf}
+use Rattle.overlay_graph.specs.TracedOf.{cutOf, tracedOf}
 use Rattle.overlay.proofs.JudgeLaws.{faces-refused, all-within}
 use borrow.Author.Needs.{needs}
 use Rattle.overlay.proofs.stages.from_cut.Statement.{statement}
@@ -38,7 +40,7 @@ returns c =
     let p = start .pre in
     let room = ap (λ (n : Counts). n .faces) (after-room-in .room-in .ensures) in
     after-refuse .refuse .ensures
-    ∙ faces-refused (heldMaps (a .l)) (a .c) (p .1 .0) (lengthsOf (tablesBy (now (a .vertices)) (now (a .halves)) (now (a .sources)) (now (a .faces)))) (p .1 .1) _ (after-trace .trace .ensures) (omega (arith, room, then1 .if1))
+    ∙ faces-refused (heldMaps (layersOf (a .l))) (cutOf (a .c)) (p .1 .0) (lengthsOf (tablesBy (now (a .vertices)) (now (a .halves)) (now (a .sources)) (now (a .faces)))) (p .1 .1) (tracedOf _) (after-trace .trace .ensures) (omega (arith, room, then1 .if1))
 
 returns-2 : tie.Need-returns-2
 returns-2 c =
@@ -51,7 +53,7 @@ returns-2 c =
     let p = start .pre in
     let room = ap (λ (n : Counts). n .faces) (after-room-in .room-in .ensures) in
     after-fill .fill .ensures
-    ∙ all-within (heldMaps (a .l)) (a .c) (p .1 .0) (lengthsOf (tablesBy (now (a .vertices)) (now (a .halves)) (now (a .sources)) (now (a .faces)))) (p .1 .1) _ (after-trace .trace .ensures) (omega (arith, room, else1 .if1))
+    ∙ all-within (heldMaps (layersOf (a .l))) (cutOf (a .c)) (p .1 .0) (lengthsOf (tablesBy (now (a .vertices)) (now (a .halves)) (now (a .sources)) (now (a .faces)))) (p .1 .1) (tracedOf _) (after-trace .trace .ensures) (omega (arith, room, else1 .if1))
 
 pub from-cut-spec : {M : Type 1} → statement M
 from-cut-spec =

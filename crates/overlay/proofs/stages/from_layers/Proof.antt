@@ -7,6 +7,8 @@ use Rattle.paper.specs.Lent.{lengthsOf}
 use Rattle.map_file.specs.Verdict.{verdict}
 use Rattle.tables.specs.Values.{tablesBy}
 use Rattle.overlay_maps.specs.Held.{heldMaps}
+use Rattle.overlay_maps.specs.LayersOf.{layersOf}
+use Rattle.overlay_graph.specs.TracedOf.{cutOf}
 use Rattle.overlay.proofs.JudgeLaws.{cut-refused, cut-within}
 use borrow.Author.Needs.{needs}
 use Rattle.overlay.proofs.stages.from_layers.Statement.{statement}
@@ -21,14 +23,14 @@ from-cut-requires c κs =
     let after-enum-told : tie.After-enum-told = search needs in
     let a = start .args in
     let judged = after-over-room .over-room .ensures ∙ (λ i. firstOf (given 11 1 (ltb (after-room-in .room-in .ensures i .vertices) (after-cut-layers .cut-layers .result .vertices)) ∷ given 11 2 (ltb (after-room-in .room-in .ensures i .edges) (after-cut-layers .cut-layers .result .edges)) ∷ [])) in
-    (start .pre, (after-cut-layers .cut-layers .ensures, cut-within (heldMaps (a .l)) _ (after-cut-layers .cut-layers .ensures) (lengthsOf (tablesBy (now (a .vertices)) (now (a .halves)) (now (a .sources)) (now (a .faces)))) (sym judged ∙ ap verdict (after-enum-told .enum-told .given .1))))
+    (start .pre, (after-cut-layers .cut-layers .ensures, cut-within (heldMaps (layersOf (a .l))) (cutOf _) (after-cut-layers .cut-layers .ensures) (lengthsOf (tablesBy (now (a .vertices)) (now (a .halves)) (now (a .sources)) (now (a .faces)))) (sym judged ∙ ap verdict (after-enum-told .enum-told .given .1))))
 
 returns : tie.Need-returns
 returns c =
     let a = c .before .before .before .before .before .before .before .before .before .before .before .before .before .before .before .before .before .before .before .before .before .args in
     let judged = c .before .before .before .before .before .before .before .before .before .before .before .before .before .before .before .over-room .ensures ∙ (λ i. firstOf (given 11 1 (ltb (c .before .before .before .before .before .before .before .before .before .before .before .before .before .before .before .before .room-in .ensures i .vertices) (c .before .before .before .before .before .before .before .before .before .before .before .before .before .before .before .before .before .cut-layers .result .vertices)) ∷ given 11 2 (ltb (c .before .before .before .before .before .before .before .before .before .before .before .before .before .before .before .before .room-in .ensures i .edges) (c .before .before .before .before .before .before .before .before .before .before .before .before .before .before .before .before .before .cut-layers .result .edges)) ∷ [])) in
     c .before .before .before .before .before .before .before .refuse .ensures
-    ∙ cut-refused (heldMaps (a .l)) _ (c .before .before .before .before .before .before .before .before .before .before .before .before .before .before .before .before .before .cut-layers .ensures) (lengthsOf (tablesBy (now (a .vertices)) (now (a .halves)) (now (a .sources)) (now (a .faces)))) _ (sym judged ∙ ap verdict (c .before .before .before .before .before .before .before .before .before .before .before .before .before .check .given .1))
+    ∙ cut-refused (heldMaps (layersOf (a .l))) (cutOf _) (c .before .before .before .before .before .before .before .before .before .before .before .before .before .before .before .before .before .cut-layers .ensures) (lengthsOf (tablesBy (now (a .vertices)) (now (a .halves)) (now (a .sources)) (now (a .faces)))) _ (sym judged ∙ ap verdict (c .before .before .before .before .before .before .before .before .before .before .before .before .before .check .given .1))
 
 returns-2 : tie.Need-returns-2
 returns-2 c =

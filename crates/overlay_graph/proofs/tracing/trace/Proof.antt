@@ -8,6 +8,8 @@ use Rattle.paper.specs.Faces.{net, overlayOf}
 use Rattle.laws_graph.specs.Plane.{Plane}
 use Rattle.graph.specs.Flat.{Flat, flatGraph}
 use Rattle.overlay_maps.specs.Held.{heldMaps}
+use Rattle.overlay_maps.specs.LayersOf.{layersOf}
+use Rattle.overlay_graph.specs.TracedOf.{cutOf, tracedOf}
 use Rattle.overlay_graph.specs.Laws.Standing.{starts}
 use Rattle.overlay_graph.specs.Laws.Tracing.{net-is, net-planar, net-flat, next-numbers, traced-of}
 use Rattle.overlay_graph.proofs.tracing.trace.Statement.{statement}
@@ -17,7 +19,7 @@ starts-of-requires : tie.Need-starts-of-requires
 starts-of-requires c κs = c .before .pre .1 .1 .1
 
 carriers-of-requires : tie.Need-carriers-of-requires
-carriers-of-requires c κs = let s = c .before .before in (starts (s .args .l) (s .pre .0), s .pre .1 .1 .1)
+carriers-of-requires c κs = let s = c .before .before in (starts (layersOf (s .args .l)) (s .pre .0), s .pre .1 .1 .1)
 
 slice-aggregate-link : tie.Need-slice-aggregate-link
 slice-aggregate-link c = search needs
@@ -32,17 +34,17 @@ module _ (c : tie.After-points2) where
 
   flat : Flat (s .args .c .points) (c .before .before .starts-of .result) (c .before .carriers-of .result) (s .args .c .vertices) (s .args .c .edges)
   flat =
-      net-flat (s .args .l) (s .pre .0) (s .args .c) (s .pre .1 .0) (s .pre .1 .1 .0) (s .pre .1 .1 .1) long (c .before .before .starts-of .result) (c .before .carriers-of .result)
+      net-flat (layersOf (s .args .l)) (s .pre .0) (cutOf (s .args .c)) (s .pre .1 .0) (s .pre .1 .1 .0) (s .pre .1 .1 .1) long (c .before .before .starts-of .result) (c .before .carriers-of .result)
       (c .before .before .starts-of .ensures) (c .before .carriers-of .ensures)
 
   planar : Plane (flatGraph (s .args .c .points) (c .before .before .starts-of .result) (c .before .carriers-of .result) (s .args .c .vertices) (s .args .c .edges))
   planar =
-      net-planar (s .args .l) (s .pre .0) (s .args .c) (s .pre .1 .0) (s .pre .1 .1 .0) (s .pre .1 .1 .1) long (c .before .before .starts-of .result) (c .before .carriers-of .result)
+      net-planar (layersOf (s .args .l)) (s .pre .0) (cutOf (s .args .c)) (s .pre .1 .0) (s .pre .1 .1 .0) (s .pre .1 .1 .1) long (c .before .before .starts-of .result) (c .before .carriers-of .result)
       (c .before .before .starts-of .ensures) (c .before .carriers-of .ensures)
 
-  is-net : flatGraph (s .args .c .points) (c .before .before .starts-of .result) (c .before .carriers-of .result) (s .args .c .vertices) (s .args .c .edges) ≡ net (overlayOf (heldMaps (s .args .l)))
+  is-net : flatGraph (s .args .c .points) (c .before .before .starts-of .result) (c .before .carriers-of .result) (s .args .c .vertices) (s .args .c .edges) ≡ net (overlayOf (heldMaps (layersOf (s .args .l))))
   is-net =
-      net-is (s .args .l) (s .pre .0) (s .args .c) (s .pre .1 .0) (s .pre .1 .1 .0) (s .pre .1 .1 .1) long (c .before .before .starts-of .result) (c .before .carriers-of .result)
+      net-is (layersOf (s .args .l)) (s .pre .0) (cutOf (s .args .c)) (s .pre .1 .0) (s .pre .1 .1 .0) (s .pre .1 .1 .1) long (c .before .before .starts-of .result) (c .before .carriers-of .result)
       (c .before .before .starts-of .ensures) (c .before .carriers-of .ensures)
 
 link-requires : tie.Need-link-requires
@@ -72,7 +74,7 @@ returns c =
     let k : tie.After-link = search needs in
     let p = k .before .before .before in
     let s = p .before .before .before .before in
-    traced-of (heldMaps (s .args .l)) (s .args .c) _ (s .pre .1 .1 .1) (flat p) (planar p) (is-net p) (k .link .result .lead) (k .link .result .top) (k .link .ensures) (after-enclose .enclose .ensures)
+    traced-of (heldMaps (layersOf (s .args .l))) (cutOf (s .args .c)) (tracedOf _) (s .pre .1 .1 .1) (flat p) (planar p) (is-net p) (k .link .result .lead) (k .link .result .top) (k .link .ensures) (after-enclose .enclose .ensures)
     (c .before .predecessors .ensures) (c .least-outgoing .ensures)
 
 pub trace-spec : {M : Type 1} → statement M

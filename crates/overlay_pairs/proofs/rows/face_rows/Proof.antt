@@ -4,12 +4,14 @@ use Prim.Native.Nat.{ℕ}
 use native.Mathlib.Omega.{arith}
 use lib.ListN.{length, replicate}
 use borrow.Author.Needs.{needs, length-unmapped}
+use Rattle.overlay_maps.specs.LayersOf.{layersOf}
+use Rattle.overlay_graph.specs.TracedOf.{cutOf, tracedOf}
 use Rattle.overlay_pairs.specs.Pairs.{Whole, rows-are}
 use Rattle.overlay_pairs.proofs.rows.face_rows.Statement.{statement}
 use Rattle.overlay_pairs.proofs.rows.face_rows.Tie as tie
 
 -- what is asked, as one record
-whole : (s : tie.Start) → Whole (s .args .l) (s .args .c) (s .args .t)
+whole : (s : tie.Start) → Whole (layersOf (s .args .l)) (cutOf (s .args .c)) (tracedOf (s .args .t))
 whole s = record {
   held = s .pre .0;
   cut = s .pre .1 .0;
@@ -61,7 +63,7 @@ returns c =
     let second = c .before .before .before .before .before .before .before .before .before .before .before .before .lay-labels2 in
     let outer = c .before .before .before .before .before .before .lay-outers in
     let holes = c .before .lay-holes in
-    (refl, rows-are (s .args .l) (s .args .c) (s .args .t) (whole s) _ _ _ _ (replicate 1334 0) (first .ensures) (second .ensures) (outer .ensures) (holes .ensures))
+    (refl, rows-are (layersOf (s .args .l)) (cutOf (s .args .c)) (tracedOf (s .args .t)) (whole s) _ _ _ _ (replicate 1334 0) (first .ensures) (second .ensures) (outer .ensures) (holes .ensures))
 
 pub face-rows-spec : {M : Type 1} → statement M
 face-rows-spec =

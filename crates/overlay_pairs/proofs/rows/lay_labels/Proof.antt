@@ -9,6 +9,8 @@ use denote.Ref.{now}
 use Rattle.seq.specs.Filled.{filled-ext}
 use Rattle.paper.specs.Faces.{overlayOf}
 use Rattle.overlay_maps.specs.Held.{heldMap, heldMaps}
+use Rattle.overlay_maps.specs.LayersOf.{layersOf}
+use Rattle.overlay_graph.specs.TracedOf.{cutOf, tracedOf}
 use Rattle.overlay_pairs.specs.Labels.{faceLabel}
 use Rattle.overlay_pairs.specs.Pairs.{labelOf, readable, label-at}
 use Rattle.overlay_pairs.proofs.rows.lay_labels.Statement.{statement}
@@ -93,16 +95,16 @@ face-labels-requires c κs =
     let a = s .args in
     let W = s .pre .0 in
     let b = s .pre .1 .0 in
-    (W .held .stands (a .m) b, (readable (a .t1) (a .c) (a .t) W (a .m) b (omega (arith, pieces-long s, W .few-edges)), (W .few-faces, s .pre .1 .1)))
+    (W .held .stands (a .m) b, (readable (layersOf (a .t1)) (cutOf (a .c)) (tracedOf (a .t)) W (a .m) b (omega (arith, pieces-long s, W .few-edges)), (W .few-faces, s .pre .1 .1)))
 
 returns : tie.Need-returns
 returns c =
     let s : tie.Start = search needs in
     let a = s .args in
-    let l = a .t1 in
+    let l = layersOf (a .t1) in
     c .before .before .face-labels .ensures
     ∙ filled-ext (faceLabel (heldMap l (a .m)) (a .c .points) (a .t .origins) (a .t .carriers) (a .c .pieces) (a .m) (a .t .outers)) (labelOf (heldMaps l) (overlayOf (heldMaps l)) (a .m)) (a .t .count + 1) (now (a .out))
-    (λ f q. label-at l (a .c) (a .t) (s .pre .0) (a .m) f (s .pre .1 .0) q)
+    (λ f q. label-at l (cutOf (a .c)) (tracedOf (a .t)) (s .pre .0) (a .m) f (s .pre .1 .0) q)
 
 pub lay-labels-spec : {M : Type 1} → statement M
 lay-labels-spec =
