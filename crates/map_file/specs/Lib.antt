@@ -1,5 +1,6 @@
 pub mod Verdict
 pub mod Parts
 pub mod Rows
+pub mod Places
 pub mod Header
 pub mod Laws

@@ -1,6 +1,6 @@
-// Numbers in a file's bytes, "low byte first". A byte past the end counts as 0, so that every place of every file has an answer.
+// The mark and numbers in a file's bytes, "low byte first". A byte past the end counts as 0, so that every place of every file has an answer.
 ghost use mathlib.Core.Path.{_≡_};
-ghost use Rattle.paper.specs.Bytes.{byteAt, u16, signedAt};
+ghost use Rattle.paper.specs.Bytes.{ascii, byteAt, marked, u16, signedAt};
 
 pub fn byte_at(file: &[u8], at: usize) -> u8
     ensures { λ r. ⌜ r ≡ byteAt (now (file .entry)) at ⌝ }
@@ -9,6 +9,22 @@ pub fn byte_at(file: &[u8], at: usize) -> u8
         return 0;
     }
     file[at]
+}
+
+// "Mark `ZMP`": whether it stands at a place.
+pub fn marked_at(file: &[u8], at: usize) -> bool
+    ensures { λ r. ⌜ r ≡ marked (ascii "ZMP") (now (file .entry)) at ⌝ }
+{
+    if file.len() <= at {
+        return false;
+    }
+    if byte_at(file, at) != b'Z' {
+        return false;
+    }
+    if byte_at(file, at + 1) != b'M' {
+        return false;
+    }
+    byte_at(file, at + 2) == b'P'
 }
 
 // The unsigned number in the two bytes at a place. The place after the last possible one is never counted out.

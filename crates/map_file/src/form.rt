@@ -1,5 +1,4 @@
 // Rules 1 to 4: the form of a map file.
-use crate::bytes::byte_at;
 use crate::fields::vertex_place;
 use crate::reader::read_header;
 use crate::refusal::Check;
@@ -13,27 +12,19 @@ ghost use mathlib.Core.Path.{_≡_};
 ghost use mathlib.Core.Bool.{not, _||_};
 ghost use Prim.Native.Nat.{_+_, _*_};
 ghost use lib.Dec.{ltb};
-ghost use lib.ListN.{length};
 ghost use Rattle.paper.specs.Limits.{mapHead, mapVertices, mapEdges};
-ghost use Rattle.paper.specs.Bytes.{ascii, marked};
 ghost use Rattle.paper.specs.Refusal.{firstOf};
 ghost use Rattle.paper.specs.Map.{vertexPlace, formFaults};
 ghost use Rattle.map_file.specs.Verdict.{verdict};
 
 // 1 "under 9 bytes, or mark wrong"
-pub fn bad_mark(file: &[u8]) -> bool
-    ensures { λ r. ⌜ r ≡ (ltb (length (now (file .entry))) mapHead || not (marked (ascii "ZMP") (now (file .entry)) 0)) ⌝ }
+pub fn bad_mark(length: usize, mark: bool) -> bool
+    ensures { λ r. ⌜ r ≡ (ltb length mapHead || not mark) ⌝ }
 {
-    if file.len() < MAP_HEAD {
+    if length < MAP_HEAD {
         return true;
     }
-    if byte_at(file, 0) != b'Z' {
-        return true;
-    }
-    if byte_at(file, 1) != b'M' {
-        return true;
-    }
-    byte_at(file, 2) != b'P'
+    !mark
 }
 
 // 3 "V > 200 or E > 300"
@@ -58,7 +49,7 @@ pub fn form(file: &[u8]) -> Check
     ensures { λ r. ⌜ verdict r ≡ firstOf (formFaults (now (file .entry))) ⌝ }
 {
     let h = read_header(file);
-    let mark = given(1, 0, bad_mark(file));
+    let mark = given(1, 0, bad_mark(file.len(), h.mark));
     let version = given(2, 0, h.version != 1);
     let limits = given(3, 0, over_limits(h.vertices, h.edges));
     let length = given(4, 0, file.len() != map_length(h.vertices, h.edges));

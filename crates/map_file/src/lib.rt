@@ -1,12 +1,13 @@
 // Map files (01, "Map file"): the numbers in a file's bytes, the parts of the map that it holds, and refusals 1 to 7.
 // Everything here takes arbitrary bytes: a byte past the end counts as 0, as in the definitions.
 mod refusal; // a refusal, and chains of checks
-mod bytes; // numbers in bytes, low byte first
-mod reader; // the reader that holds the file and its place
+mod bytes; // the mark and numbers in bytes, low byte first
+mod reader; // the reader that holds the file and its place: header, vertices, edges
+mod rows; // vertices and edges from a place on
 mod fields; // counts, corners, origins, labels
 mod form; // rules 1 to 4
 mod parts; // rules 5 to 7
-mod load; // the map in flat tables
+mod load; // the map read into flat tables
 
 use crate::form::form;
 use crate::parts::parts;
@@ -18,6 +19,7 @@ pub use load::load_carriers;
 pub use load::load_labels;
 pub use load::load_origins;
 pub use load::load_points;
+pub use load::read_map;
 pub use refusal::Check;
 pub use refusal::Refusal;
 pub use refusal::first;

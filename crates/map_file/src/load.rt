@@ -6,6 +6,8 @@ use crate::fields::edge_count;
 use crate::fields::label_at;
 use crate::fields::origin_at;
 use crate::fields::vertex_count;
+use crate::reader::read_body;
+use crate::reader::read_header;
 use plane::Seg;
 use plane::between;
 use seq::store4_i64;
@@ -20,6 +22,15 @@ ghost use Rattle.paper.specs.Refusal.{firstOf};
 ghost use Rattle.paper.specs.Map.{mapOf, vertexCount, edgesIn, label, formFaults, partFaults};
 ghost use Rattle.plane.specs.Values.{segOf};
 ghost use Rattle.map_file.specs.Rows.{pointRow, carrierRow};
+
+// The map, read front to back: of each vertex its point, a row of X, Y, D = 1 and a spare cell; of each half-edge the vertex that it starts from, and its label.
+pub fn read_map(file: &[u8], points: &mut [i64], origins: &mut [u16], labels: &mut [u16])
+    requires { ⌜ (4 * vertexCount (now file) ≤ length (now points)) × (2 * edgesIn (now file) ≤ length (now origins)) × (2 * edgesIn (now file) ≤ length (now labels)) ⌝ }
+    ensures { λ _. ⌜ (now (points .exit) ≡ laid (vertexCount (now (file .entry))) (pointRow (mapOf (now (file .entry)) .graph)) (now (points .entry))) × (now (origins .exit) ≡ filled (2 * edgesIn (now (file .entry))) (origin (mapOf (now (file .entry)) .graph)) (now (origins .entry))) × (now (labels .exit) ≡ filled (2 * edgesIn (now (file .entry))) (label (mapOf (now (file .entry)))) (now (labels .entry))) ⌝ }
+{
+    let h = read_header(file);
+    read_body(file, h.vertices, h.edges, points, origins, labels);
+}
 
 // The points, each a row of X, Y, D = 1 and a spare cell.
 pub fn load_points(file: &[u8], points: &mut [i64])

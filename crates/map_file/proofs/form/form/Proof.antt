@@ -3,7 +3,7 @@ use mathlib.Core.Path.{ap, _∙_}
 use borrow.Author.Needs.{needs}
 use denote.Ref.{now}
 use Rattle.seq.specs.Seq.{ℕ, _+_, _*_, not, _||_, ltb, eqb, length}
-use Rattle.paper.specs.Limits.{mapVertices, mapEdges}
+use Rattle.paper.specs.Limits.{mapHead, mapVertices, mapEdges}
 use Rattle.paper.specs.Map.{vertexPlace}
 use Rattle.paper.specs.Refusal.{given}
 use Rattle.map_file.specs.declared.reader.Header.{Header}
@@ -22,7 +22,7 @@ returns c =
     let s = now (head .before .before .args .file) in
     let vertices = ap (λ (h : Header). h .vertices) (head .read-header .ensures) in
     let edges = ap (λ (h : Header). h .edges) (head .read-header .ensures) in
-    let mark = one .given .ensures ∙ ap (given 1 0) (one .before .bad-mark .ensures) in
+    let mark = one .given .ensures ∙ ap (given 1 0) (one .before .bad-mark .ensures ∙ ap (λ (h : Header). ltb (length s) mapHead || not (h .mark)) (head .read-header .ensures)) in
     let version = second .given2 .ensures ∙ ap (λ (h : Header). given 2 0 (not (eqb (h .version) 1))) (head .read-header .ensures) in
     let limits = third .given3 .ensures ∙ ap (given 3 0) (third .before .over-limits .ensures ∙ (λ i. ltb mapVertices (vertices i) || ltb mapEdges (edges i))) in
     let long = fourth .before .map-length .ensures ∙ (λ i. vertexPlace (vertices i) + 8 * edges i) ∙ length-is s in
