@@ -3,7 +3,5 @@ mod walks; // the least half-edge of each walk, its smallest vertex, hole walk o
 mod linking; // all of it at once
 mod numbering; // faces and their hole walks
 
-pub use linking::Faces;
-pub use linking::Walks;
 pub use linking::enclose;
 pub use linking::link;

@@ -1,5 +1,7 @@
 -- Laws that the proofs of the functions cite.
+pub mod KeptLaws
+pub mod GraphLaws
+pub mod PartsLaws
 pub mod LoadedLaws
-pub mod LabelledLaws
-pub mod FoundLaws
-pub mod ChainLaws
+pub mod NetLaws
+pub mod ReadLaws

@@ -1,9 +1,8 @@
 -- Rule 10 on flat tables: what the code tests of one half-edge, and what its tables are (`Linked`). Assumes nothing.
 use Prim.Native.Nat.{_≤_, _<_}
-use Rattle.seq.specs.Seq.{Bool, true, not, _&&_, _||_, List, [], _∷_, ℕ, _*_, eqb, length, getD, ℤ, someBelow, orZero, walkFrom}
+use Rattle.seq.specs.Seq.{Bool, true, not, _&&_, _||_, List, [], _∷_, ℕ, _*_, eqb, length, getD, ℤ, someBelow, walkFrom}
 use Rattle.paper.specs.Limits.{absent}
 use Rattle.paper.specs.Plane.{nowhere, before, lessAngle}
-use Rattle.paper.specs.Graph.{west}
 use Rattle.graph.specs.Flat.{originAt, startAt, flatGraph, Flat, Starts, Numbers}
 use Rattle.graph.specs.Heading.{vecAt}
 use Rattle.graph.specs.Follow.{Headings}

@@ -1,3 +1,4 @@
+pub mod Parts
 pub mod Net
 pub mod Later
 pub mod Heights

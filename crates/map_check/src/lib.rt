@@ -1,15 +1,17 @@
-// The check of one map (01, "When a map is refused"): rules 8 to 10 over the map's flat tables, and the whole check of a file.
+// The check of one map (01, "When a map is refused"), and its tables: the file is decoded once, and rules 5 to 10 are found on what it was decoded into.
+mod parts; // rules 5 to 7, and the carriers
 mod edges; // rules 8 and 9
 mod labels; // rule 10
-mod rules; // rules 8 to 10 of a file, and the chain
+mod rules; // rules 8 to 10, one after the other
 mod answer; // what is answered
+mod lay; // a file checked and laid in tables
 
 pub use answer::Checked;
 pub use answer::Counts;
-use map_file::Check;
-use map_file::edge_count;
-use map_file::vertex_count;
-pub use rules::fault;
+pub use lay::lay_map;
+use limits::MAP_CARRIER_CELLS;
+use limits::MAP_HALVES;
+use limits::MAP_POINT_CELLS;
 ghost use mathlib.Core.Path.{_≡_};
 ghost use Rattle.paper.specs.Map.{check};
 ghost use Rattle.map_check.specs.Answer.{answerOf};
@@ -18,12 +20,9 @@ ghost use Rattle.map_check.specs.Answer.{answerOf};
 pub fn check(file: &[u8]) -> Checked
     ensures { λ r. ⌜ answerOf r ≡ check (now (file .entry)) ⌝ }
 {
-    let c = fault(file);
-    match c {
-        Check::Bad(r) => Checked::Bad(r),
-        Check::Fine => Checked::Good(Counts {
-            vertices: vertex_count(file),
-            edges: edge_count(file),
-        }),
-    }
+    let mut corners = [0i64; MAP_POINT_CELLS];
+    let mut origins = [0u16; MAP_HALVES];
+    let mut carriers = [0i64; MAP_CARRIER_CELLS];
+    let mut labels = [0u16; MAP_HALVES];
+    lay_map(file, &mut corners, &mut origins, &mut carriers, &mut labels)
 }

@@ -2,9 +2,5 @@
 pub mod BytesLaws
 pub mod VerdictLaws
 pub mod FormLaws
-pub mod PartsLaws
 pub mod PlacesLaws
 pub mod ReaderLaws
-pub mod LoadLaws
-pub mod KeptLaws
-pub mod GraphLaws

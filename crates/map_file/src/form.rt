@@ -1,6 +1,6 @@
 // Rules 1 to 4: the form of a map file.
 use crate::fields::vertex_place;
-use crate::reader::read_header;
+use crate::reader::Header;
 use crate::refusal::Check;
 use crate::refusal::first;
 use crate::refusal::given;
@@ -15,6 +15,7 @@ ghost use lib.Dec.{ltb};
 ghost use Rattle.paper.specs.Limits.{mapHead, mapVertices, mapEdges};
 ghost use Rattle.paper.specs.Refusal.{firstOf};
 ghost use Rattle.paper.specs.Map.{vertexPlace, formFaults};
+ghost use Rattle.map_file.specs.Header.{headerOf};
 ghost use Rattle.map_file.specs.Verdict.{verdict};
 
 // 1 "under 9 bytes, or mark wrong"
@@ -44,11 +45,11 @@ pub fn map_length(vertices: u16, edges: u16) -> usize
     vertex_place(vertices) + MAP_EDGE_SIZE * edges as usize
 }
 
-// The first of rules 1 to 4 that the file breaks.
-pub fn form(file: &[u8]) -> Check
+// The first of rules 1 to 4 that the file with this header breaks.
+pub fn form_fault(file: &[u8], h: Header) -> Check
+    requires { ⌜ h ≡ headerOf (now file) ⌝ }
     ensures { λ r. ⌜ verdict r ≡ firstOf (formFaults (now (file .entry))) ⌝ }
 {
-    let h = read_header(file);
     let mark = given(1, 0, bad_mark(file.len(), h.mark));
     let version = given(2, 0, h.version != 1);
     let limits = given(3, 0, over_limits(h.vertices, h.edges));

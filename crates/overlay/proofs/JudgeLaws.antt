@@ -9,9 +9,9 @@ use Rattle.seq.specs.Seq.{Bool, true, false, List, [], _∷_, map, Option, none
 use lib.ListN.{length-map}
 use Rattle.seq.specs.Table.{length-table}
 use Rattle.paper.specs.Limits.{maps, overlayVertices, overlayEdges}
-use Rattle.paper.specs.Refusal.{Refusal, given, firstOf, ofMap}
+use Rattle.paper.specs.Refusal.{Refusal, given, firstOf}
 use Rattle.paper.specs.Graph.{edgeCount}
-use Rattle.paper.specs.Map.{Map, mapOf, fault}
+use Rattle.paper.specs.Map.{Map, mapOf}
 use Rattle.paper.specs.Pieces.{verticesOf, edgesOf, edgeOf}
 use Rattle.paper.specs.Faces.{Overlay, net, overlayOf}
 use Rattle.paper.specs.Tables.{Counts, countsOf, tablesOf}
@@ -21,14 +21,9 @@ use Rattle.laws_refusals.specs.Refusals.{nothing, given-none, none-given, first
 use Rattle.graph.specs.Flat.{pointAt}
 use Rattle.overlay_cut.specs.PieceRows.{pieceAt}
 use Rattle.overlay_graph.specs.Cut.{Cut, CutOf}
-use Rattle.overlay_graph.specs.Traced.{Traced, TracedOf}
 use Rattle.overlay.specs.Judged.{overlaid, doneWith, refusedWith, Within}
 
 -- ── the maps ──
-
-not-refused : (m : ℕ) (x : Option Refusal) → ofMap m x ≡ none → x ≡ none
-not-refused m none e = refl
-not-refused m (some r) e = absurd (let z : _≡_ {A = ℕ} 0 1 = cc in omega arith)
 
 module _ (a b : List ℕ) where
   abbrev found : Option Refusal
@@ -36,19 +31,6 @@ module _ (a b : List ℕ) where
 
   abbrev maps-in : List Map
   maps-in = mapOf a ∷ mapOf b ∷ []
-
-  -- the first map, and where nothing is found in it the second
-  pub zones-refused : {r : Refusal} → ofMap 1 (fault a) ≡ some r → found ≡ some r
-  zones-refused e = ap (λ (x : Option Refusal). firstOf (x ∷ ofMap 2 (fault b) ∷ [])) e
-
-  pub zones-pass : ofMap 1 (fault a) ≡ none → found ≡ ofMap 2 (fault b)
-  zones-pass e = ap (λ (x : Option Refusal). firstOf (x ∷ ofMap 2 (fault b) ∷ [])) e ∙ first-one (ofMap 2 (fault b))
-
-  pub first-passes : found ≡ none → fault a ≡ none
-  first-passes e = not-refused 1 (fault a) (nothing (mapFaults (a ∷ b ∷ [])) e .0)
-
-  pub second-passes : found ≡ none → fault b ≡ none
-  second-passes e = not-refused 2 (fault b) (nothing (mapFaults (a ∷ b ∷ [])) e .1 .0)
 
   module _ (l : Lengths) where
     abbrev counts : Counts
@@ -133,25 +115,25 @@ module _ (ms : List Map) (c : Cut) (C : CutOf ms c) where
           edges = ltb-false (room .edges) (c .edges) (given-none 11 2 (ltb (room .edges) (c .edges)) (n .1 .0));
         }
 
-    module _ (w : Within c l) (t : Traced) (T : TracedOf ms c t) where
+    module _ (w : Within c l) (n : ℕ) (counted : n ≡ length (overlayOf ms .outers)) where
       nothing-yet : judged ≡ none
       nothing-yet =
           let p = none-given 11 1 (ltb (room .vertices) (c .vertices)) (le-ltb (room .vertices) (c .vertices) (w .vertices)) in
           let q = none-given 11 2 (ltb (room .edges) (c .edges)) (le-ltb (room .edges) (c .edges) (w .edges)) in
           λ i. firstOf (p i ∷ q i ∷ [])
 
-      faces-are : countsOf o .faces ≡ t .count + 1
-      faces-are = ap suc (sym (T .faces-by .count-is)) ∙ sym (add-one (t .count))
+      faces-are : countsOf o .faces ≡ n + 1
+      faces-are = ap suc (sym counted) ∙ sym (add-one n)
 
-      faces-last : firstOf (roomFaults room (countsOf o)) ≡ given 11 3 (ltb (room .faces) (t .count + 1))
+      faces-last : firstOf (roomFaults room (countsOf o)) ≡ given 11 3 (ltb (room .faces) (n + 1))
       faces-last =
           judged-first ∙ ap (λ (x : Option Refusal). firstOf (x ∷ given 11 3 (ltb (room .faces) (countsOf o .faces)) ∷ [])) nothing-yet
           ∙ first-one (given 11 3 (ltb (room .faces) (countsOf o .faces))) ∙ ap (λ (n : ℕ). given 11 3 (ltb (room .faces) n)) faces-are
 
-      pub faces-refused : room .faces < t .count + 1 → refusedWith l (record { number = 11; map = 0; place = 3 }) ≡ overlaid ms l
+      pub faces-refused : room .faces < n + 1 → refusedWith l (record { number = 11; map = 0; place = 3 }) ≡ overlaid ms l
       faces-refused h =
-          sym (ap (outcome l (countsOf o) (tablesOf ms o)) (faces-last ∙ ap (given 11 3) (lt-ltb (room .faces) (t .count + 1) h)))
+          sym (ap (outcome l (countsOf o) (tablesOf ms o)) (faces-last ∙ ap (given 11 3) (lt-ltb (room .faces) (n + 1) h)))
 
-      pub all-within : t .count + 1 ≤ room .faces → doneWith l (countsOf o) (tablesOf ms o) ≡ overlaid ms l
+      pub all-within : n + 1 ≤ room .faces → doneWith l (countsOf o) (tablesOf ms o) ≡ overlaid ms l
       all-within h =
-          sym (ap (outcome l (countsOf o) (tablesOf ms o)) (faces-last ∙ ap (given 11 3) (le-ltb (room .faces) (t .count + 1) h)))
+          sym (ap (outcome l (countsOf o) (tablesOf ms o)) (faces-last ∙ ap (given 11 3) (le-ltb (room .faces) (n + 1) h)))

@@ -16,10 +16,9 @@ use Rattle.graph.specs.Flat.{pointAt, flatGraph}
 use Rattle.graph.specs.Laws.Decode.{flat-points, flat-edges, flat-point, flat-origin}
 use Rattle.overlay_cut.specs.PieceRows.{minusOne, pieceAt, piecesIn}
 use Rattle.tables.specs.Rows.{vertexOf, halfOf, sourceOf, faceBy}
-use Rattle.tables.specs.declared.face_rows.FaceRows.{FaceRows}
 use Rattle.overlay_graph.specs.Cut.{Cut, CutOf}
 use Rattle.overlay_graph.specs.Traced.{Traced, TracedOf}
-use Rattle.overlay.specs.Stored.{vertexRows, halfRows, sourceRows, stored, storedCounts}
+use Rattle.overlay.specs.Stored.{stored, storedCounts}
 
 stored-source : (n : ℕ) → plusOne (minusOne n) ≡ n
 stored-source zero = refl
@@ -35,7 +34,7 @@ module _ (ms : List Map) (c : Cut) (C : CutOf ms c) (few : c .vertices ≤ overl
   unfolding overlayOf
   pieces-are = C .edges-are few short
 
-  source-row : (k : ℕ) → k < c .edges → sourceOf (sourceRows c) k ≡ sourceRow o k
+  source-row : (k : ℕ) → k < c .edges → sourceOf (c .pieces) k ≡ sourceRow o k
   source-row k l =
       let at : getD (o .pieces) k (record { lo = 0; hi = 0; sources = [] }) ≡ pieceAt (c .pieces) k =
       ap (λ (ps : List Piece). getD ps k (record { lo = 0; hi = 0; sources = [] })) (sym pieces-are) ∙ table-at (pieceAt (c .pieces)) (c .edges) k (record { lo = 0; hi = 0; sources = [] }) l in
@@ -59,7 +58,7 @@ module _ (ms : List Map) (c : Cut) (C : CutOf ms c) (few : c .vertices ≤ overl
     point-is : (v : ℕ) → v < c .vertices → pointAt (c .points) v ≡ point (net o) v
     point-is v l = sym (flat-point (c .points) (t .origins) (t .carriers) (c .vertices) (c .edges) v l) ∙ ap (λ (g : Graph). point g v) (T .net-by .net-is)
 
-    vertex-row : (v : ℕ) → v < c .vertices → vertexOf (vertexRows c t) v ≡ vertexRow (net o) v
+    vertex-row : (v : ℕ) → v < c .vertices → vertexOf (c .points) (t .least) v ≡ vertexRow (net o) v
     vertex-row v l = λ i. point-is v l i .X ∷ point-is v l i .Y ∷ point-is v l i .D ∷ pos (T .least-is v l i) ∷ []
 
     origin-is : (h : ℕ) → h < 2 * c .edges → getD (t .origins) h 0 ≡ origin (net o) h
@@ -68,7 +67,7 @@ module _ (ms : List Map) (c : Cut) (C : CutOf ms c) (few : c .vertices ≤ overl
     cell-is : (xs ys : List ℕ) (n h : ℕ) → xs ≡ padded 0 n ys → getD xs h 0 ≡ getD ys h 0
     cell-is xs ys n h e = ap (λ (l : List ℕ). getD l h 0) e ∙ padded-cell 0 n ys h
 
-    half-row : (h : ℕ) → h < 2 * c .edges → halfOf (halfRows c t) h ≡ halfRow o h
+    half-row : (h : ℕ) → h < 2 * c .edges → halfOf (t .origins) (t .next) (t .prev) (t .face) h ≡ halfRow o h
     half-row h l =
         let next = cell-is (t .next) (o .walks .next) _ h (T .faces-by .next-is) in
         let face = cell-is (t .face) (o .face) _ h (T .faces-by .face-is) in
@@ -76,18 +75,18 @@ module _ (ms : List Map) (c : Cut) (C : CutOf ms c) (few : c .vertices ≤ overl
 
     -- ── the tables ──
 
-    module _ (f : FaceRows) (count : f .count ≡ t .count + 1) (faces : rows (faceBy f) (f .count) ≡ rows (faceRow ms o) (t .count + 1)) where
+    module _ (first second outer counts : List ℕ) (faces : rows (faceBy first second outer counts) (t .count + 1) ≡ rows (faceRow ms o) (t .count + 1)) where
       faces-count : t .count + 1 ≡ suc (length (o .outers))
       faces-count = add-one (t .count) ∙ ap suc (T .faces-by .count-is)
 
-      pub counts-are : storedCounts c f ≡ countsOf o
-      counts-are = λ i. record { vertices = vertices-count i; edges = edges-count i; faces = (count ∙ faces-count) i }
+      pub counts-are : storedCounts c (t .count + 1) ≡ countsOf o
+      counts-are = λ i. record { vertices = vertices-count i; edges = edges-count i; faces = faces-count i }
 
-      pub stored-is : stored c t f ≡ tablesOf ms o
+      pub stored-is : stored c t first second outer counts (t .count + 1) ≡ tablesOf ms o
       unfolding tablesOf
       stored-is =
-          let vs = rows-ext (vertexOf (vertexRows c t)) (vertexRow (net o)) (c .vertices) vertex-row ∙ ap (rows (vertexRow (net o))) vertices-count in
-          let hs = rows-ext (halfOf (halfRows c t)) (halfRow o) (2 * c .edges) half-row ∙ ap (λ (n : ℕ). rows (halfRow o) (2 * n)) edges-count in
-          let ss = rows-ext (sourceOf (sourceRows c)) (sourceRow o) (c .edges) source-row ∙ ap (rows (sourceRow o)) edges-count in
+          let vs = rows-ext (vertexOf (c .points) (t .least)) (vertexRow (net o)) (c .vertices) vertex-row ∙ ap (rows (vertexRow (net o))) vertices-count in
+          let hs = rows-ext (halfOf (t .origins) (t .next) (t .prev) (t .face)) (halfRow o) (2 * c .edges) half-row ∙ ap (λ (n : ℕ). rows (halfRow o) (2 * n)) edges-count in
+          let ss = rows-ext (sourceOf (c .pieces)) (sourceRow o) (c .edges) source-row ∙ ap (rows (sourceRow o)) edges-count in
           let fs = faces ∙ ap (rows (faceRow ms o)) faces-count in
           λ i. record { vertices = vs i; halves = hs i; sources = ss i; faces = fs i }

@@ -1,13 +1,16 @@
 // The overlay of two map files: "Out come three tables (vertices, half-edges, faces)".
-mod judge; // the maps, and counts over the room
-mod store; // the lent tables filled
+mod judge; // counts over the room
+mod fill; // the lent tables filled
 mod stages; // from layers to tables
 
-use crate::judge::maps_fault;
 use crate::stages::from_layers;
 use crate::stages::refuse;
+use limits::LAYER_CARRIER_CELLS;
+use limits::LAYER_HALVES;
+use limits::LAYER_POINT_CELLS;
+use limits::LAYER_STARTS;
 use map_file::Check;
-use overlay_maps::read_layers;
+use overlay_maps::lay_maps;
 use tables::Answer;
 ghost use mathlib.Core.Path.{_≡_};
 ghost use Rattle.paper.specs.Lent.{lengthsOf};
@@ -25,12 +28,37 @@ pub fn overlay(
 ) -> Answer
     ensures { λ r. ⌜ outcomeOf r (tablesBy (now (vertices .exit)) (now (halves .exit)) (now (sources .exit)) (now (faces .exit))) ≡ overlay (lengthsOf (tablesBy (now (vertices .entry)) (now (halves .entry)) (now (sources .entry)) (now (faces .entry)))) (now (zones .entry)) (now (blocks .entry)) ⌝ }
 {
-    let c = maps_fault(zones, blocks);
+    let mut vertex_starts = [0usize; LAYER_STARTS];
+    let mut edge_starts = [0usize; LAYER_STARTS];
+    let mut corners = [0i64; LAYER_POINT_CELLS];
+    let mut origins = [0u16; LAYER_HALVES];
+    let mut carriers = [0i64; LAYER_CARRIER_CELLS];
+    let mut labels = [0u16; LAYER_HALVES];
+    let c = lay_maps(
+        zones,
+        blocks,
+        &mut vertex_starts,
+        &mut edge_starts,
+        &mut corners,
+        &mut origins,
+        &mut carriers,
+        &mut labels,
+    );
     match c {
         Check::Bad(r) => refuse(r, vertices, halves, sources, faces),
         Check::Fine => {
-            let l = read_layers(zones, blocks);
-            from_layers(l, vertices, halves, sources, faces)
+            from_layers(
+                &vertex_starts,
+                &edge_starts,
+                &corners,
+                &origins,
+                &carriers,
+                &labels,
+                vertices,
+                halves,
+                sources,
+                faces,
+            )
         }
     }
 }

@@ -1,32 +1,30 @@
 // From the layers of two maps that keep the rules to the lent tables. Each stage ends in a refusal or hands on to the next; "room comes last".
+use crate::fill::fill;
 use crate::judge::over_room;
-use crate::store::store;
+use limits::CARRIER_CELLS;
+use limits::FACE_ROWS;
+use limits::HALVES;
+use limits::PIECE_CELLS;
+use limits::POINT_CELLS;
 use map_file::Check;
 use map_file::Refusal;
-use overlay_graph::Cut;
-use overlay_graph::Traced;
-use overlay_graph::cut_layers;
-use overlay_graph::trace;
-use overlay_maps::Layers;
-use overlay_pairs::face_rows;
+use overlay_graph::cut_maps;
+use overlay_graph::lay_net;
+use overlay_graph::walk_net;
 use tables::Answer;
-use tables::Counts;
 use tables::room_in;
 use tables::wipe_all;
 ghost use mathlib.Core.Path.{_≡_};
-ghost use Prim.Native.Nat.{_+_, _≤_};
-ghost use Rattle.paper.specs.Limits.{maps};
-ghost use Rattle.paper.specs.Faces.{overlayOf};
-ghost use Rattle.paper.specs.Tables.{countsOf, tablesOf};
-ghost use Rattle.paper.specs.Lent.{lengthsOf, roomIn};
+ghost use Prim.Native.Nat.{_*_, _≤_};
+ghost use lib.ListN.{length};
+ghost use Rattle.paper.specs.Lent.{lengthsOf};
 ghost use Rattle.map_file.specs.Verdict.{refusalOf};
 ghost use Rattle.tables.specs.Values.{tablesBy, outcomeOf};
+ghost use Rattle.overlay_cut.specs.PieceRows.{pieceWidth};
+ghost use Rattle.overlay_maps.specs.Layers.{layersBy};
 ghost use Rattle.overlay_maps.specs.Held.{Held, heldMaps};
-ghost use Rattle.overlay_maps.specs.LayersOf.{layersOf};
-ghost use Rattle.overlay_graph.specs.Cut.{CutOf};
-ghost use Rattle.overlay_graph.specs.Traced.{TracedOf};
-ghost use Rattle.overlay_graph.specs.TracedOf.{cutOf, tracedOf};
-ghost use Rattle.overlay.specs.Judged.{overlaid, doneWith, refusedWith, Within};
+ghost use Rattle.overlay_graph.specs.Cut.{cutBy, CutOf};
+ghost use Rattle.overlay.specs.Judged.{overlaid, refusedWith, Within};
 
 // "Refused: all lent tables are zero."
 pub fn refuse(
@@ -42,43 +40,59 @@ pub fn refuse(
     Answer::Refused(r)
 }
 
-// What is within the room is stored: "Done".
-fn fill(
-    l: Layers,
-    c: Cut,
-    t: Traced,
-    vertices: &mut [i64],
-    halves: &mut [u16],
-    sources: &mut [u32],
-    faces: &mut [u16],
-) -> Answer
-    requires { ⌜ Held (layersOf l) ⌝ ∗ ⌜ CutOf (heldMaps (layersOf l)) (cutOf c) ⌝ ∗ ⌜ Within (cutOf c) (lengthsOf (tablesBy (now vertices) (now halves) (now sources) (now faces))) ⌝ ∗ ⌜ TracedOf (heldMaps (layersOf l)) (cutOf c) (tracedOf t) ⌝ ∗ ⌜ t .count + 1 ≤ roomIn maps (lengthsOf (tablesBy (now vertices) (now halves) (now sources) (now faces))) .faces ⌝ }
-    ensures { λ a. ⌜ outcomeOf a (tablesBy (now (vertices .exit)) (now (halves .exit)) (now (sources .exit)) (now (faces .exit))) ≡ doneWith (lengthsOf (tablesBy (now (vertices .entry)) (now (halves .entry)) (now (sources .entry)) (now (faces .entry)))) (countsOf (overlayOf (heldMaps (layersOf l)))) (tablesOf (heldMaps (layersOf l)) (overlayOf (heldMaps (layersOf l)))) ⌝ }
-{
-    let f = face_rows(l, c, t);
-    store(c, t, f, vertices, halves, sources, faces);
-    Answer::Done(Counts {
-        vertices: c.vertices as u16,
-        edges: c.edges as u16,
-        faces: f.count,
-    })
-}
-
 // Half-edges, walks and faces, of vertices and edges within the room.
 fn from_cut(
-    l: Layers,
-    c: Cut,
+    vstarts: &[usize],
+    estarts: &[usize],
+    corners: &[i64],
+    origins: &[u16],
+    carriers: &[i64],
+    labels: &[u16],
+    n: usize,
+    points: &[i64],
+    e: usize,
+    pieces: &[u16],
     vertices: &mut [i64],
     halves: &mut [u16],
     sources: &mut [u32],
     faces: &mut [u16],
 ) -> Answer
-    requires { ⌜ Held (layersOf l) ⌝ ∗ ⌜ CutOf (heldMaps (layersOf l)) (cutOf c) ⌝ ∗ ⌜ Within (cutOf c) (lengthsOf (tablesBy (now vertices) (now halves) (now sources) (now faces))) ⌝ }
-    ensures { λ a. ⌜ outcomeOf a (tablesBy (now (vertices .exit)) (now (halves .exit)) (now (sources .exit)) (now (faces .exit))) ≡ overlaid (heldMaps (layersOf l)) (lengthsOf (tablesBy (now (vertices .entry)) (now (halves .entry)) (now (sources .entry)) (now (faces .entry)))) ⌝ }
+    requires { ⌜ Held (layersBy (now vstarts) (now estarts) (now corners) (now origins) (now carriers) (now labels)) ⌝ ∗ ⌜ CutOf (heldMaps (layersBy (now vstarts) (now estarts) (now corners) (now origins) (now carriers) (now labels))) (cutBy n (now points) e (now pieces)) ⌝ ∗ ⌜ Within (cutBy n (now points) e (now pieces)) (lengthsOf (tablesBy (now vertices) (now halves) (now sources) (now faces))) ⌝ ∗ ⌜ (4 * n ≤ length (now points)) × (pieceWidth * e ≤ length (now pieces)) ⌝ }
+    ensures { λ a. ⌜ outcomeOf a (tablesBy (now (vertices .exit)) (now (halves .exit)) (now (sources .exit)) (now (faces .exit))) ≡ overlaid (heldMaps (layersBy (now (vstarts .entry)) (now (estarts .entry)) (now (corners .entry)) (now (origins .entry)) (now (carriers .entry)) (now (labels .entry)))) (lengthsOf (tablesBy (now (vertices .entry)) (now (halves .entry)) (now (sources .entry)) (now (faces .entry)))) ⌝ }
 {
-    let t = trace(l, c);
+    let mut ends = [0u16; HALVES];
+    let mut lines = [0i64; CARRIER_CELLS];
+    lay_net(
+        vstarts,
+        estarts,
+        corners,
+        origins,
+        carriers,
+        labels,
+        n,
+        points,
+        e,
+        pieces,
+        &mut ends,
+        &mut lines,
+    );
+    let mut next = [0u16; HALVES];
+    let mut face = [0u16; HALVES];
+    let mut outers = [0u16; HALVES];
+    let mut holes = [0u16; FACE_ROWS];
+    let count = walk_net(
+        n,
+        points,
+        e,
+        &ends,
+        &lines,
+        &mut next,
+        &mut face,
+        &mut outers,
+        &mut holes,
+    );
     let room = room_in(vertices.len(), halves.len(), sources.len(), faces.len());
-    if room.faces as usize <= t.count {
+    if room.faces as usize <= count {
         let over = Refusal {
             number: 11,
             map: 0,
@@ -86,26 +100,79 @@ fn from_cut(
         };
         refuse(over, vertices, halves, sources, faces)
     } else {
-        fill(l, c, t, vertices, halves, sources, faces)
+        fill(
+            vstarts,
+            estarts,
+            corners,
+            origins,
+            carriers,
+            labels,
+            n,
+            points,
+            e,
+            pieces,
+            &ends,
+            &lines,
+            &next,
+            &face,
+            &outers,
+            &holes,
+            count,
+            vertices,
+            halves,
+            sources,
+            faces,
+        )
     }
 }
 
 // Vertices and edges.
 pub fn from_layers(
-    l: Layers,
+    vstarts: &[usize],
+    estarts: &[usize],
+    corners: &[i64],
+    origins: &[u16],
+    carriers: &[i64],
+    labels: &[u16],
     vertices: &mut [i64],
     halves: &mut [u16],
     sources: &mut [u32],
     faces: &mut [u16],
 ) -> Answer
-    requires { ⌜ Held (layersOf l) ⌝ }
-    ensures { λ a. ⌜ outcomeOf a (tablesBy (now (vertices .exit)) (now (halves .exit)) (now (sources .exit)) (now (faces .exit))) ≡ overlaid (heldMaps (layersOf l)) (lengthsOf (tablesBy (now (vertices .entry)) (now (halves .entry)) (now (sources .entry)) (now (faces .entry)))) ⌝ }
+    requires { ⌜ Held (layersBy (now vstarts) (now estarts) (now corners) (now origins) (now carriers) (now labels)) ⌝ }
+    ensures { λ a. ⌜ outcomeOf a (tablesBy (now (vertices .exit)) (now (halves .exit)) (now (sources .exit)) (now (faces .exit))) ≡ overlaid (heldMaps (layersBy (now (vstarts .entry)) (now (estarts .entry)) (now (corners .entry)) (now (origins .entry)) (now (carriers .entry)) (now (labels .entry)))) (lengthsOf (tablesBy (now (vertices .entry)) (now (halves .entry)) (now (sources .entry)) (now (faces .entry)))) ⌝ }
 {
-    let c = cut_layers(l);
+    let mut points = [0i64; POINT_CELLS];
+    let mut pieces = [0u16; PIECE_CELLS];
+    let cut = cut_maps(
+        vstarts,
+        estarts,
+        corners,
+        origins,
+        carriers,
+        labels,
+        &mut points,
+        &mut pieces,
+    );
     let room = room_in(vertices.len(), halves.len(), sources.len(), faces.len());
-    let check = over_room(room, c.vertices, c.edges);
+    let check = over_room(room, cut.vertices, cut.edges);
     match check {
         Check::Bad(r) => refuse(r, vertices, halves, sources, faces),
-        Check::Fine => from_cut(l, c, vertices, halves, sources, faces),
+        Check::Fine => from_cut(
+            vstarts,
+            estarts,
+            corners,
+            origins,
+            carriers,
+            labels,
+            cut.vertices,
+            &points,
+            cut.edges,
+            &pieces,
+            vertices,
+            halves,
+            sources,
+            faces,
+        ),
     }
 }

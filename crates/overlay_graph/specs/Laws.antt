@@ -2,3 +2,4 @@
 pub mod Standing
 pub mod CutLaws
 pub mod Tracing
+pub mod Backwards

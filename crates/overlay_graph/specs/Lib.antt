@@ -1,4 +1,3 @@
 pub mod Cut
 pub mod Traced
-pub mod TracedOf
 pub mod Laws

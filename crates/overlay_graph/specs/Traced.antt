@@ -2,7 +2,7 @@
 -- the faces, and all of it with predecessors and least outgoing half-edges. Assumes nothing.
 use mathlib.Core.Path.{_≡_}
 use Prim.Native.Nat.{_<_}
-use Rattle.seq.specs.Seq.{List, ℕ, suc, _*_, length, getD, ℤ, table, position, padded}
+use Rattle.seq.specs.Seq.{List, ℕ, suc, _*_, length, getD, ℤ, table, position, over, padded}
 use Rattle.paper.specs.Map.{Map}
 use Rattle.paper.specs.Graph.{halfCount, leaves}
 use Rattle.paper.specs.Faces.{Overlay, net, overlayOf, holesOf}
@@ -45,7 +45,15 @@ pub record NetBy (o : Overlay) (c : Cut) (origins : List ℕ) (carriers : List �
   pub flat : Flat (c .points) origins carriers (c .vertices) (c .edges)
   pub net-is : flatGraph (c .points) origins carriers (c .vertices) (c .edges) ≡ net o
 
--- followers and faces
+-- followers and faces, over the tables as they were
+pub record FacesOver (o : Overlay) (next₀ face₀ outers₀ holes₀ next face outers holes : List ℕ) (count : ℕ) : Type 0 where
+  pub next-is : next ≡ over (o .walks .next) next₀
+  pub face-is : face ≡ over (o .face) face₀
+  pub outers-is : outers ≡ over (o .outers) outers₀
+  pub count-is : count ≡ length (o .outers)
+  pub holes-is : holes ≡ over (table (holesOf o) (suc count)) holes₀
+
+-- and over zeros
 pub record FacesBy (o : Overlay) (next face outers holes : List ℕ) (count : ℕ) : Type 0 where
   pub next-is : next ≡ padded 0 halfRows (o .walks .next)
   pub face-is : face ≡ padded 0 halfRows (o .face)

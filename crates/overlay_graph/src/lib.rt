@@ -2,7 +2,7 @@
 mod cutting; // vertices and edges
 mod tracing; // half-edges, walks, faces
 
-pub use cutting::Cut;
-pub use cutting::cut_layers;
-pub use tracing::Traced;
-pub use tracing::trace;
+pub use cutting::CutCounts;
+pub use cutting::cut_maps;
+pub use tracing::lay_net;
+pub use tracing::walk_net;

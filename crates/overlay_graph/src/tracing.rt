@@ -1,119 +1,62 @@
 // Half-edges, walks and faces.
-use crate::cutting::Cut;
-use graph::first_places;
 use graph_faces::enclose;
 use graph_faces::link;
-use limits::ABSENT;
-use limits::CARRIER_CELLS;
-use limits::FACE_ROWS;
 use limits::HALVES;
-use limits::VERTICES;
-use overlay_cut::carriers;
-use overlay_cut::origins;
-use overlay_maps::Layers;
-ghost use mathlib.Core.Path.{_≡_};
-ghost use Prim.Native.Nat.{_*_, _≤_};
-ghost use lib.IntN.{pos};
-ghost use lib.ListN.{replicate};
-ghost use Rattle.seq.specs.Seq.{laid, filled};
-ghost use Rattle.paper.specs.Limits.{overlayVertices, overlayEdges, absent};
-ghost use Rattle.graph.specs.Flat.{Numbers};
-ghost use Rattle.graph.specs.Places.{firstPlace};
-ghost use Rattle.overlay_cut.specs.Cuts.{Starts};
-ghost use Rattle.overlay_cut.specs.Net.{endsOf, carrierIn, segRow};
+use overlay_cut::carriers as lay_carriers;
+use overlay_cut::origins as lay_origins;
+ghost use Prim.Native.Nat.{_*_, _≤_, _<_};
+ghost use lib.ListN.{length};
+ghost use Rattle.paper.specs.Limits.{overlayVertices, overlayEdges};
+ghost use Rattle.paper.specs.Faces.{overlayOf};
+ghost use Rattle.laws_graph.specs.Plane.{Plane};
+ghost use Rattle.graph.specs.Flat.{Flat, flatGraph};
+ghost use Rattle.graph_faces.specs.Linked.{facesOf};
+ghost use Rattle.overlay_cut.specs.PieceRows.{pieceWidth};
+ghost use Rattle.overlay_maps.specs.Layers.{layersBy};
 ghost use Rattle.overlay_maps.specs.Held.{heldMaps, Held};
-ghost use Rattle.overlay_maps.specs.LayersOf.{layersOf};
-ghost use Rattle.overlay_graph.specs.Cut.{CutOf};
-ghost use Rattle.overlay_graph.specs.Traced.{TracedOf};
-ghost use Rattle.overlay_graph.specs.TracedOf.{cutOf, tracedOf};
+ghost use Rattle.overlay_graph.specs.Cut.{cutBy, CutOf};
+ghost use Rattle.overlay_graph.specs.Traced.{NetBy, FacesOver};
 
-// Of each half-edge where it starts, its follower, its predecessor and its face; of each edge the input edge that it lies along; of each vertex the least outgoing
-// half-edge; the least half-edges of the outer walks and how many there are; of each face its hole walks.
-pub struct Traced {
-    pub origins: [u16; HALVES],
-    pub carriers: [i64; CARRIER_CELLS],
-    pub next: [u16; HALVES],
-    pub prev: [u16; HALVES],
-    pub least: [u16; VERTICES],
-    pub face: [u16; HALVES],
-    pub outers: [u16; HALVES],
-    pub holes: [u16; FACE_ROWS],
-    pub count: usize,
+// The half-edges of the overlay that was cut from the maps: where each starts, "Half-edge 2k goes from lower to upper, 2k+1 back", and the input edge that each edge
+// lies along.
+pub fn lay_net(
+    vertices: &[usize],
+    edges: &[usize],
+    corners: &[i64],
+    origins: &[u16],
+    carriers: &[i64],
+    labels: &[u16],
+    n: usize,
+    points: &[i64],
+    e: usize,
+    pieces: &[u16],
+    ends: &mut [u16],
+    lines: &mut [i64],
+)
+    requires { ⌜ Held (layersBy (now vertices) (now edges) (now corners) (now origins) (now carriers) (now labels)) ⌝ ∗ ⌜ CutOf (heldMaps (layersBy (now vertices) (now edges) (now corners) (now origins) (now carriers) (now labels))) (cutBy n (now points) e (now pieces)) ⌝ ∗ ⌜ (n ≤ overlayVertices) × (e ≤ overlayEdges) ⌝ ∗ ⌜ (4 * n ≤ length (now points)) × (pieceWidth * e ≤ length (now pieces)) ⌝ ∗ ⌜ (2 * e ≤ length (now ends)) × (4 * e ≤ length (now lines)) ⌝ }
+    ensures { λ _. ⌜ NetBy (overlayOf (heldMaps (layersBy (now (vertices .entry)) (now (edges .entry)) (now (corners .entry)) (now (origins .entry)) (now (carriers .entry)) (now (labels .entry))))) (cutBy n (now (points .entry)) e (now (pieces .entry))) (now (ends .exit)) (now (lines .exit)) ⌝ }
+{
+    lay_origins(pieces, e, ends);
+    lay_carriers(pieces, e, edges, carriers, lines);
 }
 
-// Where each half-edge starts: "Half-edge 2k goes from lower to upper, 2k+1 back".
-fn starts_of(c: Cut) -> [u16; HALVES]
-    requires { ⌜ c .edges ≤ overlayEdges ⌝ }
-    ensures { λ r. ⌜ r ≡ laid (c .edges) (endsOf (c .pieces)) (replicate 4000 0) ⌝ }
+// The followers, and the faces: of each half-edge, the least half-edges of the outer walks and how many there are, and the hole walks of each face.
+pub fn walk_net(
+    n: usize,
+    points: &[i64],
+    e: usize,
+    ends: &[u16],
+    lines: &[i64],
+    next: &mut [u16],
+    face: &mut [u16],
+    outers: &mut [u16],
+    holes: &mut [u16],
+) -> usize
+    requires { ⌜ Flat (now points) (now ends) (now lines) n e ⌝ ∗ ⌜ (n ≤ overlayVertices) × (e ≤ overlayEdges) ⌝ ∗ ⌜ Plane (flatGraph (now points) (now ends) (now lines) n e) ⌝ ∗ ⌜ (2 * e ≤ length (now next)) × (2 * e ≤ length (now face)) × (2 * e ≤ length (now outers)) × (2 * e < length (now holes)) ⌝ }
+    ensures { λ r. ⌜ FacesOver (facesOf (flatGraph (now (points .entry)) (now (ends .entry)) (now (lines .entry)) n e)) (now (next .entry)) (now (face .entry)) (now (outers .entry)) (now (holes .entry)) (now (next .exit)) (now (face .exit)) (now (outers .exit)) (now (holes .exit)) r ⌝ }
 {
-    let pieces = c.pieces;
-    let e = c.edges;
-    let mut out = [0u16; HALVES];
-    origins(&pieces, e, &mut out);
-    out
-}
-
-// The input edge that each edge lies along.
-fn carriers_of(l: Layers, c: Cut) -> [i64; CARRIER_CELLS]
-    requires { ⌜ Starts (l .edges) (l .carriers) ⌝ ∗ ⌜ c .edges ≤ overlayEdges ⌝ }
-    ensures { λ r. ⌜ r ≡ laid (c .edges) (λ k. segRow (carrierIn (c .pieces) (l .carriers) (l .edges) k)) (replicate 8000 (pos 0)) ⌝ }
-{
-    let pieces = c.pieces;
-    let e = c.edges;
-    let first = l.edges;
-    let given = l.carriers;
-    let mut out = [0i64; CARRIER_CELLS];
-    carriers(&pieces, e, &first, &given, &mut out);
-    out
-}
-
-// The predecessor of each half-edge: the half-edge that it follows.
-fn predecessors(next: [u16; HALVES], e: usize) -> [u16; HALVES]
-    requires { ⌜ Numbers next (2 * e) (2 * e) ⌝ ∗ ⌜ e ≤ overlayEdges ⌝ }
-    ensures { λ r. ⌜ r ≡ filled (2 * e) (firstPlace next (2 * e) absent) (replicate 4000 0) ⌝ }
-{
-    let mut out = [0u16; HALVES];
-    first_places(&next, 2 * e, ABSENT, &mut out, 2 * e);
-    out
-}
-
-// The least outgoing half-edge of each vertex, ABSENT where there is none.
-fn least_outgoing(from: [u16; HALVES], n: usize, e: usize) -> [u16; VERTICES]
-    requires { ⌜ Numbers from (2 * e) n ⌝ ∗ ⌜ n ≤ overlayVertices ⌝ ∗ ⌜ e ≤ overlayEdges ⌝ }
-    ensures { λ r. ⌜ r ≡ filled n (firstPlace from (2 * e) absent) (replicate 1000 0) ⌝ }
-{
-    let mut out = [0u16; VERTICES];
-    first_places(&from, 2 * e, ABSENT, &mut out, n);
-    out
-}
-
-// The half-edges, walks and faces of the overlay that was cut from the layers.
-pub fn trace(l: Layers, c: Cut) -> Traced
-    requires { ⌜ Held (layersOf l) ⌝ ∗ ⌜ CutOf (heldMaps (layersOf l)) (cutOf c) ⌝ ∗ ⌜ c .vertices ≤ overlayVertices ⌝ ∗ ⌜ c .edges ≤ overlayEdges ⌝ }
-    ensures { λ r. ⌜ TracedOf (heldMaps (layersOf l)) (cutOf c) (tracedOf r) ⌝ }
-{
-    let n = c.vertices;
-    let e = c.edges;
-    let points = c.points;
-    let from = starts_of(c);
-    let along = carriers_of(l, c);
-    let walks = link(&points, &from, &along, n, e);
-    let next = walks.next;
-    let faces = enclose(&points, &from, &along, n, e, walks);
-    let face = faces.face;
-    let outers = faces.outers;
-    let holes = faces.holes;
-    let prev = predecessors(next, e);
-    let least = least_outgoing(from, n, e);
-    Traced {
-        origins: from,
-        carriers: along,
-        next,
-        prev,
-        least,
-        face,
-        outers,
-        holes,
-        count: faces.count,
-    }
+    let mut lead = [0u16; HALVES];
+    let mut top = [0u16; HALVES];
+    link(points, ends, lines, n, e, next, &mut lead, &mut top);
+    enclose(points, ends, lines, n, e, &lead, &top, face, outers, holes)
 }

@@ -1,35 +1,66 @@
--- The layers of two files that pass hold their maps: `held-maps` and `layers-held`. In order: the parts of a table that was filled in two parts; the tables of one
--- file; one map in its parts; both. Assumes nothing.
+-- The layers of a list of files that pass hold their maps: `held-maps` and `layers-held`. In order: where each map starts; its part of a table in which all stand;
+-- the tables of one file; one map in its parts; all. Assumes nothing.
 use mathlib.Core.Path.{_≡_, refl, sym, _∙_, ap, subst}
+use mathlib.Core.List.{append-assoc}
 use Prim.Native.Nat.{_≤_, _<_}
-use native.Mathlib.Nat.{le-trans, mul-zero, mul-add, mul-le-mul-left}
+use native.Mathlib.Nat.{not-suc-le-zero, mul-suc, mul-add, mul-le-mul-left}
+use native.Mathlib.Numerals.{add-one}
 use native.Mathlib.Omega.{arith}
-use lib.ListN.{length-append, length-replicate}
+use lib.ListN.{length-append, length-map, List·getD-map}
 use lib.Seq.{take-at, drop-at}
-use mathlib.Core.List.{append-assoc, append-nil}
-use Rattle.seq.specs.Seq.{Option, none, some, List, [], _∷_, _++_, ℕ, zero, suc, _+_, _*_, _-_, length, getD, take, drop, replicate, ℤ, pos, rows, table, over, filled, laid}
-use Rattle.seq.specs.Table.{length-table, table-is}
-use Rattle.seq.specs.Rows.{length-rows}
-use Rattle.seq.specs.Over.{length-over}
+use Rattle.seq.specs.Seq.{Option, none, some, List, [], _∷_, _++_, map, ℕ, zero, suc, _+_, _*_, _-_, length, getD, take, drop, ℤ, gather, over, filled, laid}
+use Rattle.seq.specs.Table.{table-is}
+use Rattle.seq.specs.Over.{length-over, over-at}
 use Rattle.seq.specs.Filled.{filled-all}
 use Rattle.seq.specs.Laid.{laid-all}
-use Rattle.paper.specs.Limits.{maps}
+use Rattle.seq.specs.Total.{total}
+use Rattle.paper.specs.Limits.{maps, mapVertices, mapEdges}
 use Rattle.paper.specs.Refusal.{Refusal, firstOf}
 use Rattle.paper.specs.Graph.{Graph, origin}
-use Rattle.paper.specs.Map.{mapOf, vertexCount, edgesIn, label, labelAt, fault, formFaults, partFaults, netFaults}
+use Rattle.paper.specs.Map.{mapOf, vertexCount, edgesIn, fault, formFaults, partFaults, netFaults}
 use Rattle.laws_map.specs.Keeps.{Keeps}
 use Rattle.laws_map.specs.Files.{passes-keeps}
+use Rattle.laws_refusals.specs.Refusals.{first-none}
 use Rattle.graph.specs.Flat.{Flat, flatGraph}
 use Rattle.map_file.specs.Rows.{pointRow, carrierRow}
-use Rattle.map_file.specs.Laws.Kept.{Kept}
-use Rattle.map_file.proofs.KeptLaws.{kept}
-use Rattle.map_check.proofs.LoadedLaws.{point-held, carrier-held, origin-held, held-points, held-carriers, held-origins, graph-held}
-use Rattle.overlay_maps.specs.Label.{flatMap}
+use Rattle.map_check.specs.Held.{flatMap}
+use Rattle.map_check.specs.Laws.Kept.{Kept}
+use Rattle.map_check.proofs.KeptLaws.{kept}
+use Rattle.map_check.proofs.LoadedLaws.{point-held, carrier-held, cell-held, labels-table, graph-held, held-flat}
 use Rattle.overlay_maps.specs.Standing.{cells, standing, Stands}
-use Rattle.overlay_maps.specs.Layers.{Layers, Layered}
+use Rattle.overlay_maps.specs.Layers.{Layers, cornersOf, originsOf, carriersOf, labelsOf, starts, Layered, LayerRoom}
 use Rattle.overlay_maps.specs.Held.{vertexStart, edgeStart, heldMap, heldMaps, Held}
+use Rattle.overlay_maps.proofs.StackLaws.{corners-long, origins-long, carriers-long, labels-long, gather-long}
 
--- ── a table that was filled in two parts ──
+-- ── where each map starts ──
+
+module _ (count : List ℕ → ℕ) where
+  starts-long : (n : ℕ) (files : List (List ℕ)) → length (starts count n files) ≡ suc (length files)
+  starts-long n [] = refl
+  starts-long n (s ∷ files) = ap suc (starts-long (n + count s) files)
+
+  start-first : (n : ℕ) (files : List (List ℕ)) → getD (starts count n files) 0 0 ≡ n
+  start-first n [] = refl
+  start-first n (s ∷ files) = refl
+
+  start-next : (n : ℕ) (files : List (List ℕ)) (i : ℕ) → i < length files → getD (starts count n files) (suc i) 0 ≡ getD (starts count n files) i 0 + count (getD files i [])
+  start-next n [] i l = absurd (not-suc-le-zero l)
+  start-next n (s ∷ files) zero l = start-first (n + count s) files
+  start-next n (s ∷ files) (suc i) l = start-next (n + count s) files i (omega arith)
+
+  start-within : (n : ℕ) (files : List (List ℕ)) (i : ℕ) → i ≤ length files → getD (starts count n files) i 0 ≤ n + total count files
+  start-within n [] zero l = omega arith
+  start-within n [] (suc i) l = absurd (not-suc-le-zero l)
+  start-within n (s ∷ files) zero l = omega arith
+  start-within n (s ∷ files) (suc i) l = omega (arith, start-within (n + count s) files i (omega arith))
+
+  -- all together, where each is within a limit
+  total-within : (limit : ℕ) (files : List (List ℕ)) → ((i : ℕ) → i < length files → count (getD files i []) ≤ limit) → total count files ≤ limit * length files
+  total-within limit [] h = omega arith
+  total-within limit (s ∷ files) h =
+      omega (arith, mul-suc limit (length files), h 0 (omega arith), total-within limit files (λ i l. h (suc i) (omega arith)))
+
+-- ── its part of a table ──
 
 module _ {A : Type 0} (xs ys zs d t : List A) (is : t ≡ over (xs ++ (ys ++ zs)) d) where
   abbrev after : List A
@@ -42,20 +73,29 @@ module _ {A : Type 0} (xs ys zs d t : List A) (is : t ≡ over (xs ++ (ys ++ zs)
       ∙ ap (take (n - m)) (drop-at xs ((ys ++ zs) ++ after) m e ∙ append-assoc ys zs after)
       ∙ take-at ys (zs ++ after) (n - m) (omega arith)
 
--- rows of w cells, m of them and then n
-module _ {A : Type 0} (xs ys d t : List A) (is : t ≡ over (xs ++ ys) d) (w m n : ℕ) (p : length xs ≡ w * m) (q : length ys ≡ w * n) where
-  two-parts : (a b c : ℕ) → a ≡ 0 → b ≡ m → c ≡ m + n → (cells t (w * a) (w * b) ≡ xs) × (cells t (w * b) (w * c) ≡ ys)
-  two-parts a b c e f g =
-      let first : length xs ≡ w * b = rw f p in
-      let last : w * b + length ys ≡ w * c = rw (f, g, q) (sym (mul-add w m n)) in
-      let none : 0 ≡ w * a = rw e (sym (mul-zero w)) in (
-        part-cells [] xs ys d t is (w * a) (w * b) none (omega arith),
-        part-cells xs ys [] d t (is ∙ ap (λ (r : List A). over (xs ++ r) d) (sym (append-nil ys))) (w * b) (w * c) first last,
-      )
+-- rows of w cells, as many for each file as are counted
+module _ {A : Type 0} (f : List ℕ → List A) (w : ℕ) (count : List ℕ → ℕ) (each : (s : List ℕ) → length (f s) ≡ w * count s) (d t : List A) where
+  -- behind n rows xs
+  part-behind : (files : List (List ℕ)) (xs : List A) (n : ℕ) → length xs ≡ w * n → t ≡ over (xs ++ gather f files) d → (i : ℕ) → i < length files →
+      cells t (w * getD (starts count n files) i 0) (w * getD (starts count n files) (suc i) 0) ≡ f (getD files i [])
+  part-behind [] xs n e is i l = absurd (not-suc-le-zero l)
+  part-behind (s ∷ files) xs n e is zero l =
+      part-cells xs (f s) (gather f files) d t is (w * n) (w * getD (starts count (n + count s) files) 0 0) e
+      (omega (arith, each s, mul-add w n (count s), ap (λ (k : ℕ). w * k) (start-first count (n + count s) files)))
+  part-behind (s ∷ files) xs n e is (suc i) l =
+      part-behind files (xs ++ f s) (n + count s) (omega (arith, length-append xs (f s), e, each s, mul-add w n (count s)))
+      (is ∙ ap (λ (r : List A). over r d) (sym (append-assoc xs (f s) (gather f files)))) i (omega arith)
 
-  parts-within : (b c k : ℕ) → length d ≡ k → b ≤ c → c ≡ m + n → w * (m + n) ≤ k → w * b ≤ length t
-  parts-within b c k e f g h =
-      le-trans (mul-le-mul-left w f) (omega (arith, ap (λ (x : ℕ). w * x) g, ap length is, mul-add w m n, length-append xs ys, length-over (xs ++ ys) d (omega (arith, mul-add w m n, length-append xs ys))))
+  module _ (files : List (List ℕ)) (is : t ≡ over (gather f files) d) where
+    pub part-of : (i : ℕ) → i < length files → cells t (w * getD (starts count 0 files) i 0) (w * getD (starts count 0 files) (suc i) 0) ≡ f (getD files i [])
+    part-of = part-behind files [] 0 (omega arith) is
+
+    -- what is within all rows is within the table
+    pub part-within : (b n : ℕ) → b ≤ total count files → total count files ≤ n → w * n ≤ length d → w * b ≤ length t
+    part-within b n h l r =
+        let p = mul-le-mul-left w h in
+        let q = mul-le-mul-left w l in
+        omega (arith, ap length is, gather-long f w count each files, length-over (gather f files) d (omega (arith, gather-long f w count each files)))
 
 -- ── the tables of one file ──
 
@@ -66,76 +106,54 @@ front-none (none ∷ xs) ys e = front-none xs ys e
 front-none (some r ∷ xs) ys e = e
 
 module _ (s : List ℕ) where
-  -- rules 1 to 7
-  pub parts-none : fault s ≡ none → firstOf (formFaults s ++ partFaults (mapOf s .graph)) ≡ none
-  unfolding fault
-  parts-none e = front-none (formFaults s ++ partFaults (mapOf s .graph)) (netFaults (mapOf s)) e
-
   abbrev g : Graph
   g = mapOf s .graph
 
-  abbrev corners : List ℤ
-  corners = rows (pointRow g) (vertexCount s)
+  corners-all : cornersOf s ≡ laid (vertexCount s) (pointRow g) (cornersOf s)
+  corners-all = sym (laid-all 4 (pointRow g) (λ k. refl) (cornersOf s) (vertexCount s) (omega (arith, corners-long s)))
 
-  abbrev origins : List ℕ
-  origins = table (origin g) (2 * edgesIn s)
+  carriers-all : carriersOf s ≡ laid (edgesIn s) (carrierRow g) (carriersOf s)
+  carriers-all = sym (laid-all 4 (carrierRow g) (λ k. refl) (carriersOf s) (edgesIn s) (omega (arith, carriers-long s)))
 
-  abbrev carriers : List ℤ
-  carriers = rows (carrierRow g) (edgesIn s)
+  origins-all : originsOf s ≡ filled (2 * edgesIn s) (origin g) (originsOf s)
+  origins-all = sym (filled-all (origin g) (originsOf s) (2 * edgesIn s) (omega (arith, origins-long s)))
 
-  abbrev labels : List ℕ
-  labels = table (label (mapOf s)) (2 * edgesIn s)
-
-  corners-long : length corners ≡ 4 * vertexCount s
-  corners-long = length-rows 4 (pointRow g) (vertexCount s) (λ k l. refl)
-
-  carriers-long : length carriers ≡ 4 * edgesIn s
-  carriers-long = length-rows 4 (carrierRow g) (edgesIn s) (λ k l. refl)
-
-  origins-long : length origins ≡ 2 * edgesIn s
-  origins-long = length-table (origin g) (2 * edgesIn s)
-
-  labels-long : length labels ≡ 2 * edgesIn s
-  labels-long = length-table (label (mapOf s)) (2 * edgesIn s)
-
-  corners-all : corners ≡ laid (vertexCount s) (pointRow g) corners
-  corners-all = sym (laid-all 4 (pointRow g) (λ k. refl) corners (vertexCount s) (omega (arith, corners-long)))
-
-  carriers-all : carriers ≡ laid (edgesIn s) (carrierRow g) carriers
-  carriers-all = sym (laid-all 4 (carrierRow g) (λ k. refl) carriers (edgesIn s) (omega (arith, carriers-long)))
-
-  origins-all : origins ≡ filled (2 * edgesIn s) (origin g) origins
-  origins-all = sym (filled-all (origin g) origins (2 * edgesIn s) (omega (arith, origins-long)))
-
-  labels-are : labels ≡ mapOf s .labels
-  labels-are = sym (table-is (label (mapOf s)) (2 * edgesIn s) (mapOf s .labels) 0 (length-table (labelAt s) (2 * edgesIn s)) (λ h l. refl))
-
-  graph-is : flatGraph corners origins carriers (vertexCount s) (edgesIn s) ≡ g
+  graph-is : flatGraph (cornersOf s) (originsOf s) (carriersOf s) (vertexCount s) (edgesIn s) ≡ g
   graph-is =
-      graph-held s corners origins carriers
-      (point-held s corners corners (omega (arith, corners-long)) corners-all)
-      (origin-held s origins origins (omega (arith, origins-long)) origins-all)
-      (carrier-held s carriers carriers (omega (arith, carriers-long)) carriers-all)
+      graph-held s (cornersOf s) (originsOf s) (carriersOf s)
+      (point-held s (cornersOf s) (cornersOf s) (omega (arith, corners-long s)) corners-all)
+      (cell-held s (origin g) (originsOf s) (originsOf s) (omega (arith, origins-long s)) origins-all)
+      (carrier-held s (carriersOf s) (carriersOf s) (omega (arith, carriers-long s)) carriers-all)
 
-  map-is : flatMap corners origins carriers labels (vertexCount s) (edgesIn s) ≡ mapOf s
-  map-is = λ i. record { graph = graph-is i; labels = labels-are i }
+  map-is : flatMap (cornersOf s) (originsOf s) (carriersOf s) (labelsOf s) (vertexCount s) (edgesIn s) ≡ mapOf s
+  map-is = λ i. record { graph = graph-is i; labels = labels-table s i }
 
   module _ (passes : fault s ≡ none) where
-    keeps-parts : Kept s
-    keeps-parts = kept s (parts-none passes)
+    pub form-passes : firstOf (formFaults s) ≡ none
+    unfolding fault
+    form-passes = front-none (formFaults s) (partFaults (mapOf s .graph) ++ netFaults (mapOf s)) passes
 
-    flat-is : Flat corners origins carriers (vertexCount s) (edgesIn s)
-    flat-is = record {
-      points = held-points s corners corners (omega (arith, corners-long)) corners-all keeps-parts;
-      origins = held-origins s origins origins (omega (arith, origins-long)) origins-all keeps-parts;
-      carriers = held-carriers s carriers carriers (omega (arith, carriers-long)) carriers-all keeps-parts;
-    }
+    parts-pass : firstOf (partFaults (mapOf s .graph)) ≡ none
+    unfolding fault
+    parts-pass =
+        front-none (partFaults (mapOf s .graph)) (netFaults (mapOf s)) (sym (first-none (formFaults s) (partFaults (mapOf s .graph) ++ netFaults (mapOf s)) form-passes) ∙ passes)
+
+    pub passes-kept : Kept s
+    passes-kept = kept s form-passes parts-pass
+
+    flat-is : Flat (cornersOf s) (originsOf s) (carriersOf s) (vertexCount s) (edgesIn s)
+    flat-is =
+        held-flat s (cornersOf s) (originsOf s) (carriersOf s)
+        (point-held s (cornersOf s) (cornersOf s) (omega (arith, corners-long s)) corners-all)
+        (cell-held s (origin g) (originsOf s) (originsOf s) (omega (arith, origins-long s)) origins-all)
+        (carrier-held s (carriersOf s) (carriersOf s) (omega (arith, carriers-long s)) carriers-all)
+        passes-kept (omega (arith, corners-long s)) (omega (arith, origins-long s)) (omega (arith, carriers-long s))
 
   -- ── one map in its parts ──
 
   module _ (ps : List ℤ) (os : List ℕ) (cs : List ℤ) (ls : List ℕ) (v w a b : ℕ)
       (wide : w ≡ v + vertexCount s) (far : b ≡ a + edgesIn s)
-      (cp : cells ps (4 * v) (4 * w) ≡ corners) (co : cells os (2 * a) (2 * b) ≡ origins) (ca : cells cs (4 * a) (4 * b) ≡ carriers) (cl : cells ls (2 * a) (2 * b) ≡ labels) where
+      (cp : cells ps (4 * v) (4 * w) ≡ cornersOf s) (co : cells os (2 * a) (2 * b) ≡ originsOf s) (ca : cells cs (4 * a) (4 * b) ≡ carriersOf s) (cl : cells ls (2 * a) (2 * b) ≡ labelsOf s) where
     few : w - v ≡ vertexCount s
     few = omega arith
 
@@ -145,7 +163,7 @@ module _ (s : List ℕ) where
     standing-is : standing ps os cs ls v w a b ≡ mapOf s
     standing-is = (λ i. flatMap (cp i) (co i) (ca i) (cl i) (few i) (short i)) ∙ map-is
 
-    stands-by : fault s ≡ none → 4 * w ≤ length ps → 2 * b ≤ length os → 4 * b ≤ length cs → 2 * b ≤ length ls → b ≤ 600 →
+    stands-by : fault s ≡ none → 4 * w ≤ length ps → 2 * b ≤ length os → 4 * b ≤ length cs → 2 * b ≤ length ls → b ≤ maps * mapEdges →
         Stands ps os cs ls v w a b
     stands-by e p o c l k = record {
       rising = omega arith;
@@ -158,117 +176,93 @@ module _ (s : List ℕ) where
       flat = coe 1 0 (i. Flat (cp i) (co i) (ca i) (few i) (short i)) (flat-is e);
     }
 
--- ── both ──
+-- ── all ──
 
-module _ (a b : List ℕ) (l : Layers) (is : Layered a b l) where
-  vertex-start : (i v : ℕ) → getD (0 ∷ vertexCount a ∷ (vertexCount a + vertexCount b) ∷ []) i 0 ≡ v → vertexStart l i ≡ v
-  vertex-start i v e = ap (λ (t : List ℕ). getD t i 0) (is .vertices-are) ∙ e
+module _ (files : List (List ℕ)) (d l : Layers) (is : Layered files d l) where
+  module _ (i : ℕ) (b : i < length files) where
+    abbrev s : List ℕ
+    s = getD files i []
 
-  edge-start : (i e : ℕ) → getD (0 ∷ edgesIn a ∷ (edgesIn a + edgesIn b) ∷ []) i 0 ≡ e → edgeStart l i ≡ e
-  edge-start i e q = ap (λ (t : List ℕ). getD t i 0) (is .edges-are) ∙ q
+    vertex-start : (j : ℕ) → j ≤ length files → vertexStart l j ≡ getD (starts vertexCount 0 files) j 0
+    vertex-start j h = ap (λ (t : List ℕ). getD t j 0) (is .vertices-are) ∙ over-at (starts vertexCount 0 files) (d .vertices) j 0 (omega (arith, starts-long vertexCount 0 files))
 
-  v0 : vertexStart l 0 ≡ 0
-  v0 = vertex-start 0 0 refl
+    edge-start : (j : ℕ) → j ≤ length files → edgeStart l j ≡ getD (starts edgesIn 0 files) j 0
+    edge-start j h = ap (λ (t : List ℕ). getD t j 0) (is .edges-are) ∙ over-at (starts edgesIn 0 files) (d .edges) j 0 (omega (arith, starts-long edgesIn 0 files))
 
-  v1 : vertexStart l 1 ≡ vertexCount a
-  v1 = vertex-start 1 (vertexCount a) refl
+    v0 : vertexStart l i ≡ getD (starts vertexCount 0 files) i 0
+    v0 = vertex-start i (omega arith)
 
-  v2 : vertexStart l 2 ≡ vertexCount a + vertexCount b
-  v2 = vertex-start 2 (vertexCount a + vertexCount b) refl
+    v1 : vertexStart l (i + 1) ≡ getD (starts vertexCount 0 files) (suc i) 0
+    v1 = ap (vertexStart l) (add-one i) ∙ vertex-start (suc i) (omega arith)
 
-  e0 : edgeStart l 0 ≡ 0
-  e0 = edge-start 0 0 refl
+    e0 : edgeStart l i ≡ getD (starts edgesIn 0 files) i 0
+    e0 = edge-start i (omega arith)
 
-  e1 : edgeStart l 1 ≡ edgesIn a
-  e1 = edge-start 1 (edgesIn a) refl
+    e1 : edgeStart l (i + 1) ≡ getD (starts edgesIn 0 files) (suc i) 0
+    e1 = ap (edgeStart l) (add-one i) ∙ edge-start (suc i) (omega arith)
 
-  e2 : edgeStart l 2 ≡ edgesIn a + edgesIn b
-  e2 = edge-start 2 (edgesIn a + edgesIn b) refl
+    wide : vertexStart l (i + 1) ≡ vertexStart l i + vertexCount s
+    wide = v1 ∙ start-next vertexCount 0 files i b ∙ ap (λ (n : ℕ). n + vertexCount s) (sym v0)
 
-  corner-cells : (cells (l .corners) (4 * vertexStart l 0) (4 * vertexStart l 1) ≡ corners a) × (cells (l .corners) (4 * vertexStart l 1) (4 * vertexStart l 2) ≡ corners b)
-  corner-cells =
-      two-parts (corners a) (corners b) (replicate 1600 (pos 0)) (l .corners) (is .corners-are) 4 (vertexCount a) (vertexCount b) (corners-long a) (corners-long b)
-      (vertexStart l 0) (vertexStart l 1) (vertexStart l 2) v0 v1 v2
+    far : edgeStart l (i + 1) ≡ edgeStart l i + edgesIn s
+    far = e1 ∙ start-next edgesIn 0 files i b ∙ ap (λ (n : ℕ). n + edgesIn s) (sym e0)
 
-  origin-cells : (cells (l .origins) (2 * edgeStart l 0) (2 * edgeStart l 1) ≡ origins a) × (cells (l .origins) (2 * edgeStart l 1) (2 * edgeStart l 2) ≡ origins b)
-  origin-cells =
-      two-parts (origins a) (origins b) (replicate 1200 0) (l .origins) (is .origins-are) 2 (edgesIn a) (edgesIn b) (origins-long a) (origins-long b)
-      (edgeStart l 0) (edgeStart l 1) (edgeStart l 2) e0 e1 e2
+    corner-cells : cells (l .corners) (4 * vertexStart l i) (4 * vertexStart l (i + 1)) ≡ cornersOf s
+    corner-cells = (λ j. cells (l .corners) (4 * v0 j) (4 * v1 j)) ∙ part-of cornersOf 4 vertexCount corners-long (d .corners) (l .corners) files (is .stacked .corners-are) i b
 
-  carrier-cells : (cells (l .carriers) (4 * edgeStart l 0) (4 * edgeStart l 1) ≡ carriers a) × (cells (l .carriers) (4 * edgeStart l 1) (4 * edgeStart l 2) ≡ carriers b)
-  carrier-cells =
-      two-parts (carriers a) (carriers b) (replicate 2400 (pos 0)) (l .carriers) (is .carriers-are) 4 (edgesIn a) (edgesIn b) (carriers-long a) (carriers-long b)
-      (edgeStart l 0) (edgeStart l 1) (edgeStart l 2) e0 e1 e2
+    origin-cells : cells (l .origins) (2 * edgeStart l i) (2 * edgeStart l (i + 1)) ≡ originsOf s
+    origin-cells = (λ j. cells (l .origins) (2 * e0 j) (2 * e1 j)) ∙ part-of originsOf 2 edgesIn origins-long (d .origins) (l .origins) files (is .stacked .origins-are) i b
 
-  label-cells : (cells (l .labels) (2 * edgeStart l 0) (2 * edgeStart l 1) ≡ labels a) × (cells (l .labels) (2 * edgeStart l 1) (2 * edgeStart l 2) ≡ labels b)
-  label-cells =
-      two-parts (labels a) (labels b) (replicate 1200 0) (l .labels) (is .labels-are) 2 (edgesIn a) (edgesIn b) (labels-long a) (labels-long b)
-      (edgeStart l 0) (edgeStart l 1) (edgeStart l 2) e0 e1 e2
+    carrier-cells : cells (l .carriers) (4 * edgeStart l i) (4 * edgeStart l (i + 1)) ≡ carriersOf s
+    carrier-cells = (λ j. cells (l .carriers) (4 * e0 j) (4 * e1 j)) ∙ part-of carriersOf 4 edgesIn carriers-long (d .carriers) (l .carriers) files (is .stacked .carriers-are) i b
 
-  first-is : heldMap l 0 ≡ mapOf a
-  first-is =
-      standing-is a (l .corners) (l .origins) (l .carriers) (l .labels) (vertexStart l 0) (vertexStart l 1) (edgeStart l 0) (edgeStart l 1)
-      (omega (arith, v0, v1)) (omega (arith, e0, e1)) (corner-cells .0) (origin-cells .0) (carrier-cells .0) (label-cells .0)
+    label-cells : cells (l .labels) (2 * edgeStart l i) (2 * edgeStart l (i + 1)) ≡ labelsOf s
+    label-cells = (λ j. cells (l .labels) (2 * e0 j) (2 * e1 j)) ∙ part-of labelsOf 2 edgesIn labels-long (d .labels) (l .labels) files (is .stacked .labels-are) i b
 
-  second-is : heldMap l 1 ≡ mapOf b
-  second-is =
-      standing-is b (l .corners) (l .origins) (l .carriers) (l .labels) (vertexStart l 1) (vertexStart l 2) (edgeStart l 1) (edgeStart l 2)
-      (omega (arith, v1, v2)) (omega (arith, e1, e2)) (corner-cells .1) (origin-cells .1) (carrier-cells .1) (label-cells .1)
+    held-is : heldMap l i ≡ mapOf s
+    held-is =
+        standing-is s (l .corners) (l .origins) (l .carriers) (l .labels) (vertexStart l i) (vertexStart l (i + 1)) (edgeStart l i) (edgeStart l (i + 1))
+        wide far corner-cells origin-cells carrier-cells label-cells
 
-  pub held-maps : heldMaps l ≡ mapOf a ∷ mapOf b ∷ []
-  held-maps = λ i. first-is i ∷ second-is i ∷ []
+  module _ (every : length files ≡ maps) where
+    pub held-maps : heldMaps l ≡ map mapOf files
+    held-maps =
+        sym (table-is (heldMap l) maps (map mapOf files) (mapOf []) (length-map files mapOf ∙ every)
+        (λ i b. List·getD-map mapOf files i [] ∙ sym (held-is i (omega arith))))
 
-  module _ (passes-a : fault a ≡ none) (passes-b : fault b ≡ none) where
-    abbrev ka : Kept a
-    ka = kept a (parts-none a passes-a)
+    module _ (room : LayerRoom d) (passes : (i : ℕ) → i < length files → fault (getD files i []) ≡ none) where
+      few-vertices : total vertexCount files ≤ maps * mapVertices
+      few-vertices = omega (arith, every, total-within vertexCount mapVertices files (λ i b. passes-kept (getD files i []) (passes i b) .few-vertices))
 
-    abbrev kb : Kept b
-    kb = kept b (parts-none b passes-b)
+      few-edges : total edgesIn files ≤ maps * mapEdges
+      few-edges = omega (arith, every, total-within edgesIn mapEdges files (λ i b. passes-kept (getD files i []) (passes i b) .few-edges))
 
-    corners-room : (v : ℕ) → v ≤ vertexStart l 2 → 4 * v ≤ length (l .corners)
-    corners-room v h =
-        parts-within (corners a) (corners b) (replicate 1600 (pos 0)) (l .corners) (is .corners-are) 4 (vertexCount a) (vertexCount b) (corners-long a) (corners-long b)
-        v (vertexStart l 2) 1600 (length-replicate 1600 (pos 0)) h v2 (omega (arith, ka .few-vertices, kb .few-vertices))
+      module _ (i : ℕ) (b : i < length files) where
+        vertices-end : vertexStart l (i + 1) ≤ total vertexCount files
+        vertices-end = omega (arith, v1 i b, start-within vertexCount 0 files (suc i) (omega arith))
 
-    origins-room : (e : ℕ) → e ≤ edgeStart l 2 → 2 * e ≤ length (l .origins)
-    origins-room e h =
-        parts-within (origins a) (origins b) (replicate 1200 0) (l .origins) (is .origins-are) 2 (edgesIn a) (edgesIn b) (origins-long a) (origins-long b)
-        e (edgeStart l 2) 1200 (length-replicate {A = ℕ} 1200 0) h e2 (omega (arith, ka .few-edges, kb .few-edges))
+        edges-end : edgeStart l (i + 1) ≤ total edgesIn files
+        edges-end = omega (arith, e1 i b, start-within edgesIn 0 files (suc i) (omega arith))
 
-    carriers-room : (e : ℕ) → e ≤ edgeStart l 2 → 4 * e ≤ length (l .carriers)
-    carriers-room e h =
-        parts-within (carriers a) (carriers b) (replicate 2400 (pos 0)) (l .carriers) (is .carriers-are) 4 (edgesIn a) (edgesIn b) (carriers-long a) (carriers-long b)
-        e (edgeStart l 2) 2400 (length-replicate 2400 (pos 0)) h e2 (omega (arith, ka .few-edges, kb .few-edges))
+        stands : Stands (l .corners) (l .origins) (l .carriers) (l .labels) (vertexStart l i) (vertexStart l (i + 1)) (edgeStart l i) (edgeStart l (i + 1))
+        stands =
+            stands-by (getD files i []) (l .corners) (l .origins) (l .carriers) (l .labels) (vertexStart l i) (vertexStart l (i + 1)) (edgeStart l i) (edgeStart l (i + 1))
+            (wide i b) (far i b) (corner-cells i b) (origin-cells i b) (carrier-cells i b) (label-cells i b) (passes i b)
+            (part-within cornersOf 4 vertexCount corners-long (d .corners) (l .corners) files (is .stacked .corners-are) (vertexStart l (i + 1)) (maps * mapVertices) vertices-end few-vertices (omega (arith, room .tables .corners)))
+            (part-within originsOf 2 edgesIn origins-long (d .origins) (l .origins) files (is .stacked .origins-are) (edgeStart l (i + 1)) (maps * mapEdges) edges-end few-edges (omega (arith, room .tables .origins)))
+            (part-within carriersOf 4 edgesIn carriers-long (d .carriers) (l .carriers) files (is .stacked .carriers-are) (edgeStart l (i + 1)) (maps * mapEdges) edges-end few-edges (omega (arith, room .tables .carriers)))
+            (part-within labelsOf 2 edgesIn labels-long (d .labels) (l .labels) files (is .stacked .labels-are) (edgeStart l (i + 1)) (maps * mapEdges) edges-end few-edges (omega (arith, room .tables .labels)))
+            (omega (arith, edges-end, few-edges))
 
-    labels-room : (e : ℕ) → e ≤ edgeStart l 2 → 2 * e ≤ length (l .labels)
-    labels-room e h =
-        parts-within (labels a) (labels b) (replicate 1200 0) (l .labels) (is .labels-are) 2 (edgesIn a) (edgesIn b) (labels-long a) (labels-long b)
-        e (edgeStart l 2) 1200 (length-replicate {A = ℕ} 1200 0) h e2 (omega (arith, ka .few-edges, kb .few-edges))
+      starts-room : (count : List ℕ → ℕ) (t u : List ℕ) → t ≡ over (starts count 0 files) u → maps < length u → maps < length t
+      starts-room count t u e h = omega (arith, ap length e, every, starts-long count 0 files, length-over (starts count 0 files) u (omega (arith, every, starts-long count 0 files)))
 
-    all-stand : (i : ℕ) → i < maps → Stands (l .corners) (l .origins) (l .carriers) (l .labels) (vertexStart l i) (vertexStart l (i + 1)) (edgeStart l i) (edgeStart l (i + 1))
-    all-stand zero h =
-        stands-by a (l .corners) (l .origins) (l .carriers) (l .labels) (vertexStart l 0) (vertexStart l 1) (edgeStart l 0) (edgeStart l 1)
-        (omega (arith, v0, v1)) (omega (arith, e0, e1)) (corner-cells .0) (origin-cells .0) (carrier-cells .0) (label-cells .0) passes-a
-        (corners-room (vertexStart l 1) (omega (arith, v1, v2))) (origins-room (edgeStart l 1) (omega (arith, e1, e2)))
-        (carriers-room (edgeStart l 1) (omega (arith, e1, e2))) (labels-room (edgeStart l 1) (omega (arith, e1, e2))) (omega (arith, e1, ka .few-edges))
-    all-stand (suc zero) h =
-        stands-by b (l .corners) (l .origins) (l .carriers) (l .labels) (vertexStart l 1) (vertexStart l 2) (edgeStart l 1) (edgeStart l 2)
-        (omega (arith, v1, v2)) (omega (arith, e1, e2)) (corner-cells .1) (origin-cells .1) (carrier-cells .1) (label-cells .1) passes-b
-        (corners-room (vertexStart l 2) (omega arith)) (origins-room (edgeStart l 2) (omega arith))
-        (carriers-room (edgeStart l 2) (omega arith)) (labels-room (edgeStart l 2) (omega arith)) (omega (arith, e2, ka .few-edges, kb .few-edges))
-    all-stand (suc (suc i)) h = absurd (omega arith)
-
-    all-keep : (i : ℕ) → i < maps → Keeps (heldMap l i)
-    all-keep zero h = subst Keeps (sym first-is) (passes-keeps a passes-a)
-    all-keep (suc zero) h = subst Keeps (sym second-is) (passes-keeps b passes-b)
-    all-keep (suc (suc i)) h = absurd (omega arith)
-
-    pub layers-held : Held l
-    layers-held = record {
-      vertices-long = omega (arith, ap length (is .vertices-are));
-      edges-long = omega (arith, ap length (is .edges-are));
-      vertices-first = v0;
-      edges-first = e0;
-      stands = all-stand;
-      keeps = all-keep;
-    }
+      pub layers-held : Held l
+      layers-held = record {
+        vertices-long = starts-room vertexCount (l .vertices) (d .vertices) (is .vertices-are) (room .vertices);
+        edges-long = starts-room edgesIn (l .edges) (d .edges) (is .edges-are) (room .edges);
+        vertices-first = v0 0 (omega arith) ∙ start-first vertexCount 0 files;
+        edges-first = e0 0 (omega arith) ∙ start-first edgesIn 0 files;
+        stands = λ i h. stands i (omega arith);
+        keeps = λ i h. subst Keeps (sym (held-is i (omega arith))) (passes-keeps (getD files i []) (passes i (omega arith)));
+      }

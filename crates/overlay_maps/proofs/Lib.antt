@@ -1,3 +1,4 @@
 pub mod PartLaws
 pub mod LabelLaws
+pub mod StackLaws
 pub mod HeldLaws

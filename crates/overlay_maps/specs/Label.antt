@@ -1,16 +1,11 @@
 -- The label of a half-edge in a map that stands in flat tables, from what the code has of the half-edge: its number, its lower end, its upward direction, and
 -- the source + 1 or 0 of its piece in the map. That is the definition's. Assumes nothing.
 use mathlib.Core.Path.{_≡_, refl}
-use Rattle.seq.specs.Seq.{cond, List, Option, none, some, ℕ, zero, suc, _/_, ℤ, orZero}
+use Rattle.seq.specs.Seq.{cond, Option, none, some, ℕ, zero, suc, _/_, orZero}
 use Rattle.paper.specs.Plane.{Pt, Vec}
 use Rattle.paper.specs.Graph.{Graph, even, twin, low, upward, eastSide, west}
 use Rattle.paper.specs.Map.{Map, label}
 use Rattle.paper.specs.Faces.{labelIn}
-use Rattle.graph.specs.Flat.{flatGraph}
-
--- the map of the tables
-abbrev pub flatMap : List ℤ → List ℕ → List ℤ → List ℕ → ℕ → ℕ → Map
-flatMap ps os cs ls n e = record { graph = flatGraph ps os cs n e; labels = ls }
 
 -- the label of edge k at the left of half-edge h along it
 abbrev pub ownLabel : Map → ℕ → ℕ → ℕ

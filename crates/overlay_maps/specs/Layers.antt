@@ -1,6 +1,9 @@
--- The tables of all maps, one map after the other: a record of lists, which contracts name and no function holds; and those of two files. Assumes nothing.
+-- The tables of all maps, one map after the other: a record of lists, which contracts name and no function holds; and what stands in them of a list of files.
+-- In order: the tables; one file's map; a map behind others; all of them. Assumes nothing.
 use mathlib.Core.Path.{_≡_}
-use Rattle.seq.specs.Seq.{List, [], _∷_, _++_, ℕ, _+_, _*_, replicate, ℤ, pos, rows, table, over}
+use Prim.Native.Nat.{_≤_, _<_}
+use Rattle.seq.specs.Seq.{List, [], _∷_, ℕ, _+_, _*_, length, sets, ℤ, rows, table, gather, over}
+use Rattle.paper.specs.Limits.{maps, mapVertices, mapEdges}
 use Rattle.paper.specs.Graph.{origin}
 use Rattle.paper.specs.Map.{mapOf, vertexCount, edgesIn, label}
 use Rattle.map_file.specs.Rows.{pointRow, carrierRow}
@@ -18,11 +21,66 @@ pub record Layers : Type 0 where
 abbrev pub layersBy : List ℕ → List ℕ → List ℤ → List ℕ → List ℤ → List ℕ → Layers
 layersBy vs es ps os cs ls = record { vertices = vs; edges = es; corners = ps; origins = os; carriers = cs; labels = ls }
 
--- the maps of the files a and b: where each map's vertices and edges start, and after the last where they end; then a row or a cell for each
-pub record Layered (a b : List ℕ) (l : Layers) : Type 0 where
-  pub vertices-are : l .vertices ≡ 0 ∷ vertexCount a ∷ (vertexCount a + vertexCount b) ∷ []
-  pub edges-are : l .edges ≡ 0 ∷ edgesIn a ∷ (edgesIn a + edgesIn b) ∷ []
-  pub corners-are : l .corners ≡ over (rows (pointRow (mapOf a .graph)) (vertexCount a) ++ rows (pointRow (mapOf b .graph)) (vertexCount b)) (replicate 1600 (pos 0))
-  pub origins-are : l .origins ≡ over (table (origin (mapOf a .graph)) (2 * edgesIn a) ++ table (origin (mapOf b .graph)) (2 * edgesIn b)) (replicate 1200 0)
-  pub carriers-are : l .carriers ≡ over (rows (carrierRow (mapOf a .graph)) (edgesIn a) ++ rows (carrierRow (mapOf b .graph)) (edgesIn b)) (replicate 2400 (pos 0))
-  pub labels-are : l .labels ≡ over (table (label (mapOf a)) (2 * edgesIn a) ++ table (label (mapOf b)) (2 * edgesIn b)) (replicate 1200 0)
+-- ── one file's map ──
+
+abbrev pub cornersOf : List ℕ → List ℤ
+cornersOf s = rows (pointRow (mapOf s .graph)) (vertexCount s)
+
+abbrev pub originsOf : List ℕ → List ℕ
+originsOf s = table (origin (mapOf s .graph)) (2 * edgesIn s)
+
+abbrev pub carriersOf : List ℕ → List ℤ
+carriersOf s = rows (carrierRow (mapOf s .graph)) (edgesIn s)
+
+abbrev pub labelsOf : List ℕ → List ℕ
+labelsOf s = table (label (mapOf s)) (2 * edgesIn s)
+
+-- ── a map behind v vertices and e edges ──
+
+-- room for any map there
+pub record RoomFrom (v e : ℕ) (ps : List ℤ) (os : List ℕ) (cs : List ℤ) (ls : List ℕ) : Type 0 where
+  pub corners : 4 * v + 4 * mapVertices ≤ length ps
+  pub origins : 2 * e + 2 * mapEdges ≤ length os
+  pub carriers : 4 * e + 4 * mapEdges ≤ length cs
+  pub labels : 2 * e + 2 * mapEdges ≤ length ls
+
+-- the file's map is stored there
+pub record LaidFrom (s : List ℕ) (v e : ℕ) (dps : List ℤ) (dos : List ℕ) (dcs : List ℤ) (dls : List ℕ) (ps : List ℤ) (os : List ℕ) (cs : List ℤ) (ls : List ℕ) : Type 0 where
+  pub corners-are : ps ≡ sets dps (4 * v) (cornersOf s)
+  pub origins-are : os ≡ sets dos (2 * e) (originsOf s)
+  pub carriers-are : cs ≡ sets dcs (4 * e) (carriersOf s)
+  pub labels-are : ls ≡ sets dls (2 * e) (labelsOf s)
+
+-- ── the maps of a list of files ──
+
+-- where each starts when the first starts at n, and after the last where it ends
+abbrev pub starts : (List ℕ → ℕ) → ℕ → List (List ℕ) → List ℕ
+starts count n [] = n ∷ []
+starts count n (s ∷ files) = n ∷ starts count (n + count s) files
+
+-- the maps stand one after the other, over what was there before
+pub record Stacked (files : List (List ℕ)) (dps : List ℤ) (dos : List ℕ) (dcs : List ℤ) (dls : List ℕ) (ps : List ℤ) (os : List ℕ) (cs : List ℤ) (ls : List ℕ) : Type 0 where
+  pub corners-are : ps ≡ over (gather cornersOf files) dps
+  pub origins-are : os ≡ over (gather originsOf files) dos
+  pub carriers-are : cs ≡ over (gather carriersOf files) dcs
+  pub labels-are : ls ≡ over (gather labelsOf files) dls
+
+-- so they do in the layers l, over d, with their starts
+pub record Layered (files : List (List ℕ)) (d l : Layers) : Type 0 where
+  pub vertices-are : l .vertices ≡ over (starts vertexCount 0 files) (d .vertices)
+  pub edges-are : l .edges ≡ over (starts edgesIn 0 files) (d .edges)
+  pub stacked : Stacked files (d .corners) (d .origins) (d .carriers) (d .labels) (l .corners) (l .origins) (l .carriers) (l .labels)
+
+-- ── room for as many maps as there are ──
+
+pub record StackRoom (ps : List ℤ) (os : List ℕ) (cs : List ℤ) (ls : List ℕ) : Type 0 where
+  pub corners : maps * (4 * mapVertices) ≤ length ps
+  pub origins : maps * (2 * mapEdges) ≤ length os
+  pub carriers : maps * (4 * mapEdges) ≤ length cs
+  pub labels : maps * (2 * mapEdges) ≤ length ls
+
+-- with their starts
+pub record LayerRoom (d : Layers) : Type 0 where
+  pub vertices : maps < length (d .vertices)
+  pub edges : maps < length (d .edges)
+  pub tables : StackRoom (d .corners) (d .origins) (d .carriers) (d .labels)

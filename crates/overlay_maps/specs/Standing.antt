@@ -8,7 +8,7 @@ use Rattle.seq.specs.Seq.{List, ℕ, _*_, _-_, length, take, drop, ℤ}
 use Rattle.paper.specs.Limits.{absent}
 use Rattle.paper.specs.Map.{Map}
 use Rattle.graph.specs.Flat.{Flat}
-use Rattle.overlay_maps.specs.Label.{flatMap}
+use Rattle.map_check.specs.Held.{flatMap}
 
 -- the cells from i to j
 abbrev pub cells : {A : Type 0} → List A → ℕ → ℕ → List A

@@ -8,14 +8,47 @@ use limits::POINT_WIDTH;
 use plane::Point;
 use plane::Vector;
 ghost use mathlib.Core.Path.{_≡_};
-ghost use Prim.Native.Nat.{_*_, _-_, _≤_, _<_};
+ghost use Prim.Native.Nat.{_+_, _*_, _-_, _≤_, _<_};
 ghost use lib.ListN.{length};
 ghost use Rattle.paper.specs.Limits.{absent};
 ghost use Rattle.plane.specs.Values.{ptOf, vecOf};
 ghost use Rattle.plane.specs.Bounds.{Direction, Near};
 ghost use Rattle.graph.specs.Flat.{Flat};
-ghost use Rattle.overlay_maps.specs.Label.{flatMap, ownLabel, labelBy};
+ghost use Rattle.map_check.specs.Held.{flatMap};
+ghost use Rattle.overlay_maps.specs.Label.{ownLabel};
 ghost use Rattle.overlay_maps.specs.Standing.{Stands, standing};
+ghost use Rattle.overlay_maps.specs.Place.{labelAt, partAt};
+
+// Where a half-edge of the overlay lies: its number, the source + 1 or 0 that its piece has in the map, its lower end and its upward direction.
+pub struct Place {
+    pub half: usize,
+    pub source: u16,
+    pub low: Point,
+    pub up: Vector,
+}
+
+// Where the map of this number stands: its vertices are the rows v to w of the corners, its edges the rows a to b of the carriers.
+pub struct Part {
+    pub map: usize,
+    pub v: usize,
+    pub w: usize,
+    pub a: usize,
+    pub b: usize,
+}
+
+// Where map m stands, by where each map's vertices and edges start.
+pub fn part_of(vertices: &[usize], edges: &[usize], m: usize) -> Part
+    requires { ⌜ (m + 1 < length (now vertices)) × (m + 1 < length (now edges)) ⌝ }
+    ensures { λ r. ⌜ r ≡ partAt (now (vertices .entry)) (now (edges .entry)) m ⌝ }
+{
+    Part {
+        map: m,
+        v: vertices[m],
+        w: vertices[m + 1],
+        a: edges[m],
+        b: edges[m + 1],
+    }
+}
 
 // The label of edge k of the map at the left of half-edge h that lies along it, where 2k' goes up and 2k' + 1 down.
 fn own_label(
@@ -39,7 +72,7 @@ fn own_label(
     }
 }
 
-// The label in the map of half-edge h, whose lower end is p and whose upward direction is d, with the source + 1 or 0 that its piece has there.
+// The label in the map of a half-edge that lies at a place.
 pub fn label_in(
     points: &[i64],
     origins: &[u16],
@@ -47,63 +80,43 @@ pub fn label_in(
     labels: &[u16],
     n: usize,
     e: usize,
-    h: usize,
-    source: u16,
-    p: Point,
-    d: Vector,
+    at: Place,
 ) -> u16
-    requires { ⌜ Flat (now points) (now origins) (now carriers) n e ⌝ ∗ ⌜ 2 * e ≤ absent ⌝ ∗ ⌜ 2 * e ≤ length (now labels) ⌝ ∗ ⌜ source ≤ e ⌝ ∗ ⌜ Near (ptOf p) × Direction (vecOf d) ⌝ }
-    ensures { λ r. ⌜ r ≡ labelBy (flatMap (now (points .entry)) (now (origins .entry)) (now (carriers .entry)) (now (labels .entry)) n e) h (ptOf p) (vecOf d) source ⌝ }
+    requires { ⌜ Flat (now points) (now origins) (now carriers) n e ⌝ ∗ ⌜ 2 * e ≤ absent ⌝ ∗ ⌜ 2 * e ≤ length (now labels) ⌝ ∗ ⌜ at .source ≤ e ⌝ ∗ ⌜ Near (ptOf (at .low)) × Direction (vecOf (at .up)) ⌝ }
+    ensures { λ r. ⌜ r ≡ labelAt (flatMap (now (points .entry)) (now (origins .entry)) (now (carriers .entry)) (now (labels .entry)) n e) at ⌝ }
 {
-    if source == 0 {
-        return seen_label(points, origins, carriers, labels, n, e, p, d);
+    if at.source == 0 {
+        return seen_label(points, origins, carriers, labels, n, e, at.low, at.up);
     }
-    own_label(
-        points,
-        origins,
-        carriers,
-        labels,
-        n,
-        e,
-        h,
-        source as usize - 1,
-    )
+    let k = at.source as usize - 1;
+    own_label(points, origins, carriers, labels, n, e, at.half, k)
 }
 
-// The same in one of the maps that stand in one set of tables: its vertices are the rows v to w of the corners, its edges the rows a to b of the carriers.
+// The same in a map that stands in a part of the tables.
 pub fn label_at(
     corners: &[i64],
     origins: &[u16],
     carriers: &[i64],
     labels: &[u16],
-    v: usize,
-    w: usize,
-    a: usize,
-    b: usize,
-    h: usize,
-    source: u16,
-    p: Point,
-    d: Vector,
+    part: Part,
+    at: Place,
 ) -> u16
-    requires { ⌜ Stands (now corners) (now origins) (now carriers) (now labels) v w a b ⌝ ∗ ⌜ source ≤ b - a ⌝ ∗ ⌜ Near (ptOf p) × Direction (vecOf d) ⌝ }
-    ensures { λ r. ⌜ r ≡ labelBy (standing (now (corners .entry)) (now (origins .entry)) (now (carriers .entry)) (now (labels .entry)) v w a b) h (ptOf p) (vecOf d) source ⌝ }
+    requires { ⌜ Stands (now corners) (now origins) (now carriers) (now labels) (part .v) (part .w) (part .a) (part .b) ⌝ ∗ ⌜ at .source ≤ part .b - part .a ⌝ ∗ ⌜ Near (ptOf (at .low)) × Direction (vecOf (at .up)) ⌝ }
+    ensures { λ r. ⌜ r ≡ labelAt (standing (now (corners .entry)) (now (origins .entry)) (now (carriers .entry)) (now (labels .entry)) (part .v) (part .w) (part .a) (part .b)) at ⌝ }
 {
-    let from = POINT_WIDTH * v;
-    let to = POINT_WIDTH * w;
-    let foot = CARRIER_WIDTH * a;
-    let head = CARRIER_WIDTH * b;
-    let first = 2 * a;
-    let last = 2 * b;
+    let from = POINT_WIDTH * part.v;
+    let to = POINT_WIDTH * part.w;
+    let foot = CARRIER_WIDTH * part.a;
+    let head = CARRIER_WIDTH * part.b;
+    let first = 2 * part.a;
+    let last = 2 * part.b;
     label_in(
         &corners[from..to],
         &origins[first..last],
         &carriers[foot..head],
         &labels[first..last],
-        w - v,
-        b - a,
-        h,
-        source,
-        p,
-        d,
+        part.w - part.v,
+        part.b - part.a,
+        at,
     )
 }

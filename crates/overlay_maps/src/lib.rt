@@ -1,7 +1,9 @@
-// Both maps in one set of tables, and the label of a half-edge in each of them.
-mod stack; // both maps in one set of tables
-mod label; // the label of a half-edge in a map
+// All maps in one set of tables, and the label of a half-edge in each of them.
+mod stack; // all maps checked and laid in one set of tables
+mod label; // the label of a half-edge in a map, and where the map stands
 
+pub use label::Part;
+pub use label::Place;
 pub use label::label_at;
-pub use stack::Layers;
-pub use stack::read_layers;
+pub use label::part_of;
+pub use stack::lay_maps;

@@ -1,101 +1,120 @@
-// Both maps in one set of tables, one after the other, with where each map's vertices and edges start.
+// All maps in one set of tables, one after the other, with where each map's vertices and edges start.
 use limits::CARRIER_WIDTH;
-use limits::LAYER_CARRIER_CELLS;
-use limits::LAYER_HALVES;
-use limits::LAYER_POINT_CELLS;
-use limits::LAYER_STARTS;
 use limits::POINT_WIDTH;
+use map_check::Checked;
+use map_check::lay_map;
+use map_file::Check;
+use map_file::Refusal;
 use map_file::edge_count;
-use map_file::load_carriers;
-use map_file::load_labels;
-use map_file::load_origins;
-use map_file::load_points;
 use map_file::vertex_count;
 ghost use mathlib.Core.Path.{_≡_};
-ghost use mathlib.Core.List.{_++_};
+ghost use mathlib.Core.List.{[], _∷_};
 ghost use mathlib.Core.Option.{none};
-ghost use Prim.Native.Nat.{_+_, _*_, _≤_};
+ghost use Prim.Native.Nat.{_<_};
 ghost use lib.ListN.{length};
-ghost use Rattle.seq.specs.Seq.{rows, table, over};
-ghost use Rattle.paper.specs.Graph.{origin};
-ghost use Rattle.paper.specs.Refusal.{firstOf};
-ghost use Rattle.paper.specs.Map.{mapOf, vertexCount, edgesIn, label, formFaults, partFaults};
-ghost use Rattle.map_file.specs.Rows.{pointRow, carrierRow};
-ghost use Rattle.overlay_maps.specs.Layers.{Layered};
-ghost use Rattle.overlay_maps.specs.LayersOf.{layersOf};
+ghost use Rattle.seq.specs.Seq.{over};
+ghost use Rattle.paper.specs.Limits.{maps};
+ghost use Rattle.paper.specs.Refusal.{firstOf, ofMap};
+ghost use Rattle.paper.specs.Map.{vertexCount, edgesIn, fault};
+ghost use Rattle.paper.specs.Overlay.{mapFaults};
+ghost use Rattle.map_file.specs.Verdict.{verdict};
+ghost use Rattle.map_check.specs.Answer.{answerOf};
+ghost use Rattle.overlay_maps.specs.Refused.{refusedIn};
+ghost use Rattle.overlay_maps.specs.Layers.{layersBy, RoomFrom, LaidFrom, starts, Stacked, Layered, StackRoom, LayerRoom};
 
-pub struct Layers {
-    pub vertices: [usize; LAYER_STARTS],
-    pub edges: [usize; LAYER_STARTS],
-    pub corners: [i64; LAYER_POINT_CELLS],
-    pub origins: [u16; LAYER_HALVES],
-    pub carriers: [i64; LAYER_CARRIER_CELLS],
-    pub labels: [u16; LAYER_HALVES],
-}
-
-// The corners of both maps.
-fn lay_corners(zones: &[u8], blocks: &[u8], out: &mut [i64])
-    requires { ⌜ 4 * vertexCount (now zones) + 4 * vertexCount (now blocks) ≤ length (now out) ⌝ }
-    ensures { λ _. ⌜ now (out .exit) ≡ over (rows (pointRow (mapOf (now (zones .entry)) .graph)) (vertexCount (now (zones .entry))) ++ rows (pointRow (mapOf (now (blocks .entry)) .graph)) (vertexCount (now (blocks .entry)))) (now (out .entry)) ⌝ }
+// The refusal of a check, if there is one, of a map of this number.
+fn of_map(map: u16, c: Checked) -> Check
+    ensures { λ r. ⌜ verdict r ≡ ofMap map (refusedIn (answerOf c)) ⌝ }
 {
-    load_points(zones, out);
-    let at = POINT_WIDTH * vertex_count(zones) as usize;
-    load_points(blocks, &mut out[at..]);
-}
-
-// The origins of both maps' half-edges, each the number of a vertex of its own map.
-fn lay_origins(zones: &[u8], blocks: &[u8], out: &mut [u16])
-    requires { ⌜ 2 * edgesIn (now zones) + 2 * edgesIn (now blocks) ≤ length (now out) ⌝ }
-    ensures { λ _. ⌜ now (out .exit) ≡ over (table (origin (mapOf (now (zones .entry)) .graph)) (2 * edgesIn (now (zones .entry))) ++ table (origin (mapOf (now (blocks .entry)) .graph)) (2 * edgesIn (now (blocks .entry)))) (now (out .entry)) ⌝ }
-{
-    load_origins(zones, out);
-    let at = 2 * edge_count(zones) as usize;
-    load_origins(blocks, &mut out[at..]);
-}
-
-// The carriers of both maps' edges.
-fn lay_carriers(zones: &[u8], blocks: &[u8], out: &mut [i64])
-    requires { ⌜ 4 * edgesIn (now zones) + 4 * edgesIn (now blocks) ≤ length (now out) ⌝ ∗ ⌜ firstOf (formFaults (now zones) ++ partFaults (mapOf (now zones) .graph)) ≡ none ⌝ ∗ ⌜ firstOf (formFaults (now blocks) ++ partFaults (mapOf (now blocks) .graph)) ≡ none ⌝ }
-    ensures { λ _. ⌜ now (out .exit) ≡ over (rows (carrierRow (mapOf (now (zones .entry)) .graph)) (edgesIn (now (zones .entry))) ++ rows (carrierRow (mapOf (now (blocks .entry)) .graph)) (edgesIn (now (blocks .entry)))) (now (out .entry)) ⌝ }
-{
-    load_carriers(zones, out);
-    let at = CARRIER_WIDTH * edge_count(zones) as usize;
-    load_carriers(blocks, &mut out[at..]);
-}
-
-// The labels of both maps' half-edges.
-fn lay_labels(zones: &[u8], blocks: &[u8], out: &mut [u16])
-    requires { ⌜ 2 * edgesIn (now zones) + 2 * edgesIn (now blocks) ≤ length (now out) ⌝ }
-    ensures { λ _. ⌜ now (out .exit) ≡ over (table (label (mapOf (now (zones .entry)))) (2 * edgesIn (now (zones .entry))) ++ table (label (mapOf (now (blocks .entry)))) (2 * edgesIn (now (blocks .entry)))) (now (out .entry)) ⌝ }
-{
-    load_labels(zones, out);
-    let at = 2 * edge_count(zones) as usize;
-    load_labels(blocks, &mut out[at..]);
-}
-
-// The layers of two files that pass rules 1 to 7.
-pub fn read_layers(zones: &[u8], blocks: &[u8]) -> Layers
-    requires { ⌜ firstOf (formFaults (now zones) ++ partFaults (mapOf (now zones) .graph)) ≡ none ⌝ ∗ ⌜ firstOf (formFaults (now blocks) ++ partFaults (mapOf (now blocks) .graph)) ≡ none ⌝ }
-    ensures { λ r. ⌜ Layered (now (zones .entry)) (now (blocks .entry)) (layersOf r) ⌝ }
-{
-    let mut corners = [0i64; LAYER_POINT_CELLS];
-    lay_corners(zones, blocks, &mut corners);
-    let mut origins = [0u16; LAYER_HALVES];
-    lay_origins(zones, blocks, &mut origins);
-    let mut carriers = [0i64; LAYER_CARRIER_CELLS];
-    lay_carriers(zones, blocks, &mut carriers);
-    let mut labels = [0u16; LAYER_HALVES];
-    lay_labels(zones, blocks, &mut labels);
-    let v = vertex_count(zones) as usize;
-    let vertices = [0, v, v + vertex_count(blocks) as usize];
-    let e = edge_count(zones) as usize;
-    let edges = [0, e, e + edge_count(blocks) as usize];
-    Layers {
-        vertices,
-        edges,
-        corners,
-        origins,
-        carriers,
-        labels,
+    match c {
+        Checked::Bad(r) => Check::Bad(Refusal {
+            number: r.number,
+            map,
+            place: r.place,
+        }),
+        Checked::Good(_) => Check::Fine,
     }
+}
+
+// The map of one more file, behind v vertices and e edges; it is the map of this number.
+fn lay_behind(
+    file: &[u8],
+    map: u16,
+    v: usize,
+    e: usize,
+    corners: &mut [i64],
+    origins: &mut [u16],
+    carriers: &mut [i64],
+    labels: &mut [u16],
+) -> Check
+    requires { ⌜ RoomFrom v e (now corners) (now origins) (now carriers) (now labels) ⌝ }
+    ensures { λ r. ⌜ (verdict r ≡ ofMap map (fault (now (file .entry)))) × (fault (now (file .entry)) ≡ none → LaidFrom (now (file .entry)) v e (now (corners .entry)) (now (origins .entry)) (now (carriers .entry)) (now (labels .entry)) (now (corners .exit)) (now (origins .exit)) (now (carriers .exit)) (now (labels .exit))) ⌝ }
+{
+    let at = POINT_WIDTH * v;
+    let foot = CARRIER_WIDTH * e;
+    let first = 2 * e;
+    let c = lay_map(
+        file,
+        &mut corners[at..],
+        &mut origins[first..],
+        &mut carriers[foot..],
+        &mut labels[first..],
+    );
+    of_map(map, c)
+}
+
+// "The first map is checked wholly, then the second."
+fn lay_tables(
+    zones: &[u8],
+    blocks: &[u8],
+    corners: &mut [i64],
+    origins: &mut [u16],
+    carriers: &mut [i64],
+    labels: &mut [u16],
+) -> Check
+    requires { ⌜ StackRoom (now corners) (now origins) (now carriers) (now labels) ⌝ }
+    ensures { λ r. ⌜ (verdict r ≡ firstOf (mapFaults (now (zones .entry) ∷ now (blocks .entry) ∷ []))) × (firstOf (mapFaults (now (zones .entry) ∷ now (blocks .entry) ∷ [])) ≡ none → Stacked (now (zones .entry) ∷ now (blocks .entry) ∷ []) (now (corners .entry)) (now (origins .entry)) (now (carriers .entry)) (now (labels .entry)) (now (corners .exit)) (now (origins .exit)) (now (carriers .exit)) (now (labels .exit))) ⌝ }
+{
+    let c = lay_behind(zones, 1, 0, 0, corners, origins, carriers, labels);
+    match c {
+        Check::Bad(_) => c,
+        Check::Fine => {
+            let v = vertex_count(zones) as usize;
+            let e = edge_count(zones) as usize;
+            lay_behind(blocks, 2, v, e, corners, origins, carriers, labels)
+        }
+    }
+}
+
+// Where each map's vertices and edges start, and where the last ends.
+fn lay_starts(zones: &[u8], blocks: &[u8], vertices: &mut [usize], edges: &mut [usize])
+    requires { ⌜ (maps < length (now vertices)) × (maps < length (now edges)) ⌝ }
+    ensures { λ _. ⌜ (now (vertices .exit) ≡ over (starts vertexCount 0 (now (zones .entry) ∷ now (blocks .entry) ∷ [])) (now (vertices .entry))) × (now (edges .exit) ≡ over (starts edgesIn 0 (now (zones .entry) ∷ now (blocks .entry) ∷ [])) (now (edges .entry))) ⌝ }
+{
+    let vertex = vertex_count(zones) as usize;
+    let edge = edge_count(zones) as usize;
+    vertices[0] = 0;
+    vertices[1] = vertex;
+    vertices[2] = vertex + vertex_count(blocks) as usize;
+    edges[0] = 0;
+    edges[1] = edge;
+    edges[2] = edge + edge_count(blocks) as usize;
+}
+
+// The maps of two files of any bytes, checked, and where both pass in the tables, one after the other.
+pub fn lay_maps(
+    zones: &[u8],
+    blocks: &[u8],
+    vertices: &mut [usize],
+    edges: &mut [usize],
+    corners: &mut [i64],
+    origins: &mut [u16],
+    carriers: &mut [i64],
+    labels: &mut [u16],
+) -> Check
+    requires { ⌜ LayerRoom (layersBy (now vertices) (now edges) (now corners) (now origins) (now carriers) (now labels)) ⌝ }
+    ensures { λ r. ⌜ (verdict r ≡ firstOf (mapFaults (now (zones .entry) ∷ now (blocks .entry) ∷ []))) × (firstOf (mapFaults (now (zones .entry) ∷ now (blocks .entry) ∷ [])) ≡ none → Layered (now (zones .entry) ∷ now (blocks .entry) ∷ []) (layersBy (now (vertices .entry)) (now (edges .entry)) (now (corners .entry)) (now (origins .entry)) (now (carriers .entry)) (now (labels .entry))) (layersBy (now (vertices .exit)) (now (edges .exit)) (now (corners .exit)) (now (origins .exit)) (now (carriers .exit)) (now (labels .exit)))) ⌝ }
+{
+    lay_starts(zones, blocks, vertices, edges);
+    lay_tables(zones, blocks, corners, origins, carriers, labels)
 }

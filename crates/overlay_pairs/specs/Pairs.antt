@@ -1,16 +1,16 @@
 -- The labels that the code finds are the definition's: of the half-edges and faces of the overlay of the maps that the layers hold. Assumes nothing.
-use mathlib.Core.Path.{_≡_, refl, sym, _∙_, ap}
+use mathlib.Core.Path.{_≡_, refl, sym, _∙_, ap, subst}
 use Prim.Native.Nat.{_≤_, _<_}
 use native.Mathlib.Omega.{arith}
 use lib.ListN.{length-append}
-use Rattle.seq.specs.Seq.{List, [], _∷_, Option, none, some, ℕ, zero, suc, _+_, _*_, _-_, _/_, length, getD, replicate, rows, table, select, filled}
-use Rattle.seq.specs.Filled.{filled-at}
+use Rattle.seq.specs.Seq.{List, [], _∷_, Option, none, some, ℕ, zero, suc, _+_, _*_, _-_, _/_, length, getD, replicate, ℤ, rows, table, select, filled, padded}
+use Rattle.seq.specs.Filled.{filled-at, filled-ext}
 use Rattle.seq.specs.Rows.{rows-ext}
 use Rattle.seq.specs.Table.{length-table, table-at}
 use Rattle.seq.specs.Select.{select-from}
 use Rattle.seq.specs.Members.{at-among}
 use Rattle.seq.specs.Wiped.{padded-at}
-use Rattle.paper.specs.Limits.{maps, overlayVertices, overlayEdges, overlayFaces}
+use Rattle.paper.specs.Limits.{maps, overlayVertices, overlayEdges}
 use Rattle.paper.specs.Graph.{Graph, edgeCount, halfCount, pointIn, start, low, upward}
 use Rattle.paper.specs.Map.{Map}
 use Rattle.paper.specs.Pieces.{Piece, layer, verticesOf, edgesOf}
@@ -30,13 +30,15 @@ use Rattle.graph_faces.specs.Linked.{halfRows}
 use Rattle.overlay_cut.specs.PieceRows.{pieceWidth, minusOne, pieceAt, noPiece}
 use Rattle.overlay_cut.specs.Net.{sourceIn}
 use Rattle.tables.specs.Rows.{faceBy}
-use Rattle.tables.specs.declared.face_rows.FaceRows.{FaceRows}
 use Rattle.overlay_maps.specs.Label.{labelBy, stored, label-by}
+use Rattle.overlay_maps.specs.Standing.{Stands, standing}
+use Rattle.overlay_maps.specs.Place.{partAt}
+use Rattle.overlay_maps.specs.declared.label.Part.{Part}
 use Rattle.overlay_maps.specs.Held.{Held, heldMap, heldMaps, edgeStart}
 use Rattle.overlay_maps.specs.Layers.{Layers}
 use Rattle.overlay_graph.specs.Laws.Standing.{layer-is, keep, held-edges}
 use Rattle.overlay_graph.specs.Cut.{Cut, CutOf}
-use Rattle.overlay_graph.specs.Traced.{Traced, TracedOf}
+use Rattle.overlay_graph.specs.Traced.{NetBy}
 use Rattle.overlay_pairs.specs.Labels.{halfLabel, faceLabel, outerOf, Labels}
 
 -- the label of face f in map i: "Face 0 is the outside, pair (0, 0)", another has that of its least outer half-edge
@@ -44,14 +46,21 @@ abbrev pub labelOf : List Map → Overlay → ℕ → ℕ → ℕ
 labelOf ms o i zero = 0
 labelOf ms o i (suc f) = let h = getD (o .outers) f 0 in labelIn (layer ms i) (net o) h (getD (sourcesOf o (h / 2)) i none)
 
--- the tables of the overlay of the maps that the layers hold, within 01's limits
-pub record Whole (l : Layers) (c : Cut) (t : Traced) : Type 0 where
+-- the tables of the overlay of the maps that the layers hold, within 01's limits: its net, and its outer walks with the hole walks of each face
+pub record Whole (l : Layers) (c : Cut) (origins : List ℕ) (carriers : List ℤ) (outers holes : List ℕ) (count : ℕ) : Type 0 where
   pub held : Held l
   pub cut : CutOf (heldMaps l) c
   pub few-vertices : c .vertices ≤ overlayVertices
   pub few-edges : c .edges ≤ overlayEdges
-  pub traced : TracedOf (heldMaps l) c t
-  pub few-faces : t .count + 1 ≤ overlayFaces
+  pub pieces-long : pieceWidth * c .edges ≤ length (c .pieces)
+  pub net-by : NetBy (overlayOf (heldMaps l)) c origins carriers
+  pub outers-is : outers ≡ padded 0 halfRows (overlayOf (heldMaps l) .outers)
+  pub count-is : count ≡ length (overlayOf (heldMaps l) .outers)
+  pub holes-is : holes ≡ padded 0 (suc halfRows) (table (holesOf (overlayOf (heldMaps l))) (suc count))
+
+-- the rows of the first n faces
+abbrev pub faceRows : Layers → ℕ → List ℕ
+faceRows l n = rows (faceRow (heldMaps l) (overlayOf (heldMaps l))) n
 
 -- ── a stored source ──
 
@@ -65,12 +74,9 @@ most (suc n) e o q f = f n (sym q)
 
 -- ── half-edges ──
 
-module _ (l : Layers) (c : Cut) (t : Traced) (W : Whole l c t) where
+module _ (l : Layers) (c : Cut) (os : List ℕ) (bs : List ℤ) (outers holes : List ℕ) (count : ℕ) (W : Whole l c os bs outers holes count) where
   abbrev H : Held l
   H = W .held
-
-  abbrev T : TracedOf (heldMaps l) c t
-  T = W .traced
 
   abbrev ms : List Map
   ms = heldMaps l
@@ -79,13 +85,13 @@ module _ (l : Layers) (c : Cut) (t : Traced) (W : Whole l c t) where
   o = overlayOf ms
 
   abbrev flat : Graph
-  flat = flatGraph (c .points) (t .origins) (t .carriers) (c .vertices) (c .edges)
+  flat = flatGraph (c .points) os bs (c .vertices) (c .edges)
 
   flat-is : flat ≡ overlaid ms
-  flat-is = T .net-by .net-is ∙ Parts.net-is ms
+  flat-is = W .net-by .net-is ∙ Parts.net-is ms
 
   edges-are : edgeCount (overlaid ms) ≡ c .edges
-  edges-are = ap edgeCount (sym flat-is) ∙ flat-edges (c .points) (t .origins) (t .carriers) (c .vertices) (c .edges)
+  edges-are = ap edgeCount (sym flat-is) ∙ flat-edges (c .points) os bs (c .vertices) (c .edges)
 
   module _ (k : ℕ) (b : k < c .edges) where
     within : k < edgeCount (overlaid ms)
@@ -108,18 +114,18 @@ module _ (l : Layers) (c : Cut) (t : Traced) (W : Whole l c t) where
         (λ r e. omega (arith, held-edges l H i h, sourced ms K (verticesOf ms) (places ms K) k within .from i r e .of-map))
 
     -- "its lower end", and the upward direction
-    low-at : startAt (c .points) (t .origins) (2 * k) ≡ low (net o) k
+    low-at : startAt (c .points) os (2 * k) ≡ low (net o) k
     low-at =
         let K = keep l H in
-        sym (flat-start (c .points) (t .origins) (t .carriers) (c .vertices) (c .edges) (T .net-by .flat .origins) (2 * k) (omega arith))
+        sym (flat-start (c .points) os bs (c .vertices) (c .edges) (W .net-by .flat .origins) (2 * k) (omega arith))
         ∙ ap (λ (g : Graph). start g (2 * k)) flat-is ∙ ap (pointIn (verticesOf ms)) (origin-first k (overlaid ms))
         ∙ sym (low-is ms K (verticesOf ms) (places ms K) k within) ∙ ap (λ (g : Graph). low g k) (sym (Parts.net-is ms))
 
-    up-at : carrierAt (t .carriers) k .up ≡ upward (net o) k
-    up-at = sym (flat-upward (c .points) (t .origins) (t .carriers) (c .vertices) (c .edges) k b) ∙ ap (λ (g : Graph). upward g k) (T .net-by .net-is)
+    up-at : carrierAt bs k .up ≡ upward (net o) k
+    up-at = sym (flat-upward (c .points) os bs (c .vertices) (c .edges) k b) ∙ ap (λ (g : Graph). upward g k) (W .net-by .net-is)
 
   -- the label of half-edge h in map i
-  label-is : (i h : ℕ) → i < maps → h < 2 * c .edges → halfLabel (heldMap l i) (c .points) (t .origins) (t .carriers) (c .pieces) i h ≡ labelIn (layer ms i) (net o) h (getD (sourcesOf o (h / 2)) i none)
+  label-is : (i h : ℕ) → i < maps → h < 2 * c .edges → halfLabel (heldMap l i) (c .points) os bs (c .pieces) i h ≡ labelIn (layer ms i) (net o) h (getD (sourcesOf o (h / 2)) i none)
   label-is i h b q =
       let k : ℕ = h / 2 in
       let r : k < c .edges = omega arith in
@@ -128,75 +134,95 @@ module _ (l : Layers) (c : Cut) (t : Traced) (W : Whole l c t) where
 
   -- ── faces ──
 
-  outer-at : (f : ℕ) → f < t .count → getD (t .outers) f 0 ≡ getD (o .outers) f 0
-  outer-at f b = ap (λ (x : List ℕ). getD x f 0) (T .faces-by .outers-is) ∙ padded-at 0 halfRows f (o .outers) 0 (omega (arith, T .faces-by .count-is))
+  outer-at : (f : ℕ) → f < count → getD outers f 0 ≡ getD (o .outers) f 0
+  outer-at f b = ap (λ (x : List ℕ). getD x f 0) (W .outers-is) ∙ padded-at 0 halfRows f (o .outers) 0 (omega (arith, W .count-is))
 
-  outer-below : (f : ℕ) → f < t .count → getD (t .outers) f 0 < 2 * c .edges
+  outer-below : (f : ℕ) → f < count → getD outers f 0 < 2 * c .edges
   outer-below f b =
       let p = leadsOuter (walksOf (overlaid ms)) in
       let n = halfCount (overlaid ms) in
-      let e : getD (t .outers) f 0 ≡ getD (select p n) f 0 = outer-at f b ∙ ap (λ (x : List ℕ). getD x f 0) (Parts.outers-are ms) in
-      let q = select-from p n (getD (select p n) f 0) (at-among (select p n) f 0 (omega (arith, T .faces-by .count-is, ap length (Parts.outers-are ms)))) .0 in
+      let e : getD outers f 0 ≡ getD (select p n) f 0 = outer-at f b ∙ ap (λ (x : List ℕ). getD x f 0) (Parts.outers-are ms) in
+      let q = select-from p n (getD (select p n) f 0) (at-among (select p n) f 0 (omega (arith, W .count-is, ap length (Parts.outers-are ms)))) .0 in
       omega (arith, e, q, edges-are)
 
   -- what the code reads is there
-  pub readable : (i : ℕ) → i < maps → pieceWidth * c .edges ≤ length (c .pieces) → (f : ℕ) → f < t .count + 1
-      → Labels (c .points) (t .origins) (t .carriers) (c .pieces) i (edgeStart l (i + 1) - edgeStart l i) (t .outers) f
-  readable i b long zero q = tt
-  readable i b long (suc f) q =
-      let r : f < t .count = omega arith in
-      let h = getD (t .outers) f 0 in
+  pub outers-long : count ≤ length outers
+  outers-long = omega (arith, W .count-is, ap length (W .outers-is), length-append (o .outers) (replicate (halfRows - length (o .outers)) 0))
+
+  pub holes-long : count + 1 ≤ length holes
+  holes-long =
+      let counts = table (holesOf o) (suc count) in
+      omega (arith, ap length (W .holes-is), length-append counts (replicate (suc halfRows - length counts) 0), length-table (holesOf o) (suc count))
+
+  readable : (i : ℕ) → i < maps → (f : ℕ) → f < count + 1
+      → Labels (c .points) os bs (c .pieces) i (edgeStart l (i + 1) - edgeStart l i) outers f
+  readable i b zero q = tt
+  readable i b (suc f) q =
+      let r : f < count = omega arith in
+      let h = getD outers f 0 in
       let k : h / 2 < c .edges = omega (arith, outer-below f r) in
-      let F = T .net-by .flat in (
-        omega (arith, outers-long, T .faces-by .count-is),
+      let F = W .net-by .flat in (
+        omega (arith, outers-long),
         record {
-          of-maps = b;
-          starts = flat-starts (c .points) (t .origins) (t .carriers) (c .vertices) (c .edges) F (2 * (h / 2)) (omega arith);
-          carried = flat-carried (c .points) (t .origins) (t .carriers) (c .vertices) (c .edges) F (h / 2) k;
-          row = omega arith;
+          placed = record {
+            of-maps = b;
+            starts = flat-starts (c .points) os bs (c .vertices) (c .edges) F (2 * (h / 2)) (omega arith);
+            carried = flat-carried (c .points) os bs (c .vertices) (c .edges) F (h / 2) k;
+            row = omega (arith, W .pieces-long);
+          };
           source-most = source-most (h / 2) k i b;
         },
       )
-    where
-      outers-long : length (o .outers) ≤ length (t .outers)
-      outers-long = omega (arith, ap length (T .faces-by .outers-is), length-append (o .outers) (replicate (halfRows - length (o .outers)) 0))
 
   -- ── the rows of the faces ──
 
-  pub label-at : (i f : ℕ) → i < maps → f < t .count + 1 → faceLabel (heldMap l i) (c .points) (t .origins) (t .carriers) (c .pieces) i (t .outers) f ≡ labelOf ms o i f
+  label-at : (i f : ℕ) → i < maps → f < count + 1 → faceLabel (heldMap l i) (c .points) os bs (c .pieces) i outers f ≡ labelOf ms o i f
   label-at i zero b q = refl
   label-at i (suc f) b q =
-      let r : f < t .count = omega arith in
-      label-is i (getD (t .outers) f 0) b (outer-below f r) ∙ ap (λ (h : ℕ). labelIn (layer ms i) (net o) h (getD (sourcesOf o (h / 2)) i none)) (outer-at f r)
+      let r : f < count = omega arith in
+      label-is i (getD outers f 0) b (outer-below f r) ∙ ap (λ (h : ℕ). labelIn (layer ms i) (net o) h (getD (sourcesOf o (h / 2)) i none)) (outer-at f r)
 
-  holes-at : (f : ℕ) → f < t .count + 1 → getD (t .holes) f 0 ≡ holesOf o f
+  -- of the part that map i stands in
+  module _ (i : ℕ) (b : i < maps) (p : Part) (e : p ≡ partAt (l .vertices) (l .edges) i) where
+    abbrev stood : Part → Map
+    stood x = standing (l .corners) (l .origins) (l .carriers) (l .labels) (x .v) (x .w) (x .a) (x .b)
+
+    pub part-stands : Stands (l .corners) (l .origins) (l .carriers) (l .labels) (p .v) (p .w) (p .a) (p .b)
+    part-stands = subst (λ (x : Part). Stands (l .corners) (l .origins) (l .carriers) (l .labels) (x .v) (x .w) (x .a) (x .b)) (sym e) (H .stands i b)
+
+    pub part-readable : (f : ℕ) → f < count + 1 → Labels (c .points) os bs (c .pieces) (p .map) (p .b - p .a) outers f
+    part-readable f q = subst (λ (x : Part). Labels (c .points) os bs (c .pieces) (x .map) (x .b - x .a) outers f) (sym e) (readable i b f q)
+
+    pub part-labels : (d : List ℕ) → filled (count + 1) (faceLabel (stood p) (c .points) os bs (c .pieces) (p .map) outers) d ≡ filled (count + 1) (labelOf ms o i) d
+    part-labels d =
+        ap (λ (x : Part). filled (count + 1) (faceLabel (stood x) (c .points) os bs (c .pieces) (x .map) outers) d) e
+        ∙ filled-ext (faceLabel (heldMap l i) (c .points) os bs (c .pieces) i outers) (labelOf ms o i) (count + 1) d (λ f q. label-at i f b q)
+
+  holes-at : (f : ℕ) → f < count + 1 → getD holes f 0 ≡ holesOf o f
   holes-at f q =
-      ap (λ (x : List ℕ). getD x f 0) (T .faces-by .holes-is) ∙ padded-at 0 (suc halfRows) f (table (holesOf o) (suc (t .count))) 0 (omega (arith, length-table (holesOf o) (suc (t .count))))
-      ∙ table-at (holesOf o) (suc (t .count)) f 0 (omega arith)
+      ap (λ (x : List ℕ). getD x f 0) (W .holes-is) ∙ padded-at 0 (suc halfRows) f (table (holesOf o) (suc count)) 0 (omega (arith, length-table (holesOf o) (suc count)))
+      ∙ table-at (holesOf o) (suc count) f 0 (omega arith)
 
   -- four columns filled face by face
-  module _ (first second outer holes d : List ℕ) (first-is : first ≡ filled (t .count + 1) (labelOf ms o 0) d) (second-is : second ≡ filled (t .count + 1) (labelOf ms o 1) d)
-      (outer-is : outer ≡ filled (t .count + 1) (outerOf (t .outers)) d) (holes-are : holes ≡ filled (t .count + 1) (λ f. getD (t .holes) f 0) d) where
-    abbrev r : FaceRows
-    r = record { count = t .count + 1; first = first; second = second; outer = outer; holes = holes }
+  module _ (first second outer counts d₁ d₂ d₃ d₄ : List ℕ) (first-is : first ≡ filled (count + 1) (labelOf ms o 0) d₁) (second-is : second ≡ filled (count + 1) (labelOf ms o 1) d₂)
+      (outer-is : outer ≡ filled (count + 1) (outerOf outers) d₃) (counts-are : counts ≡ filled (count + 1) (λ f. getD holes f 0) d₄) where
+    at : (x : List ℕ) (g : ℕ → ℕ) (d : List ℕ) → x ≡ filled (count + 1) g d → (f : ℕ) → f < count + 1 → getD x f 0 ≡ g f
+    at x g d e f q = ap (λ (y : List ℕ). getD y f 0) e ∙ filled-at g (count + 1) f d 0 q
 
-    at : (x : List ℕ) (g : ℕ → ℕ) → x ≡ filled (t .count + 1) g d → (f : ℕ) → f < t .count + 1 → getD x f 0 ≡ g f
-    at x g e f q = ap (λ (y : List ℕ). getD y f 0) e ∙ filled-at g (t .count + 1) f d 0 q
+    counted : (f : ℕ) → f < count + 1 → getD counts f 0 ≡ holesOf o f
+    counted f q = at counts (λ x. getD holes x 0) d₄ counts-are f q ∙ holes-at f q
 
-    counted : (f : ℕ) → f < t .count + 1 → getD holes f 0 ≡ holesOf o f
-    counted f q = at holes (λ x. getD (t .holes) x 0) holes-are f q ∙ holes-at f q
-
-    row-is : (f : ℕ) → f < t .count + 1 → faceBy r f ≡ faceRow ms o f
+    row-is : (f : ℕ) → f < count + 1 → faceBy first second outer counts f ≡ faceRow ms o f
     row-is zero q =
-        let a = at first (labelOf ms o 0) first-is 0 q in
-        let b = at second (labelOf ms o 1) second-is 0 q in
-        let e = at outer (outerOf (t .outers)) outer-is 0 q in
+        let a = at first (labelOf ms o 0) d₁ first-is 0 q in
+        let b = at second (labelOf ms o 1) d₂ second-is 0 q in
+        let e = at outer (outerOf outers) d₃ outer-is 0 q in
         λ i. a i ∷ b i ∷ e i ∷ counted 0 q i ∷ []
     row-is (suc f) q =
-        let a = at first (labelOf ms o 0) first-is (suc f) q in
-        let b = at second (labelOf ms o 1) second-is (suc f) q in
-        let e = at outer (outerOf (t .outers)) outer-is (suc f) q ∙ outer-at f (omega arith) in
+        let a = at first (labelOf ms o 0) d₁ first-is (suc f) q in
+        let b = at second (labelOf ms o 1) d₂ second-is (suc f) q in
+        let e = at outer (outerOf outers) d₃ outer-is (suc f) q ∙ outer-at f (omega arith) in
         λ i. a i ∷ b i ∷ e i ∷ counted (suc f) q i ∷ []
 
-    pub rows-are : rows (faceBy r) (t .count + 1) ≡ rows (faceRow ms o) (t .count + 1)
-    rows-are = rows-ext (faceBy r) (faceRow ms o) (t .count + 1) row-is
+    pub rows-are : rows (faceBy first second outer counts) (count + 1) ≡ rows (faceRow ms o) (count + 1)
+    rows-are = rows-ext (faceBy first second outer counts) (faceRow ms o) (count + 1) row-is

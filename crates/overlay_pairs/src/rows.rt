@@ -2,60 +2,16 @@
 use crate::label::face_labels;
 use crate::label::outer_of;
 use limits::ABSENT;
-use limits::FACES;
-use overlay_graph::Cut;
-use overlay_graph::Traced;
-use overlay_maps::Layers;
-use tables::FaceRows;
+use overlay_maps::part_of;
 ghost use mathlib.Core.Path.{_≡_};
-ghost use Prim.Native.Nat.{_+_, _≤_, _<_};
+ghost use Prim.Native.Nat.{_+_, _≤_};
 ghost use lib.ListN.{length, getD};
 ghost use Rattle.seq.specs.Seq.{rows, filled};
-ghost use Rattle.paper.specs.Limits.{maps, overlayVertices, overlayEdges, overlayFaces};
-ghost use Rattle.paper.specs.Faces.{overlayOf};
-ghost use Rattle.paper.specs.Tables.{faceRow};
 ghost use Rattle.tables.specs.Rows.{faceBy};
-ghost use Rattle.overlay_maps.specs.Held.{Held, heldMaps};
-ghost use Rattle.overlay_maps.specs.LayersOf.{layersOf};
-ghost use Rattle.overlay_graph.specs.Cut.{CutOf};
-ghost use Rattle.overlay_graph.specs.Traced.{TracedOf};
-ghost use Rattle.overlay_graph.specs.TracedOf.{cutOf, tracedOf};
+ghost use Rattle.overlay_maps.specs.Layers.{layersBy};
+ghost use Rattle.overlay_graph.specs.Cut.{cutBy};
 ghost use Rattle.overlay_pairs.specs.Labels.{outerOf};
-ghost use Rattle.overlay_pairs.specs.Pairs.{labelOf, Whole};
-
-// The labels of all faces in map m.
-fn lay_labels(l: Layers, c: Cut, t: Traced, m: usize, out: &mut [u16])
-    requires { ⌜ Whole (layersOf l) (cutOf c) (tracedOf t) ⌝ ∗ ⌜ m < maps ⌝ ∗ ⌜ t .count + 1 ≤ length (now out) ⌝ }
-    ensures { λ _. ⌜ now (out .exit) ≡ filled (t .count + 1) (labelOf (heldMaps (layersOf l)) (overlayOf (heldMaps (layersOf l))) m) (now (out .entry)) ⌝ }
-{
-    let corners = l.corners;
-    let origins = l.origins;
-    let carriers = l.carriers;
-    let labels = l.labels;
-    let points = c.points;
-    let ends = t.origins;
-    let lines = t.carriers;
-    let pieces = c.pieces;
-    let outers = t.outers;
-    face_labels(
-        &corners,
-        &origins,
-        &carriers,
-        &labels,
-        l.vertices[m],
-        l.vertices[m + 1],
-        l.edges[m],
-        l.edges[m + 1],
-        &points,
-        &ends,
-        &lines,
-        &pieces,
-        m,
-        &outers,
-        t.count + 1,
-        out,
-    );
-}
+ghost use Rattle.overlay_pairs.specs.Pairs.{Whole, faceRows};
 
 // The least outer half-edge of face f; ABSENT of face 0.
 fn face_outer(outers: &[u16], f: usize) -> u16
@@ -70,7 +26,7 @@ fn face_outer(outers: &[u16], f: usize) -> u16
 
 // Those of the first n faces.
 fn lay_outers(outers: &[u16], n: usize, out: &mut [u16])
-    requires { ⌜ n ≤ length (now outers) ⌝ ∗ ⌜ n ≤ length (now out) ⌝ }
+    requires { ⌜ n ≤ length (now outers) + 1 ⌝ ∗ ⌜ n ≤ length (now out) ⌝ }
     ensures { λ _. ⌜ now (out .exit) ≡ filled n (outerOf (now (outers .entry))) (now (out .entry)) ⌝ }
 {
     let mut f = 0;
@@ -92,28 +48,62 @@ fn lay_holes(holes: &[u16], n: usize, out: &mut [u16])
     }
 }
 
-// The row of every face of the overlay of the maps that the layers hold.
-pub fn face_rows(l: Layers, c: Cut, t: Traced) -> FaceRows
-    requires { ⌜ Held (layersOf l) ⌝ ∗ ⌜ CutOf (heldMaps (layersOf l)) (cutOf c) ⌝ ∗ ⌜ (c .vertices ≤ overlayVertices) × (c .edges ≤ overlayEdges) ⌝ ∗ ⌜ TracedOf (heldMaps (layersOf l)) (cutOf c) (tracedOf t) ⌝ ∗ ⌜ t .count + 1 ≤ overlayFaces ⌝ }
-    ensures count { λ r. ⌜ r .count ≡ t .count + 1 ⌝ }
-    ensures is { λ r. ⌜ rows (faceBy r) (r .count) ≡ rows (faceRow (heldMaps (layersOf l)) (overlayOf (heldMaps (layersOf l)))) (t .count + 1) ⌝ }
+// The row of every face of the overlay of the maps that the layers hold, in four columns.
+pub fn rows_in(
+    vstarts: &[usize],
+    estarts: &[usize],
+    corners: &[i64],
+    origins: &[u16],
+    carriers: &[i64],
+    labels: &[u16],
+    nv: usize,
+    points: &[i64],
+    ne: usize,
+    pieces: &[u16],
+    ends: &[u16],
+    lines: &[i64],
+    outers: &[u16],
+    holes: &[u16],
+    count: usize,
+    first: &mut [u16],
+    second: &mut [u16],
+    outer: &mut [u16],
+    counts: &mut [u16],
+)
+    requires { ⌜ Whole (layersBy (now vstarts) (now estarts) (now corners) (now origins) (now carriers) (now labels)) (cutBy nv (now points) ne (now pieces)) (now ends) (now lines) (now outers) (now holes) count ⌝ ∗ ⌜ (count + 1 ≤ length (now first)) × (count + 1 ≤ length (now second)) × (count + 1 ≤ length (now outer)) × (count + 1 ≤ length (now counts)) ⌝ }
+    ensures { λ _. ⌜ rows (faceBy (now (first .exit)) (now (second .exit)) (now (outer .exit)) (now (counts .exit))) (count + 1) ≡ faceRows (layersBy (now (vstarts .entry)) (now (estarts .entry)) (now (corners .entry)) (now (origins .entry)) (now (carriers .entry)) (now (labels .entry))) (count + 1) ⌝ }
 {
-    let mut first = [0u16; FACES];
-    lay_labels(l, c, t, 0, &mut first);
-    let mut second = [0u16; FACES];
-    lay_labels(l, c, t, 1, &mut second);
-    let n = t.count + 1;
-    let outers = t.outers;
-    let mut outer = [0u16; FACES];
-    lay_outers(&outers, n, &mut outer);
-    let counts = t.holes;
-    let mut holes = [0u16; FACES];
-    lay_holes(&counts, n, &mut holes);
-    FaceRows {
-        count: n as u16,
+    let n = count + 1;
+    let one = part_of(vstarts, estarts, 0);
+    face_labels(
+        corners,
+        origins,
+        carriers,
+        labels,
+        one,
+        points,
+        ends,
+        lines,
+        pieces,
+        outers,
+        n,
         first,
+    );
+    let two = part_of(vstarts, estarts, 1);
+    face_labels(
+        corners,
+        origins,
+        carriers,
+        labels,
+        two,
+        points,
+        ends,
+        lines,
+        pieces,
+        outers,
+        n,
         second,
-        outer,
-        holes,
-    }
+    );
+    lay_outers(outers, n, outer);
+    lay_holes(holes, n, counts);
 }

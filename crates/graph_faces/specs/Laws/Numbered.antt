@@ -5,13 +5,12 @@ use Prim.Native.Nat.{_≤_, _<_}
 use native.Mathlib.Numerals.{add-one}
 use native.Mathlib.Omega.{arith}
 use borrow.Author.Tests.{eq-eqb, ne-eqb}
-use Rattle.seq.specs.Seq.{Bool, true, false, cond, not, _&&_, List, Option, none, some, Option·getD, ℕ, zero, suc, _+_, _*_, eqb, length, getD, replicate, count, select, table, over, filled, padded, orZero, ℤ}
+use Rattle.seq.specs.Seq.{Bool, true, false, cond, not, _&&_, List, Option, none, some, Option·getD, ℕ, zero, suc, _+_, _*_, eqb, length, getD, count, select, table, over, filled, orZero, ℤ}
 use Rattle.seq.specs.Tests.{and-both}
 use Rattle.seq.specs.Count.{count-ext}
 use Rattle.seq.specs.Select.{select-ext, length-select}
 use Rattle.seq.specs.Table.{table-at}
 use Rattle.seq.specs.Filled.{filled-ext, Holds}
-use Rattle.seq.specs.Wiped.{over-zeros}
 use Rattle.paper.specs.Limits.{absent}
 use Rattle.paper.specs.Plane.{Pt, nowhere}
 use Rattle.paper.specs.Graph.{Graph, halfCount, point, followers, smallest, west, holeLook}
@@ -151,8 +150,8 @@ module _ (ps : List ℤ) (os : List ℕ) (cs : List ℤ) (n e : ℕ) (F : Flat p
         pub face-flat : (h : ℕ) → h < 2 * e → faceFrom ls ts ss ns n h ≡ faceIn (walksOf g) (length (g .points)) h
         face-flat h l = face-from n h l ∙ ap (λ (k : ℕ). faceIn (walksOf g) k h) (sym (flat-points ps os cs n e))
 
-        pub face-filled : (k : ℕ) (t : List ℕ) → t ≡ filled (2 * e) (faceFrom ls ts ss ns n) (replicate k 0) → t ≡ filled (2 * e) (faceIn (walksOf g) (length (g .points))) (replicate k 0)
-        face-filled k t is = is ∙ filled-ext (faceFrom ls ts ss ns n) (faceIn (walksOf g) (length (g .points))) (2 * e) (replicate k 0) face-flat
+        pub face-filled : (d t : List ℕ) → t ≡ filled (2 * e) (faceFrom ls ts ss ns n) d → t ≡ filled (2 * e) (faceIn (walksOf g) (length (g .points))) d
+        face-filled d t is = is ∙ filled-ext (faceFrom ls ts ss ns n) (faceIn (walksOf g) (length (g .points))) (2 * e) d face-flat
 
     -- ── the hole walks of a face ──
 
@@ -174,10 +173,9 @@ module _ (ps : List ℤ) (os : List ℕ) (cs : List ℤ) (n e : ℕ) (F : Flat p
     pub count-flat : (c : ℕ) → c ≡ count (outerLead ls ts) (2 * e) → c ≡ length (facesOf g .outers)
     count-flat c q = q ∙ outer-count (2 * e) (omega arith) ∙ ap (count (leadsOuter (walksOf g))) (sym halves) ∙ sym (length-select (leadsOuter (walksOf g)) (halfCount g))
 
-    pub outers-flat : (k : ℕ) (t : List ℕ) → t ≡ over (select (outerLead ls ts) (2 * e)) (replicate k 0) → t ≡ padded 0 k (facesOf g .outers)
-    outers-flat k t is = is ∙ ap (λ (l : List ℕ). over l (replicate k 0)) outer-select ∙ over-zeros 0 k (select (leadsOuter (walksOf g)) (halfCount g))
+    pub outers-flat : (d t : List ℕ) → t ≡ over (select (outerLead ls ts) (2 * e)) d → t ≡ over (facesOf g .outers) d
+    outers-flat d t is = is ∙ ap (λ (l : List ℕ). over l d) outer-select
 
-    pub holes-filled : (fs : List ℕ) → Holds (faceIn (walksOf g) (length (g .points))) fs (2 * e) → (c k : ℕ) (t : List ℕ) → t ≡ filled (c + 1) (holesIn ls ts fs (2 * e)) (replicate k 0) → t ≡ padded 0 k (table (holesOf (facesOf g)) (suc c))
-    holes-filled fs K c k t is =
-        is ∙ filled-ext (holesIn ls ts fs (2 * e)) (holesOf (facesOf g)) (c + 1) (replicate k 0) (λ f l. holes-flat fs K f)
-        ∙ over-zeros 0 k (table (holesOf (facesOf g)) (c + 1)) ∙ ap (λ (j : ℕ). padded 0 k (table (holesOf (facesOf g)) j)) (add-one c)
+    pub holes-filled : (fs : List ℕ) → Holds (faceIn (walksOf g) (length (g .points))) fs (2 * e) → (c : ℕ) (d t : List ℕ) → t ≡ filled (c + 1) (holesIn ls ts fs (2 * e)) d → t ≡ over (table (holesOf (facesOf g)) (suc c)) d
+    holes-filled fs K c d t is =
+        is ∙ filled-ext (holesIn ls ts fs (2 * e)) (holesOf (facesOf g)) (c + 1) d (λ f l. holes-flat fs K f) ∙ ap (λ (j : ℕ). filled j (holesOf (facesOf g)) d) (add-one c)

@@ -14,7 +14,7 @@ use Rattle.graph.specs.Flat.{flatGraph, Flat, Numbers}
 use Rattle.graph.specs.Heading.{row}
 use Rattle.graph.specs.Follow.{Headings, followerAt, follower-under, flat-follower, heads-laid, headings-laid}
 use Rattle.map_check.specs.Labels.{disagreesAt, Linked}
-use Rattle.map_check.specs.Held.{heldMap}
+use Rattle.map_check.specs.Held.{flatMap}
 use Rattle.map_check.specs.Laws.Disagree.{flat-disagrees}
 
 module _ {ps : List ℤ} {os : List ℕ} {cs : List ℤ} {n e : ℕ} (F : Flat ps os cs n e) (few : e ≤ mapEdges) where
@@ -43,7 +43,7 @@ module _ {ps : List ℤ} {os : List ℕ} {cs : List ℤ} {n e : ℕ} (F : Flat p
           holds-ext (followerAt os hs (2 * e)) (follower g) nx (2 * e) (flat-follower ps os cs n e hs (heads-laid ps os cs n e hs dh roomy made))
           (filled-holds (followerAt os hs (2 * e)) nx dn (2 * e) room is)
 
-      pub found-disagrees : Plane g → (ls : List ℕ) (r : ℕ) → r ≡ least (disagreesAt ps os cs ls hs nx n e) (2 * e) → r ≡ least (disagrees (heldMap ps os cs ls n e) (followers g)) (2 * e)
+      pub found-disagrees : Plane g → (ls : List ℕ) (r : ℕ) → r ≡ least (disagreesAt ps os cs ls hs nx n e) (2 * e) → r ≡ least (disagrees (flatMap ps os cs ls n e) (followers g)) (2 * e)
       found-disagrees P ls r q =
-          q ∙ least-ext (disagreesAt ps os cs ls hs nx n e) (disagrees (heldMap ps os cs ls n e) (followers g)) (2 * e)
+          q ∙ least-ext (disagreesAt ps os cs ls hs nx n e) (disagrees (flatMap ps os cs ls n e) (followers g)) (2 * e)
           (λ h l. flat-disagrees ps os cs n e F P hs (heads-laid ps os cs n e hs dh roomy made) nx holds-followers h l ls)

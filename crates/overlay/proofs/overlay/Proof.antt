@@ -1,68 +1,77 @@
--- `overlay::overlay` meets its contract. Assumes nothing.
-use mathlib.Core.Path.{sym, _∙_, ap}
-use denote.Ref.{now}
-use Rattle.seq.specs.Seq.{List}
+-- `overlay::overlay` meets its contract: the tables have room for both maps, and hold them where both pass. Assumes nothing.
+use mathlib.Core.Path.{refl, sym, _∙_, ap}
+use native.Mathlib.Omega.{arith}
+use borrow.Author.Needs.{needs}
+use lib.ListN.{length-replicate}
+use Rattle.seq.specs.Seq.{List, [], _∷_, ℕ, replicate, pos}
 use Rattle.paper.specs.Map.{Map}
 use Rattle.paper.specs.Lent.{lengthsOf}
 use Rattle.map_file.specs.Verdict.{verdict}
 use Rattle.tables.specs.Values.{tablesBy}
-use Rattle.overlay_maps.specs.LayersOf.{layersOf}
-use Rattle.overlay_maps.proofs.HeldLaws.{parts-none, held-maps, layers-held}
+use Rattle.overlay_maps.specs.Layers.{layersBy, LayerRoom}
+use Rattle.overlay_maps.proofs.StackLaws.{all-pass}
+use Rattle.overlay_maps.proofs.HeldLaws.{held-maps, layers-held}
 use Rattle.overlay.specs.Judged.{overlaid}
-use Rattle.overlay.proofs.JudgeLaws.{first-passes, second-passes, maps-refused, maps-pass}
-use borrow.Author.Needs.{needs}
+use Rattle.overlay.proofs.JudgeLaws.{maps-refused, maps-pass}
 use Rattle.overlay.proofs.overlay.Statement.{statement}
 use Rattle.overlay.proofs.overlay.Tie as tie
 
-read-layers-requires : tie.Need-read-layers-requires
-read-layers-requires c κs =
-    let start : tie.Start = search needs in
-    let a = start .args in
-    let e = sym (c .before .before .maps-fault .ensures) ∙ ap verdict (c .enum-told .given .1) in
-    (parts-none (now (a .zones)) (first-passes (now (a .zones)) (now (a .blocks)) e), parts-none (now (a .blocks)) (second-passes (now (a .zones)) (now (a .blocks)) e))
+room : LayerRoom (layersBy (replicate 3 0) (replicate 3 0) (replicate 1600 (pos 0)) (replicate 1200 0) (replicate 2400 (pos 0)) (replicate 1200 0))
+room = record {
+  vertices = omega (arith, length-replicate {A = ℕ} 3 0);
+  edges = omega (arith, length-replicate {A = ℕ} 3 0);
+  tables = record {
+    corners = omega (arith, length-replicate 1600 (pos 0));
+    origins = omega (arith, length-replicate {A = ℕ} 1200 0);
+    carriers = omega (arith, length-replicate 2400 (pos 0));
+    labels = omega (arith, length-replicate {A = ℕ} 1200 0);
+  };
+}
 
 from-layers-requires : tie.Need-from-layers-requires
 from-layers-requires c κs =
-    let start : tie.Start = search needs in
-    let after-maps-fault : tie.After-maps-fault = search needs in
-    let after-enum-told : tie.After-enum-told = search needs in
-    let after-read-layers : tie.After-read-layers = search needs in
-    let a = start .args in
-    let e = sym (after-maps-fault .maps-fault .ensures) ∙ ap verdict (after-enum-told .enum-told .given .1) in
-    layers-held (now (a .zones)) (now (a .blocks)) (layersOf _) (after-read-layers .read-layers .ensures) (first-passes (now (a .zones)) (now (a .blocks)) e) (second-passes (now (a .zones)) (now (a .blocks)) e)
+    let a = c .before .before .before .before .before .before .before .before .before .before .before .before .before .before .before .before .before .before .before .before .before .before .before .before .before .before .before .before .before .before .args in
+    let laid = c .before .before .before .before .before .before .before .before .before .before .before .before .before .before .before .before .before .before .lay-maps .ensures in
+    let none = sym (laid .0) ∙ ap verdict (c .before .before .before .before .before .before .before .before .before .before .enum-told .given .1) in
+    let files = a .zones .now ∷ a .blocks .now ∷ [] in
+    layers-held files _ _ (laid .1 none) refl room (all-pass files none)
 
 returns : tie.Need-returns
 returns c =
-    let start : tie.Start = search needs in
-    let after-refuse : tie.After-refuse = search needs in
-    let after-maps-fault : tie.After-maps-fault = search needs in
-    let after-c : tie.After-c = search needs in
-    let a = start .args in
-    after-refuse .refuse .ensures
-    ∙ maps-refused (now (a .zones)) (now (a .blocks)) (lengthsOf (tablesBy (now (a .vertices)) (now (a .halves)) (now (a .sources)) (now (a .faces)))) _ (sym (after-maps-fault .maps-fault .ensures) ∙ ap verdict (after-c .c .given .1))
+    let a = c .before .before .before .before .before .before .before .before .before .before .before .before .before .before .before .before .before .before .before .before .before .before .before .before .before .before .before .before .before .before .before .before .before .args in
+    c .before .before .before .before .before .before .before .refuse .ensures
+    ∙ maps-refused (a .zones .now) (a .blocks .now) (lengthsOf (tablesBy (a .vertices .now) (a .halves .now) (a .sources .now) (a .faces .now))) _ (sym (c .before .before .before .before .before .before .before .before .before .before .before .before .before .before .before .before .before .before .before .before .before .lay-maps .ensures .0) ∙ ap verdict (c .before .before .before .before .before .before .before .before .before .before .before .before .before .c .given .1))
 
 returns-2 : tie.Need-returns-2
 returns-2 c =
-    let start : tie.Start = search needs in
-    let after-maps-fault : tie.After-maps-fault = search needs in
-    let after-enum-told : tie.After-enum-told = search needs in
-    let after-from-layers : tie.After-from-layers = search needs in
-    let after-read-layers : tie.After-read-layers = search needs in
-    let a = start .args in
-    let e = sym (after-maps-fault .maps-fault .ensures) ∙ ap verdict (after-enum-told .enum-told .given .1) in
-    after-from-layers .from-layers .ensures
-    ∙ ap (λ (ms : List Map). overlaid ms (lengthsOf (tablesBy (now (a .vertices)) (now (a .halves)) (now (a .sources)) (now (a .faces))))) (held-maps (now (a .zones)) (now (a .blocks)) (layersOf _) (after-read-layers .read-layers .ensures))
-    ∙ maps-pass (now (a .zones)) (now (a .blocks)) (lengthsOf (tablesBy (now (a .vertices)) (now (a .halves)) (now (a .sources)) (now (a .faces)))) e
+    let a = c .before .before .before .before .before .before .before .before .before .before .before .before .before .before .before .before .before .before .before .before .before .before .before .before .before .before .before .before .before .before .before .before .before .before .before .before .before .before .args in
+    let laid = c .before .before .before .before .before .before .before .before .before .before .before .before .before .before .before .before .before .before .before .before .before .before .before .before .before .before .lay-maps .ensures in
+    let none = sym (laid .0) ∙ ap verdict (c .before .before .before .before .before .before .before .before .before .before .before .before .before .before .before .before .before .before .enum-told .given .1) in
+    let lengths = lengthsOf (tablesBy (a .vertices .now) (a .halves .now) (a .sources .now) (a .faces .now)) in
+    c .before .before .before .before .before .before .before .from-layers .ensures
+    ∙ ap (λ (ms : List Map). overlaid ms lengths) (held-maps (a .zones .now ∷ a .blocks .now ∷ []) _ _ (laid .1 none) refl)
+    ∙ maps-pass (a .zones .now) (a .blocks .now) lengths none
 
 pub overlay-spec : {M : Type 1} → statement M
 overlay-spec =
     tie.close
     (tie.spec
-    (λ c κs. search needs)
+    (λ c. search needs)
+    (λ c. search needs)
+    (λ c. search needs)
+    (λ c. search needs)
+    (λ c. search needs)
+    (λ c. search needs)
+    (λ c κs. room)
     (λ c. search needs)
     (λ c κs. search needs)
     (λ c. search needs)
-    read-layers-requires
+    (λ c. search needs)
+    (λ c. search needs)
+    (λ c. search needs)
+    (λ c. search needs)
+    (λ c. search needs)
+    (λ c. search needs)
     from-layers-requires
     (λ c. search needs)
     (λ c. search needs)

@@ -3,11 +3,10 @@
 use mathlib.Core.Path.{_≡_, refl, sym, _∙_, ap, subst}
 use Prim.Native.Nat.{_≤_, _<_}
 use native.Mathlib.Omega.{arith}
-use lib.ListN.{length-replicate}
-use Rattle.seq.specs.Seq.{List, ℕ, suc, _*_, length, getD, replicate, table, position, filled, laid, padded, ℤ, pos}
+use Rattle.seq.specs.Seq.{List, ℕ, suc, _*_, length, getD, replicate, table, position, filled, laid, padded, ℤ}
 use Rattle.seq.specs.Filled.{filled-at, Holds}
 use Rattle.seq.specs.Laid.{length-laid}
-use Rattle.seq.specs.Wiped.{length-padded, padded-at}
+use Rattle.seq.specs.Wiped.{length-padded, padded-at, over-zeros}
 use Rattle.paper.specs.Limits.{overlayVertices, overlayEdges, absent}
 use Rattle.paper.specs.Graph.{Graph, halfCount, follower, followers, leaves}
 use Rattle.paper.specs.Map.{Map}
@@ -22,7 +21,7 @@ use Rattle.graph.specs.Flat.{Numbers, Flat, flatGraph}
 use Rattle.graph.specs.Laws.Decode.{flat-points, flat-halves, flat-origin}
 use Rattle.graph.specs.Places.{firstPlace}
 use Rattle.graph.specs.Laws.Firsts.{place-least, place-predecessor}
-use Rattle.graph_faces.specs.Linked.{halfRows, Linked, facesOf, Numbered}
+use Rattle.graph_faces.specs.Linked.{halfRows, facesOf}
 use Rattle.overlay_cut.specs.Net.{endsOf, carrierIn, segRow}
 use Rattle.overlay_cut.specs.Laws.NetAre as NetAre
 use Rattle.overlay_cut.specs.Laws.NetBounds.{carriers-near}
@@ -30,48 +29,41 @@ use Rattle.overlay_maps.specs.Held.{heldMaps, Held}
 use Rattle.overlay_maps.specs.Layers.{Layers}
 use Rattle.overlay_graph.specs.Laws.Standing.{keep, holds, starts, vertices-near}
 use Rattle.overlay_graph.specs.Cut.{Cut, CutOf}
-use Rattle.overlay_graph.specs.Traced.{Traced, FacesBy, PrevBy, LeastBy, TracedOf}
+use Rattle.overlay_graph.specs.Traced.{NetBy, FacesOver, FacesBy, PrevBy, LeastBy}
 
 -- ── the graph ──
 
+-- the overlay's net is plane
+pub net-planar : (l : Layers) → Held l → (g : Graph) → g ≡ net (overlayOf (heldMaps l)) → Plane g
+unfolding overlayOf
+net-planar l H g q = subst Plane (sym q) (net-plane (heldMaps l) (keep l H) (verticesOf (heldMaps l)) (places (heldMaps l) (keep l H)))
+
 module _ (l : Layers) (H : Held l) (c : Cut) (C : CutOf (heldMaps l) c) (few-vertices : c .vertices ≤ overlayVertices) (few-edges : c .edges ≤ overlayEdges) (long : 4 * c .vertices ≤ length (c .points))
-    (os : List ℕ) (bs : List ℤ) (o : os ≡ laid (c .edges) (endsOf (c .pieces)) (replicate 4000 0))
-    (b : bs ≡ laid (c .edges) (λ k. segRow (carrierIn (c .pieces) (l .carriers) (l .edges) k)) (replicate 8000 (pos 0))) where
+    (os₀ : List ℕ) (bs₀ : List ℤ) (room-os : 2 * c .edges ≤ length os₀) (room-bs : 4 * c .edges ≤ length bs₀)
+    (os : List ℕ) (bs : List ℤ) (o : os ≡ laid (c .edges) (endsOf (c .pieces)) os₀) (b : bs ≡ laid (c .edges) (λ k. segRow (carrierIn (c .pieces) (l .carriers) (l .edges) k)) bs₀) where
   abbrev n : ℕ
   n = c .vertices
 
   abbrev e : ℕ
   e = c .edges
 
-  abbrev ms : List Map
-  ms = heldMaps l
-
-  pub net-is : flatGraph (c .points) os bs (c .vertices) (c .edges) ≡ net (overlayOf (heldMaps l))
+  net-is : flatGraph (c .points) os bs (c .vertices) (c .edges) ≡ net (overlayOf (heldMaps l))
   unfolding overlayOf
-  net-is =
-      NetAre.net-is (holds l H) (c .pieces) e os (replicate 4000 0) bs (replicate 8000 (pos 0)) o b (c .points) n
-      ∙ (λ i. graphOf ms (C .vertices-are few-vertices i) (C .edges-are few-vertices few-edges i))
-
-  pub net-planar : Plane (flatGraph (c .points) os bs (c .vertices) (c .edges))
-  unfolding overlayOf
-  net-planar = subst Plane (sym net-is) (net-plane ms (keep l H) (verticesOf ms) (places ms (keep l H)))
+  net-is = NetAre.net-is (holds l H) (c .pieces) e os os₀ bs bs₀ o b (c .points) n ∙ (λ i. graphOf (heldMaps l) (C .vertices-are few-vertices i) (C .edges-are few-vertices few-edges i))
 
   named : (h : ℕ) → h < 2 * e → getD os h 0 < n
   named h q =
-      omega (arith, flat-origin (c .points) os bs n e h q, flat-points (c .points) os bs n e, net-planar .starts h (omega (arith, flat-halves (c .points) os bs n e)))
+      omega (arith, flat-origin (c .points) os bs n e h q, flat-points (c .points) os bs n e, net-planar l H (flatGraph (c .points) os bs n e) net-is .starts h (omega (arith, flat-halves (c .points) os bs n e)))
 
-  room-os : 2 * e ≤ length (replicate {A = ℕ} 4000 0)
-  room-os = rw (length-replicate {A = ℕ} 4000 0) (omega arith)
-
-  room-bs : 4 * e ≤ length (replicate {A = ℤ} 8000 (pos 0))
-  room-bs = rw (length-replicate {A = ℤ} 8000 (pos 0)) (omega arith)
-
-  pub net-flat : Flat (c .points) os bs (c .vertices) (c .edges)
+  net-flat : Flat (c .points) os bs (c .vertices) (c .edges)
   net-flat = record {
     points = vertices-near l H (c .points) n long (C .vertices-are few-vertices);
-    origins = record { long = omega (arith, ap length o ∙ length-laid 2 (endsOf (c .pieces)) (λ i. refl) e (replicate 4000 0) room-os, room-os); named = named };
-    carriers = carriers-near (starts l H) (c .pieces) e bs (replicate 8000 (pos 0)) room-bs b;
+    origins = record { long = omega (arith, ap length o ∙ length-laid 2 (endsOf (c .pieces)) (λ i. refl) e os₀ room-os, room-os); named = named };
+    carriers = carriers-near (starts l H) (c .pieces) e bs bs₀ room-bs b;
   }
+
+  pub net-by : NetBy (overlayOf (heldMaps l)) c os bs
+  net-by = record { flat = net-flat; net-is = net-is }
 
 -- ── walks ──
 
@@ -132,13 +124,15 @@ module _ (ms : List Map) (c : Cut) (os : List ℕ) (bs : List ℤ) (small : c .e
   abbrev f : Graph
   f = flatGraph (c .points) os bs (c .vertices) (c .edges)
 
-  pub faces-of : (next lead top face outers holes : List ℕ) (n : ℕ) → Linked f next lead top → Numbered f face outers holes n → FacesBy (overlayOf ms) next face outers holes n
-  faces-of next lead top face outers holes n A N = record {
-    next-is = A .next-is ∙ ap (padded 0 halfRows) (walked ms f q);
-    face-is = N .face-is ∙ ap (padded 0 halfRows) (faced ms f q);
-    outers-is = N .outers-is ∙ ap (padded 0 halfRows) (outer ms f q);
-    count-is = N .count-is ∙ ap length (outer ms f q);
-    holes-is = N .holes-is ∙ ap (padded 0 (suc halfRows)) (holed ms f q (suc n));
+  -- in tables that were zero
+  pub faces-by : (next face outers holes : List ℕ) (n : ℕ) → FacesOver (facesOf f) (replicate halfRows 0) (replicate halfRows 0) (replicate halfRows 0) (replicate (suc halfRows) 0) next face outers holes n
+      → FacesBy (overlayOf ms) next face outers holes n
+  faces-by next face outers holes n A = record {
+    next-is = A .next-is ∙ over-zeros 0 halfRows (followers f) ∙ ap (padded 0 halfRows) (walked ms f q);
+    face-is = A .face-is ∙ over-zeros 0 halfRows (facesOf f .face) ∙ ap (padded 0 halfRows) (faced ms f q);
+    outers-is = A .outers-is ∙ over-zeros 0 halfRows (facesOf f .outers) ∙ ap (padded 0 halfRows) (outer ms f q);
+    count-is = A .count-is ∙ ap length (outer ms f q);
+    holes-is = A .holes-is ∙ over-zeros 0 (suc halfRows) (table (holesOf (facesOf f)) (suc n)) ∙ ap (padded 0 (suc halfRows)) (holed ms f q (suc n));
   }
 
   pub prev-of : (next : List ℕ) → next ≡ padded 0 halfRows (followers f) → (prev d : List ℕ) → prev ≡ filled (2 * c .edges) (firstPlace next (2 * c .edges) absent) d → PrevBy (overlayOf ms) c prev
@@ -146,18 +140,3 @@ module _ (ms : List Map) (c : Cut) (os : List ℕ) (bs : List ℤ) (small : c .e
 
   pub least-of : (least d : List ℕ) → least ≡ filled (c .vertices) (firstPlace os (2 * c .edges) absent) d → LeastBy (overlayOf ms) c least
   least-of least d l v b = least-is (c .points) os bs (c .vertices) (c .edges) P small least d l v b ∙ ap (λ (x : Graph). leastHalf (leaves x v) (halfCount x)) q
-
-module _ (ms : List Map) (c : Cut) (t : Traced) (small : c .edges ≤ overlayEdges) (F : Flat (c .points) (t .origins) (t .carriers) (c .vertices) (c .edges))
-    (P : Plane (flatGraph (c .points) (t .origins) (t .carriers) (c .vertices) (c .edges))) (q : flatGraph (c .points) (t .origins) (t .carriers) (c .vertices) (c .edges) ≡ net (overlayOf ms)) where
-  abbrev k : Graph
-  k = flatGraph (c .points) (t .origins) (t .carriers) (c .vertices) (c .edges)
-
-  pub traced-of : (lead top : List ℕ) → Linked k (t .next) lead top → Numbered k (t .face) (t .outers) (t .holes) (t .count)
-      → t .prev ≡ filled (2 * c .edges) (firstPlace (t .next) (2 * c .edges) absent) (replicate 4000 0)
-      → t .least ≡ filled (c .vertices) (firstPlace (t .origins) (2 * c .edges) absent) (replicate 1000 0) → TracedOf ms c t
-  traced-of lead top A N p l = record {
-    net-by = record { flat = F; net-is = q };
-    faces-by = faces-of ms c (t .origins) (t .carriers) small P q (t .next) lead top (t .face) (t .outers) (t .holes) (t .count) A N;
-    prev-is = prev-of ms c (t .origins) (t .carriers) small P q (t .next) (A .next-is) (t .prev) (replicate 4000 0) p;
-    least-is = least-of ms c (t .origins) (t .carriers) small P q (t .least) (replicate 1000 0) l;
-  }

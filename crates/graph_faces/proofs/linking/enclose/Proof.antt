@@ -4,17 +4,18 @@ use Prim.Native.Nat.{_≤_, _<_}
 use native.Mathlib.Numerals.{add-one}
 use native.Mathlib.Omega.{arith}
 use borrow.Author.Needs.{needs}
+use denote.Ref.{now}
 use Rattle.seq.specs.Count.{count-le}
-use Rattle.seq.specs.Seq.{List, ℕ, suc, _+_, _*_, length, count, replicate, filled, ℤ}
+use Rattle.seq.specs.Seq.{List, ℕ, _+_, _*_, length, count, replicate, filled, ℤ}
 use Rattle.paper.specs.Limits.{overlayEdges, absent}
 use Rattle.paper.specs.Graph.{Graph}
 use Rattle.paper.specs.Faces.{walksOf, leadAt, faceIn}
 use Rattle.laws_graph.specs.Plane.{Plane}
 use Rattle.graph.specs.Flat.{flatGraph, Flat, Numbers}
-use Rattle.seq.specs.Filled.{Holds}
+use Rattle.seq.specs.Filled.{Holds, filled-holds}
 use Rattle.graph_faces.specs.Kinds.{Kinded, Faced, outerLead, outerNumber, seenBy, faceFrom}
-use Rattle.graph_faces.specs.Linked.{halfRows, Linked}
-use Rattle.graph_faces.specs.Laws.Linking.{made, over-zeros-is, lead-numbers, linked-lead, linked-top, length-lead, length-top}
+use Rattle.graph_faces.specs.Linked.{halfRows, Led}
+use Rattle.graph_faces.specs.Laws.Linking.{made, over-is, lead-numbers, led-lead, led-top}
 use Rattle.graph_faces.specs.Laws.Numbered.{kinds, tops-numbers, faced, face-filled, faces-numbers, count-flat, outers-flat, holes-filled}
 use Rattle.graph_faces.specs.Walked.{topOf}
 use Rattle.graph_faces.proofs.linking.enclose.Statement.{statement}
@@ -38,14 +39,14 @@ module _ (s : tie.Start) where
   abbrev e : ℕ
   e = s .args .e
 
-  abbrev next : List ℕ
-  next = s .args .walks .next
-
   abbrev lead : List ℕ
-  lead = s .args .walks .lead
+  lead = s .args .lead .now
 
   abbrev top : List ℕ
-  top = s .args .walks .top
+  top = s .args .top .now
+
+  abbrev face₀ : List ℕ
+  face₀ = now (s .args .face)
 
   abbrev g : Graph
   g = flatGraph ps os cs n e
@@ -59,23 +60,17 @@ module _ (s : tie.Start) where
   abbrev P : Plane g
   P = s .pre .1 .1 .0
 
-  abbrev A : Linked g next lead top
-  A = s .pre .1 .1 .1
+  abbrev A : Led g lead top
+  A = s .pre .1 .1 .1 .0
 
   big : 2 * e ≤ absent
   big = omega (arith, small)
 
   L : Holds (leadAt (walksOf g)) lead (2 * e)
-  L = linked-lead ps os cs n e F P next lead top A small
+  L = led-lead ps os cs n e F P lead top A
 
   T : Holds (topOf g) top (2 * e)
-  T = linked-top ps os cs n e F P next lead top A small
-
-  lead-long : halfRows ≡ length lead
-  lead-long = sym (length-lead ps os cs n e F P next lead top A small)
-
-  top-long : halfRows ≡ length top
-  top-long = sym (length-top ps os cs n e F P next lead top A small)
+  T = led-top ps os cs n e F P lead top A
 
   kinded : (h : ℕ) → h < 2 * e → Kinded lead top h
   kinded = kinds ps os cs n e F P big lead top L T
@@ -91,12 +86,12 @@ module _ (s : tie.Start) where
     all-faced : Faced lead top seen numbers (2 * e)
     all-faced = faced ps os cs n e F P big lead top L T seen sighted numbers numbered (lead-numbers ps os cs n e F P lead L)
 
-    module _ (face : List ℕ) (E : face ≡ filled (2 * e) (faceFrom lead top seen numbers n) (replicate halfRows 0)) where
-      face-is : face ≡ filled (2 * e) (faceIn (walksOf g) (length (g .points))) (replicate halfRows 0)
-      face-is = face-filled ps os cs n e F P big lead top L T seen sighted numbers numbered halfRows face E
+    module _ (face : List ℕ) (E : face ≡ filled (2 * e) (faceFrom lead top seen numbers n) face₀) where
+      face-at : face ≡ filled (2 * e) (faceIn (walksOf g) (length (g .points))) face₀
+      face-at = face-filled ps os cs n e F P big lead top L T seen sighted numbers numbered face₀ face E
 
       face-holds : Holds (faceIn (walksOf g) (length (g .points))) face (2 * e)
-      face-holds = made ps os cs n e F P (faceIn (walksOf g) (length (g .points))) (2 * e) halfRows face (omega (arith, small)) face-is
+      face-holds = filled-holds (faceIn (walksOf g) (length (g .points))) face face₀ (2 * e) (s .pre .1 .1 .1 .1 .0) face-at
 
       face-numbers : (r : ℕ) → r ≡ count (outerLead lead top) (2 * e) → Numbers face (2 * e) (r + 1)
       face-numbers r q = subst (Numbers face (2 * e)) (sym (add-one _) ∙ ap (λ (k : ℕ). k + 1) (sym q)) (faces-numbers ps os cs n e F P big lead top L T face face-holds)
@@ -111,79 +106,54 @@ number-requires c κs =
 outers-requires : tie.Need-outers-requires
 outers-requires c κs =
     let s : tie.Start = search needs in
-    (kinded s, (big s, omega (arith, small s)))
+    (kinded s, (big s, s .pre .1 .1 .1 .1 .1))
 
 sees-requires : tie.Need-sees-requires
 sees-requires c κs =
-    let s : tie.Start = search needs in
+    let s = c .before .before .before .before .before .before .before .before .before .before .before .before .before .before in
     (F s, (big s, (L s .long, (tops-numbers (ps s) (os s) (cs s) (n s) (e s) (F s) (P s) (big s) (lead s) (top s) (L s) (T s), omega (arith, small s)))))
-
-slice-aggregate-faces : tie.Need-slice-aggregate-faces
-slice-aggregate-faces c =
-    let start : tie.Start = search needs in
-    lead-long start
-
-slice-aggregate-faces-2 : tie.Need-slice-aggregate-faces-2
-slice-aggregate-faces-2 c =
-    let start : tie.Start = search needs in
-    top-long start
 
 faces-requires : tie.Need-faces-requires
 faces-requires c κs =
-    let after-number : tie.After-number = search needs in
-    let after-sees : tie.After-sees = search needs in
-    let s : tie.Start = search needs in
-    let number = after-number .number in
-    let sees = after-sees .sees in
-    (all-faced s (number .last .1 .1 .1 .0) (sees .last .1 .1 .1 .1 .1 .1 .1 .0) (number .ensures .0) (sees .ensures), omega (arith, small s))
-
-slice-aggregate-holes : tie.Need-slice-aggregate-holes
-slice-aggregate-holes c =
-    let start : tie.Start = search needs in
-    lead-long start
-
-slice-aggregate-holes-2 : tie.Need-slice-aggregate-holes-2
-slice-aggregate-holes-2 c =
-    let start : tie.Start = search needs in
-    top-long start
+    let s = c .before .before .before .before .before .before .before .before .before .before .before .before .before .before .before .before .before .before .before in
+    let number = c .before .before .before .before .before .before .before .before .before .before .before .number in
+    let sees = c .before .before .before .before .sees in
+    (all-faced s (number .last .1 .1 .1 .0) (sees .last .1 .1 .1 .1 .1 .1 .1 .0) (number .ensures .0) (sees .ensures), s .pre .1 .1 .1 .1 .0)
 
 add-holes : tie.Need-add-holes
 add-holes c =
-    let after-number : tie.After-number = search needs in
-    let s : tie.Start = search needs in
-    omega (arith, small s, after-number .number .ensures .1, count-le (outerLead (lead s) (top s)) (2 * e s))
+    let s = c .before .before .before .before .before .before .before .before .before .before .before .before .before .before .before .before .before .before .before .before .before .before .before .before in
+    let number = c .before .before .before .before .before .before .before .before .before .before .before .before .before .before .before .before .number in
+    omega (arith, small s, number .ensures .1, count-le (outerLead (lead s) (top s)) (2 * e s))
 
 holes-requires : tie.Need-holes-requires
 holes-requires c κs =
-    let after-number : tie.After-number = search needs in
-    let after-sees : tie.After-sees = search needs in
-    let after-faces : tie.After-faces = search needs in
-    let s : tie.Start = search needs in
-    let number = after-number .number in
-    let sees = after-sees .sees in
-    let faces = after-faces .faces in
+    let s = c .before .before .before .before .before .before .before .before .before .before .before .before .before .before .before .before .before .before .before .before .before .before .before .before in
+    let number = c .before .before .before .before .before .before .before .before .before .before .before .before .before .before .before .before .number in
+    let sees = c .before .before .before .before .before .before .before .before .before .sees in
+    let faces = c .before .before .before .before .faces in
     let r = number .ensures .1 in
     let b = face-numbers s (number .last .1 .1 .1 .0) (sees .last .1 .1 .1 .1 .1 .1 .1 .0) (number .ensures .0) (sees .ensures) (faces .last .1 .1 .1 .1 .1 .1 .0) (faces .ensures) (number .result) r in
-    (kinded s, (big s, (b, omega (arith, small s, r, count-le (outerLead (lead s) (top s)) (2 * e s)))))
+    (kinded s, (big s, (b, omega (arith, s .pre .1 .1 .1 .1 .2, r, count-le (outerLead (lead s) (top s)) (2 * e s)))))
 
 returns : tie.Need-returns
 returns c =
-    let s = c .before .before .before .before .before .before .before .before .before .before .before .before .before .before .before .before .before .before .before .before .before .before .before .before .before .before .before .before .before .before .before in
-    let number = c .before .before .before .before .before .before .before .before .before .before .before .before .before .before .before .before .before .before .before .before .before .before .before .before .number in
-    let sees = c .before .before .before .before .before .before .before .before .before .before .before .before .before .before .sees in
+    let s = c .before .before .before .before .before .before .before .before .before .before .before .before .before .before .before .before .before .before .before .before .before .before .before .before .before .before .before in
+    let number = c .before .before .before .before .before .before .before .before .before .before .before .before .before .before .before .before .before .before .before .number in
+    let sees = c .before .before .before .before .before .before .before .before .before .before .before .before .sees in
     let faces = c .before .before .before .before .before .before .before .faces in
-    let outs = c .before .before .before .before .before .before .before .before .before .before .before .before .before .before .before .before .before .before .before .outers in
-    let hs = c .before .holes in
+    let outs = c .before .before .before .before .before .before .before .before .before .before .before .before .before .before .before .before .outers in
+    let hs = c .before .before .holes in
     let numbers = number .last .1 .1 .1 .0 in
     let seen = sees .last .1 .1 .1 .1 .1 .1 .1 .0 in
     let face = faces .last .1 .1 .1 .1 .1 .1 .0 in
-    let is = face-is s numbers seen (number .ensures .0) (sees .ensures) face (faces .ensures) in
+    let is = face-at s numbers seen (number .ensures .0) (sees .ensures) face (faces .ensures) in
     let holds = face-holds s numbers seen (number .ensures .0) (sees .ensures) face (faces .ensures) in
     record {
-      face-is = over-zeros-is (ps s) (os s) (cs s) (n s) (e s) (F s) (P s) (faceIn (walksOf (g s)) (length (g s .points))) halfRows face is;
-      outers-is = outers-flat (ps s) (os s) (cs s) (n s) (e s) (F s) (P s) (big s) (lead s) (top s) (L s) (T s) halfRows (outs .last .1 .1 .1 .0) (outs .ensures);
+      face-is = over-is (ps s) (os s) (cs s) (n s) (e s) (F s) (P s) (faceIn (walksOf (g s)) (length (g s .points))) (face₀ s) face is;
+      outers-is = outers-flat (ps s) (os s) (cs s) (n s) (e s) (F s) (P s) (big s) (lead s) (top s) (L s) (T s) (now (s .args .leaders)) (outs .last .1 .1 .1 .0) (outs .ensures);
       count-is = count-flat (ps s) (os s) (cs s) (n s) (e s) (F s) (P s) (big s) (lead s) (top s) (L s) (T s) (number .result) (number .ensures .1);
-      holes-is = holes-filled (ps s) (os s) (cs s) (n s) (e s) (F s) (P s) (big s) (lead s) (top s) (L s) (T s) face holds (number .result) (suc halfRows) (hs .last .1 .1 .1 .1 .0) (hs .ensures);
+      holes-is = holes-filled (ps s) (os s) (cs s) (n s) (e s) (F s) (P s) (big s) (lead s) (top s) (L s) (T s) face holds (number .result) (now (s .args .inside)) (hs .last .1 .1 .1 .1 .0) (hs .ensures);
     }
 
 pub enclose-spec : {M : Type 1} → statement M
@@ -192,27 +162,16 @@ enclose-spec =
     (tie.spec
     (λ c. search needs)
     (λ c. search needs)
-    (λ c. search needs)
-    (λ c. search needs)
     number-requires
-    (λ c. search needs)
-    (λ c. search needs)
-    (λ c. search needs)
     outers-requires
     (λ c. search needs)
-    (λ c. search needs)
-    (λ c. search needs)
     sees-requires
-    slice-aggregate-faces
-    slice-aggregate-faces-2
-    (λ c. search needs)
     (λ c. search needs)
     (λ c. search needs)
     faces-requires
-    slice-aggregate-holes
-    slice-aggregate-holes-2
-    (λ c. search needs)
-    (λ c. search needs)
     add-holes
     holes-requires
+    (λ c. search needs)
+    (λ c. search needs)
+    (λ c. search needs)
     returns)

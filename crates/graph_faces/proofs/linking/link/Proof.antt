@@ -1,151 +1,169 @@
--- `graph_faces::linking::link` meets its contract. Assumes nothing.
-use mathlib.Core.Path.{_∙_, ap}
+-- `graph_faces::linking::link` meets its contract. First what is known from the start and of each table as it is made; then the needs, call by call. Assumes nothing.
+use mathlib.Core.Path.{_≡_}
+use Prim.Native.Nat.{_≤_}
 use native.Mathlib.Omega.{arith}
 use borrow.Author.Needs.{needs}
-use Rattle.seq.specs.Seq.{padded}
+use denote.Ref.{now}
+use Rattle.seq.specs.Seq.{List, Option·getD, ℕ, _*_, take, replicate, leader, filled, laid, ℤ, pos}
+use Rattle.seq.specs.Filled.{Holds}
+use Rattle.paper.specs.Limits.{overlayEdges, absent}
+use Rattle.paper.specs.Graph.{Graph, follower, heading, greatestOut}
 use Rattle.paper.specs.Faces.{walksOf, leadAt}
-use Rattle.paper.specs.Graph.{follower}
-use Rattle.graph.specs.Flat.{flatGraph}
-use Rattle.graph.specs.Heading.{flat-starts}
-use Rattle.graph_faces.specs.Laws.Linking.{ways-heads, ways-near, next-filled, next-holds, next-permuted, lead-filled, lead-holds, lead-numbers, greatest-holds, low-holds, low-cells, top-filled, over-zeros-is, leads-table}
+use Rattle.laws_graph.specs.Plane.{Plane}
+use Rattle.graph.specs.Flat.{flatGraph, Flat}
+use Rattle.graph.specs.Heading.{row, flat-starts}
+use Rattle.graph.specs.Follow.{Headings, Heads, followerAt}
+use Rattle.graph_faces.specs.Turns.{greatestAt, lowAt}
+use Rattle.graph_faces.specs.Laws.Linking.{ways-heads, ways-near, next-filled, next-holds, next-permuted, lead-filled, lead-holds, lead-numbers, greatest-holds, low-holds, low-cells, top-filled, over-is, leads-over}
 use Rattle.graph_faces.specs.Walked.{topOf}
 use Rattle.graph_faces.proofs.linking.link.Statement.{statement}
 use Rattle.graph_faces.proofs.linking.link.Tie as tie
 
+-- ── what is known ──
+
+module _ (s : tie.Start) where
+  abbrev ps : List ℤ
+  ps = s .args .points .now
+
+  abbrev os : List ℕ
+  os = s .args .origins .now
+
+  abbrev cs : List ℤ
+  cs = s .args .carriers .now
+
+  abbrev n : ℕ
+  n = s .args .n
+
+  abbrev e : ℕ
+  e = s .args .e
+
+  abbrev next₀ : List ℕ
+  next₀ = now (s .args .next)
+
+  abbrev lead₀ : List ℕ
+  lead₀ = now (s .args .lead)
+
+  abbrev top₀ : List ℕ
+  top₀ = now (s .args .top)
+
+  abbrev g : Graph
+  g = flatGraph ps os cs n e
+
+  abbrev F : Flat ps os cs n e
+  F = s .pre .0
+
+  small : e ≤ overlayEdges
+  small = s .pre .1 .1 .0
+
+  abbrev P : Plane g
+  P = s .pre .1 .1 .1 .0
+
+  big : 2 * e ≤ absent
+  big = omega (arith, small)
+
+  module _ (ways : List ℤ) (W : ways ≡ laid (2 * e) (λ h. row (heading g h)) (replicate 8000 (pos 0))) where
+    heads : Heads ps os cs n e ways
+    heads = ways-heads ps os cs n e F P 8000 (omega (arith, small)) ways W
+
+    near : Headings ways (2 * e)
+    near = ways-near ps os cs n e F P 8000 (omega (arith, small)) ways W
+
+    outs : (out : List ℕ) → out ≡ filled n (greatestAt os ways (2 * e)) (replicate 1000 0) → Holds (λ v. Option·getD (greatestOut g v) absent) out n
+    outs out O = greatest-holds ps os cs n e F P ways heads 1000 (s .pre .1 .0) out O
+
+    module _ (next : List ℕ) (N : next ≡ filled (2 * e) (followerAt os ways (2 * e)) next₀) where
+      next-at : next ≡ filled (2 * e) (follower g) next₀
+      next-at = next-filled ps os cs n e F P ways heads next₀ (s .pre .1 .1 .1 .1 .0) next N
+
+      nexts : Holds (follower g) next (2 * e)
+      nexts = next-holds ps os cs n e F P ways heads next₀ (s .pre .1 .1 .1 .1 .0) next N
+
+      module _ (lead : List ℕ) (L : lead ≡ filled (2 * e) (leader (take (2 * e) next)) lead₀) where
+        lead-at : lead ≡ filled (2 * e) (leadAt (walksOf g)) lead₀
+        lead-at = lead-filled ps os cs n e F P next nexts lead₀ (s .pre .1 .1 .1 .1 .1) lead L
+
+        leads : Holds (leadAt (walksOf g)) lead (2 * e)
+        leads = lead-holds ps os cs n e F P next nexts lead₀ (s .pre .1 .1 .1 .1 .1) lead L
+
+        lows : (low : List ℕ) → low ≡ filled (2 * e) (lowAt ps os lead (2 * e)) (replicate 4000 0) → Holds (lowAt ps os lead (2 * e)) low (2 * e)
+        lows low O = low-holds ps os cs n e F P lead 4000 (omega (arith, small)) low O
+
+-- ── the needs ──
+
 headings-requires : tie.Need-headings-requires
-headings-requires c κs = let s = c .before .before in (s .pre .0, (omega (arith, s .pre .1 .1 .0), omega (arith, s .pre .1 .1 .0)))
+headings-requires c κs = let s : tie.Start = search needs in (F s, (omega (arith, small s), omega (arith, small s)))
 
 follow-requires : tie.Need-follow-requires
 follow-requires c κs =
-    let after-headings : tie.After-headings = search needs in
     let s : tie.Start = search needs in
-    let a = s .args in
-    let ps = a .points .now in
-    let os = a .origins .now in
-    let cs = a .carriers .now in
-    let F = s .pre .0 in
-    let Q = s .pre .1 .1 .1 in
-    let small = s .pre .1 .1 .0 in
+    let after-headings : tie.After-headings = search needs in
     let W = after-headings .headings in
-    (F .origins, (s .pre .1 .0, (small, (ways-near ps os cs (a .n) (a .e) F Q 8000 (omega (arith, small)) (W .last .1 .1 .1 .1 .1 .0) (W .ensures), omega (arith, small)))))
+    (F s .origins, (s .pre .1 .0, (small s, (near s (W .last .1 .1 .1 .1 .1 .0) (W .ensures), s .pre .1 .1 .1 .1 .0))))
 
 leads-requires : tie.Need-leads-requires
 leads-requires c κs =
-    let after-headings : tie.After-headings = search needs in
-    let after-follow : tie.After-follow = search needs in
-    let s : tie.Start = search needs in
-    let a = s .args in
-    let ps = a .points .now in
-    let os = a .origins .now in
-    let cs = a .carriers .now in
-    let F = s .pre .0 in
-    let Q = s .pre .1 .1 .1 in
-    let small = s .pre .1 .1 .0 in
-    let W = after-headings .headings in
-    let ways = W .last .1 .1 .1 .1 .1 .0 in
-    let heads = ways-heads ps os cs (a .n) (a .e) F Q 8000 (omega (arith, small)) ways (W .ensures) in
-    let N = after-follow .follow in
+    let s = c .before .before .before .before .before .before .before .before .before .before .before .before .before .before in
+    let W = c .before .before .before .before .before .before .before .before .headings in
+    let N = c .before .before .before .before .follow in
     let next = N .last .1 .1 .1 .1 .0 in
-    let nexts = next-holds ps os cs (a .n) (a .e) F Q ways heads 4000 (omega (arith, small)) next (N .ensures) in
-    (next-permuted ps os cs (a .n) (a .e) F Q next nexts, (omega (arith, small), omega (arith, small)))
+    (next-permuted (ps s) (os s) (cs s) (n s) (e s) (F s) (P s) next (nexts s (W .last .1 .1 .1 .1 .1 .0) (W .ensures) next (N .ensures)), (big s, s .pre .1 .1 .1 .1 .1))
 
 greatest-requires : tie.Need-greatest-requires
 greatest-requires c κs =
-    let after-headings : tie.After-headings = search needs in
-    let s : tie.Start = search needs in
-    let a = s .args in
-    let ps = a .points .now in
-    let os = a .origins .now in
-    let cs = a .carriers .now in
-    let F = s .pre .0 in
-    let Q = s .pre .1 .1 .1 in
-    let small = s .pre .1 .1 .0 in
-    let W = after-headings .headings in
-    (F .origins, (omega (arith, small), (ways-near ps os cs (a .n) (a .e) F Q 8000 (omega (arith, small)) (W .last .1 .1 .1 .1 .1 .0) (W .ensures), s .pre .1 .0)))
+    let s = c .before .before .before .before .before .before .before .before .before .before .before .before .before .before .before .before .before .before .before in
+    let W = c .before .before .before .before .before .before .before .before .before .before .before .before .before .headings in
+    (F s .origins, (big s, (near s (W .last .1 .1 .1 .1 .1 .0) (W .ensures), s .pre .1 .0)))
 
 lows-requires : tie.Need-lows-requires
 lows-requires c κs =
-    let after-headings : tie.After-headings = search needs in
-    let after-follow : tie.After-follow = search needs in
-    let after-leads : tie.After-leads = search needs in
-    let s : tie.Start = search needs in
-    let a = s .args in
-    let ps = a .points .now in
-    let os = a .origins .now in
-    let cs = a .carriers .now in
-    let F = s .pre .0 in
-    let Q = s .pre .1 .1 .1 in
-    let small = s .pre .1 .1 .0 in
-    let W = after-headings .headings in
-    let ways = W .last .1 .1 .1 .1 .1 .0 in
-    let heads = ways-heads ps os cs (a .n) (a .e) F Q 8000 (omega (arith, small)) ways (W .ensures) in
-    let N = after-follow .follow in
-    let next = N .last .1 .1 .1 .1 .0 in
-    let nexts = next-holds ps os cs (a .n) (a .e) F Q ways heads 4000 (omega (arith, small)) next (N .ensures) in
-    let L = after-leads .leads in
+    let s = c .before .before .before .before .before .before .before .before .before .before .before .before .before .before .before .before .before .before .before .before .before .before .before in
+    let W = c .before .before .before .before .before .before .before .before .before .before .before .before .before .before .before .before .before .headings in
+    let N = c .before .before .before .before .before .before .before .before .before .before .before .before .before .follow in
+    let L = c .before .before .before .before .before .before .before .before .leads in
     let lead = L .last .1 .1 .0 in
-    let leads = lead-holds ps os cs (a .n) (a .e) F Q next nexts 4000 (omega (arith, small)) lead (L .ensures) in
-    (flat-starts ps os cs (a .n) (a .e) F, (lead-numbers ps os cs (a .n) (a .e) F Q lead leads, (omega (arith, small), omega (arith, small))))
+    let led = leads s (W .last .1 .1 .1 .1 .1 .0) (W .ensures) (N .last .1 .1 .1 .1 .0) (N .ensures) lead (L .ensures) in
+    (flat-starts (ps s) (os s) (cs s) (n s) (e s) (F s), (lead-numbers (ps s) (os s) (cs s) (n s) (e s) (F s) (P s) lead led, (big s, omega (arith, small s))))
 
 tops-requires : tie.Need-tops-requires
 tops-requires c κs =
-    let s = c .before .before .before .before .before .before .before .before .before .before .before .before .before .before .before .before .before .before .before .before .before .before .before .before in
-    let a = s .args in
-    let ps = a .points .now in
-    let os = a .origins .now in
-    let cs = a .carriers .now in
-    let F = s .pre .0 in
-    let Q = s .pre .1 .1 .1 in
-    let small = s .pre .1 .1 .0 in
-    let W = c .before .before .before .before .before .before .before .before .before .before .before .before .before .before .before .before .before .before .before .before .before .headings in
-    let ways = W .last .1 .1 .1 .1 .1 .0 in
-    let heads = ways-heads ps os cs (a .n) (a .e) F Q 8000 (omega (arith, small)) ways (W .ensures) in
-    let N = c .before .before .before .before .before .before .before .before .before .before .before .before .before .before .before .before .before .follow in
-    let next = N .last .1 .1 .1 .1 .0 in
-    let nexts = next-holds ps os cs (a .n) (a .e) F Q ways heads 4000 (omega (arith, small)) next (N .ensures) in
-    let L = c .before .before .before .before .before .before .before .before .before .before .before .before .before .leads in
-    let lead = L .last .1 .1 .0 in
-    let leads = lead-holds ps os cs (a .n) (a .e) F Q next nexts 4000 (omega (arith, small)) lead (L .ensures) in
+    let s = c .before .before .before .before .before .before .before .before .before .before .before .before .before .before .before .before .before .before .before .before .before .before .before .before .before .before .before .before .before in
+    let W = c .before .before .before .before .before .before .before .before .before .before .before .before .before .before .before .before .before .before .before .before .before .before .before .headings in
+    let N = c .before .before .before .before .before .before .before .before .before .before .before .before .before .before .before .before .before .before .before .follow in
+    let L = c .before .before .before .before .before .before .before .before .before .before .before .before .before .before .leads in
     let O = c .before .before .before .before .before .before .before .before .before .greatest in
-    let out = O .last .1 .1 .1 .0 in
-    let outs = greatest-holds ps os cs (a .n) (a .e) F Q ways heads 1000 (s .pre .1 .0) out (O .ensures) in
     let B = c .before .before .before .before .before .lows in
+    let ways = W .last .1 .1 .1 .1 .1 .0 in
+    let next = N .last .1 .1 .1 .1 .0 in
+    let lead = L .last .1 .1 .0 in
     let low = B .last .1 .1 .1 .1 .0 in
-    let lows = low-holds ps os cs (a .n) (a .e) F Q lead 4000 (omega (arith, small)) low (B .ensures) in
-    (lead-numbers ps os cs (a .n) (a .e) F Q lead leads, (lows .long, (low-cells ps os cs (a .n) (a .e) F Q lead low leads lows, (record { long = F .origins .long; named = λ i l. omega (arith, F .origins .named i l, outs .long) }, omega (arith, small)))))
+    let led = leads s ways (W .ensures) next (N .ensures) lead (L .ensures) in
+    let below = lows s ways (W .ensures) next (N .ensures) lead (L .ensures) low (B .ensures) in
+    let out = outs s ways (W .ensures) (O .last .1 .1 .1 .0) (O .ensures) in (
+      lead-numbers (ps s) (os s) (cs s) (n s) (e s) (F s) (P s) lead led,
+      (below .long, (low-cells (ps s) (os s) (cs s) (n s) (e s) (F s) (P s) lead low led below, (record { long = F s .origins .long; named = λ i l. omega (arith, F s .origins .named i l, out .long) }, s .pre .1 .1 .1 .1 .2))),
+    )
 
 returns : tie.Need-returns
 returns c =
-    let s = c .before .before .before .before .before .before .before .before .before .before .before .before .before .before .before .before .before .before .before .before .before .before .before .before .before .before in
-    let a = s .args in
-    let ps = a .points .now in
-    let os = a .origins .now in
-    let cs = a .carriers .now in
-    let F = s .pre .0 in
-    let Q = s .pre .1 .1 .1 in
-    let small = s .pre .1 .1 .0 in
-    let W = c .before .before .before .before .before .before .before .before .before .before .before .before .before .before .before .before .before .before .before .before .before .before .before .headings in
+    let s = c .before .before .before .before .before .before .before .before .before .before .before .before .before .before .before .before .before .before .before .before .before .before .before .before .before .before .before .before .before .before .before .before in
+    let W = c .before .before .before .before .before .before .before .before .before .before .before .before .before .before .before .before .before .before .before .before .before .before .before .before .before .before .headings in
+    let N = c .before .before .before .before .before .before .before .before .before .before .before .before .before .before .before .before .before .before .before .before .before .before .follow in
+    let L = c .before .before .before .before .before .before .before .before .before .before .before .before .before .before .before .before .before .leads in
+    let O = c .before .before .before .before .before .before .before .before .before .before .before .before .greatest in
+    let B = c .before .before .before .before .before .before .before .before .lows in
+    let T = c .before .before .tops in
     let ways = W .last .1 .1 .1 .1 .1 .0 in
-    let heads = ways-heads ps os cs (a .n) (a .e) F Q 8000 (omega (arith, small)) ways (W .ensures) in
-    let N = c .before .before .before .before .before .before .before .before .before .before .before .before .before .before .before .before .before .before .before .follow in
     let next = N .last .1 .1 .1 .1 .0 in
-    let nexts = next-holds ps os cs (a .n) (a .e) F Q ways heads 4000 (omega (arith, small)) next (N .ensures) in
-    let L = c .before .before .before .before .before .before .before .before .before .before .before .before .before .before .before .leads in
     let lead = L .last .1 .1 .0 in
-    let leads = lead-holds ps os cs (a .n) (a .e) F Q next nexts 4000 (omega (arith, small)) lead (L .ensures) in
-    let O = c .before .before .before .before .before .before .before .before .before .before .before .greatest in
-    let out = O .last .1 .1 .1 .0 in
-    let outs = greatest-holds ps os cs (a .n) (a .e) F Q ways heads 1000 (s .pre .1 .0) out (O .ensures) in
-    let B = c .before .before .before .before .before .before .before .lows in
     let low = B .last .1 .1 .1 .1 .0 in
-    let lows = low-holds ps os cs (a .n) (a .e) F Q lead 4000 (omega (arith, small)) low (B .ensures) in
-    let T = c .before .tops in
     let top = T .last .1 .1 .1 .1 .1 .0 in
-    let g = flatGraph ps os cs (a .n) (a .e) in
+    let led = leads s ways (W .ensures) next (N .ensures) lead (L .ensures) in
+    let below = lows s ways (W .ensures) next (N .ensures) lead (L .ensures) low (B .ensures) in
+    let out = outs s ways (W .ensures) (O .last .1 .1 .1 .0) (O .ensures) in
     record {
-      next-is = over-zeros-is ps os cs (a .n) (a .e) F Q (follower g) 4000 next (next-filled ps os cs (a .n) (a .e) F Q ways heads 4000 (omega (arith, small)) next (N .ensures));
-      lead-is = over-zeros-is ps os cs (a .n) (a .e) F Q (leadAt (walksOf g)) 4000 lead (lead-filled ps os cs (a .n) (a .e) F Q next nexts 4000 (omega (arith, small)) lead (L .ensures)) ∙ ap (padded 0 4000) (leads-table ps os cs (a .n) (a .e) F Q);
-      top-is = over-zeros-is ps os cs (a .n) (a .e) F Q (topOf g) 4000 top (top-filled ps os cs (a .n) (a .e) F Q lead low leads lows out outs 4000 top (T .ensures));
+      next-is = over-is (ps s) (os s) (cs s) (n s) (e s) (F s) (P s) (follower (g s)) (next₀ s) next (next-at s ways (W .ensures) next (N .ensures));
+      lead-is = leads-over (ps s) (os s) (cs s) (n s) (e s) (F s) (P s) (lead₀ s) lead (lead-at s ways (W .ensures) next (N .ensures) lead (L .ensures));
+      top-is = over-is (ps s) (os s) (cs s) (n s) (e s) (F s) (P s) (topOf (g s)) (top₀ s) top (top-filled (ps s) (os s) (cs s) (n s) (e s) (F s) (P s) lead low led below (O .last .1 .1 .1 .0) out (top₀ s) top (T .ensures));
     }
 
 pub link-spec : {M : Type 1} → statement M
@@ -156,20 +174,17 @@ link-spec =
     (λ c. search needs)
     headings-requires
     (λ c. search needs)
-    (λ c. search needs)
     follow-requires
-    (λ c. search needs)
-    (λ c. search needs)
     leads-requires
     (λ c. search needs)
     (λ c. search needs)
     greatest-requires
     (λ c. search needs)
-    (λ c. search needs)
     lows-requires
     (λ c. search needs)
     (λ c. search needs)
-    (λ c. search needs)
-    (λ c. search needs)
     tops-requires
+    (λ c. search needs)
+    (λ c. search needs)
+    (λ c. search needs)
     returns)

@@ -1,76 +1,156 @@
--- `overlay::stages::from_cut` meets its contract. Assumes nothing.
+-- `overlay::stages::from_cut` meets its contract. First what is known from the start; then the needs, call by call. Assumes nothing.
 use mathlib.Core.Path.{_∙_, ap}
+use Prim.Native.Nat.{_≤_}
 use native.Mathlib.Omega.{arith}
-use denote.Ref.{now}
-use Rattle.paper.specs.Tables.{Counts}
-use Rattle.paper.specs.Lent.{lengthsOf}
-use Rattle.tables.specs.Values.{tablesBy}
-use Rattle.overlay_maps.specs.Held.{heldMaps}
-use Rattle.overlay_maps.specs.LayersOf.{layersOf}
-use Rattle.overlay_graph.specs.TracedOf.{cutOf, tracedOf}
-use Rattle.overlay.proofs.JudgeLaws.{faces-refused, all-within}
 use borrow.Author.Needs.{needs}
+use denote.Ref.{now}
+use Rattle.seq.specs.Seq.{List, ℕ, suc, replicate, ℤ}
+use Rattle.paper.specs.Limits.{overlayVertices, overlayEdges}
+use Rattle.paper.specs.Map.{Map}
+use Rattle.paper.specs.Faces.{overlayOf}
+use Rattle.paper.specs.Tables.{Counts}
+use Rattle.paper.specs.Lent.{Lengths, lengthsOf}
+use Rattle.laws_graph.specs.Plane.{Plane}
+use Rattle.graph.specs.Flat.{flatGraph}
+use Rattle.graph_faces.specs.Linked.{halfRows, facesOf}
+use Rattle.tables.specs.Values.{tablesBy}
+use Rattle.overlay_maps.specs.Layers.{Layers, layersBy}
+use Rattle.overlay_maps.specs.Held.{heldMaps}
+use Rattle.overlay_graph.specs.Cut.{Cut, cutBy}
+use Rattle.overlay_graph.specs.Traced.{NetBy, FacesOver, FacesBy}
+use Rattle.overlay_graph.specs.Laws.Tracing.{net-planar, faces-by}
+use Rattle.overlay.proofs.JudgeLaws.{faces-refused, all-within}
 use Rattle.overlay.proofs.stages.from_cut.Statement.{statement}
 use Rattle.overlay.proofs.stages.from_cut.Tie as tie
 
-trace-requires : tie.Need-trace-requires
-trace-requires c κs =
-    let start : tie.Start = search needs in
-    let p = start .pre in
-    (p .0, (p .1 .0, (omega (arith, p .1 .1 .vertices), omega (arith, p .1 .1 .edges))))
+-- ── what is known ──
+
+module _ (s : tie.Start) where
+  abbrev l : Layers
+  l = layersBy (s .args .vstarts .now) (s .args .estarts .now) (s .args .corners .now) (s .args .origins .now) (s .args .carriers .now) (s .args .labels .now)
+
+  abbrev ms : List Map
+  ms = heldMaps l
+
+  abbrev k : Cut
+  k = cutBy (s .args .n) (s .args .points .now) (s .args .e) (s .args .pieces .now)
+
+  abbrev lent : Lengths
+  lent = let a = s .args in lengthsOf (tablesBy (now (a .vertices)) (now (a .halves)) (now (a .sources)) (now (a .faces)))
+
+  few : k .vertices ≤ overlayVertices
+  few = omega (arith, s .pre .1 .1 .0 .vertices)
+
+  short : k .edges ≤ overlayEdges
+  short = omega (arith, s .pre .1 .1 .0 .edges)
+
+  module _ (os : List ℕ) (bs : List ℤ) (N : NetBy (overlayOf ms) k os bs) where
+    planar : Plane (flatGraph (k .points) os bs (k .vertices) (k .edges))
+    planar = net-planar l (s .pre .0) (flatGraph (k .points) os bs (k .vertices) (k .edges)) (N .net-is)
+
+    -- followers and faces, in tables that were zero
+    faced : (next face outers holes : List ℕ) (n : ℕ) → FacesOver (facesOf (flatGraph (k .points) os bs (k .vertices) (k .edges))) (replicate halfRows 0) (replicate halfRows 0) (replicate halfRows 0) (replicate (suc halfRows) 0) next face outers holes n → FacesBy (overlayOf ms) next face outers holes n
+    faced next face outers holes n A = faces-by ms k os bs short planar (N .net-is) next face outers holes n A
+
+-- ── the needs ──
+
+lay-net-requires : tie.Need-lay-net-requires
+lay-net-requires c κs =
+    let s = c .before .before .before .before .before .before .before .before .before .before in
+    let p = s .pre in
+    (p .0, (p .1 .0, ((few s, short s), ((p .1 .1 .1 .0, p .1 .1 .1 .1), (omega (arith, short s), omega (arith, short s))))))
+
+walk-net-requires : tie.Need-walk-net-requires
+walk-net-requires c κs =
+    let s = c .before .before .before .before .before .before .before .before .before .before .before .before .before .before .before .before .before .before .before in
+    let b = c .before .before .before .before .before .before .before .before .lay-net in (
+      b .ensures .flat,
+      ((few s, short s), (planar s (b .last .1 .1 .1 .1 .1 .1 .1 .1 .1 .1 .0) (b .last .1 .1 .1 .1 .1 .1 .1 .1 .1 .1 .1 .0) (b .ensures), (omega (arith, short s), omega (arith, short s), omega (arith, short s), omega (arith, short s)))),
+    )
 
 fill-requires : tie.Need-fill-requires
 fill-requires c κs =
-    let start : tie.Start = search needs in
-    let after-room-in : tie.After-room-in = search needs in
-    let after-trace : tie.After-trace = search needs in
-    let else1 : tie.Else1 = search needs in
-    let p = start .pre in
-    let room = ap (λ (n : Counts). n .faces) (after-room-in .room-in .ensures) in
-    (p .0, (p .1 .0, (p .1 .1, (after-trace .trace .ensures, omega (arith, room, else1 .if1)))))
+    let s = c .before .before .before .before .before .before .before .before .before .before .before .before .before .before .before .before .before .before .before .before .before .before .before .before .before .before .before .before .before .before .before .before .before .before .before .before .before in
+    let p = s .pre in
+    let b = c .before .before .before .before .before .before .before .before .before .before .before .before .before .before .before .before .before .before .before .before .before .before .before .before .before .before .lay-net in
+    let w = c .before .before .before .before .before .before .before .before .before .before .before .before .before .before .before .before .before .walk-net in
+    let room = ap (λ (n : Counts). n .faces) (c .before .before .before .before .before .before .before .before .before .before .before .before .room-in .ensures) in
+    let f = faced s (b .last .1 .1 .1 .1 .1 .1 .1 .1 .1 .1 .0) (b .last .1 .1 .1 .1 .1 .1 .1 .1 .1 .1 .1 .0) (b .ensures) (w .last .1 .1 .1 .1 .1 .0) (w .last .1 .1 .1 .1 .1 .1 .0) (w .last .1 .1 .1 .1 .1 .1 .1 .0) (w .last .1 .1 .1 .1 .1 .1 .1 .1 .0) (w .result) (w .ensures) in
+    (p .0, (p .1 .0, ((p .1 .1 .0, p .1 .1 .1 .1), ((b .ensures, f), omega (arith, room, c .before .before .before .before .before .before .before .before .before .before .if1)))))
+
+same-length : tie.Need-same-length
+same-length c = c .before .before .before .before .before .before .before .refuse .kept .1 .0
+
+same-length-2 : tie.Need-same-length-2
+same-length-2 c = c .before .before .before .before .before .before .before .refuse .kept .1 .1 .0
+
+same-length-3 : tie.Need-same-length-3
+same-length-3 c = c .before .before .before .before .before .before .before .refuse .kept .1 .1 .1 .0
+
+same-length-4 : tie.Need-same-length-4
+same-length-4 c = c .before .before .before .before .before .before .before .refuse .kept .1 .1 .1 .1 .0
 
 returns : tie.Need-returns
 returns c =
-    let start : tie.Start = search needs in
-    let after-room-in : tie.After-room-in = search needs in
-    let after-refuse : tie.After-refuse = search needs in
-    let after-trace : tie.After-trace = search needs in
-    let then1 : tie.Then1 = search needs in
-    let a = start .args in
-    let p = start .pre in
-    let room = ap (λ (n : Counts). n .faces) (after-room-in .room-in .ensures) in
-    after-refuse .refuse .ensures
-    ∙ faces-refused (heldMaps (layersOf (a .l))) (cutOf (a .c)) (p .1 .0) (lengthsOf (tablesBy (now (a .vertices)) (now (a .halves)) (now (a .sources)) (now (a .faces)))) (p .1 .1) (tracedOf _) (after-trace .trace .ensures) (omega (arith, room, then1 .if1))
+    let s = c .before .before .before .before .before .before .before .before .before .before .before .before .before .before .before .before .before .before .before .before .before .before .before .before .before .before .before .before .before .before .before .before .before .before .before .before .before .before .before in
+    let b = c .before .before .before .before .before .before .before .before .before .before .before .before .before .before .before .before .before .before .before .before .before .before .before .before .before .before .before .before .lay-net in
+    let w = c .before .before .before .before .before .before .before .before .before .before .before .before .before .before .before .before .before .before .before .walk-net in
+    let room = ap (λ (n : Counts). n .faces) (c .before .before .before .before .before .before .before .before .before .before .before .before .before .before .room-in .ensures) in
+    let f = faced s (b .last .1 .1 .1 .1 .1 .1 .1 .1 .1 .1 .0) (b .last .1 .1 .1 .1 .1 .1 .1 .1 .1 .1 .1 .0) (b .ensures) (w .last .1 .1 .1 .1 .1 .0) (w .last .1 .1 .1 .1 .1 .1 .0) (w .last .1 .1 .1 .1 .1 .1 .1 .0) (w .last .1 .1 .1 .1 .1 .1 .1 .1 .0) (w .result) (w .ensures) in
+    c .before .before .before .before .before .before .before .refuse .ensures ∙ faces-refused (ms s) (k s) (s .pre .1 .0) (lent s) (s .pre .1 .1 .0) (w .result) (f .count-is) (omega (arith, room, c .before .before .before .before .before .before .before .before .before .before .before .before .if1))
+
+same-length-5 : tie.Need-same-length-5
+same-length-5 c = c .before .before .before .before .before .before .before .fill .kept .1 .1 .1 .1 .1 .1 .1 .1 .1 .1 .1 .1 .1 .1 .1 .1 .1 .0
+
+same-length-6 : tie.Need-same-length-6
+same-length-6 c = c .before .before .before .before .before .before .before .fill .kept .1 .1 .1 .1 .1 .1 .1 .1 .1 .1 .1 .1 .1 .1 .1 .1 .1 .1 .0
+
+same-length-7 : tie.Need-same-length-7
+same-length-7 c = c .before .before .before .before .before .before .before .fill .kept .1 .1 .1 .1 .1 .1 .1 .1 .1 .1 .1 .1 .1 .1 .1 .1 .1 .1 .1 .0
+
+same-length-8 : tie.Need-same-length-8
+same-length-8 c = c .before .before .before .before .before .before .before .fill .kept .1 .1 .1 .1 .1 .1 .1 .1 .1 .1 .1 .1 .1 .1 .1 .1 .1 .1 .1 .1 .0
 
 returns-2 : tie.Need-returns-2
 returns-2 c =
-    let start : tie.Start = search needs in
-    let after-room-in : tie.After-room-in = search needs in
-    let after-fill : tie.After-fill = search needs in
-    let after-trace : tie.After-trace = search needs in
-    let else1 : tie.Else1 = search needs in
-    let a = start .args in
-    let p = start .pre in
-    let room = ap (λ (n : Counts). n .faces) (after-room-in .room-in .ensures) in
-    after-fill .fill .ensures
-    ∙ all-within (heldMaps (layersOf (a .l))) (cutOf (a .c)) (p .1 .0) (lengthsOf (tablesBy (now (a .vertices)) (now (a .halves)) (now (a .sources)) (now (a .faces)))) (p .1 .1) (tracedOf _) (after-trace .trace .ensures) (omega (arith, room, else1 .if1))
+    let s = c .before .before .before .before .before .before .before .before .before .before .before .before .before .before .before .before .before .before .before .before .before .before .before .before .before .before .before .before .before .before .before .before .before .before .before .before .before .before .before .before .before .before .before .before .before in
+    let b = c .before .before .before .before .before .before .before .before .before .before .before .before .before .before .before .before .before .before .before .before .before .before .before .before .before .before .before .before .before .before .before .before .before .before .lay-net in
+    let w = c .before .before .before .before .before .before .before .before .before .before .before .before .before .before .before .before .before .before .before .before .before .before .before .before .before .walk-net in
+    let room = ap (λ (n : Counts). n .faces) (c .before .before .before .before .before .before .before .before .before .before .before .before .before .before .before .before .before .before .before .before .room-in .ensures) in
+    let f = faced s (b .last .1 .1 .1 .1 .1 .1 .1 .1 .1 .1 .0) (b .last .1 .1 .1 .1 .1 .1 .1 .1 .1 .1 .1 .0) (b .ensures) (w .last .1 .1 .1 .1 .1 .0) (w .last .1 .1 .1 .1 .1 .1 .0) (w .last .1 .1 .1 .1 .1 .1 .1 .0) (w .last .1 .1 .1 .1 .1 .1 .1 .1 .0) (w .result) (w .ensures) in
+    c .before .before .before .before .before .before .before .fill .ensures ∙ all-within (ms s) (k s) (s .pre .1 .0) (lent s) (s .pre .1 .1 .0) (w .result) (f .count-is) (omega (arith, room, c .before .before .before .before .before .before .before .before .before .before .before .before .before .before .before .before .before .before .if1))
 
 pub from-cut-spec : {M : Type 1} → statement M
 from-cut-spec =
     tie.close
     (tie.spec
-    trace-requires
-    (λ c κs. search needs)
     (λ c. search needs)
-    (λ c κs. search needs)
+    (λ c. search needs)
+    lay-net-requires
+    (λ c. search needs)
+    (λ c. search needs)
+    (λ c. search needs)
+    (λ c. search needs)
+    (λ c. search needs)
+    (λ c. search needs)
+    walk-net-requires
+    (λ c κs. tt)
+    (λ c. search needs)
+    (λ c κs. tt)
+    (λ c. search needs)
+    (λ c. search needs)
+    (λ c. search needs)
+    (λ c. search needs)
+    (λ c. search needs)
+    (λ c. search needs)
     fill-requires
-    (λ c. search needs)
-    (λ c. search needs)
-    (λ c. search needs)
-    (λ c. search needs)
+    same-length
+    same-length-2
+    same-length-3
+    same-length-4
     returns
-    (λ c. search needs)
-    (λ c. search needs)
-    (λ c. search needs)
-    (λ c. search needs)
+    same-length-5
+    same-length-6
+    same-length-7
+    same-length-8
     returns-2)

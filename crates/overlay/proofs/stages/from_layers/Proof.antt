@@ -1,60 +1,110 @@
--- `overlay::stages::from_layers` meets its contract. Assumes nothing.
-use mathlib.Core.Path.{sym, _∙_, ap}
+-- `overlay::stages::from_layers` meets its contract. First what is known from the start and of the cut; then the needs, call by call. Assumes nothing.
+use mathlib.Core.Path.{_≡_, sym, _∙_, ap}
+use native.Mathlib.Omega.{arith}
+use borrow.Author.Needs.{needs}
 use denote.Ref.{now}
-use Rattle.seq.specs.Seq.{[], _∷_, ltb}
+use Rattle.seq.specs.Seq.{List, [], _∷_, ltb}
+use Rattle.paper.specs.Limits.{maps}
 use Rattle.paper.specs.Refusal.{given, firstOf}
-use Rattle.paper.specs.Lent.{lengthsOf}
+use Rattle.paper.specs.Map.{Map}
+use Rattle.paper.specs.Tables.{Counts}
+use Rattle.paper.specs.Lent.{Lengths, lengthsOf, roomIn}
 use Rattle.map_file.specs.Verdict.{verdict}
 use Rattle.tables.specs.Values.{tablesBy}
+use Rattle.overlay_maps.specs.Layers.{layersBy}
 use Rattle.overlay_maps.specs.Held.{heldMaps}
-use Rattle.overlay_maps.specs.LayersOf.{layersOf}
-use Rattle.overlay_graph.specs.TracedOf.{cutOf}
+use Rattle.overlay_graph.specs.declared.cutting.CutCounts.{CutCounts}
 use Rattle.overlay.proofs.JudgeLaws.{cut-refused, cut-within}
-use borrow.Author.Needs.{needs}
 use Rattle.overlay.proofs.stages.from_layers.Statement.{statement}
 use Rattle.overlay.proofs.stages.from_layers.Tie as tie
 
+-- ── what is known ──
+
+abbrev ms : tie.Start → List Map
+ms s = let a = s .args in heldMaps (layersBy (a .vstarts .now) (a .estarts .now) (a .corners .now) (a .origins .now) (a .carriers .now) (a .labels .now))
+
+abbrev lent : tie.Start → Lengths
+lent s = let a = s .args in lengthsOf (tablesBy (now (a .vertices)) (now (a .halves)) (now (a .sources)) (now (a .faces)))
+
+-- what was judged, by the room of the lent tables
+module _ (c : tie.After-over-room) where
+  abbrev n : CutCounts
+  n = c .before .before .before .before .cut-maps .result
+
+  abbrev room : Counts
+  room = roomIn maps (lent (c .before .before .before .before .before .before .before .before .before .before .before .before .before .before))
+
+  judged : verdict (c .over-room .result) ≡ firstOf (given 11 1 (ltb (room .vertices) (n .vertices)) ∷ given 11 2 (ltb (room .edges) (n .edges)) ∷ [])
+  judged =
+      let r = c .before .room-in .ensures in
+      c .over-room .ensures ∙ (λ i. firstOf (given 11 1 (ltb (r i .vertices) (n .vertices)) ∷ given 11 2 (ltb (r i .edges) (n .edges)) ∷ []))
+
+-- ── the needs ──
+
+cut-maps-requires : tie.Need-cut-maps-requires
+cut-maps-requires c κs = (c .before .before .before .before .before .before .before .before .before .pre, (omega arith, omega arith))
+
 from-cut-requires : tie.Need-from-cut-requires
 from-cut-requires c κs =
-    let start : tie.Start = search needs in
-    let after-over-room : tie.After-over-room = search needs in
-    let after-room-in : tie.After-room-in = search needs in
-    let after-cut-layers : tie.After-cut-layers = search needs in
-    let after-enum-told : tie.After-enum-told = search needs in
-    let a = start .args in
-    let judged = after-over-room .over-room .ensures ∙ (λ i. firstOf (given 11 1 (ltb (after-room-in .room-in .ensures i .vertices) (after-cut-layers .cut-layers .result .vertices)) ∷ given 11 2 (ltb (after-room-in .room-in .ensures i .edges) (after-cut-layers .cut-layers .result .edges)) ∷ [])) in
-    (start .pre, (after-cut-layers .cut-layers .ensures, cut-within (heldMaps (layersOf (a .l))) (cutOf _) (after-cut-layers .cut-layers .ensures) (lengthsOf (tablesBy (now (a .vertices)) (now (a .halves)) (now (a .sources)) (now (a .faces)))) (sym judged ∙ ap verdict (after-enum-told .enum-told .given .1))))
+    let s = c .before .before .before .before .before .before .before .before .before .before .before .before .before .before .before .before .before .before .before .before .before .before in
+    let k = c .before .before .before .before .before .before .before .before .before .before .before .before .cut-maps in
+    let w = cut-within (ms s) _ (k .ensures) (lent s) (sym (judged (c .before .before .before .before .before .before .before .before)) ∙ ap verdict (c .before .before .before .before .before .before .enum-told .given .1)) in
+    (s .pre, (k .ensures, (w, (omega (arith, w .vertices, k .kept .1 .1 .1 .1 .1 .1 .0), omega (arith, w .edges, k .kept .1 .1 .1 .1 .1 .1 .1 .0)))))
+
+same-length : tie.Need-same-length
+same-length c = c .before .before .before .before .before .before .before .refuse .kept .1 .0
+
+same-length-2 : tie.Need-same-length-2
+same-length-2 c = c .before .before .before .before .before .before .before .refuse .kept .1 .1 .0
+
+same-length-3 : tie.Need-same-length-3
+same-length-3 c = c .before .before .before .before .before .before .before .refuse .kept .1 .1 .1 .0
+
+same-length-4 : tie.Need-same-length-4
+same-length-4 c = c .before .before .before .before .before .before .before .refuse .kept .1 .1 .1 .1 .0
 
 returns : tie.Need-returns
 returns c =
-    let a = c .before .before .before .before .before .before .before .before .before .before .before .before .before .before .before .before .before .before .before .before .before .args in
-    let judged = c .before .before .before .before .before .before .before .before .before .before .before .before .before .before .before .over-room .ensures ∙ (λ i. firstOf (given 11 1 (ltb (c .before .before .before .before .before .before .before .before .before .before .before .before .before .before .before .before .room-in .ensures i .vertices) (c .before .before .before .before .before .before .before .before .before .before .before .before .before .before .before .before .before .cut-layers .result .vertices)) ∷ given 11 2 (ltb (c .before .before .before .before .before .before .before .before .before .before .before .before .before .before .before .before .room-in .ensures i .edges) (c .before .before .before .before .before .before .before .before .before .before .before .before .before .before .before .before .before .cut-layers .result .edges)) ∷ [])) in
-    c .before .before .before .before .before .before .before .refuse .ensures
-    ∙ cut-refused (heldMaps (layersOf (a .l))) (cutOf _) (c .before .before .before .before .before .before .before .before .before .before .before .before .before .before .before .before .before .cut-layers .ensures) (lengthsOf (tablesBy (now (a .vertices)) (now (a .halves)) (now (a .sources)) (now (a .faces)))) _ (sym judged ∙ ap verdict (c .before .before .before .before .before .before .before .before .before .before .before .before .before .check .given .1))
+    let s = c .before .before .before .before .before .before .before .before .before .before .before .before .before .before .before .before .before .before .before .before .before .before .before .before .before .before .before .before .before in
+    c .before .before .before .before .before .before .before .refuse .ensures ∙ cut-refused (ms s) _ (c .before .before .before .before .before .before .before .before .before .before .before .before .before .before .before .before .before .before .before .cut-maps .ensures) (lent s) _ (sym (judged (c .before .before .before .before .before .before .before .before .before .before .before .before .before .before .before)) ∙ ap verdict (c .before .before .before .before .before .before .before .before .before .before .before .before .before .check .given .1))
+
+same-length-5 : tie.Need-same-length-5
+same-length-5 c = c .before .before .before .before .before .before .before .from-cut .kept .1 .1 .1 .1 .1 .1 .1 .1 .1 .1 .0
+
+same-length-6 : tie.Need-same-length-6
+same-length-6 c = c .before .before .before .before .before .before .before .from-cut .kept .1 .1 .1 .1 .1 .1 .1 .1 .1 .1 .1 .0
+
+same-length-7 : tie.Need-same-length-7
+same-length-7 c = c .before .before .before .before .before .before .before .from-cut .kept .1 .1 .1 .1 .1 .1 .1 .1 .1 .1 .1 .1 .0
+
+same-length-8 : tie.Need-same-length-8
+same-length-8 c = c .before .before .before .before .before .before .before .from-cut .kept .1 .1 .1 .1 .1 .1 .1 .1 .1 .1 .1 .1 .1 .0
 
 returns-2 : tie.Need-returns-2
-returns-2 c =
-    let after-from-cut : tie.After-from-cut = search needs in
-    after-from-cut .from-cut .ensures
+returns-2 c = c .before .before .before .before .before .before .before .from-cut .ensures
 
 pub from-layers-spec : {M : Type 1} → statement M
 from-layers-spec =
     tie.close
     (tie.spec
-    (λ c κs. search needs)
-    (λ c κs. search needs)
-    (λ c κs. search needs)
     (λ c. search needs)
-    (λ c κs. search needs)
+    (λ c. search needs)
+    cut-maps-requires
+    (λ c κs. tt)
+    (λ c κs. tt)
+    (λ c. search needs)
+    (λ c κs. tt)
+    (λ c. search needs)
+    (λ c. search needs)
     (λ c. search needs)
     from-cut-requires
-    (λ c. search needs)
-    (λ c. search needs)
-    (λ c. search needs)
-    (λ c. search needs)
+    same-length
+    same-length-2
+    same-length-3
+    same-length-4
     returns
-    (λ c. search needs)
-    (λ c. search needs)
-    (λ c. search needs)
-    (λ c. search needs)
+    same-length-5
+    same-length-6
+    same-length-7
+    same-length-8
     returns-2)

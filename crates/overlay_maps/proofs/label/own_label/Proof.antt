@@ -6,7 +6,7 @@ use Rattle.paper.specs.Graph.{twin, eastSide}
 use Rattle.graph.specs.Flat.{flatGraph}
 use Rattle.graph.specs.Heading.{flat-starts}
 use Rattle.graph.specs.Look.{flat-east}
-use Rattle.overlay_maps.specs.Label.{flatMap}
+use Rattle.map_check.specs.Held.{flatMap}
 use Rattle.overlay_maps.proofs.LabelLaws.{own-up, own-down, east-in, twin-in}
 use Rattle.overlay_maps.proofs.label.own_label.Statement.{statement}
 use Rattle.overlay_maps.proofs.label.own_label.Tie as tie

@@ -9,10 +9,15 @@ use Rattle.tables.proofs.face_rows.lay.Statement.{statement}
 use Rattle.tables.proofs.face_rows.lay.Tie as tie
 
 abbrev Inv-loop : tie.InvT-loop
-Inv-loop faces₀ t n f₀ faces f = Laying 4 (faceBy t) n faces₀ faces f
+Inv-loop faces₀ count first second outer holes n f₀ faces f = Laying 4 (faceBy first second outer holes) n faces₀ faces f
 
 abbrev μ-loop : tie.MeasureT-loop
-μ-loop faces₀ t n f₀ faces f = n - f
+μ-loop faces₀ count first second outer holes n f₀ faces f = n - f
+
+loop-holds : tie.Need-loop-holds Inv-loop μ-loop
+loop-holds c =
+    let start : tie.Start Inv-loop μ-loop = search needs in
+    lay-starts (start .pre .0)
 
 loop-again : tie.Need-loop-again Inv-loop μ-loop
 loop-again c =
@@ -25,8 +30,7 @@ lay-spec =
     (tie.spec
     Inv-loop
     μ-loop
-    (λ c. search needs)
-    (λ c. lay-starts (c .before .pre .1))
+    loop-holds
     (λ c. search needs)
     (λ c. search needs)
     (λ c. search needs)

@@ -11,10 +11,10 @@ returns : tie.Need-returns
 returns c =
     let after-lay : tie.After-lay = search needs in
     let s : tie.Start = search needs in
-    let t = s .args .t in
-    laid-wiped 0 4 (t .count) (faceBy t) (now (s .args .faces)) (λ k. refl) (s .pre .1) (after-lay .lay .ensures) (c .before .before .wipe-from-u16 .ensures)
+    let a = s .args in
+    laid-wiped 0 4 (a .count) (faceBy (now (a .first)) (now (a .second)) (now (a .outer)) (now (a .holes))) (now (a .faces)) (λ k. refl) (s .pre .0) (after-lay .lay .ensures) (c .before .before .wipe-from-u16 .ensures)
 
 pub store-faces-spec : {M : Type 1} → statement M
 store-faces-spec =
     tie.close
-    (tie.spec (λ c κs. search needs) (λ c. search needs) (λ c. search needs) (λ c κs. search needs) (λ c. search needs) returns)
+    (tie.spec (λ c κs. search needs) (λ c. search needs) (λ c κs. search needs) (λ c. search needs) returns)

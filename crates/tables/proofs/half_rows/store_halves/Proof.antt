@@ -12,15 +12,14 @@ returns : tie.Need-returns
 returns c =
     let after-lay : tie.After-lay = search needs in
     let s : tie.Start = search needs in
-    let t = s .args .t in
-    laid-wiped 0 5 (2 * t .edges) (halfOf t) (now (s .args .halves)) (λ k. refl) (s .pre .1) (after-lay .lay .ensures) (c .before .before .wipe-from-u16 .ensures)
+    let a = s .args in
+    laid-wiped 0 5 (2 * a .edges) (halfOf (now (a .origins)) (now (a .next)) (now (a .prev)) (now (a .face))) (now (a .halves)) (λ k. refl) (s .pre .1) (after-lay .lay .ensures) (c .before .before .wipe-from-u16 .ensures)
 
 pub store-halves-spec : {M : Type 1} → statement M
 store-halves-spec =
     tie.close
     (tie.spec
     (λ c κs. search needs)
-    (λ c. search needs)
     (λ c. search needs)
     (λ c. search needs)
     (λ c κs. search needs)

@@ -1,6 +1,6 @@
 -- `tables::source_rows::lay` meets its contract: before turn k the first k rows are stored. Assumes nothing.
 use mathlib.Core.Path.{refl}
-use Prim.Native.Nat.{_-_}
+use Prim.Native.Nat.{_+_, _*_, _-_}
 use native.Mathlib.Omega.{arith}
 use borrow.Author.Needs.{needs}
 use Rattle.seq.specs.Loops.Storing.{Laying, lay-starts, lay-turns, lay-ends}
@@ -9,10 +9,23 @@ use Rattle.tables.proofs.source_rows.lay.Statement.{statement}
 use Rattle.tables.proofs.source_rows.lay.Tie as tie
 
 abbrev Inv-loop : tie.InvT-loop
-Inv-loop sources₀ t n k₀ sources k = Laying 2 (sourceOf t) n sources₀ sources k
+Inv-loop sources₀ edges pieces n k₀ sources k = Laying 2 (sourceOf pieces) n sources₀ sources k
 
 abbrev μ-loop : tie.MeasureT-loop
-μ-loop sources₀ t n k₀ sources k = n - k
+μ-loop sources₀ edges pieces n k₀ sources k = n - k
+
+loop-holds : tie.Need-loop-holds Inv-loop μ-loop
+loop-holds c =
+    let start : tie.Start Inv-loop μ-loop = search needs in
+    lay-starts (start .pre .0)
+
+cast-first : tie.Need-cast-first Inv-loop μ-loop
+cast-first c = omega (arith, c .shared-slice-known2 .given (4 * c .before .before .loop .k + 2))
+
+cast-second : tie.Need-cast-second Inv-loop μ-loop
+cast-second c =
+    let at : tie.At-loop Inv-loop μ-loop = search needs in
+    omega (arith, c .shared-slice-known3 .given (4 * at .loop .k + 3))
 
 loop-again : tie.Need-loop-again Inv-loop μ-loop
 loop-again c =
@@ -25,17 +38,16 @@ lay-spec =
     (tie.spec
     Inv-loop
     μ-loop
-    (λ c. search needs)
-    (λ c. lay-starts (c .before .pre .1))
-    (λ c. search needs)
+    loop-holds
     (λ c. search needs)
     (λ c. search needs)
     (λ c. search needs)
     (λ c. search needs)
+    cast-first
     (λ c. search needs)
     (λ c. search needs)
     (λ c. search needs)
-    (λ c. search needs)
+    cast-second
     (λ c κs. search needs)
     (λ c. search needs)
     (λ c. search needs)

@@ -11,10 +11,10 @@ returns : tie.Need-returns
 returns c =
     let after-lay : tie.After-lay = search needs in
     let s : tie.Start = search needs in
-    let t = s .args .t in
-    laid-wiped 0 2 (t .edges) (sourceOf t) (now (s .args .sources)) (λ k. refl) (s .pre .1) (after-lay .lay .ensures) (c .before .before .wipe-from-u32 .ensures)
+    let a = s .args in
+    laid-wiped 0 2 (a .edges) (sourceOf (now (a .pieces))) (now (a .sources)) (λ k. refl) (s .pre .0) (after-lay .lay .ensures) (c .before .before .wipe-from-u32 .ensures)
 
 pub store-sources-spec : {M : Type 1} → statement M
 store-sources-spec =
     tie.close
-    (tie.spec (λ c κs. search needs) (λ c. search needs) (λ c. search needs) (λ c κs. search needs) (λ c. search needs) returns)
+    (tie.spec (λ c κs. search needs) (λ c. search needs) (λ c κs. search needs) (λ c. search needs) returns)

@@ -12,10 +12,10 @@ returns : tie.Need-returns
 returns c =
     let after-lay : tie.After-lay = search needs in
     let s : tie.Start = search needs in
-    let t = s .args .t in
-    laid-wiped (pos 0) 4 (t .count) (vertexOf t) (now (s .args .vertices)) (λ k. refl) (s .pre .1) (after-lay .lay .ensures) (c .before .wipe-from-i64 .ensures)
+    let a = s .args in
+    laid-wiped (pos 0) 4 (a .count) (vertexOf (now (a .points)) (now (a .least))) (now (a .vertices)) (λ k. refl) (s .pre .0) (after-lay .lay .ensures) (c .before .wipe-from-i64 .ensures)
 
 pub store-vertices-spec : {M : Type 1} → statement M
 store-vertices-spec =
     tie.close
-    (tie.spec (λ c κs. search needs) (λ c. search needs) (λ c. search needs) (λ c κs. search needs) (λ c. search needs) returns)
+    (tie.spec (λ c κs. search needs) (λ c. search needs) (λ c κs. search needs) (λ c. search needs) returns)

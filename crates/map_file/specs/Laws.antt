@@ -1,2 +1,0 @@
--- The laws behind the proofs of this crate: nothing here is cited by a contract.
-pub mod Kept

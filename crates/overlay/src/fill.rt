@@ -1,0 +1,99 @@
+// The lent tables filled from what the stages hold, zeros past the counts.
+use graph::first_places;
+use limits::ABSENT;
+use limits::FACES;
+use limits::HALVES;
+use limits::VERTICES;
+use overlay_pairs::rows_in;
+use tables::Answer;
+use tables::Counts;
+use tables::store_faces;
+use tables::store_halves;
+use tables::store_sources;
+use tables::store_vertices;
+ghost use mathlib.Core.Path.{_≡_};
+ghost use Prim.Native.Nat.{_+_, _*_, _≤_};
+ghost use lib.ListN.{length};
+ghost use Rattle.paper.specs.Limits.{maps};
+ghost use Rattle.paper.specs.Faces.{overlayOf};
+ghost use Rattle.paper.specs.Tables.{countsOf, tablesOf};
+ghost use Rattle.paper.specs.Lent.{lengthsOf, roomIn};
+ghost use Rattle.tables.specs.Values.{tablesBy, outcomeOf};
+ghost use Rattle.overlay_cut.specs.PieceRows.{pieceWidth};
+ghost use Rattle.overlay_maps.specs.Layers.{layersBy};
+ghost use Rattle.overlay_maps.specs.Held.{Held, heldMaps};
+ghost use Rattle.overlay_graph.specs.Cut.{cutBy, CutOf};
+ghost use Rattle.overlay_graph.specs.Traced.{NetBy, FacesBy};
+ghost use Rattle.overlay.specs.Judged.{doneWith, Within};
+
+// What is within the room is stored: "Done: places past the counts are zero". Of the maps the tables that the layers hold; of the overlay the vertices and edges,
+// where its half-edges start and what they lie along, followers and faces, the outer walks and how many, and the hole walks of each face. Predecessors, least
+// outgoing half-edges and the columns of the faces are made here.
+pub fn fill(
+    vstarts: &[usize],
+    estarts: &[usize],
+    corners: &[i64],
+    origins: &[u16],
+    carriers: &[i64],
+    labels: &[u16],
+    nv: usize,
+    points: &[i64],
+    ne: usize,
+    pieces: &[u16],
+    ends: &[u16],
+    lines: &[i64],
+    next: &[u16],
+    face: &[u16],
+    outers: &[u16],
+    holes: &[u16],
+    count: usize,
+    vertices: &mut [i64],
+    halves: &mut [u16],
+    sources: &mut [u32],
+    faces: &mut [u16],
+) -> Answer
+    requires { ⌜ Held (layersBy (now vstarts) (now estarts) (now corners) (now origins) (now carriers) (now labels)) ⌝ ∗ ⌜ CutOf (heldMaps (layersBy (now vstarts) (now estarts) (now corners) (now origins) (now carriers) (now labels))) (cutBy nv (now points) ne (now pieces)) ⌝ ∗ ⌜ Within (cutBy nv (now points) ne (now pieces)) (lengthsOf (tablesBy (now vertices) (now halves) (now sources) (now faces))) × (pieceWidth * ne ≤ length (now pieces)) ⌝ ∗ ⌜ NetBy (overlayOf (heldMaps (layersBy (now vstarts) (now estarts) (now corners) (now origins) (now carriers) (now labels)))) (cutBy nv (now points) ne (now pieces)) (now ends) (now lines) × FacesBy (overlayOf (heldMaps (layersBy (now vstarts) (now estarts) (now corners) (now origins) (now carriers) (now labels)))) (now next) (now face) (now outers) (now holes) count ⌝ ∗ ⌜ count + 1 ≤ roomIn maps (lengthsOf (tablesBy (now vertices) (now halves) (now sources) (now faces))) .faces ⌝ }
+    ensures { λ a. ⌜ outcomeOf a (tablesBy (now (vertices .exit)) (now (halves .exit)) (now (sources .exit)) (now (faces .exit))) ≡ doneWith (lengthsOf (tablesBy (now (vertices .entry)) (now (halves .entry)) (now (sources .entry)) (now (faces .entry)))) (countsOf (overlayOf (heldMaps (layersBy (now (vstarts .entry)) (now (estarts .entry)) (now (corners .entry)) (now (origins .entry)) (now (carriers .entry)) (now (labels .entry)))))) (tablesOf (heldMaps (layersBy (now (vstarts .entry)) (now (estarts .entry)) (now (corners .entry)) (now (origins .entry)) (now (carriers .entry)) (now (labels .entry)))) (overlayOf (heldMaps (layersBy (now (vstarts .entry)) (now (estarts .entry)) (now (corners .entry)) (now (origins .entry)) (now (carriers .entry)) (now (labels .entry)))))) ⌝ }
+{
+    let mut prev = [0u16; HALVES];
+    first_places(next, 2 * ne, ABSENT, &mut prev, 2 * ne);
+    let mut least = [0u16; VERTICES];
+    first_places(ends, 2 * ne, ABSENT, &mut least, nv);
+    let mut first = [0u16; FACES];
+    let mut second = [0u16; FACES];
+    let mut outer = [0u16; FACES];
+    let mut counts = [0u16; FACES];
+    rows_in(
+        vstarts,
+        estarts,
+        corners,
+        origins,
+        carriers,
+        labels,
+        nv,
+        points,
+        ne,
+        pieces,
+        ends,
+        lines,
+        outers,
+        holes,
+        count,
+        &mut first,
+        &mut second,
+        &mut outer,
+        &mut counts,
+    );
+    let v = nv as u16;
+    let e = ne as u16;
+    let f = (count + 1) as u16;
+    store_vertices(vertices, v, points, &least);
+    store_halves(halves, e, ends, next, &prev, face);
+    store_sources(sources, e, pieces);
+    store_faces(faces, f, &first, &second, &outer, &counts);
+    Answer::Done(Counts {
+        vertices: v,
+        edges: e,
+        faces: f,
+    })
+}
