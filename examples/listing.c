@@ -1,5 +1,5 @@
-/* listing FOLDER: the listing of FOLDER/zones.zmp and FOLDER/blocks.zmp, by the proved library called from C. The overlay is also written as an overlay file
- * and read back into the same tables, and only then listed. */
+/* listing FOLDER [OUT.zov]: the listing of FOLDER/zones.zmp and FOLDER/blocks.zmp, by the proved library called from C. The overlay is also written as an
+ * overlay file, to OUT.zov where that is named, and read back into the same tables, and only then listed. */
 #include <stdio.h>
 
 #include "../bench/files.h"
@@ -35,6 +35,18 @@ static void list(bonnetewe_answer a)
     printf("gaps %u\n", gaps);
 }
 
+static int save(const char *path, const uint8_t *bytes, size_t length)
+{
+    FILE *to = fopen(path, "wb");
+    int good = to && fwrite(bytes, 1, length, to) == length;
+
+    if (to)
+        good = !fclose(to) && good;
+    if (!good)
+        fprintf(stderr, "%s cannot be written\n", path);
+    return good;
+}
+
 int main(int count, char **words)
 {
     static struct file zones, blocks;
@@ -50,6 +62,8 @@ int main(int count, char **words)
                               buffer, BONNETEWE_FILE_BYTES);
     if (!bonnetewe_done(written))
         return refused(written);
+    if (count > 2 && !save(words[2], buffer, bonnetewe_length(written)))
+        return 2;
     a = bonnetewe_read(buffer, bonnetewe_length(written), vertices, BONNETEWE_VERTEX_CELLS, halves, BONNETEWE_HALF_CELLS, sources,
                        BONNETEWE_SOURCE_CELLS, faces, BONNETEWE_FACE_CELLS);
     if (!bonnetewe_done(a))

@@ -1,10 +1,11 @@
 /* Bonnetewe: an exact, proved overlay of two maps, for C.
  *
- * `rt staticlib bonnetewe` proves the library and writes target/staticlib/libbonnetewe.a, for x86-64 Linux. It allocates nothing, keeps nothing between
- * calls and calls nothing. Each function takes any bytes, any numbers and tables of any lengths; what it answers and what every lent table holds
+ * `rt staticlib bonnetewe` proves the library and writes target/staticlib/libbonnetewe.a, for x86-64 Linux. It allocates nothing and keeps nothing between
+ * calls. Of the C library it needs memcpy, memmove and memset, which the compiler may call for it, and nothing else. Each function takes any bytes, any numbers and tables of any lengths; what it answers and what every lent table holds
  * afterwards is fixed by the definitions in crates/paper/specs. crates/bonnetewe/src/calls.rt has the promises.
  *
- * What C has to see to: a pointer leads to as many cells as the length behind it says, none of a call's writable tables overlaps another of its tables or
+ * What C has to see to: a pointer leads to as many cells as the length behind it says, aligned as its type asks (NULL with length 0 is an empty table or
+ * file), none of a call's writable tables overlaps another of its tables or
  * files, and nothing else writes them during the call. A length is in cells, not in rows or bytes. A call needs up to 1 MB of stack.
  *
  * The tables, one row behind the other:
@@ -20,6 +21,10 @@
 
 #include <stddef.h>
 #include <stdint.h>
+
+#ifdef __cplusplus
+extern "C" {
+#endif
 
 /* Tables of these lengths hold every overlay, and a buffer of this length every overlay file. */
 #define BONNETEWE_VERTEX_CELLS (4 * 1000)
@@ -74,6 +79,37 @@ static inline unsigned bonnetewe_place(bonnetewe_answer a)
     return a >> 32 & 65535;
 }
 
+/* An edge record, in two numbers of the same kind, each 0 where there is no such edge. Both begin with whether it came from the first map (1), the second (2)
+ * or both (3). */
+typedef uint64_t bonnetewe_edge_record;
+
+static inline unsigned bonnetewe_edge_kind(bonnetewe_edge_record r)
+{
+    return r & 65535;
+}
+
+/* From bonnetewe_edge_ends: the lower and the upper vertex. */
+static inline unsigned bonnetewe_edge_lower(bonnetewe_edge_record r)
+{
+    return r >> 16 & 65535;
+}
+
+static inline unsigned bonnetewe_edge_upper(bonnetewe_edge_record r)
+{
+    return r >> 32 & 65535;
+}
+
+/* From bonnetewe_edge_sources: the edge number in the first and in the second map, where the kind says that it has one there, and otherwise 0. */
+static inline unsigned bonnetewe_edge_first(bonnetewe_edge_record r)
+{
+    return r >> 16 & 65535;
+}
+
+static inline unsigned bonnetewe_edge_second(bonnetewe_edge_record r)
+{
+    return r >> 32 & 65535;
+}
+
 /* Checks one map file: done with its counts of vertices and edges, or refused with rules 1 to 10 and map 0. */
 bonnetewe_answer bonnetewe_check(const uint8_t *file, size_t file_length);
 
@@ -92,5 +128,13 @@ bonnetewe_answer bonnetewe_write(uint16_t vertex_count, uint16_t edge_count, uin
                                  const int64_t *vertices, size_t vertex_cells, const uint16_t *halves, size_t half_cells,
                                  const uint32_t *sources, size_t source_cells, const uint16_t *faces, size_t face_cells,
                                  uint8_t *buffer, size_t buffer_length);
+
+/* Edge k of the tables of half-edges and sources, whatever they hold: its kind and ends, and its kind and sources. */
+bonnetewe_edge_record bonnetewe_edge_ends(const uint16_t *halves, size_t half_cells, const uint32_t *sources, size_t source_cells, size_t k);
+bonnetewe_edge_record bonnetewe_edge_sources(const uint16_t *halves, size_t half_cells, const uint32_t *sources, size_t source_cells, size_t k);
+
+#ifdef __cplusplus
+}
+#endif
 
 #endif

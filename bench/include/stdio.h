@@ -1,4 +1,4 @@
-/* For a compiler that comes without headers: only what bench/ uses. */
+/* For a compiler that comes without headers: only what bench/ and examples/ use. */
 #ifndef STDIO_H
 #define STDIO_H
 #include <stddef.h>
@@ -8,6 +8,7 @@ int fclose(FILE *);
 FILE *fopen(const char *, const char *);
 int fprintf(FILE *, const char *, ...);
 size_t fread(void *, size_t, size_t, FILE *);
+size_t fwrite(const void *, size_t, size_t, FILE *);
 int printf(const char *, ...);
 int snprintf(char *, size_t, const char *, ...);
 #endif

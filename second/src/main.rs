@@ -16,6 +16,7 @@ second list DIR                           list the overlay of DIR/zones.zmp and 
 second check FILE...                      check map files, a line for each
 second overlay ZONES BLOCKS OUT           write the overlay file
 second read FILE [ROOM]                   check and list an overlay file
+second edges FILE                         check an overlay file and list its edges
 second rewrite FILE OUT                   read an overlay file and write it again
 second digest ZONES BLOCKS [ROOM]         counts and digest of the overlay's tables
 second kinds                              the kinds of maps and pairs
@@ -62,6 +63,7 @@ fn run(args: &[&str]) -> Outcome {
         }
         ["overlay", zones, blocks, out] => overlay(zones, blocks, out),
         ["read", file, room @ ..] => read_file(file, &room_of(room)?),
+        ["edges", file] => Ok(edges(file)),
         ["rewrite", file, out] => rewrite(file, out),
         ["digest", zones, blocks, room @ ..] => Ok(digest(zones, blocks, &room_of(room)?)),
         ["kinds"] => Ok(kinds()),
@@ -140,6 +142,13 @@ fn read_file(path: &str, room: &Room) -> Outcome {
         Ok(tables) => tables.listing(),
         Err(refusal) => format!("{refusal}\n"),
     })
+}
+
+fn edges(path: &str) -> String {
+    match read(&bytes(path), &Room::FULL) {
+        Ok(tables) => tables.edge_lines(),
+        Err(refusal) => format!("{refusal}\n"),
+    }
 }
 
 fn rewrite(path: &str, out: &str) -> Outcome {

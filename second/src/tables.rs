@@ -80,6 +80,22 @@ impl Tables {
         out + &format!("gaps {}\n", self.gaps())
     }
 
+    /// A line for each edge: its number, its lower and its upper vertex, and its number in the
+    /// first map, the second or both. An edge of neither has none.
+    pub fn edge_lines(&self) -> String {
+        let line = |(k, sources): (usize, &Sources)| {
+            let [lower, upper] = [2 * k, 2 * k + 1].map(|h| self.half_edges[h].origin);
+            let from = match *sources {
+                (Some(a), Some(b)) => format!("both {a} {b}"),
+                (Some(a), None) => format!("first {a}"),
+                (None, Some(b)) => format!("second {b}"),
+                (None, None) => return String::new(),
+            };
+            format!("edge {k} {lower} {upper} {from}\n")
+        };
+        self.sources.iter().enumerate().map(line).collect()
+    }
+
     /// The first line of the listing.
     fn counts(&self) -> String {
         let (v, e, f) = (self.vertices.len(), self.edges(), self.faces.len());

@@ -1,2 +1,4 @@
 -- The laws behind the proofs of this crate: nothing here is cited by a contract.
 pub mod Means
+pub mod Sound
+pub mod Edges

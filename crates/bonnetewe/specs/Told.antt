@@ -6,6 +6,7 @@ use Rattle.seq.specs.Seq.{List, Option, none, some, ℕ, _+_, _*_, _^_, length}
 use Rattle.paper.specs.Refusal.{Answer, done, refused, answer, Refusal}
 use Rattle.paper.specs.Tables.{Counts, Tables}
 use Rattle.paper.specs.Lent.{Outcome, lengthsOf}
+use Rattle.paper.specs.Record.{Source, first, second, both, OverlayEdge}
 use Rattle.paper.specs.Ovfile.{layouts, fileLength, layoutOf}
 use Rattle.paper.specs.Writer.{Written, writeFault, write}
 
@@ -26,6 +27,33 @@ toldMap (refused r) = four (r .number) (r .map) (r .place) 0
 abbrev pub toldLength : Answer ℕ → ℕ
 toldLength (done n) = 65536 * n
 toldLength (refused r) = four (r .number) (r .map) (r .place) 0
+
+-- "whether it came from the first map, the second or both": 1, 2 or 3
+abbrev pub kind : Source → ℕ
+kind (first j) = 1
+kind (second k) = 2
+kind (both j k) = 3
+
+-- the edge number in the first map and in the second, 0 where it has none there
+abbrev pub inFirst : Source → ℕ
+inFirst (first j) = j
+inFirst (second k) = 0
+inFirst (both j k) = j
+
+abbrev pub inSecond : Source → ℕ
+inSecond (first j) = 0
+inSecond (second k) = k
+inSecond (both j k) = k
+
+-- of an edge record its kind, and its lower and upper vertex; or 0 where it is absent
+abbrev pub toldEnds : Option OverlayEdge → ℕ
+toldEnds (some e) = four (kind (e .source)) (e .lower) (e .upper) 0
+toldEnds none = 0
+
+-- of the same its kind, and its edge numbers in both maps
+abbrev pub toldSources : Option OverlayEdge → ℕ
+toldSources (some e) = four (kind (e .source)) (inFirst (e .source)) (inSecond (e .source)) 0
+toldSources none = 0
 
 -- a length of at most 32 bits
 abbrev pub Short : Answer ℕ → Type 0
@@ -70,3 +98,7 @@ told-once a b = (a .tables ∙ sym (b .tables), a .answer ∙ sym (b .answer))
 
 pub told-file-once : {w : Written} {x y : List ℕ} {r q : ℕ} → ToldFile w x r → ToldFile w y q → (x ≡ y) × (r ≡ q)
 told-file-once a b = (a .buffer ∙ sym (b .buffer), a .answer ∙ sym (b .answer))
+
+-- nor a second number an edge record's ends, or its sources, or a map's check
+pub told-number-once : {n r q : ℕ} → r ≡ n → q ≡ n → r ≡ q
+told-number-once a b = a ∙ sym b

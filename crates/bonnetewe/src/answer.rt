@@ -15,7 +15,7 @@ fn wide(x: u16) -> u64
     x as u64
 }
 
-fn join(a: u16, b: u16, c: u16, d: u16) -> u64
+pub fn join(a: u16, b: u16, c: u16, d: u16) -> u64
     ensures { λ r. ⌜ r ≡ four a b c d ⌝ }
 {
     wide(a) + 65536 * (wide(b) + 65536 * (wide(c) + 65536 * wide(d)))

@@ -2,16 +2,20 @@
 use crate::answer::of_answer;
 use crate::answer::of_checked;
 use crate::answer::of_written;
+use crate::record::ends_of;
+use crate::record::sources_of;
 use tables::Counts;
 ghost use mathlib.Core.Path.{_≡_};
+ghost use mathlib.Core.List.{[]};
 ghost use lib.ListN.{length};
 ghost use Rattle.paper.specs.Map.{check};
 ghost use Rattle.paper.specs.Lent.{lengthsOf};
 ghost use Rattle.paper.specs.Overlay.{overlay};
+ghost use Rattle.paper.specs.Record.{edgeRecord};
 ghost use Rattle.paper.specs.Reader.{read};
 ghost use Rattle.paper.specs.Writer.{write};
 ghost use Rattle.tables.specs.Values.{lengthsBy, tablesBy};
-ghost use Rattle.bonnetewe.specs.Told.{toldMap, Told, ToldFile, counts};
+ghost use Rattle.bonnetewe.specs.Told.{toldMap, Told, ToldFile, counts, toldEnds, toldSources};
 
 // The check of one map file of any bytes: done with its counts of vertices and edges, or refused.
 #[no_mangle]
@@ -74,4 +78,22 @@ pub extern "C" fn bonnetewe_write(
     };
     let answer = ovfile_write::write(c, vertices, halves, sources, faces, buffer);
     of_written(answer)
+}
+
+// "it is handed out by edge number, and a number with no edge is answered as absent": the ends of edge k, in tables of any contents.
+#[no_mangle]
+pub extern "C" fn bonnetewe_edge_ends(halves: &[u16], sources: &[u32], k: usize) -> u64
+    ensures { λ r. ⌜ r ≡ toldEnds (edgeRecord (tablesBy [] (now (halves .entry)) (now (sources .entry)) []) k) ⌝ }
+{
+    let found = tables::edge(halves, sources, k);
+    ends_of(found)
+}
+
+// The sources of the same.
+#[no_mangle]
+pub extern "C" fn bonnetewe_edge_sources(halves: &[u16], sources: &[u32], k: usize) -> u64
+    ensures { λ r. ⌜ r ≡ toldSources (edgeRecord (tablesBy [] (now (halves .entry)) (now (sources .entry)) []) k) ⌝ }
+{
+    let found = tables::edge(halves, sources, k);
+    sources_of(found)
 }

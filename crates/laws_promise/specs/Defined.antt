@@ -1,27 +1,27 @@
--- Demand 2 in the customer's words: what the lent tables hold after an overlay that is done (`Defined`), said of the tables' cells, the two maps, and points on edges; nothing of how it is found. Reading the
--- tables; then (a) vertices, (b) edges and their sources, (c) half-edges, (d) faces, (e) the edge record, (f) zeros. Over a list of maps, (e) over two. The proof: Promised. Assumes nothing.
+-- Demand 2 in the customer's words: what the lent tables hold after an overlay that is done (`Defined`), said of the tables' cells, the maps, and points on edges; nothing of how it is found. Over any number
+-- of maps. Reading the tables; then (a) vertices, (b) edges and their sources, (c) half-edges, (d) faces, (e) zeros. The edge record (`EdgeRecords`) is of two maps; with it and the overlay file: Delivered. The
+-- proof: Promised. Assumes nothing.
 use mathlib.Core.Path.{_≡_}
 use mathlib.Core.Logic.{_⊎_}
 use Prim.Native.Nat.{_<_, _≤_, _-_}
-use Rattle.seq.specs.Seq.{Bool, true, false, cond, _&&_, _||_, List, Option, none, some, ℕ, zero, suc, _+_, _*_, _/_, length, getD, pos, table, orZero}
+use Rattle.seq.specs.Seq.{Bool, true, false, cond, _&&_, _||_, List, [], map, Option, none, some, ℕ, zero, suc, _+_, _*_, _/_, length, getD, pos, table, orZero}
 use Rattle.seq.specs.Terms.{Among, Asc}
-use Rattle.paper.specs.Limits.{maps, absent}
+use Rattle.paper.specs.Limits.{absent}
 use Rattle.paper.specs.Plane.{Pt, Vec, whole, nowhere, head, dir, before, lessAngle}
-use Rattle.paper.specs.Graph.{Graph, Edge, walk, point, holeLook}
-use Rattle.paper.specs.Map.{Map, fault}
+use Rattle.paper.specs.Graph.{Graph, Edge, walk, point, even, goesUp}
+use Rattle.paper.specs.Map.{Map, label, mapOf, fault}
 use Rattle.paper.specs.Pieces.{layer, carrierOf}
-use Rattle.paper.specs.Faces.{labelIn}
 use Rattle.paper.specs.Tables.{Counts, Tables, vertexWidth, halfWidth, faceWidth, vertexCell, originOf, twinOf, followerOf, predecessorOf, faceOf, sourceCell, faceCell}
 use Rattle.paper.specs.Lent.{Lengths, lengthsOf, roomIn}
 use Rattle.paper.specs.Record.{Source, first, second, both, edgeRecord}
 use Rattle.laws_plane.specs.Points.{LowestP}
 use Rattle.laws_plane.specs.Bounds.{Bounded}
 use Rattle.laws_plane.specs.Edges.{On}
-use Rattle.laws_graph.specs.Nearest.{SeesOne}
 use Rattle.laws_map.specs.Keeps.{seg, edges, vertices}
 use Rattle.laws_overlay.specs.Vertices.{Vertex}
 use Rattle.laws_refusals.specs.Room.{Fits}
-use Rattle.laws_labels.specs.Demand3.{both as bothMaps, followersIn, Agrees}
+use Rattle.laws_labels.specs.Demand3.{followersIn, Agrees}
+use Rattle.laws_promise.specs.Looking.{Looks}
 
 -- ── reading the tables ──
 
@@ -59,10 +59,6 @@ edgeIn ms t k = record { from = originOf t (2 * k); to = originOf t (2 * k + 1);
 
 abbrev pub graphIn : List Map → Counts → Tables → Graph
 graphIn ms c t = record { points = table (pointAt t) (c .vertices); edges = table (edgeIn ms t) (c .edges) }
-
--- "Its pair is the two labels": the label of half-edge h in each map, by the edge that it lies along or by looking west (`labelIn`)
-abbrev pub pairIn : List Map → Counts → Tables → ℕ → List ℕ
-pairIn ms c t h = table (λ i. labelIn (layer ms i) (graphIn ms c t) h (sourceOf (length ms) t (h / 2) i)) (length ms)
 
 -- ── (a) vertices ──
 
@@ -161,6 +157,25 @@ pub record Holes (ms : List Map) (c : Counts) (t : Tables) (f : ℕ) : Type 0 wh
   pub each : (h : ℕ) → Among h leads → (h < 2 * c .edges) × Least c t h × Hole c t h × (faceOf t h ≡ f)
   pub all : (h : ℕ) → h < 2 * c .edges → Least c t h → Hole c t h → faceOf t h ≡ f → Among h leads
 
+-- half-edge h has the label x in map i. "If it lies along an edge of that map, the label of that edge on that side": of the half-edge of that edge which goes up where h does (h even) or down where h does
+pub record LabelAlong (ms : List Map) (c : Counts) (t : Tables) (i h x : ℕ) : Type 0 where
+  pub edge : ℕ
+  pub half : ℕ
+  pub near : Near ms c t i edge (originOf t (2 * (h / 2))) (originOf t (2 * (h / 2) + 1))
+  pub of-edge : half / 2 ≡ edge
+  pub one-way : goesUp (layer ms i .graph) half ≡ even h
+  pub label-is : x ≡ label (layer ms i) half
+
+-- "otherwise the label of what is seen looking west in that map from its lower end along it", and 0 where that is the outside
+pub record LabelSeen (ms : List Map) (c : Counts) (t : Tables) (i h x : ℕ) : Type 0 where
+  pub off : (j : ℕ) → Near ms c t i j (originOf t (2 * (h / 2))) (originOf t (2 * (h / 2) + 1)) → ⊥
+  pub seen : Option ℕ
+  pub looks : Looks (layer ms i .graph) (fromAt t (2 * (h / 2))) (wayAt t (2 * (h / 2))) seen
+  pub label-is : x ≡ orZero (label (layer ms i)) seen
+
+abbrev pub Labelled : List Map → Counts → Tables → ℕ → ℕ → ℕ → Type 0
+Labelled ms c t i h x = LabelAlong ms c t i h x ⊎ LabelSeen ms c t i h x
+
 pub record FaceRows (ms : List Map) (c : Counts) (t : Tables) : Type 0 where
   -- "Face 0 is the outside, pair (0, 0)", with 65,535
   pub outside-there : 0 < c .faces
@@ -176,16 +191,13 @@ pub record FaceRows (ms : List Map) (c : Counts) (t : Tables) : Type 0 where
   -- "Each outer walk makes one face": its face is the one that holds its least half-edge
   pub outer-face : (h : ℕ) → h < 2 * c .edges → (Hole c t h → ⊥) → (0 < faceOf t h) × OnWalk c t h (leastOf (length ms) t (faceOf t h))
   -- a hole walk: "look from its smallest vertex counting only edges strictly west. The hole belongs to the face of the half-edge seen, or to face 0"
-  pub hole-face : (h : ℕ) → h < 2 * c .edges → Hole c t h → faceOf t h ≡ orZero (faceOf t) (holeLook (graphIn ms c t) (followersIn c t) h)
-  -- what is seen: the east side of the edge that is nearer than every other one strictly west at that height, or the outside, where there is none
-  pub hole-sees : (h : ℕ) → h < 2 * c .edges → (o : Hole c t h) → SeesOne (graphIn ms c t) (fromAt t (o .maker)) nowhere (holeLook (graphIn ms c t) (followersIn c t) h)
-  -- "A face holds the pair of its least outer half-edge": its label in map i, by the edge that it lies along or by looking west (`labelIn`)
-  pub label-is : (f i : ℕ) → 0 < f → f < c .faces → i < length ms
-      → faceCell (length ms) t f i ≡ labelIn (layer ms i) (graphIn ms c t) (leastOf (length ms) t f) (sourceOf (length ms) t (leastOf (length ms) t f / 2) i)
+  pub hole-face : (h : ℕ) → h < 2 * c .edges → (o : Hole c t h) → (s : Option ℕ) × Looks (graphIn ms c t) (fromAt t (o .maker)) nowhere s × (faceOf t h ≡ orZero (faceOf t) s)
+  -- "A face holds the pair of its least outer half-edge": for each map its label there
+  pub label-is : (f i : ℕ) → 0 < f → f < c .faces → i < length ms → Labelled ms c t i (leastOf (length ms) t f) (faceCell (length ms) t f i)
   -- "and its count of hole walks"
   pub holes : (f : ℕ) → f < c .faces → Holes ms c t f
 
--- ── (e) the edge record, of two maps ──
+-- ── of two maps: the edge record ──
 
 -- "whether it came from the first map, the second or both, with the edge number in each"
 abbrev pub Says : List Map → Counts → Tables → ℕ → ℕ → Source → Type 0
@@ -200,7 +212,7 @@ pub record EdgeRecords (ms : List Map) (c : Counts) (t : Tables) : Type 0 where
   -- "and a number with no edge is answered as absent"
   pub record-absent : (k : ℕ) → c .edges ≤ k → edgeRecord t k ≡ none
 
--- ── (f) "Done: places past the counts are zero" ──
+-- ── (e) "Done: places past the counts are zero" ──
 
 pub record Zeros (n : ℕ) (c : Counts) (t : Tables) : Type 0 where
   pub vertices : (i : ℕ) → vertexWidth * c .vertices ≤ i → getD (t .vertices) i (pos 0) ≡ pos 0
@@ -210,17 +222,19 @@ pub record Zeros (n : ℕ) (c : Counts) (t : Tables) : Type 0 where
 
 -- ── all ──
 
--- the overlay of the files a and b, with the counts c, in tables t of the lengths l
-pub record Defined (l : Lengths) (a b : List ℕ) (c : Counts) (t : Tables) : Type 0 where
-  pub first-passes : fault a ≡ none
-  pub second-passes : fault b ≡ none
-  pub room : Fits (roomIn maps l) c
+-- the overlay of the files, with the counts c, in tables t of the lengths l
+pub record Defined (l : Lengths) (files : List (List ℕ)) (c : Counts) (t : Tables) : Type 0 where
+  -- every file passes
+  pub passes : (i : ℕ) → i < length files → fault (getD files i []) ≡ none
+  pub room : Fits (roomIn (length files) l) c
   pub lengths : lengthsOf t ≡ l
-  pub vertices : VertexRows (bothMaps a b) c t
-  pub edges : EdgeRows (bothMaps a b) c t
+  pub vertices : VertexRows (map mapOf files) c t
+  pub edges : EdgeRows (map mapOf files) c t
   pub halves : HalfRows c t
-  pub faces : FaceRows (bothMaps a b) c t
-  pub records : EdgeRecords (bothMaps a b) c t
-  pub zeros : Zeros maps c t
+  pub faces : FaceRows (map mapOf files) c t
+  pub zeros : Zeros (length files) c t
+  -- "Its pair is the two labels": of each half-edge, one for each map
+  pub pair : ℕ → List ℕ
+  pub pair-is : (h i : ℕ) → h < 2 * c .edges → i < length files → Labelled (map mapOf files) c t i h (getD (pair h) i 0)
   -- demand 3: the labels agree
-  pub agrees : Agrees maps c t (pairIn (bothMaps a b) c t)
+  pub agrees : Agrees (length files) c t pair

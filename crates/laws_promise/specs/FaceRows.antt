@@ -1,43 +1,42 @@
 -- (d) of Defined: the rows of the face table. Assumes nothing.
 use mathlib.Core.Path.{_≡_, refl, sym, _∙_, ap, subst}
+use mathlib.Core.Logic.{inr}
 use Prim.Native.Nat.{_<_}
 use native.Mathlib.Nat.{not-suc-le-zero}
 use native.Mathlib.Omega.{arith}
 use borrow.Author.Tests.{eq-eqb, eqb-true}
-use native.Mathlib.Decide.{decLt}
-use lib.ListN.{getD-replicate, List·getD-eq-default}
+use lib.ListN.{getD-replicate}
 use Rattle.seq.specs.Seq.{Bool, true, false, not, _&&_, List, Option, none, some, ℕ, zero, suc, _*_, _/_, eqb, length, getD, count, select, orZero}
 use Rattle.seq.specs.Tests.{clash, and-both, and-parts, was-false}
 use Rattle.seq.specs.Count.{count-ext}
 use Rattle.seq.specs.Select.{select-from, select-has, select-asc, select-nth, length-select}
-use Rattle.seq.specs.Table.{table-at, table-ext}
+use Rattle.seq.specs.Table.{table-at}
 use Rattle.seq.specs.Pairs.{pairs-at}
 use Rattle.paper.specs.Plane.{Pt, nowhere}
 use Rattle.paper.specs.Graph.{Graph, halfCount, point, followers, smallest, holeLook}
 use Rattle.paper.specs.Map.{Map}
-use Rattle.paper.specs.Pieces.{layer, Piece, verticesOf, edgesOf}
+use Rattle.paper.specs.Pieces.{layer, verticesOf, edgesOf}
 use Rattle.paper.specs.Faces.{walksOf, leadAt, holeAt, leadsHole, leadsOuter, labelIn, overlayOf, net, sourcesOf, labelsOf, holesOf}
 use Rattle.paper.specs.Tables.{Counts, Tables, faceCell}
 use Rattle.paper.specs.Tables as T
 use Rattle.laws_graph.specs.Plane.{Plane, real-at}
-use Rattle.laws_graph.specs.Nearest.{SeesOne, west-nearest}
-use Rattle.laws_graph.specs.Halves.{half-below}
 use Rattle.laws_graph.specs.Walks.{lead-along}
 use Rattle.laws_graph.specs.Seen.{hole-sees-smaller}
 use Rattle.laws_graph.specs.Faces.{faceOf, face-row, outer-face, hole-face, face-onto, face-below}
 use Rattle.laws_overlay.specs.Maps.{AllKeep}
 use Rattle.laws_overlay.specs.Sources.{sourceAt}
-use Rattle.laws_overlay.specs.Pieces.{noPiece, pieceAt}
-use Rattle.laws_overlay.specs.Net.{net-edges}
+use Rattle.laws_overlay.specs.Pieces.{pieceAt}
 use Rattle.laws_overlay.specs.NetPlane.{net-clear}
 use Rattle.laws_overlay.specs.Places.{places}
 use Rattle.laws_overlay.specs.Inside.{overlaid}
 use Rattle.laws_overlay.specs.Parts.{outers-are, face-is}
-use Rattle.laws_labels.specs.Demand3.{followersIn}
-use Rattle.laws_promise.specs.Defined.{fromAt, OnWalk, minusOne, sourceOf, pairIn, leastOf, graphIn, Hole, Least, Holes, FaceRows}
+use Rattle.laws_promise.specs.Defined.{fromAt, OnWalk, leastOf, graphIn, Hole, Least, Holes, Labelled, FaceRows}
 use Rattle.laws_promise.specs.Held.{Held}
+use Rattle.laws_promise.specs.Looking.{Looks}
+use Rattle.laws_promise.specs.Looks.{west-looks}
+use Rattle.laws_promise.specs.Labels.{label-found}
 use Rattle.laws_promise.specs.Ways.{from-start, plane, in-net, of-net}
-use Rattle.laws_promise.specs.Graphs.{maker-low, on-below, source-held, graph-is, followers-are, along-on, least-lead, lead-is-least, hole-held, is-hole, outer-at}
+use Rattle.laws_promise.specs.Graphs.{maker-low, on-below, graph-is, along-on, least-lead, lead-is-least, hole-held, is-hole, outer-at}
 
 -- ── parts of the defined overlay ──
 
@@ -72,19 +71,8 @@ module _ (ms : List Map) (K : AllKeep ms) (c : Counts) (t : Tables) (H : Held ms
 
   -- ── the pair of a half-edge ──
 
-  source-of : (k i : ℕ) → i < length ms → sourceOf n t k i ≡ sourceAt (pieceAt (edgesOf ms (verticesOf ms)) k .sources) i
-  source-of k i b =
-      elim (decLt k (c .edges)) [
-        | yes l ↦ source-held ms K c t H k i l b
-        | no l ↦ ap minusOne (H .source-past k i (omega arith) b)
-            ∙ sym (ap (λ (q : Piece). sourceAt (q .sources) i) (List·getD-eq-default (edgesOf ms (verticesOf ms)) noPiece (omega (arith, H .edges-are, net-edges ms (verticesOf ms)))))
-      ]
-
-  pub pair-is : (h : ℕ) → labelsOf ms (overlayOf ms) h ≡ pairIn ms c t h
-  unfolding overlayOf
-  pair-is h =
-      table-ext (λ i. labelIn (layer ms i) g h (sourceAt (pieceAt (edgesOf ms (verticesOf ms)) (h / 2) .sources) i)) (λ i. labelIn (layer ms i) (graphIn ms c t) h (sourceOf n t (h / 2) i)) n
-      (λ i b. λ j. labelIn (layer ms i) (sym (graph-is ms K c t H) j) h (sym (source-of (h / 2) i b) j))
+  pub pair-labelled : (h i : ℕ) → h < 2 * c .edges → i < length ms → Labelled ms c t i h (getD (labelsOf ms (overlayOf ms) h) i 0)
+  pair-labelled h i l b = subst (Labelled ms c t i h) (sym (label-by ms h i b)) (label-found ms K c t H i h b l)
 
   -- ── the least outer half-edge of face f + 1 ──
 
@@ -125,16 +113,10 @@ module _ (ms : List Map) (K : AllKeep ms) (c : Counts) (t : Tables) (H : Held ms
     face-here : T.faceOf t (leastOf n t (suc f)) ≡ suc f
     face-here = at (λ h. T.faceOf t h ≡ suc f) (H .face-at x x-below ∙ face-onto g P f in-outers .1)
 
-    label-here : (i : ℕ) → i < length ms → faceCell n t (suc f) i ≡ labelIn (layer ms i) (graphIn ms c t) (leastOf n t (suc f)) (sourceOf n t (leastOf n t (suc f) / 2) i)
+    label-here : (i : ℕ) → i < length ms → Labelled ms c t i (leastOf n t (suc f)) (faceCell n t (suc f) i)
     label-here i b =
-        H .label-at (suc f) i l b
-        ∙ ap (λ (os : List ℕ). getD (labelsOf ms (overlayOf ms) (getD os f 0)) i 0) (outers-are ms)
-        ∙ label-by ms x i b
-        ∙ (λ j. labelIn (layer ms i) (sym (graph-is ms K c t H) j) x (sym (source-held ms K c t H (x / 2) i half b) j))
-        ∙ ap (λ (h : ℕ). labelIn (layer ms i) (graphIn ms c t) h (sourceOf n t (h / 2) i)) (sym least-is)
-      where
-        half : x / 2 < c .edges
-        half = subst (λ (z : ℕ). x / 2 < z) (sym (H .edges-are)) (half-below g x (nth .0))
+        let e : faceCell n t (suc f) i ≡ getD (labelsOf ms (overlayOf ms) x) i 0 = H .label-at (suc f) i l b ∙ ap (λ (os : List ℕ). getD (labelsOf ms (overlayOf ms) (getD os f 0)) i 0) (outers-are ms) in
+        at (λ h. Labelled ms c t i h (faceCell n t (suc f) i)) (subst (Labelled ms c t i x) (sym e) (pair-labelled x i x-below b))
 
   -- a face other than 0 is f + 1
   of-face : (Q : ℕ → Type 0) → ((f : ℕ) → suc f < c .faces → Q (suc f)) → (f : ℕ) → 0 < f → f < c .faces → Q f
@@ -170,23 +152,24 @@ module _ (ms : List Map) (K : AllKeep ms) (c : Counts) (t : Tables) (H : Held ms
   or-zero none f = refl
   or-zero (some x) f = sym (f x refl)
 
-  hole-walk : (h : ℕ) → h < 2 * c .edges → Hole c t h → T.faceOf t h ≡ orZero (T.faceOf t) (holeLook (graphIn ms c t) (followersIn c t) h)
-  hole-walk h l o =
-      H .face-at h l ∙ hole-face g P h lh (hole-held ms K c t H h l o)
-      ∙ or-zero (holeLook g (followers g) h) (λ x e. H .face-at x (of-net ms K c t H (hole-sees-smaller g P h x lh e .0)))
-      ∙ (λ i. orZero (T.faceOf t) (holeLook (sym (graph-is ms K c t H) i) (sym (followers-are ms K c t H) i) h))
+  -- what is seen from the walk's smallest vertex
+  pub hole-look : (h : ℕ) → h < 2 * c .edges → (o : Hole c t h) → Looks (overlaid ms) (fromAt t (o .maker)) nowhere (holeLook (overlaid ms) (followers (overlaid ms)) h)
+  hole-look h l o =
+      let m = o .maker in
+      let v = smallest g (followers g) h in
+      let p : fromAt t m ≡ point g v = from-start ms K c t H m (on-below ms K c t H h l m (o .on)) ∙ ap (point g) (sym (maker-low ms K c t H h l o)) in
+      subst (λ (q : Pt). Looks g q nowhere (holeLook g (followers g) h)) (sym p) (west-looks g P (point g v) (real-at g P v) (net-clear ms K (verticesOf ms) (places ms K)) nowhere (inr refl))
+
+  hole-walk : (h : ℕ) → h < 2 * c .edges → (o : Hole c t h) → (s : Option ℕ) × Looks (graphIn ms c t) (fromAt t (o .maker)) nowhere s × (T.faceOf t h ≡ orZero (T.faceOf t) s)
+  hole-walk h l o = (
+    holeLook g (followers g) h,
+    subst (λ (x : Graph). Looks x (fromAt t (o .maker)) nowhere (holeLook g (followers g) h)) (sym (graph-is ms K c t H)) (hole-look h l o),
+    H .face-at h l ∙ hole-face g P h lh (hole-held ms K c t H h l o)
+        ∙ or-zero (holeLook g (followers g) h) (λ x e. H .face-at x (of-net ms K c t H (hole-sees-smaller g P h x lh e .0))),
+  )
     where
       lh : h < halfCount g
       lh = in-net ms K c t H l
-
-  hole-look : (h : ℕ) → h < 2 * c .edges → (o : Hole c t h) → SeesOne (graphIn ms c t) (fromAt t (o .maker)) nowhere (holeLook (graphIn ms c t) (followersIn c t) h)
-  hole-look h l o =
-      let m = o .maker in
-      let p : fromAt t m ≡ point g (smallest g (followers g) h) = from-start ms K c t H m (on-below ms K c t H h l m (o .on)) ∙ ap (point g) (sym (maker-low ms K c t H h l o)) in
-      subst (λ (q : Pt). SeesOne (graphIn ms c t) q nowhere (holeLook (graphIn ms c t) (followersIn c t) h)) (sym p)
-      (subst (λ (x : Graph). SeesOne x (point g (smallest g (followers g) h)) nowhere (holeLook x (followersIn c t) h)) (sym (graph-is ms K c t H))
-      (subst (λ (nx : List ℕ). SeesOne g (point g (smallest g (followers g) h)) nowhere (holeLook g nx h)) (sym (followers-are ms K c t H))
-      (west-nearest g P (point g (smallest g (followers g) h)) (real-at g P (smallest g (followers g) h)) (net-clear ms K (verticesOf ms) (places ms K)) nowhere)))
 
   holes-of : (f : ℕ) → f < c .faces → Holes ms c t f
   holes-of f l = record {
@@ -230,7 +213,6 @@ module _ (ms : List Map) (K : AllKeep ms) (c : Counts) (t : Tables) (H : Held ms
     numbered = rising;
     outer-face = outer-walk;
     hole-face = hole-walk;
-    hole-sees = hole-look;
-    label-is = λ f i a b. of-face (λ f. i < length ms → faceCell n t f i ≡ labelIn (layer ms i) (graphIn ms c t) (leastOf n t f) (sourceOf n t (leastOf n t f / 2) i)) (λ f l. label-here f l i) f a b;
+    label-is = λ f i a b. of-face (λ f. i < length ms → Labelled ms c t i (leastOf n t f) (faceCell n t f i)) (λ f l. label-here f l i) f a b;
     holes = holes-of;
   }

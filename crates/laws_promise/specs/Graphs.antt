@@ -51,7 +51,7 @@ module _ (ms : List Map) (K : AllKeep ms) (c : Counts) (t : Tables) (H : Held ms
 
   -- ── the graph ──
 
-  pub source-held : (k i : ℕ) → k < c .edges → i < length ms → sourceOf (length ms) t k i ≡ sourceAt (pieceAt (edgesOf ms (verticesOf ms)) k .sources) i
+  source-held : (k i : ℕ) → k < c .edges → i < length ms → sourceOf (length ms) t k i ≡ sourceAt (pieceAt (edgesOf ms (verticesOf ms)) k .sources) i
   source-held k i l b = ap minusOne (H .source-at k i l b) ∙ minus-plus (sourceAt (pieceAt ps k .sources) i)
 
   sources-are : (k : ℕ) → k < c .edges → table (sourceOf (length ms) t k) (length ms) ≡ pieceAt ps k .sources
@@ -79,7 +79,7 @@ module _ (ms : List Map) (K : AllKeep ms) (c : Counts) (t : Tables) (H : Held ms
 
   -- ── walks ──
 
-  pub followers-are : followersIn c t ≡ followers (overlaid ms)
+  followers-are : followersIn c t ≡ followers (overlaid ms)
   followers-are = table-ext (followerOf t) (follower g) (2 * c .edges) (H .follower-at) ∙ ap (λ (n : ℕ). table (follower g) (2 * n)) (H .edges-are)
 
   module _ (h : ℕ) (l : h < 2 * c .edges) where

@@ -5,7 +5,6 @@ use Prim.Native.Nat.{_<_, _≤_}
 use native.Mathlib.Decide.{decLt}
 use native.Mathlib.Omega.{arith}
 use lib.ListN.{List·getD-eq-default, length-append, length-replicate}
-use Rattle.exact.specs.Digits.{past-rows}
 use Rattle.seq.specs.Seq.{List, Option, ℕ, suc, _+_, _*_, _-_, length, getD, pos, select, replicate, position, padded}
 use Rattle.seq.specs.Wiped.{padded-past}
 use Rattle.paper.specs.Graph.{Graph, pointIn, edgeCount, halfCount, twin, origin, leaves, follower, followers}
@@ -37,14 +36,13 @@ pub record Held (ms : List Map) (c : Counts) (t : Tables) : Type 0 where
   pub predecessor-at : (h : ℕ) → h < 2 * c .edges → predecessorOf t h ≡ position h (followers (overlaid ms))
   pub face-at : (h : ℕ) → h < 2 * c .edges → T.faceOf t h ≡ faceOf (overlaid ms) h
   pub source-at : (k i : ℕ) → k < c .edges → i < length ms → sourceCell (length ms) t k i ≡ plusOne (sourceAt (pieceAt (edgesOf ms (verticesOf ms)) k .sources) i)
-  pub source-past : (k i : ℕ) → c .edges ≤ k → i < length ms → sourceCell (length ms) t k i ≡ 0
   pub label-at : (f i : ℕ) → f < c .faces → i < length ms → faceCell (length ms) t f i ≡ getD (faceLabels ms (overlayOf ms) f) i 0
   pub least-at : (f : ℕ) → f < c .faces → faceCell (length ms) t f (length ms) ≡ faceHalf ms (overlayOf ms) f
   pub holes-at : (f : ℕ) → f < c .faces → faceCell (length ms) t f (length ms + 1) ≡ holesOf (overlayOf ms) f
 
 -- past the list a cell is zero, in the table or past its end
 module _ {A : Type 0} (z : A) where
-  pub padded-zero : (n i : ℕ) (xs : List A) → length xs ≤ i → getD (padded z n xs) i z ≡ z
+  padded-zero : (n i : ℕ) (xs : List A) → length xs ≤ i → getD (padded z n xs) i z ≡ z
   padded-zero n i xs h =
       elim (decLt i n) [
         | yes l ↦ padded-past z n i xs z h l
@@ -63,9 +61,6 @@ module _ (ms : List Map) (K : AllKeep ms) (l : Lengths) where
 
   abbrev n : ℕ
   n = length ms
-
-  pub sources-length : length (tablesOf ms (overlayOf ms) .sources) ≡ length ms * countsOf (overlayOf ms) .edges
-  sources-length = sources-long ms (overlayOf ms) (sources-wide ms K)
 
   -- ── a vertex's row ──
 
@@ -90,7 +85,6 @@ module _ (ms : List Map) (K : AllKeep ms) (l : Lengths) where
     predecessor-at = λ h a. padded-half ms l h 3 a (omega arith) ∙ predecessor-is ms h (half-there ms a);
     face-at = λ h a. padded-half ms l h 4 a (omega arith) ∙ face-cell-is ms h (half-there ms a);
     source-at = λ k i a b. padded-source ms l K k i a b ∙ source-cell ms (overlayOf ms) (sources-wide ms K) k i a b ∙ ap (λ (ss : List (Option ℕ)). plusOne (sourceAt ss i)) (sources-are ms k);
-    source-past = λ k i a b. padded-zero 0 (l .sources) (n * k + i) (made ms .sources) (subst (λ (z : ℕ). z ≤ n * k + i) (sym (sources-long ms (overlayOf ms) (sources-wide ms K))) (past-rows n (c .edges) k i a));
     label-at = λ f i a b. padded-face ms l f i a (omega arith) ∙ label-cell ms (overlayOf ms) f i a b;
     least-at = λ f a. padded-face ms l f n a (omega arith) ∙ least-cell ms (overlayOf ms) f a;
     holes-at = λ f a. padded-face ms l f (n + 1) a (omega arith) ∙ holes-cell ms (overlayOf ms) f a;

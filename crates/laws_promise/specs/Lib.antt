@@ -1,6 +1,8 @@
 pub mod Good
 pub mod Written
 pub mod Demands
+pub mod Looking
+pub mod Looks
 pub mod Defined
 pub mod Held
 pub mod VertexRows
@@ -8,6 +10,7 @@ pub mod EdgeRows
 pub mod Ways
 pub mod HalfRows
 pub mod Graphs
+pub mod Labels
 pub mod FaceRows
 pub mod Records
 pub mod Promised
@@ -15,3 +18,4 @@ pub mod Wrong
 pub mod SameEdges
 pub mod SameFaces
 pub mod Unique
+pub mod Delivered

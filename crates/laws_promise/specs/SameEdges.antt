@@ -75,7 +75,7 @@ module _ (ms : List Map) (c : Counts) (t : Tables) (X : VertexRows ms c t) (E : 
 
   -- ── neighbours ──
 
-  near-to : (i k x y : ℕ) → Near ms c t i k x y → Near ms d u i k x y
+  pub near-to : (i k x y : ℕ) → Near ms c t i k x y → Near ms d u i k x y
   near-to i k x y n = record {
     in-list = n .in-list;
     of-map = n .of-map;
@@ -86,7 +86,7 @@ module _ (ms : List Map) (c : Counts) (t : Tables) (X : VertexRows ms c t) (E : 
     none-between = λ w a b o. n .none-between w a b (subst (On (seg (layer ms i) k)) (sym (point-same w (omega (arith, n .below)))) o);
   }
 
-  near-back : (i k x y : ℕ) → Near ms d u i k x y → Near ms c t i k x y
+  pub near-back : (i k x y : ℕ) → Near ms d u i k x y → Near ms c t i k x y
   near-back i k x y n =
       let b : y < c .vertices = subst (λ (z : ℕ). y < z) (sym vertices-same) (n .below) in
       record {
@@ -122,7 +122,7 @@ module _ (ms : List Map) (c : Counts) (t : Tables) (X : VertexRows ms c t) (E : 
   ends-same : (k : ℕ) → k < c .edges → ends t k ≡ ends u k
   ends-same = same-at Sooner sooner-asym (c .edges) (d .edges) (ends t) (ends u) (E .sorted) (F .sorted) edges-to edges-back
 
-  pub to-d : {k : ℕ} → k < c .edges → k < d .edges
+  to-d : {k : ℕ} → k < c .edges → k < d .edges
   to-d {k} = subst (λ (z : ℕ). k < z) edges-agree
 
   pub half-d : {h : ℕ} → h < 2 * c .edges → h < 2 * d .edges
@@ -240,7 +240,7 @@ module _ (ms : List Map) (c : Counts) (t : Tables) (X : VertexRows ms c t) (E : 
 
   -- ── the graph ──
 
-  pub sources-same : (k i : ℕ) → k < c .edges → i < length ms → sourceOf (length ms) t k i ≡ sourceOf (length ms) u k i
+  sources-same : (k i : ℕ) → k < c .edges → i < length ms → sourceOf (length ms) t k i ≡ sourceOf (length ms) u k i
   sources-same k i l b = ap minusOne (source-same k i l b)
 
   pub graph-same : graphIn ms c t ≡ graphIn ms d u

@@ -1,5 +1,6 @@
 -- Tables that keep (a) to (d) of Defined (c, t), beside those that hold the defined overlay (d, u): the same walks, hole walks, faces, and rows of faces. Assumes nothing.
 use mathlib.Core.Path.{_≡_, refl, sym, _∙_, ap, subst}
+use mathlib.Core.Logic.{inl, inr}
 use Prim.Native.Nat.{_<_, _≤_, _-_}
 use native.Mathlib.Omega.{arith}
 use Rattle.seq.specs.Seq.{Bool, true, false, cond, List, ℕ, zero, suc, _+_, _*_, _/_, length, getD, orZero}
@@ -8,24 +9,27 @@ use Rattle.seq.specs.Tests.{clash}
 use Rattle.seq.specs.Members.{at-among, among-at}
 use Rattle.seq.specs.SameRows.{same-count, same-at}
 use Rattle.seq.specs.Pairs.{pairs-at}
-use Rattle.paper.specs.Plane.{before, lessAngle}
+use Rattle.paper.specs.Plane.{Pt, Vec, nowhere, before, lessAngle}
 use Rattle.paper.specs.Graph.{Graph, walk, followers, holeLook}
 use Rattle.paper.specs.Map.{Map}
 use Rattle.paper.specs.Pieces.{layer}
-use Rattle.paper.specs.Faces.{walksOf, holeAt, labelIn}
-use Rattle.paper.specs.Tables.{Counts, Tables, faceCell}
+use Rattle.paper.specs.Faces.{walksOf, holeAt}
+use Rattle.paper.specs.Tables.{Counts, Tables, originOf, faceCell}
 use Rattle.paper.specs.Tables as T
 use Rattle.laws_graph.specs.Plane.{Plane}
 use Rattle.laws_graph.specs.Walks.{along-sym, along-trans}
 use Rattle.laws_graph.specs.Faces.{Facing, outerNumber, face-unique, face-same, outer-face}
 use Rattle.laws_overlay.specs.Maps.{AllKeep}
 use Rattle.laws_overlay.specs.Inside.{overlaid}
-use Rattle.laws_labels.specs.Demand3.{followersIn}
-use Rattle.laws_promise.specs.Defined.{OnWalk, sourceOf, leastOf, graphIn, VertexRows, EdgeRows, HalfRows, Hole, Least, FaceRows}
+use Rattle.laws_promise.specs.Defined.{fromAt, wayAt, OnWalk, leastOf, graphIn, VertexRows, Near, EdgeRows, HalfRows, Hole, Least, Labelled, FaceRows}
 use Rattle.laws_promise.specs.Held.{Held}
+use Rattle.laws_promise.specs.Looking.{Looks}
+use Rattle.laws_promise.specs.Looks.{looks-once}
+use Rattle.laws_promise.specs.Labels.{labelled-once}
+use Rattle.laws_promise.specs.FaceRows.{hole-look}
 use Rattle.laws_promise.specs.Ways.{plane, in-net, of-net}
-use Rattle.laws_promise.specs.Graphs.{graph-is, followers-are, on-along, along-on, on-below, is-hole, hole-held}
-use Rattle.laws_promise.specs.SameEdges.{half-d, from-same, way-same, sources-same, graph-same, edges-agree, origin-agrees, followers-agree}
+use Rattle.laws_promise.specs.Graphs.{graph-is, on-along, along-on, on-below, is-hole, hole-held}
+use Rattle.laws_promise.specs.SameEdges.{near-to, near-back, half-d, from-same, way-same, graph-same, edges-agree, origin-agrees, followers-agree}
 
 less-asym : (x y : ℕ) → x < y → y < x → ⊥
 less-asym x y a b = omega arith
@@ -174,16 +178,26 @@ module _ (ms : List Map) (K : AllKeep ms) (c : Counts) (t : Tables) (X : VertexR
       sym q ∙ H .face-at y ly ∙ face-same g P h y (in-net ms K d u H (to l)) (on-along ms K d u H h (to l) y (walk-to h y i)) ∙ sym (H .face-at h (to l))
 
   facing : Facing (overlaid ms) (T.faceOf t)
+  unfolding hole-to
   facing h b = go (holeAt (walksOf g) h) refl
     where
       l : h < 2 * d .edges
       l = of-net ms K d u H b
 
-      look : holeLook (graphIn ms c t) (followersIn c t) h ≡ holeLook g (followers g) h
-      look = λ i. holeLook ((graph-same ms c t X E S d u W F R ∙ graph-is ms K d u H) i) ((followers-agree ms c t X E S d u W F R ∙ followers-are ms K d u H) i) h
+      same-graph : graphIn ms c t ≡ overlaid ms
+      same-graph = graph-same ms c t X E S d u W F R ∙ graph-is ms K d u H
+
+      -- what is seen by the words is what the definition sees
+      hole-seen : Hole c t h → T.faceOf t h ≡ orZero (T.faceOf t) (holeLook g (followers g) h)
+      hole-seen o =
+          let (s, looks, e) = A .hole-face h (back l) o in
+          let m = o .maker in
+          let q : fromAt t m ≡ fromAt u m = from-same ms c t X E S d u W F R m (below h l m (walk-to h m (o .on))) in
+          let here : Looks (overlaid ms) (fromAt u m) nowhere s = subst (λ (p : Pt). Looks g p nowhere s) q (subst (λ (x : Graph). Looks x (fromAt t m) nowhere s) same-graph looks) in
+          e ∙ ap (orZero (T.faceOf t)) (looks-once g (fromAt u m) nowhere s (holeLook g (followers g) h) here (hole-look ms K d u H h l (hole-to h l o)))
 
       go : (x : Bool) → holeAt (walksOf g) h ≡ x → T.faceOf t h ≡ cond x (orZero (T.faceOf t) (holeLook g (followers g) h)) (outerNumber g h)
-      go true e = A .hole-face h (back l) (hole-back h l (is-hole ms K d u H h l e)) ∙ ap (orZero (T.faceOf t)) look
+      go true e = hole-seen (hole-back h l (is-hole ms K d u H h l e))
       go false e = outer-same h (back l) (λ o. clash (hole-held ms K d u H h l (hole-to h l o)) e) ∙ H .face-at h l ∙ outer-face g P h b e
 
   pub face-cell-same : (h : ℕ) → h < 2 * c .edges → T.faceOf t h ≡ T.faceOf u h
@@ -191,16 +205,46 @@ module _ (ms : List Map) (K : AllKeep ms) (c : Counts) (t : Tables) (X : VertexR
 
   -- ── the rows of faces ──
 
+  -- a label by the one tables is a label by the other
+  module _ (i h : ℕ) (l : h < 2 * c .edges) where
+    low-same : originOf t (2 * (h / 2)) ≡ originOf u (2 * (h / 2))
+    low-same = origin-agrees ms c t X E S d u W F R (2 * (h / 2)) (omega arith)
+
+    high-same : originOf t (2 * (h / 2) + 1) ≡ originOf u (2 * (h / 2) + 1)
+    high-same = origin-agrees ms c t X E S d u W F R (2 * (h / 2) + 1) (omega arith)
+
+    near-over : (j : ℕ) → Near ms c t i j (originOf t (2 * (h / 2))) (originOf t (2 * (h / 2) + 1)) → Near ms d u i j (originOf u (2 * (h / 2))) (originOf u (2 * (h / 2) + 1))
+    near-over j n =
+        subst (λ (x : ℕ). Near ms d u i j x (originOf u (2 * (h / 2) + 1))) low-same (subst (λ (y : ℕ). Near ms d u i j (originOf t (2 * (h / 2))) y) high-same
+        (near-to ms c t X E S d u W F R i j (originOf t (2 * (h / 2))) (originOf t (2 * (h / 2) + 1)) n))
+
+    near-over-back : (j : ℕ) → Near ms d u i j (originOf u (2 * (h / 2))) (originOf u (2 * (h / 2) + 1)) → Near ms c t i j (originOf t (2 * (h / 2))) (originOf t (2 * (h / 2) + 1))
+    near-over-back j n =
+        subst (λ (x : ℕ). Near ms c t i j x (originOf t (2 * (h / 2) + 1))) (sym low-same) (subst (λ (y : ℕ). Near ms c t i j (originOf u (2 * (h / 2))) y) (sym high-same)
+        (near-back ms c t X E S d u W F R i j (originOf u (2 * (h / 2))) (originOf u (2 * (h / 2) + 1)) n))
+
+    labelled-to : (x : ℕ) → Labelled ms c t i h x → Labelled ms d u i h x
+    labelled-to x (inl L) = inl (record { edge = L .edge; half = L .half; near = near-over (L .edge) (L .near); of-edge = L .of-edge; one-way = L .one-way; label-is = L .label-is })
+    labelled-to x (inr L) = inr (record {
+      off = λ j n. L .off j (near-over-back j n);
+      seen = L .seen;
+      looks = subst (λ (v : Vec). Looks (layer ms i .graph) (fromAt u (2 * (h / 2))) v (L .seen)) (way-same ms c t X E S d u W F R (2 * (h / 2)) (omega arith))
+          (subst (λ (p : Pt). Looks (layer ms i .graph) p (wayAt t (2 * (h / 2))) (L .seen)) (from-same ms c t X E S d u W F R (2 * (h / 2)) (omega arith)) (L .looks));
+      label-is = L .label-is;
+    })
+
   pub label-same : (f i : ℕ) → f < c .faces → i < length ms → faceCell n t f i ≡ faceCell n u f i
   label-same zero i l b = A .outside-label i b ∙ sym (B .outside-label i b)
   label-same (suc f) i l b =
-      A .label-is (suc f) i (omega arith) l b
-      ∙ (λ j. labelIn (layer ms i) (graph-same ms c t X E S d u W F R j) (leastOf n t (suc f)) (sources-same ms c t X E S d u W F R (leastOf n t (suc f) / 2) i half b j))
-      ∙ ap (λ (h : ℕ). labelIn (layer ms i) (graphIn ms d u) h (sourceOf n u (h / 2) i)) (least-same (suc f) l)
-      ∙ sym (B .label-is (suc f) i (omega arith) (subst (λ (k : ℕ). suc f < k) faces-same l) b)
+      labelled-once ms K d u F i x b (to lx) (faceCell n t (suc f) i) (faceCell n u (suc f) i)
+      (labelled-to i x lx (faceCell n t (suc f) i) (A .label-is (suc f) i (omega arith) l b))
+      (subst (λ (h : ℕ). Labelled ms d u i h (faceCell n u (suc f) i)) (sym (least-same (suc f) l)) (B .label-is (suc f) i (omega arith) (subst (λ (k : ℕ). suc f < k) faces-same l) b))
     where
-      half : leastOf n t (suc f) / 2 < c .edges
-      half = omega (arith, A .least-below (suc f) (omega arith) l)
+      x : ℕ
+      x = leastOf n t (suc f)
+
+      lx : x < 2 * c .edges
+      lx = A .least-below (suc f) (omega arith) l
 
   pub holes-agree : (f : ℕ) → f < c .faces → faceCell n t f (n + 1) ≡ faceCell n u f (n + 1)
   holes-agree f l =

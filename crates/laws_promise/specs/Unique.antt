@@ -1,63 +1,73 @@
--- What Defined says leaves one outcome: counts and tables that keep it are those of the defined overlay (`defined-is`), every cell of every table. So no second counts and tables keep it (`defined-unique`),
--- and the operation's promise and the customer's words say the same (`defined-overlay`). Assumes nothing.
+-- What Defined says leaves one outcome, of any number of maps: counts and tables that keep it are those of the defined overlay (`defined-is`), every cell of every table. So no second counts and tables keep it
+-- (`defined-unique`), and the operation's promise and the customer's words say the same (`defined-overlay`). Assumes nothing.
 use mathlib.Core.Path.{_≡_, sym, _∙_, ap, subst}
-use Prim.Native.Nat.{_<_}
-use native.Mathlib.Decide.{decLt}
+use Prim.Native.Nat.{_<_, _≤_}
+use native.Mathlib.Decide.{decLt, ℕ-discrete}
 use native.Mathlib.Omega.{arith}
-use lib.Seq.{ext-getD}
-use Rattle.seq.specs.Seq.{List, [], _∷_, ℕ, zero, suc, _+_, _*_, _/_, _%_, getD, pos}
-use Rattle.paper.specs.Limits.{maps}
+use lib.Seq.{ext-getD, getD-take}
+use Rattle.seq.specs.Seq.{List, ℕ, zero, suc, _+_, _*_, length, getD, pos, cell}
 use Rattle.paper.specs.Refusal.{done}
 use Rattle.paper.specs.Map.{Map}
 use Rattle.paper.specs.Plane.{Pt}
-use Rattle.paper.specs.Faces.{overlayOf}
-use Rattle.paper.specs.Tables.{Counts, Tables, vertexCell, halfCell, sourceCell, faceCell, tablesOf}
+use Rattle.paper.specs.Tables.{Counts, Tables, vertexWidth, halfWidth, faceWidth, vertexCell, halfCell, sourceCell, faceCell}
 use Rattle.paper.specs.Lent.{Lengths, lengthsOf, roomIn, paddedTables}
-use Rattle.paper.specs.Overlay.{overlay}
+use Rattle.paper.specs.Overlay.{lent}
 use Rattle.laws_refusals.specs.Room.{Fits}
 use Rattle.laws_overlay.specs.Maps.{AllKeep}
-use Rattle.laws_labels.specs.Done.{done-tables}
-use Rattle.laws_labels.specs.Demand3.{both, counted, demand-3}
+use Rattle.laws_overlay.specs.Files.{mapsOf, maps-count, files-keep, files-reach}
+use Rattle.laws_labels.specs.Done.{passes-done, done-tables}
+use Rattle.laws_roundtrip.specs.ReadCells.{exactLengths}
+use Rattle.laws_roundtrip.specs.Counted.{AtLeast, room-rows, rows-same}
+use Rattle.laws_promise.specs.Demands.{countsFor, tablesFor}
 use Rattle.laws_promise.specs.Defined.{VertexRows, EdgeRows, HalfRows, FaceRows, Zeros, Defined}
-use Rattle.laws_promise.specs.Held.{Held, padded-held, padded-zeros}
+use Rattle.laws_promise.specs.Held.{Held, padded-zeros}
 use Rattle.laws_promise.specs.VertexRows.{vertex-rows}
 use Rattle.laws_promise.specs.EdgeRows.{edge-rows}
 use Rattle.laws_promise.specs.HalfRows.{half-rows}
 use Rattle.laws_promise.specs.FaceRows.{face-rows}
-use Rattle.laws_promise.specs.Promised.{keep, reach-of, lengths-are}
+use Rattle.laws_promise.specs.Promised.{held, lengths-are}
 use Rattle.laws_promise.specs.SameEdges.{vertices-same, edges-agree, point-same, out-same, origin-agrees, twin-same, follower-agrees, predecessor-same, source-same}
 use Rattle.laws_promise.specs.SameFaces.{faces-same, face-cell-same, label-same, least-same, holes-agree}
 
-module _ (l : Lengths) (a b : List ℕ) (c : Counts) (t : Tables) (D : Defined l a b c t) where
+-- flat tables with the same cells in m rows of w, and the same past them
+cells-same : {A : Type 0} (z : A) (w m : ℕ) (xs ys : List A) → w * m ≤ length xs → w * m ≤ length ys → ((r j : ℕ) → r < m → j < w → cell z w xs r j ≡ cell z w ys r j)
+    → ((i : ℕ) → w * m ≤ i → getD xs i z ≡ getD ys i z) → (i : ℕ) → getD xs i z ≡ getD ys i z
+cells-same z w m xs ys hx hy rows past i =
+    elim (decLt i (w * m)) [
+      | yes q ↦ sym (getD-take (w * m) xs i z q) ∙ ap (λ l. getD l i z) (rows-same z w xs ys m hx hy rows) ∙ getD-take (w * m) ys i z q
+      | no q ↦ past i (omega arith)
+    ]
+
+module _ (l : Lengths) (files : List (List ℕ)) (c : Counts) (t : Tables) (D : Defined l files c t) where
   abbrev ms : List Map
-  ms = both a b
+  ms = mapsOf files
+
+  abbrev n : ℕ
+  n = length (mapsOf files)
 
   abbrev d : Counts
-  d = counted a b
+  d = countsFor files
 
   abbrev u : Tables
-  u = paddedTables l (tablesOf (both a b) (overlayOf (both a b)))
+  u = paddedTables l (tablesFor files)
 
-  K : AllKeep (both a b)
-  K = keep a b (D .first-passes) (D .second-passes)
+  K : AllKeep (mapsOf files)
+  K = files-keep files (D .passes)
 
-  H : Held (both a b) (counted a b) (paddedTables l (tablesOf (both a b) (overlayOf (both a b))))
-  H = padded-held ms K l
+  H : Held (mapsOf files) (countsFor files) (paddedTables l (tablesFor files))
+  H = held files (D .passes) l
 
-  W : VertexRows (both a b) (counted a b) (paddedTables l (tablesOf (both a b) (overlayOf (both a b))))
-  W = vertex-rows ms K (reach-of a b (D .first-passes) (D .second-passes)) d u H
+  W : VertexRows (mapsOf files) (countsFor files) (paddedTables l (tablesFor files))
+  W = vertex-rows ms K (files-reach files (D .passes)) d u H
 
-  F : EdgeRows (both a b) (counted a b) (paddedTables l (tablesOf (both a b) (overlayOf (both a b))))
+  F : EdgeRows (mapsOf files) (countsFor files) (paddedTables l (tablesFor files))
   F = edge-rows ms K d u H
 
-  R : HalfRows (counted a b) (paddedTables l (tablesOf (both a b) (overlayOf (both a b))))
+  R : HalfRows (countsFor files) (paddedTables l (tablesFor files))
   R = half-rows ms K d u H
 
-  B : FaceRows (both a b) (counted a b) (paddedTables l (tablesOf (both a b) (overlayOf (both a b))))
+  B : FaceRows (mapsOf files) (countsFor files) (paddedTables l (tablesFor files))
   B = face-rows ms K d u H
-
-  Z : Zeros maps (counted a b) (paddedTables l (tablesOf (both a b) (overlayOf (both a b))))
-  Z = padded-zeros ms K l
 
   -- ── the counts ──
 
@@ -70,11 +80,24 @@ module _ (l : Lengths) (a b : List ℕ) (c : Counts) (t : Tables) (D : Defined l
   same-faces : c .faces ≡ d .faces
   same-faces = faces-same ms K c t (D .vertices) (D .edges) (D .halves) (D .faces) d u W F R B H
 
-  counts-are : c ≡ counted a b
+  counts-are : c ≡ countsFor files
   counts-are = λ i. record { vertices = same-vertices i; edges = same-edges i; faces = same-faces i }
 
   lengths-same : lengthsOf t ≡ lengthsOf u
-  lengths-same = D .lengths ∙ sym (lengths-are a b (D .first-passes) (D .second-passes) l (subst (Fits (roomIn maps l)) counts-are (D .room)))
+  lengths-same = D .lengths ∙ sym (lengths-are files (D .passes) l (subst (Fits (roomIn (length files) l)) counts-are (D .room)))
+
+  -- both have the counted rows, and zeros past them
+  rows-t : AtLeast (exactLengths (length (mapsOf files)) c) (lengthsOf t)
+  rows-t = room-rows n c (lengthsOf t) (subst (λ (k : ℕ). Fits (roomIn k (lengthsOf t)) c) (sym (maps-count files)) (subst (λ (x : Lengths). Fits (roomIn (length files) x) c) (sym (D .lengths)) (D .room)))
+
+  rows-u : AtLeast (exactLengths (length (mapsOf files)) c) (lengthsOf (paddedTables l (tablesFor files)))
+  rows-u = subst (AtLeast (exactLengths n c)) lengths-same rows-t
+
+  zeros-t : Zeros (length (mapsOf files)) c t
+  zeros-t = subst (λ (k : ℕ). Zeros k c t) (sym (maps-count files)) (D .zeros)
+
+  zeros-u : Zeros (length (mapsOf files)) c (paddedTables l (tablesFor files))
+  zeros-u = subst (λ (k : Counts). Zeros n k u) (sym counts-are) (padded-zeros ms K l)
 
   -- ── the cells ──
 
@@ -93,51 +116,35 @@ module _ (l : Lengths) (a b : List ℕ) (c : Counts) (t : Tables) (D : Defined l
   half-at h (suc (suc (suc (suc zero)))) b j = face-cell-same ms K c t (D .vertices) (D .edges) (D .halves) (D .faces) d u W F R B H h b
   half-at h (suc (suc (suc (suc (suc k))))) b j = absurd (omega arith)
 
-  source-at : (k i : ℕ) → k < c .edges → i < 2 → sourceCell 2 t k i ≡ sourceCell 2 u k i
+  source-at : (k i : ℕ) → k < c .edges → i < n → sourceCell n t k i ≡ sourceCell n u k i
   source-at k i b j = source-same ms c t (D .vertices) (D .edges) (D .halves) d u W F R k i b j
 
-  face-at : (f j : ℕ) → f < c .faces → j < 4 → faceCell 2 t f j ≡ faceCell 2 u f j
-  face-at f zero b j = label-same ms K c t (D .vertices) (D .edges) (D .halves) (D .faces) d u W F R B H f 0 b (omega arith)
-  face-at f (suc zero) b j = label-same ms K c t (D .vertices) (D .edges) (D .halves) (D .faces) d u W F R B H f 1 b (omega arith)
-  face-at f (suc (suc zero)) b j = least-same ms K c t (D .vertices) (D .edges) (D .halves) (D .faces) d u W F R B H f b
-  face-at f (suc (suc (suc zero))) b j = holes-agree ms K c t (D .vertices) (D .edges) (D .halves) (D .faces) d u W F R B H f b
-  face-at f (suc (suc (suc (suc k)))) b j = absurd (omega arith)
+  face-at : (f j : ℕ) → f < c .faces → j < faceWidth n → faceCell n t f j ≡ faceCell n u f j
+  face-at f j b m =
+      elim (decLt j n) [
+        | yes q ↦ label-same ms K c t (D .vertices) (D .edges) (D .halves) (D .faces) d u W F R B H f j b q
+        | no q ↦ elim (ℕ-discrete j n) [
+          | yes e ↦ subst (λ (k : ℕ). faceCell n t f k ≡ faceCell n u f k) (sym e) (least-same ms K c t (D .vertices) (D .edges) (D .halves) (D .faces) d u W F R B H f b)
+          | no e ↦ let o : j ≡ n + 1 = omega arith in
+              subst (λ (k : ℕ). faceCell n t f k ≡ faceCell n u f k) (sym o) (holes-agree ms K c t (D .vertices) (D .edges) (D .halves) (D .faces) d u W F R B H f b)
+        ]
+      ]
 
   -- ── the tables: up to the counts by cells, past them zero ──
 
   vertices-at : (i : ℕ) → getD (t .vertices) i (pos 0) ≡ getD (u .vertices) i (pos 0)
-  vertices-at i =
-      elim (decLt i (4 * c .vertices)) [
-        | yes q ↦ let e : 4 * (i / 4) + i % 4 ≡ i = omega arith in
-            subst (λ (k : ℕ). getD (t .vertices) k (pos 0) ≡ getD (u .vertices) k (pos 0)) e (vertex-at (i / 4) (i % 4) (omega arith) (omega arith))
-        | no q ↦ D .zeros .vertices i (omega arith) ∙ sym (Z .vertices i (omega (arith, same-vertices)))
-      ]
+  vertices-at = cells-same (pos 0) vertexWidth (c .vertices) (t .vertices) (u .vertices) (rows-t .vertices) (rows-u .vertices) vertex-at (λ i b. zeros-t .vertices i b ∙ sym (zeros-u .vertices i b))
 
   halves-at : (i : ℕ) → getD (t .halves) i 0 ≡ getD (u .halves) i 0
-  halves-at i =
-      elim (decLt i (5 * (2 * c .edges))) [
-        | yes q ↦ let e : 5 * (i / 5) + i % 5 ≡ i = omega arith in
-            subst (λ (k : ℕ). getD (t .halves) k 0 ≡ getD (u .halves) k 0) e (half-at (i / 5) (i % 5) (omega arith) (omega arith))
-        | no q ↦ D .zeros .halves i (omega arith) ∙ sym (Z .halves i (omega (arith, same-edges)))
-      ]
+  halves-at = cells-same 0 halfWidth (2 * c .edges) (t .halves) (u .halves) (rows-t .halves) (rows-u .halves) half-at (λ i b. zeros-t .halves i b ∙ sym (zeros-u .halves i b))
 
   sources-at : (i : ℕ) → getD (t .sources) i 0 ≡ getD (u .sources) i 0
-  sources-at i =
-      elim (decLt i (2 * c .edges)) [
-        | yes q ↦ let e : 2 * (i / 2) + i % 2 ≡ i = omega arith in
-            subst (λ (k : ℕ). getD (t .sources) k 0 ≡ getD (u .sources) k 0) e (source-at (i / 2) (i % 2) (omega arith) (omega arith))
-        | no q ↦ D .zeros .sources i (omega arith) ∙ sym (Z .sources i (omega (arith, same-edges)))
-      ]
+  sources-at = cells-same 0 n (c .edges) (t .sources) (u .sources) (rows-t .sources) (rows-u .sources) source-at (λ i b. zeros-t .sources i b ∙ sym (zeros-u .sources i b))
 
   faces-at : (i : ℕ) → getD (t .faces) i 0 ≡ getD (u .faces) i 0
-  faces-at i =
-      elim (decLt i (4 * c .faces)) [
-        | yes q ↦ let e : 4 * (i / 4) + i % 4 ≡ i = omega arith in
-            subst (λ (k : ℕ). getD (t .faces) k 0 ≡ getD (u .faces) k 0) e (face-at (i / 4) (i % 4) (omega arith) (omega arith))
-        | no q ↦ D .zeros .faces i (omega arith) ∙ sym (Z .faces i (omega (arith, same-faces)))
-      ]
+  faces-at = cells-same 0 (faceWidth n) (c .faces) (t .faces) (u .faces) (rows-t .faces) (rows-u .faces) face-at (λ i b. zeros-t .faces i b ∙ sym (zeros-u .faces i b))
 
-  tables-are : t ≡ paddedTables l (tablesOf (both a b) (overlayOf (both a b)))
+  tables-are : t ≡ paddedTables l (tablesFor files)
   tables-are = λ i. record {
     vertices = ext-getD (pos 0) (t .vertices) (u .vertices) (ap (λ (n : Lengths). n .vertices) lengths-same) (λ k b. vertices-at k) i;
     halves = ext-getD 0 (t .halves) (u .halves) (ap (λ (n : Lengths). n .halves) lengths-same) (λ k b. halves-at k) i;
@@ -146,18 +153,18 @@ module _ (l : Lengths) (a b : List ℕ) (c : Counts) (t : Tables) (D : Defined l
   }
 
   -- counts and tables are those of the defined overlay
-  pub defined-is : (c ≡ counted a b) × (t ≡ paddedTables l (tablesOf (both a b) (overlayOf (both a b))))
+  pub defined-is : (c ≡ countsFor files) × (t ≡ paddedTables l (tablesFor files))
   defined-is = (counts-are, tables-are)
 
   -- what keeps the customer's words is what the operation promises
-  pub defined-overlay : overlay l a b ≡ record { answer = done c; tables = t }
+  pub defined-overlay : lent l files ≡ record { answer = done c; tables = t }
   defined-overlay =
-      let e : overlay l a b .answer ≡ done d = demand-3 l a b (D .first-passes) (D .second-passes) (subst (Fits (roomIn maps l)) counts-are (D .room)) .0 in
-      λ i. record { answer = (e ∙ ap done (sym counts-are)) i; tables = (done-tables l (a ∷ b ∷ []) d e ∙ sym tables-are) i }
+      let e : lent l files .answer ≡ done d = passes-done l files (D .passes) (subst (Fits (roomIn (length files) l)) counts-are (D .room)) in
+      λ i. record { answer = (e ∙ ap done (sym counts-are)) i; tables = (done-tables l files d e ∙ sym tables-are) i }
 
 -- no second counts and tables keep it
-pub defined-unique : (l : Lengths) (a b : List ℕ) (c e : Counts) (t u : Tables) → Defined l a b c t → Defined l a b e u → (c ≡ e) × (t ≡ u)
-defined-unique l a b c e t u D G =
-    let p = defined-is l a b c t D in
-    let q = defined-is l a b e u G in
+pub defined-unique : (l : Lengths) (files : List (List ℕ)) (c e : Counts) (t u : Tables) → Defined l files c t → Defined l files e u → (c ≡ e) × (t ≡ u)
+defined-unique l files c e t u D G =
+    let p = defined-is l files c t D in
+    let q = defined-is l files e u G in
     (p .0 ∙ sym (q .0), p .1 ∙ sym (q .1))

@@ -1,6 +1,6 @@
 -- The overlay's file: the writer accepts the tables of every overlay, answers the file's length and has the file in the buffer (`tables-written`), and reading that file gives
 -- the overlay's counts and tables (`tables-read`). Of a list of files of bytes that pass, and of any version with bytes enough for a coordinate. Then for the operations as they
--- stand: where the overlay is done its tables are written, and reading the file gives all that came out of the overlay (`overlay-written`, `overlay-read`). Assumes nothing.
+-- stand, from the overlay's promise (`Promised`): where it is done its tables are written, and reading the file gives all that came out of it (`overlay-written`, `overlay-read`). Assumes nothing.
 use mathlib.Core.Path.{_≡_, refl, sym, _∙_, ap, subst}
 use Prim.Native.Nat.{_<_, _≤_}
 use native.Mathlib.Nat.{le-refl}
@@ -10,9 +10,8 @@ use Rattle.paper.specs.Limits.{reach, denominators, maps}
 use Rattle.paper.specs.Refusal.{done}
 use Rattle.paper.specs.Map.{Map}
 use Rattle.paper.specs.Pieces.{layer}
-use Rattle.paper.specs.Faces.{overlayOf}
-use Rattle.paper.specs.Tables.{Counts, Tables, countsOf, tablesOf}
-use Rattle.paper.specs.Lent.{Lengths, roomIn, lengthsOf, paddedTables}
+use Rattle.paper.specs.Tables.{Counts, Tables}
+use Rattle.paper.specs.Lent.{Lengths, Outcome, roomIn, lengthsOf, paddedTables}
 use Rattle.paper.specs.Overlay.{overlay}
 use Rattle.paper.specs.Ovfile.{Layout, layouts, fileLength, overlayFile, layoutOf}
 use Rattle.paper.specs.Writer.{Written, writeFault, writeBy, write}
@@ -31,14 +30,11 @@ use Rattle.laws_roundtrip.specs.Accepts.{is-write}
 use Rattle.laws_roundtrip.specs.ReadCells.{exactLengths}
 use Rattle.laws_roundtrip.specs.Zeros.{padded-writes, padded-counted}
 use Rattle.laws_roundtrip.specs.ReadWritten.{FacesFit, write-done, done-file, written-is-read}
+use Rattle.tables.specs.declared.answer.Answer as code
+use Rattle.tables.specs.Values.{answerOf, outcomeOf}
+use Rattle.tables.specs.Promise.{Promised}
+use Rattle.laws_promise.specs.Demands.{countsFor, tablesFor}
 use Rattle.laws_promise.specs.Good.{good-edge, good-vertex, faces-fit, table-lengths}
-
--- the counts and tables of the overlay of a list of files
-abbrev pub countsFor : List (List ℕ) → Counts
-countsFor files = countsOf (overlayOf (mapsOf files))
-
-abbrev pub tablesFor : List (List ℕ) → Tables
-tablesFor files = tablesOf (mapsOf files) (overlayOf (mapsOf files))
 
 -- a coordinate's bytes hold every X and Y
 abbrev pub Wide : Layout → Type 0
@@ -108,9 +104,12 @@ module _ (files : List (List ℕ)) (P : AllPass files) (B : (i : ℕ) → Bytes 
 abbrev pub newest : Layout
 newest = layoutOf layouts (length layouts)
 
-module _ (ls : Lengths) (a b : List ℕ) (A : Bytes a) (B : Bytes b) (c : Counts) (d : overlay ls a b .answer ≡ done c) where
+module _ (ls : Lengths) (a b : List ℕ) (A : Bytes a) (B : Bytes b) (r : code.Answer) (t : Tables) (promise : Promised ls (a ∷ b ∷ []) r t) (c : Counts) (e : answerOf r ≡ done c) where
   abbrev files : List (List ℕ)
   files = a ∷ b ∷ []
+
+  d : overlay ls a b .answer ≡ done c
+  d = sym (ap (λ (o : Outcome). o .answer) promise) ∙ e
 
   passes : AllPass files
   passes = done-passes ls files c d
@@ -126,25 +125,28 @@ module _ (ls : Lengths) (a b : List ℕ) (A : Bytes a) (B : Bytes b) (c : Counts
   room : Fits (roomIn maps ls) (countsFor files)
   room = let F = done-fits ls files c d in record { vertices = F .vertices; edges = F .edges; faces = F .faces }
 
-  comes-out : overlay ls a b ≡ record { answer = done (countsFor files); tables = paddedTables ls (tablesFor files) }
-  comes-out = λ i. record { answer = (d ∙ ap done counts-are) i; tables = done-tables ls files c d i }
+  tables-are : t ≡ paddedTables ls (tablesFor files)
+  tables-are = ap (λ (o : Outcome). o .tables) promise ∙ done-tables ls files c d
+
+  comes-out : outcomeOf r t ≡ record { answer = done (countsFor files); tables = paddedTables ls (tablesFor files) }
+  comes-out = λ i. record { answer = (e ∙ ap done counts-are) i; tables = tables-are i }
 
   module _ (n : ℕ) (m : fileLength newest c ≤ n) where
     m-is : fileLength newest (countsFor files) ≤ n
     m-is = subst (λ (x : Counts). fileLength newest x ≤ n) counts-are m
 
     -- the tables that come out are written, for a buffer that is long enough
-    pub overlay-written : write n c (overlay ls a b .tables) .answer ≡ done (fileLength newest c)
+    pub overlay-written : write n c t .answer ≡ done (fileLength newest c)
     overlay-written =
-        (λ i. write n (counts-are i) (comes-out i .tables) .answer)
+        (λ i. write n (counts-are i) (tables-are i) .answer)
         ∙ ap (λ (w : Written). w .answer) (tables-written files passes bytes newest refl (omega arith) ls room (length layouts) n m-is)
         ∙ ap (λ (x : Counts). done (fileLength newest x)) (sym counts-are)
 
     -- and reading the file gives what came out
-    pub overlay-read : read ls (take (fileLength newest c) (write n c (overlay ls a b .tables) .buffer)) ≡ overlay ls a b
+    pub overlay-read : read ls (take (fileLength newest c) (write n c t .buffer)) ≡ outcomeOf r t
     overlay-read =
-        ap (read ls) (done-file (length layouts) newest n c (overlay ls a b .tables) (fileLength newest c) overlay-written)
-        ∙ (λ i. read ls (overlayFile (length layouts) newest (counts-are i) (comes-out i .tables)))
+        ap (read ls) (done-file (length layouts) newest n c t (fileLength newest c) overlay-written)
+        ∙ (λ i. read ls (overlayFile (length layouts) newest (counts-are i) (tables-are i)))
         ∙ ap (read ls) (same-file files passes bytes newest refl (omega arith) ls room (length layouts))
         ∙ tables-read files passes bytes layouts (length layouts) (omega arith) (omega arith) (omega arith) refl (omega arith) ls room
         ∙ sym comes-out

@@ -12,10 +12,10 @@ use limits::LAYER_STARTS;
 use map_file::Check;
 use overlay_maps::lay_maps;
 use tables::Answer;
-ghost use mathlib.Core.Path.{_≡_};
+ghost use mathlib.Core.List.{[], _∷_};
 ghost use Rattle.paper.specs.Lent.{lengthsOf};
-ghost use Rattle.paper.specs.Overlay.{overlay};
-ghost use Rattle.tables.specs.Values.{tablesBy, outcomeOf};
+ghost use Rattle.tables.specs.Values.{tablesBy};
+ghost use Rattle.tables.specs.Promise.{Promised};
 
 // The overlay of two files of any bytes in the lent tables: the three counts, or a refusal.
 pub fn overlay(
@@ -26,7 +26,7 @@ pub fn overlay(
     sources: &mut [u32],
     faces: &mut [u16],
 ) -> Answer
-    ensures { λ r. ⌜ outcomeOf r (tablesBy (now (vertices .exit)) (now (halves .exit)) (now (sources .exit)) (now (faces .exit))) ≡ overlay (lengthsOf (tablesBy (now (vertices .entry)) (now (halves .entry)) (now (sources .entry)) (now (faces .entry)))) (now (zones .entry)) (now (blocks .entry)) ⌝ }
+    ensures { λ r. ⌜ Promised (lengthsOf (tablesBy (now (vertices .entry)) (now (halves .entry)) (now (sources .entry)) (now (faces .entry)))) (now (zones .entry) ∷ now (blocks .entry) ∷ []) r (tablesBy (now (vertices .exit)) (now (halves .exit)) (now (sources .exit)) (now (faces .exit))) ⌝ }
 {
     let mut vertex_starts = [0usize; LAYER_STARTS];
     let mut edge_starts = [0usize; LAYER_STARTS];

@@ -18,3 +18,4 @@ pub mod Listing
 pub mod Sample
 pub mod SampleFile
 pub mod Sheets
+pub mod Touching

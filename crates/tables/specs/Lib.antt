@@ -2,3 +2,4 @@ pub mod Values
 pub mod Rows
 pub mod Found
 pub mod Unique
+pub mod Promise

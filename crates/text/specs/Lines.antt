@@ -1,4 +1,4 @@
--- The listing's lines over the face table alone, and a line that stands at the start of a lent one. Assumes nothing.
+-- The listing's lines over the face table alone, the line of an edge, and a line that stands at the start of a lent one. Assumes nothing.
 use mathlib.Core.Path.{_≡_, sym, _∙_}
 use Prim.Native.Nat.{_≤_}
 use Rattle.io.specs.Counts as io
@@ -7,6 +7,7 @@ use Rattle.paper.specs.Bytes.{ascii}
 use Rattle.paper.specs.Limits.{maps}
 use Rattle.paper.specs.Refusal.{done}
 use Rattle.paper.specs.Tables.{Counts, Tables}
+use Rattle.paper.specs.Record.{Source, first, second, both, OverlayEdge}
 use Rattle.paper.specs.Listing.{decimal, faceLine, gaps, listingBy}
 
 -- tables of which only the faces are looked at
@@ -27,6 +28,20 @@ labelsText f a b = ascii "face " ++ decimal f ++ ascii " " ++ decimal a ++ ascii
 
 abbrev pub gapsText : ℕ → List ℕ
 gapsText n = ascii "gaps " ++ decimal n ++ ascii "\n"
+
+-- an edge's number, its lower and its upper vertex
+abbrev pub endsText : ℕ → ℕ → ℕ → List ℕ
+endsText k lower upper = ascii "edge " ++ decimal k ++ ascii " " ++ decimal lower ++ ascii " " ++ decimal upper
+
+-- "whether it came from the first map, the second or both, with the edge number in each"
+abbrev pub sourceText : Source → List ℕ
+sourceText (first j) = ascii " first " ++ decimal j
+sourceText (second k) = ascii " second " ++ decimal k
+sourceText (both j k) = ascii " both " ++ decimal j ++ ascii " " ++ decimal k
+
+-- the line of edge k
+abbrev pub edgeText : ℕ → OverlayEdge → List ℕ
+edgeText k e = (endsText k (e .lower) (e .upper) ++ sourceText (e .source)) ++ ascii "\n"
 
 -- the whole listing
 abbrev pub listingText : Counts → List ℕ → List ℕ

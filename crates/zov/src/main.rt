@@ -1,6 +1,7 @@
 // zov, the overlay for daily use:
 //   zov ZONES BLOCKS [OUT]    lists the overlay of two map files, and writes its overlay file to OUT
 //   zov --list FILE           lists an overlay file
+//   zov --edges FILE          lists its edges
 //   zov --check FILE...       checks map files
 // A refusal is the line of 01, and then a sentence.
 mod words; // the program's arguments
@@ -15,6 +16,9 @@ fn usage() {
         b"zov ZONES BLOCKS [OUT.zov]   list the overlay of two map files; write its overlay file\n",
     );
     console::say(b"zov --list FILE.zov          list an overlay file\n");
+    console::say(
+        b"zov --edges FILE.zov         list its edges: number, lower and upper vertex, sources\n",
+    );
     console::say(b"zov --check FILE...          check map files, a line for each\n");
 }
 
@@ -23,7 +27,14 @@ fn main() {
     let task = words::asked(n);
     match task {
         Task::Usage => usage(),
+        Task::OneFile => console::say(
+            b"--list and --edges take one overlay file; nothing is read\n",
+        ),
+        Task::SameName => console::say(
+            b"the overlay file would overwrite one of the maps; nothing is read or written\n",
+        ),
         Task::List => overlays::list_arg(2),
+        Task::Edges => overlays::edges_arg(2),
         Task::Check => maps::check_args(2, n),
         Task::Overlay => overlays::lay(),
         Task::Write => {

@@ -25,6 +25,14 @@ pub fn list_arg(i: usize) {
     explain(answer);
 }
 
+// The edges of the overlay file that an argument names.
+pub fn edges_arg(i: usize) {
+    let mut file = io::large_buffer();
+    let n = load_arg(i, &mut file);
+    let answer = console::say_edges(&file[..n]);
+    explain(answer);
+}
+
 // The overlay of the two map files that the first two arguments name.
 pub fn lay() {
     let mut zones = io::buffer();

@@ -2,7 +2,10 @@
 
 pub enum Task {
     Usage,
+    OneFile,
+    SameName,
     List,
+    Edges,
     Check,
     Overlay,
     Write,
@@ -28,19 +31,68 @@ fn is_arg(i: usize, text: &[u8]) -> bool {
     same(&word[..n], text)
 }
 
-// A task with one file or more.
-fn files_task(n: usize) -> Task {
+// Whether an argument begins like an option. A file of such a name is given as `./--name`.
+fn is_option(i: usize) -> bool {
+    let mut word = io::buffer();
+    os::arg(i, &mut word);
+    if word[0] != b'-' {
+        return false;
+    }
+    word[1] == b'-'
+}
+
+// Whether two arguments are the same word.
+fn same_args(i: usize, j: usize) -> bool {
+    let mut first = io::buffer();
+    let n = os::arg(i, &mut first);
+    let mut second = io::buffer();
+    let m = os::arg(j, &mut second);
+    same(&first[..n], &second[..m])
+}
+
+// One file, of an option.
+fn one_file(n: usize, task: Task) -> Task {
+    if n == 3 { task } else { Task::OneFile }
+}
+
+// What the option that is the first argument asks for.
+fn option_task(n: usize) -> Task {
     if is_arg(1, b"--check") {
         return Task::Check;
     }
+    if is_arg(1, b"--list") {
+        return one_file(n, Task::List);
+    }
+    if is_arg(1, b"--edges") {
+        return one_file(n, Task::Edges);
+    }
+    Task::Usage
+}
+
+// The overlay written, unless its file is one of the two maps by name.
+fn write_task() -> Task {
+    if is_option(3) {
+        return Task::Usage;
+    }
+    if same_args(1, 3) {
+        return Task::SameName;
+    }
+    if same_args(2, 3) {
+        return Task::SameName;
+    }
+    Task::Write
+}
+
+// Two map files, and where to write their overlay.
+fn overlay_task(n: usize) -> Task {
+    if is_option(2) {
+        return Task::Usage;
+    }
     if n == 3 {
-        if is_arg(1, b"--list") {
-            return Task::List;
-        }
         return Task::Overlay;
     }
     if n == 4 {
-        return Task::Write;
+        return write_task();
     }
     Task::Usage
 }
@@ -50,5 +102,8 @@ pub fn asked(n: usize) -> Task {
     if n < 3 {
         return Task::Usage;
     }
-    files_task(n)
+    if is_option(1) {
+        return option_task(n);
+    }
+    overlay_task(n)
 }
