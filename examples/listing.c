@@ -30,7 +30,7 @@ static void list(bonnetewe_answer a)
             printf("- %u\n", row[3]);
         else
             printf("%u %u\n", row[2], row[3]);
-        gaps += f > 0 && row[0] == 0;
+        gaps += f > 0 && row[0] == 0 && row[1] != 0;
     }
     printf("gaps %u\n", gaps);
 }

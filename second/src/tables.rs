@@ -48,9 +48,11 @@ impl Tables {
         self.sources.len()
     }
 
-    /// The number of faces other than 0 whose first label is 0.
+    /// The number of faces other than 0 that lie in a block and in no zone.
     pub fn gaps(&self) -> usize {
-        self.faces.iter().skip(1).filter(|f| f.first == 0).count()
+        let blocks = self.faces.iter().skip(1).filter(|f| f.second > 0).count();
+        let zoned = self.faces.iter().skip(1).filter(|f| f.second > 0 && f.first > 0).count();
+        blocks - zoned
     }
 
     /// Works out each vertex's least outgoing half-edge from the origins; an origin that names

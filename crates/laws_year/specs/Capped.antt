@@ -8,7 +8,7 @@ use Rattle.seq.specs.Seq.{Bool, true, false, cond, not, _&&_, List, [], _∷_, 
 use Rattle.seq.specs.HowMany.{howMany}
 use Rattle.paper.specs.Refusal.{given, firstOf, Refusal, Answer, answer}
 use Rattle.laws_year.specs.Names.{wholeNames}
-use Rattle.laws_year.specs.Year.{yearFiles, yearPairs, Pair, isGap, Sheet, Row, yearAnswer}
+use Rattle.laws_year.specs.Year.{yearFiles, yearPairs, Pair, gapPair, Sheet, Row, yearAnswer}
 use Rattle.laws_year.specs.Step.{Tally, addFace, addFaces, State, start, orFirst, addRead, addUnread, addFile, yearFrom, badFault, rowIs, stateAnswer}
 use Rattle.laws_year.specs.Tallies.{face-grows}
 use Rattle.laws_year.specs.Run.{state-answer}
@@ -43,7 +43,7 @@ abbrev pub capRead : CappedState → Sheet → CappedState
 capRead st none = record { table = st .table; gaps = st .gaps; files = suc (st .files); bad = orFirst (st .bad) (st .files) }
 capRead st (some ps) = record {
   table = capFaces (suc (st .files)) (st .table) ps;
-  gaps = st .gaps + howMany isGap ps;
+  gaps = st .gaps + howMany gapPair ps;
   files = suc (st .files);
   bad = st .bad;
 }
@@ -101,7 +101,7 @@ module _ (st : CappedState) (full : State) (A : Agrees st full) where
   read-agrees none = record { table = A .table; gaps = A .gaps; files = ap suc (A .files); bad = λ i. orFirst (A .bad i) (A .files i) }
   read-agrees (some ps) = record {
     table = subst (λ (k : ℕ). Keeps (capFaces (suc k) (st .table) ps) (addFaces (suc (full .files)) (full .tallies) ps)) (sym (A .files)) (faces-keep (suc (full .files)) (st .table) (full .tallies) ps (A .table));
-    gaps = ap (λ (k : ℕ). k + howMany isGap ps) (A .gaps);
+    gaps = ap (λ (k : ℕ). k + howMany gapPair ps) (A .gaps);
     files = ap suc (A .files);
     bad = A .bad;
   }

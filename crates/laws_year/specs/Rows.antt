@@ -13,7 +13,7 @@ use Rattle.seq.specs.PairOrder.{pairBefore, samePair, same-pair-is, is-same-pai
 use Rattle.seq.specs.HowMany.{howMany, many-le, many-++, many-some}
 use Rattle.seq.specs.Total.{total, total-ext, total-zero, total-+, total-map}
 use Rattle.seq.specs.Pairs.{map-pairs}
-use Rattle.laws_year.specs.Year.{Pair, isGap, allFaces, Row, rowOf, sortedPairs, yearRows, yearGaps}
+use Rattle.laws_year.specs.Year.{Pair, gapPair, allFaces, Row, rowOf, sortedPairs, yearRows, yearGaps}
 use Rattle.laws_year.specs.Pairs.{sorted-rising, sorted-from, sorted-has, in-among, among-in}
 
 abbrev pub rowBefore : Row → Row → Bool
@@ -126,8 +126,8 @@ module _ (fs : List (List Pair)) where
   faces-sum = by-rows (λ p. true) ∙ all-many (allFaces fs)
 
   -- the gaps are the faces of the rows with zone 0 and a block
-  pub gaps-sum : total (λ (r : Row). cond (isGap (r .pair)) (r .faces) 0) (yearRows fs) ≡ yearGaps fs
-  gaps-sum = by-rows isGap
+  pub gaps-sum : total (λ (r : Row). cond (gapPair (r .pair)) (r .faces) 0) (yearRows fs) ≡ yearGaps fs
+  gaps-sum = by-rows gapPair
 
 -- and those are the faces of each sheet, added up
 pub all-faces-sum : (fs : List (List Pair)) → length (allFaces fs) ≡ total (λ (f : List Pair). length f) fs

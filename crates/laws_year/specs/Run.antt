@@ -19,7 +19,7 @@ use Rattle.seq.specs.PairOrder.{samePair, same-pair-is}
 use Rattle.seq.specs.HowMany.{howMany, many-++, many-none}
 use Rattle.paper.specs.Refusal.{answer, given, firstAt, firstOf}
 use Rattle.laws_year.specs.Names.{wholeNames}
-use Rattle.laws_year.specs.Year.{yearFiles, yearPairs, Pair, isGap, Sheet, allFaces, Row, rowOf, sortedPairs, yearRows, yearGaps, isBad, counted, yearFault, yearAnswer}
+use Rattle.laws_year.specs.Year.{yearFiles, yearPairs, Pair, gapPair, Sheet, allFaces, Row, rowOf, sortedPairs, yearRows, yearGaps, isBad, counted, yearFault, yearAnswer}
 use Rattle.laws_year.specs.Step.{Tally, addFaces, State, start, orFirst, addRead, addUnread, addFile, yearFrom, badFault, stateFault, rowIs, stateAnswer}
 use Rattle.laws_year.specs.Pairs.{in-among}
 use Rattle.laws_year.specs.Rows.{face-of}
@@ -161,8 +161,8 @@ module _ (st : State) (xs : List Sheet) (A : After st xs) where
       record {
         files = ap suc (A .files) ∙ sym (more-long xs (some ps));
         gaps =
-            ap (λ (k : ℕ). k + howMany isGap ps) (A .gaps) ∙ sym (many-++ isGap (allFaces (counted xs)) ps)
-            ∙ ap (howMany isGap) (sym (all-more (counted xs) ps)) ∙ ap yearGaps (sym e);
+            ap (λ (k : ℕ). k + howMany gapPair ps) (A .gaps) ∙ sym (many-++ gapPair (allFaces (counted xs)) ps)
+            ∙ ap (howMany gapPair) (sym (all-more (counted xs) ps)) ∙ ap yearGaps (sym e);
         bad = bad-read xs (some ps) (st .bad) false refl h (A .bad);
         tallied = subst (λ (fs : List (List Pair)). Tallied (addFaces (suc (st .files)) (st .tallies) ps) (suc (st .files)) fs) (sym e) (tallied-sheet (counted xs) (st .tallies) (st .files) ps (A .tallied));
       }

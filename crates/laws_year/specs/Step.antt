@@ -4,7 +4,7 @@ use Rattle.seq.specs.PairOrder.{pairBefore}
 use Rattle.seq.specs.HowMany.{howMany}
 use Rattle.paper.specs.Refusal.{given, firstOf, Refusal, Answer, answer}
 use Rattle.laws_year.specs.Names.{wholeNames}
-use Rattle.laws_year.specs.Year.{yearFiles, yearPairs, Pair, isGap, Sheet, Row}
+use Rattle.laws_year.specs.Year.{yearFiles, yearPairs, Pair, gapPair, Sheet, Row}
 
 -- a row as it is kept: with the number, from 1, of the last file that has its pair, so that a sheet counts once
 pub record Tally : Type 0 where
@@ -54,7 +54,7 @@ abbrev pub addRead : State → Sheet → State
 addRead st none = record { tallies = st .tallies; gaps = st .gaps; files = suc (st .files); bad = orFirst (st .bad) (st .files) }
 addRead st (some ps) = record {
   tallies = addFaces (suc (st .files)) (st .tallies) ps;
-  gaps = st .gaps + howMany isGap ps;
+  gaps = st .gaps + howMany gapPair ps;
   files = suc (st .files);
   bad = st .bad;
 }

@@ -1,5 +1,5 @@
 -- The year in whole numbers (02, Ask 14), over the whole run: pairs, sheets and faces, gaps, refusals 17 to 20, the text. Assumes nothing.
-use Rattle.seq.specs.Seq.{Bool, true, false, not, _&&_, List, [], _∷_, _++_, map, Option, none, some, ℕ, suc, _-_, min, ltb, eqb, length, getD, take, table, gather, optional, isIn, inOrderBy}
+use Rattle.seq.specs.Seq.{Bool, true, false, not, _&&_, List, [], _∷_, _++_, map, Option, none, some, ℕ, suc, _-_, min, ltb, length, getD, take, table, gather, optional, isIn, inOrderBy}
 use Rattle.seq.specs.PairOrder.{pairBefore, samePair}
 use Rattle.seq.specs.HowMany.{howMany}
 use Rattle.paper.specs.Limits.{maps}
@@ -8,7 +8,7 @@ use Rattle.paper.specs.Refusal.{given, firstAt, firstOf, answer, Refusal, Answe
 use Rattle.paper.specs.Tables.{faceCell, Counts, Tables}
 use Rattle.paper.specs.Ovfile.{layouts, Layout}
 use Rattle.paper.specs.Reader.{readBy}
-use Rattle.paper.specs.Listing.{decimal, refusedLine}
+use Rattle.paper.specs.Listing.{decimal, isGap, refusedLine}
 use Rattle.paper.specs.Sheets.{ample}
 use Rattle.laws_year.specs.Names.{wholeNames, nameOf}
 
@@ -25,9 +25,9 @@ yearPairs = 500
 abbrev pub Pair : Type 0
 Pair = ℕ × ℕ
 
--- "A gap is a face other than 0 whose zone label is 0 and whose block label is not 0" (02, Ask 1)
-abbrev pub isGap : Pair → Bool
-isGap p = eqb (p .0) 0 && not (eqb (p .1) 0)
+-- of a gap, as the listing counts them
+abbrev pub gapPair : Pair → Bool
+gapPair p = isGap (p .0) (p .1)
 
 -- ── one file ──
 
@@ -74,7 +74,7 @@ yearRows fs = map (rowOf fs) (sortedPairs (allFaces fs))
 
 -- "then the total of gaps"
 abbrev pub yearGaps : List (List Pair) → ℕ
-yearGaps fs = howMany isGap (allFaces fs)
+yearGaps fs = howMany gapPair (allFaces fs)
 
 -- ── refusals and the answer ──
 

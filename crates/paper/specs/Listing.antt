@@ -1,5 +1,5 @@
 -- The listing program's text (01, "Worked sheets"). Assumes nothing.
-use Rattle.seq.specs.Seq.{cond, List, [], _∷_, _++_, map, ℕ, zero, suc, _+_, _-_, _/_, _%_, ltb, eqb, count, rows}
+use Rattle.seq.specs.Seq.{Bool, not, _&&_, cond, List, [], _∷_, _++_, map, ℕ, zero, suc, _+_, _-_, _/_, _%_, ltb, eqb, count, rows}
 use Rattle.paper.specs.Bytes.{ascii}
 use Rattle.paper.specs.Refusal.{Refusal, Answer, done, refused}
 use Rattle.paper.specs.Tables.{faceCell, Counts, Tables}
@@ -21,9 +21,13 @@ faceLine n t f =
     ++ ascii " " ++ cond (eqb f 0) (ascii "-") (decimal (faceCell n t f n))
     ++ ascii " " ++ decimal (faceCell n t f (n + 1)) ++ ascii "\n"
 
--- "A gap is a face other than 0 whose first label is 0"
+-- "A gap is a face other than 0 whose zone label is 0 and whose block label is not 0" (02, Ask 1): by the two labels
+abbrev pub isGap : ℕ → ℕ → Bool
+isGap zone block = eqb zone 0 && not (eqb block 0)
+
+-- of the faces other than 0, in tables of n maps
 abbrev pub gaps : ℕ → Tables → ℕ → ℕ
-gaps n t faces = count (λ f. eqb (faceCell n t (suc f) 0) 0) (faces - 1)
+gaps n t faces = count (λ f. isGap (faceCell n t (suc f) 0) (faceCell n t (suc f) 1)) (faces - 1)
 
 abbrev pub countsLine : Counts → List ℕ
 countsLine c =

@@ -4,24 +4,35 @@ use Prim.Native.Nat.{_≤_, _<_}
 use native.Mathlib.Omega.{arith}
 use native.Mathlib.Nat.{add-zero}
 use borrow.Author.Tests.{eq-eqb, ne-eqb}
-use Rattle.seq.specs.Seq.{List, Bool, ℕ, suc, _+_, _*_, _-_, cond, eqb, getD}
+use Rattle.seq.specs.Seq.{List, Bool, true, false, not, _&&_, ℕ, suc, _+_, _*_, _-_, cond, eqb, getD}
+use Rattle.paper.specs.Listing.{isGap}
 use Rattle.seq.specs.Loops.Selecting.{Counting, count-turns}
 
--- face f + 1 is a gap
-abbrev pub isGap : List ℕ → ℕ → Bool
-isGap fs f = eqb (getD fs (4 * suc f + 0) 0) 0
+-- face f is a gap, by its row
+abbrev pub gapAt : List ℕ → ℕ → Bool
+gapAt fs f = isGap (getD fs (4 * f + 0) 0) (getD fs (4 * f + 1) 0)
 
-pub gaps-turn : (fs : List ℕ) {n found f r : ℕ} → Counting (isGap fs) (n - 1) found (f - 1) → 1 ≤ f → f < n → r ≡ found + cond (eqb (getD fs (4 * f + 0) 0) 0) 1 0
-    → Counting (isGap fs) (n - 1) r (f + 1 - 1)
+-- the faces from 1 on
+abbrev pub gapBehind : List ℕ → ℕ → Bool
+gapBehind fs f = gapAt fs (suc f)
+
+pub gaps-turn : (fs : List ℕ) {n found f r : ℕ} → Counting (gapBehind fs) (n - 1) found (f - 1) → 1 ≤ f → f < n → r ≡ found + cond (gapAt fs f) 1 0
+    → Counting (gapBehind fs) (n - 1) r (f + 1 - 1)
 gaps-turn fs {n} {found} {f} {r} k from h e =
     let s : f ≡ suc (f - 1) = omega arith in
     let z : f - 1 + 1 ≡ f + 1 - 1 = omega arith in
-    subst (Counting (isGap fs) (n - 1) r) z (count-turns k (isGap fs (f - 1)) (omega arith) refl (e ∙ ap (λ (x : ℕ). found + cond (eqb (getD fs (4 * x + 0) 0) 0) 1 0) s))
+    subst (Counting (gapBehind fs) (n - 1) r) z (count-turns k (gapBehind fs (f - 1)) (omega arith) refl (e ∙ ap (λ (x : ℕ). found + cond (gapAt fs x) 1 0) s))
 
--- ── one face more ──
+-- ── one face ──
 
-pub counted-gap : (found : ℕ) {label : ℕ} → label ≡ 0 → found + 1 ≡ found + cond (eqb label 0) 1 0
-counted-gap found {label} e = sym (ap (λ (b : Bool). found + cond b 1 0) (eq-eqb label 0 e))
+pub in-a-zone : (zone block : ℕ) → (zone ≡ 0 → ⊥) → false ≡ isGap zone block
+in-a-zone zone block e = sym (ap (λ (b : Bool). b && not (eqb block 0)) (ne-eqb zone 0 e))
 
-pub counted-other : (found : ℕ) {label : ℕ} → (label ≡ 0 → ⊥) → found ≡ found + cond (eqb label 0) 1 0
-counted-other found {label} e = sym (ap (λ (b : Bool). found + cond b 1 0) (ne-eqb label 0 e) ∙ add-zero found)
+pub by-block : (zone block : ℕ) → zone ≡ 0 → not (eqb block 0) ≡ isGap zone block
+by-block zone block e = sym (ap (λ (b : Bool). b && not (eqb block 0)) (eq-eqb zone 0 e))
+
+pub one-more : (found : ℕ) {gap : Bool} → gap ≡ true → found + 1 ≡ found + cond gap 1 0
+one-more found e = sym (ap (λ (b : Bool). found + cond b 1 0) e)
+
+pub no-more : (found : ℕ) {gap : Bool} → gap ≡ false → found ≡ found + cond gap 1 0
+no-more found e = sym (ap (λ (b : Bool). found + cond b 1 0) e ∙ add-zero found)
