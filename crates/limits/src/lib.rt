@@ -101,6 +101,8 @@ pub const VERTEX_ROWS: usize = VERTICES + 1;
 pub const EDGE_ROWS: usize = EDGES + 1;
 
 pub const POINT_CELLS: usize = POINT_WIDTH * VERTEX_ROWS;
+// half of the vertices, set aside while both halves are merged
+pub const ASIDE_CELLS: usize = POINT_WIDTH * (VERTICES / 2);
 
 pub const PIECE_CELLS: usize = PIECE_WIDTH * EDGE_ROWS;
 

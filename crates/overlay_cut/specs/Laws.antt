@@ -1,7 +1,6 @@
 -- The laws behind the proofs of this crate: nothing here is cited by a contract.
 pub mod RowInserted
-pub mod Sorting
-pub mod Settling
+pub mod Ordered
 pub mod Compared
 pub mod PutTable
 pub mod Holds

@@ -1,29 +1,28 @@
--- A table of points as a list of points; points in lowest terms, each once; such points put one after the other in their places are in point order.
+-- A table of points as a list of points, and how a row is read and stored; points in lowest terms, each once, and their order; what the merge of two halves asks.
 -- Assumes nothing.
-use mathlib.Core.Path.{_≡_, refl, sym, _∙_, ap, subst}
+use mathlib.Core.Path.{_≡_, refl, sym, subst}
 use Prim.Native.Nat.{_≤_, _<_}
 use native.Mathlib.Omega.{arith}
 use lib.IntN.{ℤ, pos}
 use Rattle.exact.specs.Tests.{eqZ, eq-t, t-eq, not-true, clash, and-parts}
 use Rattle.exact.specs.Lowest.{Pt, pt, Lowest}
-use Rattle.seq.specs.Seq.{Bool, true, false, not, _&&_, List, [], _∷_, ℕ, _+_, _*_, length, rowStored, table}
-use Rattle.seq.specs.Terms.{Every, Distinct, Transitive, Asymmetric}
-use Rattle.seq.specs.Least.{least-le}
+use Rattle.seq.specs.Seq.{Bool, true, false, _&&_, List, [], _∷_, ℕ, _+_, _*_, length, table}
+use Rattle.seq.specs.Terms.{Among, Every, Distinct, Transitive, Asymmetric}
 use Rattle.seq.specs.Members.{every-in}
-use Rattle.seq.specs.ByHalves.{Clear}
+use Rattle.seq.specs.Table.{among-table, table-among}
+use Rattle.seq.specs.ByHalves.{Clear, InHalves}
 use Rattle.paper.specs.Plane.{before, whole, nowhere}
-use Rattle.paper.specs.Pieces.{inOrder}
+use Rattle.plane.specs.Bounds.{Near}
 use Rattle.laws_plane.specs.Points.{before-asym, before-trans, same-point}
-use Rattle.graph.specs.Flat.{pointAt, Points}
-use Rattle.overlay_cut.specs.Lifted.{putAt}
-use Rattle.seq.specs.Loops.Lifting.{lifted}
-use Rattle.overlay_cut.specs.Laws.RowInserted.{rowInserted, read-inserted, read-past}
-use Rattle.overlay_cut.specs.Placed.{placeBy, putIn, place-table}
-use Rattle.overlay_cut.specs.Laws.Sorting.{sorting, sorting-is}
+use Rattle.graph.specs.Flat.{pointAt, Points, NearAt}
 
 -- the points in the first n rows
 abbrev pub pointsOf : List ℤ → ℕ → List Pt
 pointsOf ps n = table (pointAt ps) n
+
+-- the k points from row a on
+abbrev pub pointsFrom : List ℤ → ℕ → ℕ → List Pt
+pointsFrom ps a k = table (λ i. pointAt ps (a + i)) k
 
 -- what is read past the end
 abbrev pub noPoint : Pt
@@ -49,16 +48,6 @@ is-equal p q e =
     let ed : eqZ (p .D) (q .D) ≡ true = t-eq (λ i. e i .D) in
     rw (ex, ey, ed)
 
-pub points-fewer : (ps : List ℤ) (n : ℕ) → Points ps (n + 1) → Points ps n
-points-fewer ps n h = record { long = omega (arith, h .long); near = λ v l. h .near v (omega arith) }
-
--- ── rows put in order ──
-
--- row i has been put in its place among those before it; the rows past it are as they were
-pub record Settled (s t : List ℤ) (i : ℕ) : Type 0 where
-  pub is : pointsOf t (i + 1) ≡ putIn before noPoint (pointAt s i) (pointsOf s i)
-  pub past : (k : ℕ) → i < k → pointAt t k ≡ pointAt s k
-
 -- what is read of a row of four numbers
 abbrev pub readPoint : (ℕ → ℤ) → Pt
 readPoint f = pt (f 0) (f 1) (f 2)
@@ -66,29 +55,9 @@ readPoint f = pt (f 0) (f 1) (f 2)
 pub read-ext : (f g : ℕ → ℤ) → ((j : ℕ) → j < 4 → f j ≡ g j) → readPoint f ≡ readPoint g
 read-ext f g h = λ i. pt (h 0 (omega arith) i) (h 1 (omega arith) i) (h 2 (omega arith) i)
 
-pub place-within : (s : List ℤ) (p : Pt) (i : ℕ) → placeBy before p (pointAt s) i ≤ i
-place-within s p i = least-le (λ k. not (before (pointAt s k) p)) i
-
 -- a point as a row, with nothing in the spare cell
 abbrev pub pointRow : Pt → List ℤ
 pointRow p = p .X ∷ p .Y ∷ p .D ∷ pos 0 ∷ []
-
--- a gap made at the place, and the row stored in it
-module _ (s : List ℤ) (i : ℕ) (p : Pt) (room : 4 * i + 4 ≤ length s) (e : p ≡ pointAt s i) where
-  settled : Settled s (rowInserted 4 s i (placeBy before p (pointAt s) i) (pointRow p)) i
-  unfolding putIn
-  settled =
-      let r = placeBy before p (pointAt s) i in
-      record {
-        is = read-inserted 4 s i r (pointRow p) refl (place-within s p i) room readPoint read-ext (pos 0)
-            ∙ ap (λ (k : ℕ). putAt k p (pointsOf s i)) (place-table before noPoint p (pointAt s) i) ∙ ap (λ (q : Pt). putIn before noPoint q (pointsOf s i)) e;
-        past = read-past 4 s i r (pointRow p) refl (place-within s p i) room readPoint read-ext (pos 0);
-      }
-
-  pub settles : (t u : List ℤ) (r : ℕ) (q : Pt) → q ≡ p → r ≡ placeBy before p (pointAt s) i → t ≡ lifted (4 * r) (4 * i) 4 s → u ≡ rowStored 4 t r (pointRow q) → Settled s u i
-  settles t u r q f g h k =
-      let m : rowStored 4 t r (pointRow q) ≡ rowInserted 4 s i r (pointRow p) = λ j. rowStored 4 (h j) r (pointRow (f j)) in
-      subst (λ (v : List ℤ). Settled s v i) (sym (k ∙ m ∙ ap (λ (n : ℕ). rowInserted 4 s i n (pointRow p)) g)) settled
 
 -- number by number, as the code compares them
 module _ (p q : Pt) where
@@ -115,7 +84,8 @@ trans p q r a b c e f = before-trans p q r (a .positive) (b .positive) (c .posit
 pub one-point : (p q : Pt) → Lowest p → Lowest q → before p q ≡ false → before q p ≡ false → p ≡ q
 one-point p q a b e f = same-point p q a b e f
 
-once-clear : (l : List Pt) → Every Lowest l → Distinct equal l → Clear before l
+-- no two are alike
+pub once-clear : (l : List Pt) → Every Lowest l → Distinct equal l → Clear before l
 once-clear [] h k = tt
 once-clear (p ∷ ps) h k = (λ z i e. go z (every-in Lowest ps (h .1) z i) (k .0 z i) e (before z p) refl, once-clear ps (h .1) (k .1))
   where
@@ -123,6 +93,21 @@ once-clear (p ∷ ps) h k = (λ z i e. go z (every-in Lowest ps (h .1) z i) (k .
     go z l n e true f = f
     go z l n e false f = absurd (clash (is-equal z p (same-point z p l (h .0) f e)) n)
 
--- points put one after the other in their places are in point order
-pub sorted-once : (l : List Pt) → Once l → sorting before noPoint [] l ≡ inOrder l
-sorted-once l o = sorting-is before asym (λ p q. q) (λ p q. refl) noPoint Lowest one-point trans l (o .lowest) (once-clear l (o .lowest) (o .once))
+-- ── what the ordering by halves asks ──
+
+-- two halves, each in point order, and no point in them twice
+abbrev pub TwoOrdered : List Pt → List Pt → Type 0
+TwoOrdered l m = InHalves before Lowest l m
+
+-- row k, where it is one of n
+pub record Next (ps : List ℤ) (k n : ℕ) : Type 0 where
+  pub long : 4 * n ≤ length ps
+  pub near : k < n → NearAt ps k
+
+-- ── bounds by members ──
+
+pub points-near : (ps : List ℤ) (n : ℕ) → Points ps n → (p : Pt) → Among p (pointsOf ps n) → Near p
+points-near ps n h p i = let r = table-among (pointAt ps) n p i in subst Near (r .2) (h .near (r .0) (r .1))
+
+pub points-by : (ps : List ℤ) (n : ℕ) → 4 * n ≤ length ps → ((p : Pt) → Among p (pointsOf ps n) → Near p) → Points ps n
+points-by ps n l h = record { long = l; near = λ v q. h (pointAt ps v) (among-table (pointAt ps) n v q) }

@@ -35,6 +35,7 @@ pub mod Halves
 pub mod Range
 pub mod Merging
 pub mod ByHalves
+pub mod Parts
 pub mod Runs
 pub mod Repeats
 pub mod Fewer

@@ -10,4 +10,5 @@ pub mod Tallying
 pub mod Picking
 pub mod Choosing
 pub mod Lifting
+pub mod Weaving
 pub mod Wiping

@@ -6,24 +6,22 @@ use Prim.Native.Nat.{_≤_, _<_}
 use native.Mathlib.Omega.{arith}
 use lib.IntN.{ℤ}
 use Rattle.exact.specs.Lowest.{Pt, Lowest}
-use Rattle.seq.specs.Seq.{List, [], _∷_, _++_, ℕ, _+_, length, rows, collect}
+use Rattle.seq.specs.Seq.{List, [], _++_, ℕ, _+_, length, rows, collect}
 use Rattle.seq.specs.Terms.{Among, Every}
 use Rattle.seq.specs.Members.{among-++, ++-among, every-in, in-every}
 use Rattle.seq.specs.Table.{length-table}
 use Rattle.seq.specs.Rows.{rows-among}
 use Rattle.seq.specs.Collected.{collect-distinct, collect-from, collect-has}
 use Rattle.seq.specs.Inserted.{inOrder-same}
+use Rattle.seq.specs.ByHalves.{length-sorted}
 use Rattle.paper.specs.Limits.{maps, overlayVertices}
 use Rattle.paper.specs.Plane.{before}
 use Rattle.paper.specs.Map.{Map}
 use Rattle.paper.specs.Pieces.{layer, crossings, inOrder, verticesOf}
 use Rattle.graph.specs.Flat.{pointAt, carrierAt}
 use Rattle.overlay_cut.specs.Rooms.{vertexRows}
-use Rattle.overlay_cut.specs.Lifted.{length-putAt}
-use Rattle.overlay_cut.specs.Placed.{putIn, place, place-le}
-use Rattle.overlay_cut.specs.Laws.Sorting.{sorting}
 use Rattle.overlay_cut.specs.Capped.{Cap, whole, cap-whole, cap-full, collectIn-cap}
-use Rattle.overlay_cut.specs.Points.{pointsOf, noPoint, equal, equal-is, Once, sorted-once, asym, trans, one-point}
+use Rattle.overlay_cut.specs.Points.{pointsOf, equal, equal-is, Once, once-clear, asym, trans, one-point}
 use Rattle.overlay_cut.specs.Cuts.{startOf, edgesFrom}
 use Rattle.overlay_cut.specs.Crossed.{crossRow, crossPart, crossAll}
 use Rattle.overlay_cut.specs.Collecting.{gathered}
@@ -37,13 +35,8 @@ pub record Vertices (ms : List Map) (out : List ℤ) (n : ℕ) : Type 0 where
   pub many : n ≡ length (verticesOf ms)
 
 -- a list put in order is as long
-length-sorting : (l xs : List Pt) → length (sorting before noPoint l xs) ≡ length l + length xs
-unfolding putIn
-length-sorting l [] = omega arith
-length-sorting l (x ∷ xs) = length-sorting (putIn before noPoint x l) xs ∙ omega (arith, length-putAt (place before noPoint x l) x l (place-le before noPoint x l))
-
 pub length-ordered : (l : List Pt) → Once l → length (inOrder l) ≡ length l
-length-ordered l o = ap length (sym (sorted-once l o)) ∙ length-sorting [] l ∙ omega arith
+length-ordered l o = length-sorted before (λ p q. q) (λ p q. refl) l (once-clear l (o .lowest) (o .once))
 
 module _ {ms : List Map} {corners : List ℤ} {c : ℕ} {cs : List ℤ} {st : List ℕ} (H : Holds ms corners c cs st) (low : Every Lowest (pointsOf corners c)) where
   -- what the tables say, and what the definition says

@@ -29,8 +29,7 @@ use Rattle.laws_overlay.specs.Maps.{AllKeep, vertex-end, points-lowest}
 use Rattle.laws_overlay.specs.Vertices.{InReach, vertices-bounded}
 use Rattle.graph.specs.Flat.{numberAt, pointAt, carrierAt, Points, flatGraph}
 use Rattle.graph.specs.Laws.Decode.{flat-edges, flat-carrier}
-use Rattle.overlay_cut.specs.Points.{pointsOf}
-use Rattle.overlay_cut.specs.Laws.Settling.{points-by}
+use Rattle.overlay_cut.specs.Points.{pointsOf, points-by}
 use Rattle.overlay_cut.specs.Cuts.{Starts}
 use Rattle.overlay_cut.specs.Laws.Holds.{Holds, edgesIn, owner}
 use Rattle.overlay_cut.specs.Laws.VerticesAre.{Vertices}
