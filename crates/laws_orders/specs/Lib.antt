@@ -1,3 +1,4 @@
 pub mod Orders
 pub mod Exchanged
 pub mod Empty
+pub mod FromCheck

@@ -2,8 +2,8 @@
 //   zov ZONES BLOCKS [OUT]    lists the overlay of two map files, and writes its overlay file to OUT
 //   zov --list FILE           lists an overlay file
 //   zov --edges FILE          lists its edges
-//   zov --check FILE...       checks map files
-// A refusal is the line of 01, and then a sentence.
+//   zov --check FILE...       checks map files, a line for each; of several, how many are good
+// A refusal is the line of 01, and then a sentence; of a map that is checked in one line, behind its name.
 mod words; // the program's arguments
 mod maps; // map files
 mod overlays; // overlay files

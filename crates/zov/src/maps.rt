@@ -9,40 +9,75 @@ fn say_name(i: usize) {
     let mut name = io::buffer();
     let n = os::arg(i, &mut name);
     say(&name[..n]);
+    say(b": ");
 }
 
-// The line of 01, and then the file's name and a sentence.
-fn say_bad(i: usize, r: Refusal) {
-    console::say_refused(r.number, r.map, r.place);
-    say_name(i);
+fn put(text: &[u8], n: u16) {
+    say(text);
+    say_number(n as u64);
+}
+
+// What 01's line says, and then a sentence.
+fn say_bad(r: Refusal) {
+    put(b"refused ", r.number);
+    put(b" map ", r.map);
+    put(b" place ", r.place);
     say(b": ");
     console::say_sentence(r.number, r.map, r.place);
 }
 
 fn say_good(vertices: u16, edges: u16) {
-    say(b"ok ");
-    say_number(vertices as u64);
-    say(b" ");
-    say_number(edges as u64);
+    put(b"ok ", vertices);
+    put(b" ", edges);
     say(b"\n");
 }
 
-// A line for the map file that an argument names: `ok V E`, or what it is refused for.
-fn check_arg(i: usize) {
+// A line for the map file that an argument names: its name, and `ok V E` or what it is refused for. Answers whether it is good.
+fn check_arg(i: usize) -> bool {
+    say_name(i);
     let mut file = io::buffer();
     let n = load_arg(i, &mut file);
     let r = map_check::check(&file[..n]);
     match r {
-        Checked::Good(c) => say_good(c.vertices, c.edges),
-        Checked::Bad(f) => say_bad(i, f),
+        Checked::Good(c) => {
+            say_good(c.vertices, c.edges);
+            true
+        }
+        Checked::Bad(f) => {
+            say_bad(f);
+            false
+        }
     }
 }
 
-// The arguments from one on.
-pub fn check_args(first: usize, count: usize) {
+// How many of the arguments from one on name a good file.
+fn check_each(first: usize, count: usize) -> usize {
+    let mut good = 0;
     let mut i = first;
     while i < count {
-        check_arg(i);
+        if check_arg(i) {
+            good += 1;
+        }
         i += 1;
+    }
+    good
+}
+
+// The last line, where there are several files.
+fn say_tally(files: usize, good: usize) {
+    if files < 2 {
+        return;
+    }
+    say_number(files as u64);
+    say(b" files, ");
+    say_number(good as u64);
+    say(b" good\n");
+}
+
+// The arguments from one on, a line each; of several files a last line with how many are good.
+pub fn check_args(first: usize, count: usize) {
+    let good = check_each(first, count);
+    if first < count {
+        say_tally(count - first, good);
     }
 }
