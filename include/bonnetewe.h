@@ -79,6 +79,18 @@ static inline unsigned bonnetewe_place(bonnetewe_answer a)
     return a >> 32 & 65535;
 }
 
+/* Refused with 8: the other edge, the least one that clashes with the edge at that place; 0 with every other number. */
+static inline unsigned bonnetewe_other(bonnetewe_answer a)
+{
+    return a >> 48 & 65535;
+}
+
+/* Done, from bonnetewe_meet: apart (0), touching at an end of either (1), crossing inside both (2), or sharing a stretch (3). */
+static inline unsigned bonnetewe_kind(bonnetewe_answer a)
+{
+    return a >> 16 & 65535;
+}
+
 /* An edge record, in two numbers of the same kind, each 0 where there is no such edge. Both begin with whether it came from the first map (1), the second (2)
  * or both (3). */
 typedef uint64_t bonnetewe_edge_record;
@@ -112,6 +124,12 @@ static inline unsigned bonnetewe_edge_second(bonnetewe_edge_record r)
 
 /* Checks one map file: done with its counts of vertices and edges, or refused with rules 1 to 10 and map 0. */
 bonnetewe_answer bonnetewe_check(const uint8_t *file, size_t file_length);
+
+/* How the edge from a to b and the edge from c to d meet; refused with 5 for a coordinate beyond 2,000 either way, then 7 for an edge of no length (place 0 the first
+ * edge, 1 the second). The table point gets X, Y and D of the one point where they touch or cross, X/D, Y/D in lowest terms, as far as it has cells, and zeros
+ * behind; it is all zero where there is no such point. */
+bonnetewe_answer bonnetewe_meet(int16_t ax, int16_t ay, int16_t bx, int16_t by, int16_t cx, int16_t cy, int16_t dx, int16_t dy,
+                                int64_t *point, size_t point_cells);
 
 /* Lays the second map file over the first, into the tables. */
 bonnetewe_answer bonnetewe_overlay(const uint8_t *zones, size_t zones_length, const uint8_t *blocks, size_t blocks_length,

@@ -23,7 +23,10 @@ pub fn fault(map: &Map) -> Option<Refusal> {
         [out_of_reach, doubled, bad_ends, clashing, lonely, disagreeing];
     let numbered = (5u16..).zip(rules);
     let mut found = numbered.filter_map(|(n, rule)| rule(map).map(|place| Refusal::new(n, place)));
-    found.next()
+    found.next().map(|refusal| match refusal.number {
+        8 => refusal.beside(clashing_with(map, refusal.place)),
+        _ => refusal,
+    })
 }
 
 /// Rule 5: a coordinate beyond its range.
@@ -50,6 +53,13 @@ fn clashing(map: &Map) -> Option<usize> {
     let segments = map.segments();
     let with_later = |k: usize| segments[k + 1..].iter().any(|t| clash(&segments[k], t));
     (0..segments.len()).find(|&k| with_later(k))
+}
+
+/// The least edge that clashes with edge k, of lower or higher number.
+fn clashing_with(map: &Map, k: usize) -> usize {
+    let segments = map.segments();
+    let mut others = (0..segments.len()).filter(|&j| j != k);
+    others.find(|&j| clash(&segments[j], &segments[k])).expect("an edge that clashes")
 }
 
 /// Rule 9: a vertex has no edge.

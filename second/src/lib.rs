@@ -10,6 +10,7 @@ pub mod literal;
 pub mod locate;
 pub mod make;
 pub mod map;
+pub mod meet;
 pub mod overlay;
 pub mod ovfile;
 pub mod pack;

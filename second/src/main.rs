@@ -3,6 +3,7 @@
 use second::check::check;
 use second::make;
 use second::map::decode;
+use second::meet;
 use second::overlay::{overlay_files, Room};
 use second::ovfile::{file_of, read};
 use second::pack;
@@ -24,10 +25,14 @@ second make KIND SEED OUT.zmp             make a map file
 second pair KIND SEED DIR                 make DIR/zones.zmp and DIR/blocks.zmp
 second set SEED N DIR                     make N pairs of all kinds in turn, in folders of DIR
 second digests DIR                        the digest of the pair in each folder of DIR
-second pack SEED N FILE                   N pairs of all kinds in one file, with tables to lend
+second pack SEED N FILE                   N pairs of all kinds and N/10 clashing ones in one file, with
+                                          tables to lend
 second answers FILE                       the answer and digest of each pair of a pack
 second unpack FILE I DIR                  make the maps of pair I of a pack in DIR, and say its ROOM
 second damage-overlay SEED FILE OUT       damage an overlay file
+second meets FILE                         how two edges meet, for each 16 bytes of a file
+second clash FILE                         of a map file refused with 8, how the two edges meet
+second make-meets SEED N FILE             N pairs of edges of all kinds, for `meets`
 second text FILE.txt OUT.zmp              make a map file from text, and check it
 second untext FILE.zmp                    the text of a map file
 second trial SEED N                       N rounds of small inputs with their answers
@@ -80,6 +85,12 @@ fn run(args: &[&str]) -> Outcome {
         ["answers", file] => answers(file),
         ["unpack", file, i, dir] => unpack(file, number(i)?, dir),
         ["damage-overlay", seed, file, out] => damage_overlay(number(seed)?, file, out),
+        ["meets", file] => Ok(meet::lines(&bytes(file))),
+        ["clash", file] => clash(file),
+        ["make-meets", seed, n, out] => {
+            let file = make::meets::file(number(seed)?, number(n)?);
+            save(out, &file).map(|()| String::new())
+        }
         ["text", file, out] => from_text(file, out),
         ["untext", file] => to_text(file),
         ["trial", seed, n] => Ok(second::trial::run(number(seed)?, number(n)?)),
@@ -125,6 +136,17 @@ fn checked(path: &str) -> String {
     match check(&bytes(path)) {
         Ok(map) => format!("ok {} {}\n", map.vertices.len(), map.edges.len()),
         Err(refusal) => format!("{refusal}\n"),
+    }
+}
+
+/// The sentence for a map file that is refused with 8.
+fn clash(path: &str) -> Outcome {
+    let file = bytes(path);
+    match (check(&file), decode(&file)) {
+        (Err(refusal), Ok(map)) if refusal.number == 8 => {
+            Ok(meet::sentence(&map, refusal.place, refusal.other) + "\n")
+        }
+        _ => Err(format!("{path}: not refused with 8")),
     }
 }
 
@@ -176,10 +198,10 @@ fn kinds() -> String {
         out += &format!("  {:14} {} (rule {rule})\n", k.name, k.about);
     }
     out += "pairs:\n";
-    for k in make::pairs::KINDS {
+    for k in make::pairs::KINDS.iter().chain([&make::pairs::CLASHING]) {
         out += &format!("  {:14} {}\n", k.name, k.about);
     }
-    out + "  any            any of these\n"
+    out + "  any            any of these but the last\n"
 }
 
 fn pair(kind: &str, seed: u64, dir: &str) -> Outcome {

@@ -7,7 +7,7 @@ use crate::limits::*;
 use crate::locate::{middle, Roofs};
 use crate::map::Map;
 use crate::point::Point;
-use crate::segment::{meeting, Meeting, Segment};
+use crate::segment::{shared, Segment, Shared};
 use crate::tables::{FaceRow, HalfEdgeRow, Sources, Tables, VertexRow};
 use std::collections::{BTreeMap, HashMap};
 
@@ -78,10 +78,10 @@ fn cuts(first: &Map, second: &Map) -> [Vec<Vec<Point>>; 2] {
                 cuts[0][i].push(p);
                 cuts[1][j].push(p);
             };
-            match meeting(&s[i], &t[j]) {
-                Meeting::Nothing => {}
-                Meeting::At(p) => cut(p),
-                Meeting::Stretch(p, q) => {
+            match shared(&s[i], &t[j]) {
+                Shared::Nothing => {}
+                Shared::At(p) => cut(p),
+                Shared::Stretch(p, q) => {
                     cut(p);
                     cut(q);
                 }

@@ -5,7 +5,7 @@
 //! files. All numbers have 16 bits, low byte first.
 
 use crate::limits::{EDGES, FACES, VERTICES};
-use crate::make::pairs::{pair_files, KINDS};
+use crate::make::pairs::{pair_files, CLASHING, KINDS};
 use crate::overlay::{overlay_files, Room};
 use crate::random::Random;
 
@@ -16,28 +16,29 @@ pub struct Pair {
 }
 
 impl Pair {
-    /// `done V E F DIGEST` or the refusal, of the overlay in the lent tables.
+    /// `done V E F DIGEST` or the refusal with its other edge, of the overlay in the lent tables.
     pub fn answer(&self) -> String {
         let [v, h, s, f] = self.rows.map(usize::from);
         match overlay_files(&self.files[0], &self.files[1], &Room::lent(v, h, s, f)) {
             Ok(overlay) => format!("done {}", overlay.tables.digest()),
-            Err(refusal) => refusal.to_string(),
+            Err(refusal) => refusal.whole(),
         }
     }
 }
 
-/// n pairs of all kinds in turn; pair i has the seed `seed` + i. Every third is lent tables that
-/// just suffice or are too short.
+/// n pairs of all kinds in turn, and a tenth as many with several clashes; pair i has the seed
+/// `seed` + i. Every third is lent tables that just suffice or are too short.
 pub fn make(seed: u64, n: u16) -> Vec<Pair> {
     let pair = |i: u16| {
         let seed = seed.wrapping_add(i as u64);
-        let kind = KINDS[i as usize % KINDS.len()].name;
+        let kind = if i < n { KINDS[i as usize % KINDS.len()].name } else { CLASHING.name };
         let files = pair_files(kind, seed).expect("a kind of pair");
         let full = [VERTICES, 2 * EDGES, EDGES, FACES].map(|rows| rows as u16);
-        let rows = if i % 3 == 2 { near(&mut Random::new(seed, "pack"), &files, full) } else { full };
+        let rows =
+            if i % 3 == 2 { near(&mut Random::new(seed, "pack"), &files, full) } else { full };
         Pair { rows, files }
     };
-    (0..n).map(pair).collect()
+    (0..n + n / 10).map(pair).collect()
 }
 
 /// Rows at or next to what the overlay asks, in one of the tables or in all.

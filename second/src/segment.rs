@@ -13,7 +13,7 @@ pub struct Segment {
 
 /// The set of points that two edges have in common.
 #[derive(Clone, Copy, PartialEq, Eq, Debug)]
-pub enum Meeting {
+pub enum Shared {
     Nothing,
     At(Point),
     Stretch(Point, Point),
@@ -57,9 +57,9 @@ impl Segment {
 
 /// What two edges have in common. The crossing of two lines is taken from their equations;
 /// a point of a line lies on the edge if it lies in the edge's box.
-pub fn meeting(s: &Segment, t: &Segment) -> Meeting {
+pub fn shared(s: &Segment, t: &Segment) -> Shared {
     if s.apart(t) {
-        return Meeting::Nothing;
+        return Shared::Nothing;
     }
     let (a1, b1, c1) = s.line();
     let (a2, b2, c2) = t.line();
@@ -67,38 +67,38 @@ pub fn meeting(s: &Segment, t: &Segment) -> Meeting {
     if bottom == 0 {
         let (dx, dy) = s.way();
         let on_one_line = dx * (t.ay - s.ay) == dy * (t.ax - s.ax);
-        return if on_one_line { along(s, t) } else { Meeting::Nothing };
+        return if on_one_line { along(s, t) } else { Shared::Nothing };
     }
     let sign = bottom.signum();
     let x = (c1 * b2 - c2 * b1) * sign;
     let y = (a1 * c2 - a2 * c1) * sign;
     let d = bottom * sign;
     if s.boxes(x, y, d) && t.boxes(x, y, d) {
-        Meeting::At(Point::lowest(x, y, d))
+        Shared::At(Point::lowest(x, y, d))
     } else {
-        Meeting::Nothing
+        Shared::Nothing
     }
 }
 
 /// What two edges on one line have in common: from the greater of their lower ends to the
 /// smaller of their upper ends, if there is anything between.
-fn along(s: &Segment, t: &Segment) -> Meeting {
+fn along(s: &Segment, t: &Segment) -> Shared {
     let [s1, s2] = s.ends();
     let [t1, t2] = t.ends();
     let low = s1.min(s2).max(t1.min(t2));
     let high = s1.max(s2).min(t1.max(t2));
     match low.cmp(&high) {
-        std::cmp::Ordering::Less => Meeting::Stretch(low, high),
-        std::cmp::Ordering::Equal => Meeting::At(low),
-        std::cmp::Ordering::Greater => Meeting::Nothing,
+        std::cmp::Ordering::Less => Shared::Stretch(low, high),
+        std::cmp::Ordering::Equal => Shared::At(low),
+        std::cmp::Ordering::Greater => Shared::Nothing,
     }
 }
 
 /// Do two edges of one map share a point that is not an end of both?
 pub fn clash(s: &Segment, t: &Segment) -> bool {
-    match meeting(s, t) {
-        Meeting::Nothing => false,
-        Meeting::At(p) => !(s.ends().contains(&p) && t.ends().contains(&p)),
-        Meeting::Stretch(..) => true,
+    match shared(s, t) {
+        Shared::Nothing => false,
+        Shared::At(p) => !(s.ends().contains(&p) && t.ends().contains(&p)),
+        Shared::Stretch(..) => true,
     }
 }

@@ -5,9 +5,11 @@ use crate::check::check;
 use crate::literal::slip::{OF_MAPS, OF_PAIRS};
 use crate::make::damage::{damage_map, KINDS};
 use crate::make::few::{few, two_few};
+use crate::make::meets;
 use crate::make::overlay_damage;
 use crate::make::table_damage::{self, Order};
 use crate::make::telling::{telling_map, telling_pair};
+use crate::meet::{asked, parse, Ask, ASK};
 use crate::overlay::{overlay_files, Overlay, Room};
 use crate::ovfile::{file_of, read, write};
 use crate::random::Random;
@@ -18,10 +20,13 @@ use std::fmt::Write;
 const MAPS: usize = 5;
 /// One map in so many is made to show a slip, and is not always valid.
 const TELLING: usize = 3;
+/// Meet lines for each pair line.
+const MEETS: usize = 20;
 /// No file of a map line is longer.
 const LONGEST: usize = 260;
 
-/// The lines of n rounds: a pair, five maps, a room, a file read, a file written.
+/// The lines of n rounds: a pair, five maps, a room, a file read, a file written, and of all kinds
+/// of two edges how they meet.
 pub fn run(seed: u64, n: usize) -> String {
     let mut out = String::new();
     for round in 0..n {
@@ -37,6 +42,9 @@ pub fn run(seed: u64, n: usize) -> String {
         line(room_line(&mut random, round));
         line(read_line(&mut random));
         line(write_line(&mut random));
+        for record in meets::file(random.bits() / 16 * 16, MEETS).chunks(ASK) {
+            line(meet_line(&parse(record)));
+        }
     }
     out
 }
@@ -90,7 +98,7 @@ fn damaged(random: &mut Random, kind: usize) -> Vec<u8> {
 fn pair_line(files: &[Vec<u8>; 2], done: Result<Overlay, crate::answer::Refusal>) -> String {
     let answer = match done.and_then(|o| file_of(&o.tables).map(|file| (o, file))) {
         Ok((overlay, file)) => format!("done {} {}", overlay.tables.digest(), hex(&file)),
-        Err(refusal) => refusal.to_string(),
+        Err(refusal) => refusal.whole(),
     };
     format!("pair {} {} {answer}", hex(&files[0]), hex(&files[1]))
 }
@@ -98,7 +106,7 @@ fn pair_line(files: &[Vec<u8>; 2], done: Result<Overlay, crate::answer::Refusal>
 fn map_line(file: &[u8]) -> String {
     let answer = match check(file) {
         Ok(map) => format!("ok {} {}", map.vertices.len(), map.edges.len()),
-        Err(refusal) => refusal.to_string(),
+        Err(refusal) => refusal.whole(),
     };
     format!("map {} {answer}", hex(file))
 }
@@ -137,7 +145,7 @@ fn room_line(random: &mut Random, round: usize) -> String {
     let room = Room::lent(rows[0], rows[1], rows[2], rows[3]);
     let answer = match overlay_files(&files[0], &files[1], &room) {
         Ok(overlay) => format!("done {}", overlay.tables.digest()),
-        Err(refusal) => refusal.to_string(),
+        Err(refusal) => refusal.whole(),
     };
     format!("room {} {} {} {answer}", hex(&files[0]), hex(&files[1]), words(rows))
 }
@@ -163,7 +171,7 @@ fn read_line(random: &mut Random) -> String {
     let room = Room::lent(rows[0], rows[1], rows[2], rows[3]);
     let answer = match read(&file, &room) {
         Ok(tables) => format!("done {}", tables.digest()),
-        Err(refusal) => refusal.to_string(),
+        Err(refusal) => refusal.whole(),
     };
     format!("read {} {} {answer}", hex(&file), words(rows))
 }
@@ -182,7 +190,7 @@ fn write_line(random: &mut Random) -> String {
     let Order { tables: t, counts: c, length } = table_damage::damaged(random, &tables);
     let answer = match write(&t, c, length) {
         Ok(file) => format!("done {}", hex(&file)),
-        Err(refusal) => refusal.to_string(),
+        Err(refusal) => refusal.whole(),
     };
     let vertices = text(&t.vertices, |v| [v.x, v.y, v.d, v.out as i64]);
     let half_edges = text(&t.half_edges, |h| {
@@ -193,4 +201,12 @@ fn write_line(random: &mut Random) -> String {
     let faces = text(&t.faces, |f| [f.first, f.second, f.least, f.holes].map(i64::from));
     let counts = words([c.vertices, c.edges, c.faces, length]);
     format!("write {counts} {vertices} {half_edges} {sources} {faces} {answer}")
+}
+
+fn meet_line(ask: &Ask) -> String {
+    let answer = match asked(ask) {
+        Ok(meeting) => meeting.to_string(),
+        Err(refusal) => refusal.whole(),
+    };
+    format!("meet {} {answer}", ask.map(|n| n.to_string()).join(" "))
 }

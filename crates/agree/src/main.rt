@@ -17,6 +17,7 @@ use limits::SOURCE_CELLS;
 use limits::SOURCE_WIDTH;
 use limits::VERTEX_CELLS;
 use limits::VERTEX_WIDTH;
+use map_file::Refusal;
 use tables::Answer;
 use tables::Counts;
 
@@ -32,6 +33,20 @@ fn say_done(c: Counts, digest: u64) {
     say(b"\n");
 }
 
+fn put(text: &[u8], n: u16) {
+    say(text);
+    say_number(n as u64);
+}
+
+// What 01's line says, and the other edge behind it.
+fn say_refused(r: Refusal) {
+    put(b"refused ", r.number);
+    put(b" map ", r.map);
+    put(b" place ", r.place);
+    put(b" other ", r.other);
+    say(b"\n");
+}
+
 // The answer for a pair of files, with these tables lent.
 fn answer(
     zones: &[u8],
@@ -44,7 +59,7 @@ fn answer(
     let r = overlay::overlay(zones, blocks, vertices, halves, sources, faces);
     match r {
         Answer::Done(c) => say_done(c, digest::of(c, vertices, halves, sources, faces)),
-        Answer::Refused(f) => console::say_refused(f.number, f.map, f.place),
+        Answer::Refused(f) => say_refused(f),
     }
 }
 

@@ -13,20 +13,20 @@ use Rattle.paper.specs.Writer.{Written, writeFault, write}
 abbrev pub four : ℕ → ℕ → ℕ → ℕ → ℕ
 four a b c d = a + 65536 * (b + 65536 * (c + 65536 * d))
 
--- 0 and the three counts; or a refusal's number (never 0), map and place
+-- 0 and the three counts; or a refusal's number (never 0), map, place and other edge
 abbrev pub told : Answer Counts → ℕ
 told (done c) = four 0 (c .vertices) (c .edges) (c .faces)
-told (refused r) = four (r .number) (r .map) (r .place) 0
+told (refused r) = four (r .number) (r .map) (r .place) (r .other)
 
 -- the same of one map: 0 and its two counts
 abbrev pub toldMap : Answer (ℕ × ℕ) → ℕ
 toldMap (done c) = four 0 (c .0) (c .1) 0
-toldMap (refused r) = four (r .number) (r .map) (r .place) 0
+toldMap (refused r) = four (r .number) (r .map) (r .place) (r .other)
 
 -- the same of a file: 0, and the file's length above it
 abbrev pub toldLength : Answer ℕ → ℕ
 toldLength (done n) = 65536 * n
-toldLength (refused r) = four (r .number) (r .map) (r .place) 0
+toldLength (refused r) = four (r .number) (r .map) (r .place) (r .other)
 
 -- "whether it came from the first map, the second or both": 1, 2 or 3
 abbrev pub kind : Source → ℕ

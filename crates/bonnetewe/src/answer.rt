@@ -1,5 +1,5 @@
 // "The answer is either the three counts or a refusal with number, map and place": four numbers of 16 bits in one of 64, the lowest first. The first is 0
-// where it is done, and the counts follow; otherwise it is the refusal's number, and map and place follow.
+// where it is done, and the counts follow; otherwise it is the refusal's number, and map, place and other edge follow.
 use map_check::Checked;
 use ovfile_write::WriteAnswer;
 use tables::Answer;
@@ -26,7 +26,7 @@ pub fn of_answer(answer: Answer) -> u64
 {
     match answer {
         Answer::Done(c) => join(0, c.vertices, c.edges, c.faces),
-        Answer::Refused(r) => join(r.number, r.map, r.place, 0),
+        Answer::Refused(r) => join(r.number, r.map, r.place, r.other),
     }
 }
 
@@ -37,7 +37,7 @@ pub fn of_written(answer: WriteAnswer) -> u64
 {
     match answer {
         WriteAnswer::Done(n) => 65536 * n as u64,
-        WriteAnswer::Refused(r) => join(r.number, r.map, r.place, 0),
+        WriteAnswer::Refused(r) => join(r.number, r.map, r.place, r.other),
     }
 }
 
@@ -46,6 +46,6 @@ pub fn of_checked(answer: Checked) -> u64
 {
     match answer {
         Checked::Good(c) => join(0, c.vertices, c.edges, 0),
-        Checked::Bad(r) => join(r.number, r.map, r.place, 0),
+        Checked::Bad(r) => join(r.number, r.map, r.place, r.other),
     }
 }

@@ -2,6 +2,9 @@
 use crate::answer::of_answer;
 use crate::answer::of_checked;
 use crate::answer::of_written;
+use crate::met::lay_point;
+use crate::met::of_met;
+use crate::met::point_of;
 use crate::record::ends_of;
 use crate::record::sources_of;
 use tables::Counts;
@@ -9,6 +12,7 @@ ghost use mathlib.Core.Path.{_≡_};
 ghost use mathlib.Core.List.{[]};
 ghost use lib.ListN.{length};
 ghost use Rattle.paper.specs.Map.{check};
+ghost use Rattle.paper.specs.Meeting.{meet};
 ghost use Rattle.paper.specs.Lent.{lengthsOf};
 ghost use Rattle.paper.specs.Overlay.{overlay};
 ghost use Rattle.paper.specs.Record.{edgeRecord};
@@ -16,6 +20,7 @@ ghost use Rattle.paper.specs.Reader.{read};
 ghost use Rattle.paper.specs.Writer.{write};
 ghost use Rattle.tables.specs.Values.{lengthsBy, tablesBy};
 ghost use Rattle.bonnetewe.specs.Told.{toldMap, Told, ToldFile, counts, toldEnds, toldSources};
+ghost use Rattle.bonnetewe.specs.Met.{ToldMeeting};
 
 // The check of one map file of any bytes: done with its counts of vertices and edges, or refused.
 #[no_mangle]
@@ -24,6 +29,26 @@ pub extern "C" fn bonnetewe_check(file: &[u8]) -> u64
 {
     let answer = map_check::check(file);
     of_checked(answer)
+}
+
+// How the edge from a to b and the edge from c to d meet, with the point in a lent table of any length.
+#[no_mangle]
+pub extern "C" fn bonnetewe_meet(
+    ax: i16,
+    ay: i16,
+    bx: i16,
+    by: i16,
+    cx: i16,
+    cy: i16,
+    dx: i16,
+    dy: i16,
+    point: &mut [i64],
+) -> u64
+    ensures { λ r. ⌜ ToldMeeting (meet ax ay bx by cx cy dx dy) (length (now (point .entry))) (now (point .exit)) r ⌝ }
+{
+    let answer = meet::meet(ax, ay, bx, by, cx, cy, dx, dy);
+    lay_point(point_of(answer), point);
+    of_met(answer)
 }
 
 // The overlay of two map files of any bytes in the lent tables.

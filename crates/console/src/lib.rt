@@ -1,10 +1,12 @@
 // What the programs share: files by name, lines on standard output, and the edges of an overlay file. No contract can say what is read or written; the texts and answers come from
 // proved functions on slices.
+mod clash; // refusal 8 in a sentence
 mod edges; // the edges of an overlay file
 mod files; // files by name
 mod lines; // printing
 mod sentence; // a refusal in a sentence
 
+pub use clash::say_clash;
 pub use edges::say_edges;
 pub use files::load;
 pub use files::load_arg;

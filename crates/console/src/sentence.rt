@@ -1,4 +1,4 @@
-// A refusal in a sentence, for people: what is wrong, and where.
+// A refusal in a sentence, for people: what is wrong, and where. Refusal 8 has its own (clash.rt).
 use crate::lines::say;
 use crate::lines::say_number;
 
@@ -22,7 +22,6 @@ fn say_cause(number: u16, place: u16) {
         5 => say(b"a number is beyond its range"),
         6 => say(b"a vertex lies on one of lower number"),
         7 => say(b"an end names no vertex, or both ends are the same"),
-        8 => say(b"an edge shares with another a point that is not an end of both"),
         9 => say(b"a vertex has no edge"),
         10 => say(b"the labels disagree"),
         11 => say_room(place),
@@ -34,7 +33,7 @@ fn say_cause(number: u16, place: u16) {
 fn say_thing(number: u16) -> bool {
     match number {
         5 | 6 | 9 => say(b": vertex "),
-        7 | 8 | 21 => say(b": edge "),
+        7 | 21 => say(b": edge "),
         10 => say(b": half-edge "),
         _ => return false,
     }
@@ -49,7 +48,7 @@ fn say_map(map: u16) {
     }
 }
 
-// "an edge shares with another a point that is not an end of both: edge 17 of the first map"
+// "an end names no vertex, or both ends are the same: edge 17 of the first map"
 pub fn say_sentence(number: u16, map: u16, place: u16) {
     say_cause(number, place);
     if say_thing(number) {

@@ -17,8 +17,8 @@ use Rattle.seq.specs.Perm.{onto}
 use Rattle.seq.specs.Pass.{meets, pass-clear}
 use Rattle.paper.specs.Plane.{Seg, clash}
 use Rattle.paper.specs.Graph.{Graph, edgeCount, edge}
-use Rattle.paper.specs.Map.{clashing}
-use Rattle.paper.specs.Refusal.{given, firstAt}
+use Rattle.paper.specs.Map.{clashing, clashOther, clashFault}
+use Rattle.paper.specs.Refusal.{beside}
 use Rattle.laws_plane.specs.Cone.{UpV}
 use Rattle.laws_plane.specs.Clash.{clash-swap}
 use Rattle.laws_fast.specs.Below.{Passing, Box, aside-disjoint}
@@ -112,8 +112,8 @@ module _ (g : Graph) where
   carriersOf k = edge g k .carrier
 
   pub pass-eight : AllUp carriersOf (edgeCount g) → (f : ℕ → ℕ) → Injects f (edgeCount g) → (gone : ℕ → ℕ → Bool) → Passing carriersOf f gone (edgeCount g) →
-      (test : ℕ → ℕ → Bool) → Sound carriersOf (edgeCount g) test → meets gone f test (edgeCount g) ≡ false → firstAt 8 (clashing g) (edgeCount g) ≡ none
+      (test : ℕ → ℕ → Bool) → Sound carriersOf (edgeCount g) test → meets gone f test (edgeCount g) ≡ false → clashFault g ≡ none
   pass-eight up f I gone O test S e =
       let k = least (clashing g) (edgeCount g) in
       let q : k ≡ edgeCount g = pass-least carriersOf (edgeCount g) up f I gone O test S e in
-      ap (λ (c : Bool). given 8 k c) (le-ltb k (edgeCount g) (omega arith))
+      ap (λ (c : Bool). beside 8 k (clashOther g) c) (le-ltb k (edgeCount g) (omega arith))

@@ -14,7 +14,7 @@ use Rattle.seq.specs.Options.{none-optional}
 use Rattle.paper.specs.Plane.{Pt, Seg, crossing}
 use Rattle.paper.specs.Graph.{Graph, edge}
 use Rattle.paper.specs.Map.{Map}
-use Rattle.paper.specs.Pieces.{layer, meeting, crossings, inOrder, verticesOf}
+use Rattle.paper.specs.Pieces.{layer, crossedAt, crossings, inOrder, verticesOf}
 use Rattle.laws_plane.specs.Cone.{UpV}
 use Rattle.laws_plane.specs.Crossing.{crossing-swap}
 use Rattle.laws_map.specs.Keeps.{seg, edges}
@@ -86,7 +86,7 @@ module _ (ms : List Map) (K : AllKeep ms) (n : ℕ) (f : ℕ → MapEdge) (L : L
         | no q ↦ let s : i ≡ j → ⊥ = λ e. d (ap (λ (x : ℕ). f x .map) e) in met j i (omega arith) li (λ e. d (sym e)) z (swap z i j li lj w)
       ]
 
-  named : (z : Pt) (i j c k b r : ℕ) → f i .map ≡ c → f i .edge ≡ k → f j .map ≡ b → f j .edge ≡ r → Among z (meeting (g c) (g b) k r) → Among z (crossed ms (f i) (f j))
+  named : (z : Pt) (i j c k b r : ℕ) → f i .map ≡ c → f i .edge ≡ k → f j .map ≡ b → f j .edge ≡ r → Among z (crossedAt (g c) (g b) k r) → Among z (crossed ms (f i) (f j))
   named z i j c k b r p q x y w = subst (λ (l : List Pt). Among z l) (sym (λ t. optional (crossing (seg (layer ms (p t)) (q t)) (seg (layer ms (x t)) (y t))))) w
 
   swept-has : (z : Pt) → Among z (crossings ms) → Among z got

@@ -1,4 +1,5 @@
 pub mod Keeps
 pub mod Rules
 pub mod Passes
+pub mod Refused
 pub mod Files

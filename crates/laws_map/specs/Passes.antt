@@ -11,10 +11,10 @@ use Rattle.paper.specs.Plane.{same, clash}
 use Rattle.paper.specs.Graph.{Graph, point, edge, origin, leaves, followers, makesHole, holeLook}
 use Rattle.paper.specs.Bytes.{ascii, marked, u16}
 use Rattle.paper.specs.Refusal.{Refusal}
-use Rattle.paper.specs.Map.{Map, label, vertexCount, edgesIn, mapOf, mapLength, formFaults, partFaults, netFaults, tooFar, doubled, badEnds, clashes, clashing, lonely, disagrees, fault}
+use Rattle.paper.specs.Map.{Map, label, vertexCount, edgesIn, mapOf, mapLength, formFaults, partFaults, netFaults, tooFar, doubled, badEnds, clashes, clashing, clashPlace, clashOther, lonely, disagrees, fault}
 use Rattle.laws_map.specs.Keeps.{seg, edges, halves, vertices}
 use Rattle.laws_map.specs.Rules.{Form, Rules}
-use Rattle.laws_refusals.specs.Refusals.{Nothing, nothing, is-nothing, given-none, none-given, least-none-is, none-least}
+use Rattle.laws_refusals.specs.Refusals.{Nothing, nothing, is-nothing, given-none, none-given, none-below, below-none, least-none-is, none-least}
 use Rattle.laws_graph.specs.Rules.{single-is, ends-are, clear-is}
 
 -- ── the tests ──
@@ -140,7 +140,7 @@ module _ (s : List ℕ) where
         t5 = least-none-is 5 (tooFar (m .graph)) (vertices m) q5;
         t6 = least-none-is 6 (doubled (m .graph)) (vertices m) q6;
         t7 = least-none-is 7 (badEnds (m .graph)) (edges m) q7;
-        t8 = least-none-is 8 (clashing (m .graph)) (edges m) q8;
+        t8 = none-below 8 (clashPlace (m .graph)) (clashOther (m .graph)) (clashing (m .graph)) (edges m) q8;
         t9 = least-none-is 9 (lonely (m .graph)) (vertices m) q9;
         t10 = least-none-is 10 (disagrees m (followers (m .graph))) (halves m) q10;
       }
@@ -152,7 +152,7 @@ module _ (s : List ℕ) where
       let q5 = none-least 5 (tooFar (m .graph)) (vertices m) (t .t5) in
       let q6 = none-least 6 (doubled (m .graph)) (vertices m) (t .t6) in
       let q7 = none-least 7 (badEnds (m .graph)) (edges m) (t .t7) in
-      let q8 = none-least 8 (clashing (m .graph)) (edges m) (t .t8) in
+      let q8 = below-none 8 (clashPlace (m .graph)) (clashOther (m .graph)) (clashing (m .graph)) (edges m) (t .t8) in
       let q9 = none-least 9 (lonely (m .graph)) (vertices m) (t .t9) in
       let q10 = none-least 10 (disagrees m (followers (m .graph))) (halves m) (t .t10) in
       is-nothing faults (q1, (q2, (q3, (q4, (q5, (q6, (q7, (q8, (q9, (q10, tt))))))))))

@@ -1,44 +1,23 @@
--- How two edges meet, asked by itself (02, Ask 2): the whole operation on eight numbers, its refusals, and what it answers. In order: the definition; each refusal where it is given;
--- done exactly where nothing is refused, and then the answer is the meaning of `Means`; which end, and which edge, is named first. Assumes nothing.
+-- How two edges meet, asked by itself (02, Ask 2): the whole operation on eight numbers. In order: each refusal where it is given; done exactly where nothing is refused, and then the answer is the meaning of
+-- `Means`; which end, and which edge, is named first. Assumes nothing.
 use mathlib.Core.Path.{_≡_, refl, sym, _∙_, ap, subst}
 use mathlib.Core.Logic.{_⊎_, inl, inr}
 use Prim.Native.Nat.{_≤_}
 use native.Mathlib.Omega.{arith}
 use borrow.Author.Tests.{ltb-false, le-ltb}
-use Rattle.seq.specs.Seq.{Bool, true, false, _||_, List, [], _∷_, Option, ℕ, ltb, ℤ, natAbs}
+use Rattle.seq.specs.Seq.{Bool, true, false, _||_, [], _∷_, ℕ, ltb, natAbs}
 use Rattle.seq.specs.Tests.{false-or}
 use Rattle.exact.specs.Tests.{clash as no-both, not-true, or-false}
 use Rattle.paper.specs.Limits.{reach}
-use Rattle.paper.specs.Plane.{Vec, Seg, vec, whole, same, before, between}
-use Rattle.paper.specs.Refusal.{Refusal, Answer, done, refused, given, firstOf, answer}
+use Rattle.paper.specs.Plane.{Vec, Seg, whole, same, before, between}
+use Rattle.paper.specs.Refusal.{Answer, done, refused, given, firstOf, answer}
 use Rattle.laws_plane.specs.Cone.{UpV}
 use Rattle.laws_plane.specs.Points.{same-self, Three, less, equal, more, three}
 use Rattle.laws_plane.specs.Ends.{corner-lowest, corner-same, whole-equal}
 use Rattle.laws_plane.specs.Edges.{between-up, between-swap}
-use Rattle.laws_meet.specs.Meeting.{Meeting, meeting}
+use Rattle.paper.specs.Meeting.{Meeting, meeting, beyond, meetCorners}
 use Rattle.laws_meet.specs.Means.{Means, meeting-means}
 use Rattle.laws_meet.specs.Exactly.{meeting-swap}
-
--- "a coordinate beyond its range"
-abbrev pub beyond : Vec → Bool
-beyond a = ltb reach (natAbs (a .x)) || ltb reach (natAbs (a .y))
-
--- "it refuses with 5 for a coordinate beyond its range and then 7 for an edge of no length; place 0 for the first edge, 1 for the second": both edges for 5, then both for 7
-abbrev pub meetFaults : Vec → Vec → Vec → Vec → List (Option Refusal)
-meetFaults a b c d =
-    given 5 0 (beyond a || beyond b)
-    ∷ given 5 1 (beyond c || beyond d)
-    ∷ given 7 0 (same (whole a) (whole b))
-    ∷ given 7 1 (same (whole c) (whole d))
-    ∷ []
-
--- the edge from a to b, and that from c to d
-abbrev pub meetCorners : Vec → Vec → Vec → Vec → Answer Meeting
-meetCorners a b c d = answer (meeting (between a b) (between c d)) (firstOf (meetFaults a b c d))
-
--- of eight numbers: x and y of each end
-abbrev pub meet : ℤ → ℤ → ℤ → ℤ → ℤ → ℤ → ℤ → ℤ → Answer Meeting
-meet ax ay bx by cx cy dx dy = meetCorners (vec ax ay) (vec bx by) (vec cx cy) (vec dx dy)
 
 -- ── refusals ──
 
@@ -58,19 +37,19 @@ module _ (a b c d : Vec) where
   abbrev by : Bool → Bool → Bool → Bool → Answer Meeting
   by x y z w = answer (meeting (between a b) (between c d)) (firstOf (given 5 0 x ∷ given 5 1 y ∷ given 7 0 z ∷ given 7 1 w ∷ []))
 
-  pub refused-5-first : (beyond a || beyond b) ≡ true → meetCorners a b c d ≡ refused (record { number = 5; map = 0; place = 0 })
+  pub refused-5-first : (beyond a || beyond b) ≡ true → meetCorners a b c d ≡ refused (record { number = 5; map = 0; place = 0; other = 0 })
   refused-5-first e = ap (λ (x : Bool). by x far-second no-first no-second) e
 
-  pub refused-5-second : (beyond a || beyond b) ≡ false → (beyond c || beyond d) ≡ true → meetCorners a b c d ≡ refused (record { number = 5; map = 0; place = 1 })
+  pub refused-5-second : (beyond a || beyond b) ≡ false → (beyond c || beyond d) ≡ true → meetCorners a b c d ≡ refused (record { number = 5; map = 0; place = 1; other = 0 })
   refused-5-second e f = λ i. by (e i) (f i) no-first no-second
 
-  pub refused-7-first : (beyond a || beyond b) ≡ false → (beyond c || beyond d) ≡ false → a ≡ b → meetCorners a b c d ≡ refused (record { number = 7; map = 0; place = 0 })
+  pub refused-7-first : (beyond a || beyond b) ≡ false → (beyond c || beyond d) ≡ false → a ≡ b → meetCorners a b c d ≡ refused (record { number = 7; map = 0; place = 0; other = 0 })
   refused-7-first e f g = λ i. by (e i) (f i) (eq i) no-second
     where
       eq : no-first ≡ true
       eq = ap (λ (x : Vec). same (whole a) (whole x)) (sym g) ∙ same-self (whole a)
 
-  pub refused-7-second : (beyond a || beyond b) ≡ false → (beyond c || beyond d) ≡ false → (a ≡ b → ⊥) → c ≡ d → meetCorners a b c d ≡ refused (record { number = 7; map = 0; place = 1 })
+  pub refused-7-second : (beyond a || beyond b) ≡ false → (beyond c || beyond d) ≡ false → (a ≡ b → ⊥) → c ≡ d → meetCorners a b c d ≡ refused (record { number = 7; map = 0; place = 1; other = 0 })
   refused-7-second e f n g = λ i. by (e i) (f i) (ne i) (eq i)
     where
       ne : no-first ≡ false

@@ -26,7 +26,7 @@ use Rattle.laws_plane.specs.Crossing.{crossing-touch}
 use Rattle.laws_map.specs.Keeps.{seg, edges}
 use Rattle.laws_overlay.specs.Maps.{AllKeep, foot-vertex, head-vertex}
 use Rattle.laws_overlay.specs.Vertices.{collected, crossings-from, crossings-has}
-use Rattle.laws_meet.specs.Meeting.{Meeting, separate, touching, crossed, sharing, meeting, pointOf, clashBy}
+use Rattle.paper.specs.Meeting.{Meeting, apart as separate, touching, crossing as crossed, sharing, meeting, pointOf, clashBy}
 use Rattle.laws_meet.specs.Means.{parallel-ends, parallel-crossed}
 use Rattle.laws_meet.specs.Uses.{clash-meeting, crossing-meeting, touching-is}
 use Rattle.laws_meet.specs.Other.{Upward}

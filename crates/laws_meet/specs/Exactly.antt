@@ -8,7 +8,7 @@ use Rattle.paper.specs.Plane.{Seg}
 use Rattle.laws_plane.specs.Cone.{UpV}
 use Rattle.laws_plane.specs.Points.{same-neither, same-equal, same-before}
 use Rattle.laws_plane.specs.Edges.{Inside, IsEnd, end-not-inside}
-use Rattle.laws_meet.specs.Meeting.{Meeting, touching, crossed, meeting}
+use Rattle.paper.specs.Meeting.{Meeting, touching, crossing as crossed, meeting}
 use Rattle.laws_meet.specs.Means.{Only, Two, Means, is-separate, is-touching, is-crossed, is-sharing, meeting-means}
 
 -- ── no answer but one ──

@@ -18,7 +18,7 @@ use Rattle.laws_plane.specs.Sides.{left-foot, left-head}
 use Rattle.laws_plane.specs.Edges.{On, Inside, IsEnd, inside-is, is-inside, on-where, seg-up}
 use Rattle.laws_plane.specs.Lines.{one-line}
 use Rattle.laws_plane.specs.Crossing.{Touch, crossing-touch, crossing-none, crossing-only}
-use Rattle.laws_meet.specs.Meeting.{Meeting, separate, touching, crossed, sharing, meetingAt, stretch, meeting}
+use Rattle.paper.specs.Meeting.{Meeting, apart as separate, touching, crossing as crossed, sharing, meetingAt, stretch, meeting}
 
 -- p, in lowest terms, is the only point on both
 pub record Only (s t : Seg) (p : Pt) : Type 0 where

@@ -1,13 +1,13 @@
 -- Refusal 8's other edge (02, Ask 2): "the other edge's number, the least one that clashes with it". Of a graph whose carriers go up: where an edge clashes, the least that does is the place, the other is an
--- edge, clashes with it, is the least that does, and is greater than the place (`other-greater`): a lesser one would itself clash, and be the place. Then the map that a file holds, where rules 6 and 7
--- find nothing. Assumes nothing.
+-- edge, clashes with it, is the least that does, and is greater than the place: a lesser one would itself clash, and be the place (`other-edge`). Then the file that is refused: with 8 it is so of the map that
+-- the file holds (`refused-8`), and with any other number there is no other edge (`other-none`). Assumes nothing.
 use mathlib.Core.Path.{_≡_, refl, sym, _∙_, ap, subst}
 use mathlib.Core.Logic.{_⊎_, inl, inr}
 use Prim.Native.Nat.{_<_}
 use native.Mathlib.Decide.{decLt}
 use native.Mathlib.Omega.{arith}
-use borrow.Author.Tests.{eqb-true, eqb-false, ne-eqb}
-use Rattle.seq.specs.Seq.{Bool, true, false, cond, not, _||_, List, [], _∷_, _++_, Option, none, some, ℕ, eqb, ltb, length, least, someBelow}
+use borrow.Author.Tests.{eqb-false, ne-eqb}
+use Rattle.seq.specs.Seq.{true, false, not, _||_, List, [], _∷_, _++_, Option, some, ℕ, eqb, ltb, length, least, someBelow}
 use Rattle.seq.specs.Least.{least-holds, least-min, least-below, some-has, some-witness, no-some-is}
 use Rattle.seq.specs.Options.{none-some}
 use Rattle.seq.specs.Tests.{was-false}
@@ -17,21 +17,14 @@ use Rattle.paper.specs.Plane.{clash}
 use Rattle.paper.specs.Graph.{Graph, edgeCount, halfCount, edge, followers}
 use Rattle.paper.specs.Bytes.{ascii, marked, u16}
 use Rattle.paper.specs.Refusal.{Refusal, given, firstAt, firstOf}
-use Rattle.paper.specs.Map.{vertexCount, edgesIn, mapOf, mapLength, partFaults, netFaults, tooFar, doubled, badEnds, clashes, clashing, lonely, disagrees, fault}
+use Rattle.paper.specs.Map.{vertexCount, edgesIn, mapOf, mapLength, partFaults, netFaults, tooFar, doubled, badEnds, clashes, clashing, clashPlace, clashOther, lonely, disagrees, fault}
 use Rattle.laws_plane.specs.Cone.{UpV}
 use Rattle.laws_plane.specs.Clash.{clash-swap}
-use Rattle.laws_meet.specs.Meeting.{meeting, clashBy}
+use Rattle.paper.specs.Meeting.{meeting, clashBy}
 use Rattle.laws_meet.specs.Uses.{clash-meeting}
-use Rattle.laws_refusals.specs.Refusals.{first-step, first-later}
+use Rattle.laws_refusals.specs.Refusals.{beside-step, first-later}
 use Rattle.laws_graph.specs.Rules.{file-up}
-
--- refusal 8's place: "least edge number"
-abbrev pub clashPlace : Graph → ℕ
-clashPlace g = least (clashing g) (edgeCount g)
-
--- "the other edge's number, the least one that clashes with it"
-abbrev pub clashOther : Graph → ℕ
-clashOther g = least (clashes g (clashPlace g)) (edgeCount g)
+use Rattle.laws_map.specs.Refused.{fault-keeps}
 
 -- every edge goes up
 abbrev pub Upward : Graph → Type 0
@@ -83,19 +76,20 @@ module _ (g : Graph) (U : Upward g) where
           itself : (k : ℕ) → clashes g k k ≡ true → ⊥
           itself k c = let r = and-parts (not (eqb k k)) (clash (edge g k .carrier) (edge g k .carrier)) c in eqb-false k k (was-false (eqb k k) (r .0)) refl
 
--- ── of a file that is refused with 8 ──
+-- ── of a file that is refused ──
 
 module _ (s : List ℕ) where
   abbrev g : Graph
   g = mapOf s .graph
 
-  -- what refusal 8 says of the file: the place is the least edge that clashes, and the other is as `OtherEdge` says
-  pub refused-8 : (r : Refusal) → fault s ≡ some r → r .number ≡ 8 → (r .place ≡ clashPlace (mapOf s .graph)) × OtherEdge (mapOf s .graph) (r .place) (clashOther (mapOf s .graph))
+  -- what refusal 8 says of the file: the place is the least edge that clashes, and the other is the least that clashes with it, as `OtherEdge` says
+  pub refused-8 : (r : Refusal) → fault s ≡ some r → r .number ≡ 8 →
+      (r .place ≡ clashPlace (mapOf s .graph)) × (r .other ≡ clashOther (mapOf s .graph)) × OtherEdge (mapOf s .graph) (r .place) (r .other)
   unfolding fault
   refused-8 r e n = go eighth
     where
-      other : (k : ℕ) → (k ≡ 8 → ⊥) → r .number ≡ k → ⊥
-      other k d q = d (sym q ∙ n)
+      another : (k : ℕ) → (k ≡ 8 → ⊥) → r .number ≡ k → ⊥
+      another k d q = d (sym q ∙ n)
 
       nv : ℕ
       nv = length (g .points)
@@ -108,19 +102,19 @@ module _ (s : List ℕ) where
 
       after-form : firstOf (partFaults g ++ net) ≡ some r
       after-form =
-          let a = first-later 1 0 (ltb (length s) mapHead || not (marked (ascii "ZMP") s 0)) (given 2 0 (not (eqb (u16 s 3) 1)) ∷ given 3 0 (ltb mapVertices (vertexCount s) || ltb mapEdges (edgesIn s)) ∷ given 4 0 (not (eqb (length s) (mapLength s))) ∷ (partFaults g ++ net)) r (other 1 (λ q. omega arith)) e in
-          let b = first-later 2 0 (not (eqb (u16 s 3) 1)) (given 3 0 (ltb mapVertices (vertexCount s) || ltb mapEdges (edgesIn s)) ∷ given 4 0 (not (eqb (length s) (mapLength s))) ∷ (partFaults g ++ net)) r (other 2 (λ q. omega arith)) (a .1) in
-          let c = first-later 3 0 (ltb mapVertices (vertexCount s) || ltb mapEdges (edgesIn s)) (given 4 0 (not (eqb (length s) (mapLength s))) ∷ (partFaults g ++ net)) r (other 3 (λ q. omega arith)) (b .1) in
-          first-later 4 0 (not (eqb (length s) (mapLength s))) (partFaults g ++ net) r (other 4 (λ q. omega arith)) (c .1) .1
+          let a = first-later 1 0 (ltb (length s) mapHead || not (marked (ascii "ZMP") s 0)) (given 2 0 (not (eqb (u16 s 3) 1)) ∷ given 3 0 (ltb mapVertices (vertexCount s) || ltb mapEdges (edgesIn s)) ∷ given 4 0 (not (eqb (length s) (mapLength s))) ∷ (partFaults g ++ net)) r (another 1 (λ q. omega arith)) e in
+          let b = first-later 2 0 (not (eqb (u16 s 3) 1)) (given 3 0 (ltb mapVertices (vertexCount s) || ltb mapEdges (edgesIn s)) ∷ given 4 0 (not (eqb (length s) (mapLength s))) ∷ (partFaults g ++ net)) r (another 2 (λ q. omega arith)) (a .1) in
+          let c = first-later 3 0 (ltb mapVertices (vertexCount s) || ltb mapEdges (edgesIn s)) (given 4 0 (not (eqb (length s) (mapLength s))) ∷ (partFaults g ++ net)) r (another 3 (λ q. omega arith)) (b .1) in
+          first-later 4 0 (not (eqb (length s) (mapLength s))) (partFaults g ++ net) r (another 4 (λ q. omega arith)) (c .1) .1
 
       fifth : (someBelow (tooFar g) nv ≡ false) × (firstOf (firstAt 6 (doubled g) nv ∷ firstAt 7 (badEnds g) ne ∷ net) ≡ some r)
-      fifth = first-later 5 (least (tooFar g) nv) (someBelow (tooFar g) nv) (firstAt 6 (doubled g) nv ∷ firstAt 7 (badEnds g) ne ∷ net) r (other 5 (λ q. omega arith)) after-form
+      fifth = first-later 5 (least (tooFar g) nv) (someBelow (tooFar g) nv) (firstAt 6 (doubled g) nv ∷ firstAt 7 (badEnds g) ne ∷ net) r (another 5 (λ q. omega arith)) after-form
 
       sixth : (someBelow (doubled g) nv ≡ false) × (firstOf (firstAt 7 (badEnds g) ne ∷ net) ≡ some r)
-      sixth = first-later 6 (least (doubled g) nv) (someBelow (doubled g) nv) (firstAt 7 (badEnds g) ne ∷ net) r (other 6 (λ q. omega arith)) (fifth .1)
+      sixth = first-later 6 (least (doubled g) nv) (someBelow (doubled g) nv) (firstAt 7 (badEnds g) ne ∷ net) r (another 6 (λ q. omega arith)) (fifth .1)
 
       seventh : (someBelow (badEnds g) ne ≡ false) × (firstOf net ≡ some r)
-      seventh = first-later 7 (least (badEnds g) ne) (someBelow (badEnds g) ne) net r (other 7 (λ q. omega arith)) (sixth .1)
+      seventh = first-later 7 (least (badEnds g) ne) (someBelow (badEnds g) ne) net r (another 7 (λ q. omega arith)) (sixth .1)
 
       U : Upward (mapOf s .graph)
       U = file-up s (no-some-is (doubled g) nv (sixth .0)) (no-some-is (badEnds g) ne (seventh .0))
@@ -128,33 +122,24 @@ module _ (s : List ℕ) where
       rest : List (Option Refusal)
       rest = firstAt 9 (lonely g) nv ∷ firstAt 10 (disagrees (mapOf s) (followers g)) (halfCount g) ∷ []
 
-      eighth : ((someBelow (clashing g) ne ≡ true) × (r ≡ record { number = 8; map = 0; place = clashPlace g })) ⊎ ((someBelow (clashing g) ne ≡ false) × (firstOf rest ≡ some r))
-      eighth = first-step 8 (clashPlace g) (someBelow (clashing g) ne) rest r (seventh .1)
+      eighth : ((someBelow (clashing g) ne ≡ true) × (r ≡ record { number = 8; map = 0; place = clashPlace g; other = clashOther g })) ⊎ ((someBelow (clashing g) ne ≡ false) × (firstOf rest ≡ some r))
+      eighth = beside-step 8 (clashPlace g) (clashOther g) (someBelow (clashing g) ne) rest r (seventh .1)
 
       late : firstOf rest ≡ some r → ⊥
       late f =
-          let a = first-later 9 (least (lonely g) nv) (someBelow (lonely g) nv) (firstAt 10 (disagrees (mapOf s) (followers g)) (halfCount g) ∷ []) r (other 9 (λ q. omega arith)) f in
-          let b = first-later 10 (least (disagrees (mapOf s) (followers g)) (halfCount g)) (someBelow (disagrees (mapOf s) (followers g)) (halfCount g)) [] r (other 10 (λ q. omega arith)) (a .1) in
+          let a = first-later 9 (least (lonely g) nv) (someBelow (lonely g) nv) (firstAt 10 (disagrees (mapOf s) (followers g)) (halfCount g) ∷ []) r (another 9 (λ q. omega arith)) f in
+          let b = first-later 10 (least (disagrees (mapOf s) (followers g)) (halfCount g)) (someBelow (disagrees (mapOf s) (followers g)) (halfCount g)) [] r (another 10 (λ q. omega arith)) (a .1) in
           none-some (b .1)
 
-      go : ((someBelow (clashing g) ne ≡ true) × (r ≡ record { number = 8; map = 0; place = clashPlace g })) ⊎ ((someBelow (clashing g) ne ≡ false) × (firstOf rest ≡ some r)) → (r .place ≡ clashPlace g) × OtherEdge g (r .place) (clashOther g)
+      go : ((someBelow (clashing g) ne ≡ true) × (r ≡ record { number = 8; map = 0; place = clashPlace g; other = clashOther g })) ⊎ ((someBelow (clashing g) ne ≡ false) × (firstOf rest ≡ some r)) → (r .place ≡ clashPlace g) × (r .other ≡ clashOther g) × OtherEdge g (r .place) (r .other)
       go (inr q) = absurd (late (q .1))
       go (inl q) =
           let p : r .place ≡ clashPlace g = ap (λ (x : Refusal). x .place) (q .1) in
           let (k, l, c) = some-witness (clashing g) ne (q .0) in
-          (p, subst (λ (k : ℕ). OtherEdge g k (clashOther g)) (sym p) (other-edge g U (least-below (clashing g) ne k l c)))
+          let o : r .other ≡ clashOther g = ap (λ (x : Refusal). x .other) (q .1) in
+          let E = other-edge g U (least-below (clashing g) ne k l c) in
+          (p, o, subst (OtherEdge g (r .place)) (sym o) (subst (λ (i : ℕ). OtherEdge g i (clashOther g)) (sym p) E))
 
--- "The answer for refusal 8 gains the other edge's number, the least one that clashes with it": what is given beside the refusal r of the file s
-abbrev pub otherOf : List ℕ → Refusal → Option ℕ
-otherOf s r = cond (eqb (r .number) 8) (some (clashOther (mapOf s .graph))) none
-
--- it is given exactly with 8, and is greater than the place
-pub other-given : (s : List ℕ) (r : Refusal) (j : ℕ) → fault s ≡ some r → otherOf s r ≡ some j → (r .number ≡ 8) × OtherEdge (mapOf s .graph) (r .place) j
-other-given s r j e f = go (eqb (r .number) 8) refl f
-  where
-    go : (c : Bool) → eqb (r .number) 8 ≡ c → cond c (some (clashOther (mapOf s .graph))) none ≡ some j → (r .number ≡ 8) × OtherEdge (mapOf s .graph) (r .place) j
-    go true q f =
-        let n = eqb-true (r .number) 8 q in
-        let x : clashOther (mapOf s .graph) ≡ j = cc in
-        (n, subst (OtherEdge (mapOf s .graph) (r .place)) x (refused-8 s r e n .1))
-    go false q f = absurd (none-some f)
+  -- "the answer for refusal 8": no other refusal has another edge
+  pub other-none : (r : Refusal) → fault s ≡ some r → (r .number ≡ 8 → ⊥) → r .other ≡ 0
+  other-none r e d = fault-keeps s (λ q. (q .number ≡ 8 → ⊥) → q .other ≡ 0) (λ n k low high x y. refl) (λ x. absurd (x refl)) r e d

@@ -20,7 +20,7 @@ use Rattle.laws_plane.specs.Edges.{On, Inside, IsEnd, end-not-inside, seg-up, o
 use Rattle.laws_plane.specs.Lines.{one-line, one-point}
 use Rattle.laws_plane.specs.Crossing.{parallel-none}
 use Rattle.laws_plane.specs.Clash.{equal, way-clash, clash-shares, shares-clash}
-use Rattle.laws_meet.specs.Meeting.{Meeting, separate, touching, crossed, sharing, meetingAt, inLine, meeting, pointOf, isEnd, clashBy}
+use Rattle.paper.specs.Meeting.{Meeting, apart as separate, touching, crossing as crossed, sharing, meetingAt, inLine, meeting, pointOf, isEnd, clashBy}
 use Rattle.laws_meet.specs.Means.{Only, Two, Means, is-separate, is-touching, is-crossed, is-sharing, meeting-means}
 use Rattle.laws_meet.specs.Exactly.{is-meeting}
 

@@ -10,8 +10,8 @@ use Rattle.seq.specs.Least.{no-some, some-has}
 use Rattle.paper.specs.Limits.{reach}
 use Rattle.paper.specs.Plane.{Pt, whole, before, same, between}
 use Rattle.paper.specs.Graph.{Graph, Edge, point, edge, origin, even, leaves, followers}
-use Rattle.paper.specs.Refusal.{Refusal, given, firstAt, firstOf}
-use Rattle.paper.specs.Map.{Map, corner, mapOf, tooFar, doubled, badEnds, clashing, lonely, disagrees, fault, formFaults, partFaults, netFaults}
+use Rattle.paper.specs.Refusal.{Refusal, beside, given, firstAt, firstOf}
+use Rattle.paper.specs.Map.{Map, corner, mapOf, tooFar, doubled, badEnds, clashing, clashPlace, clashOther, clashFault, lonely, disagrees, fault, formFaults, partFaults, netFaults}
 use Rattle.laws_plane.specs.Points.{neither}
 use Rattle.laws_plane.specs.Edges.{between-swap}
 use Rattle.laws_plane.specs.NoClash.{not-equal}
@@ -139,7 +139,7 @@ module _ (s : List ℕ) (K : Clean s) where
   n9 = none-least 9 (lonely gr) (vertices m) (λ v l. let (k, b, e) = K .used v l in ap not (starts v k b e))
 
   abbrev rule8 : Option Refusal
-  rule8 = firstAt 8 (clashing (mapOf s .graph)) (edges (mapOf s))
+  rule8 = clashFault (mapOf s .graph)
 
   abbrev rule10 : Option Refusal
   rule10 = firstAt 10 (disagrees (mapOf s) (followers (mapOf s .graph))) (halves (mapOf s))
@@ -149,16 +149,16 @@ module _ (s : List ℕ) (K : Clean s) where
   past8 (some r) = refl
 
   -- what is left of the check are rules 8 and 10
-  pub clean-fault : fault s ≡ firstOf (firstAt 8 (clashing (mapOf s .graph)) (edges (mapOf s)) ∷ firstAt 10 (disagrees (mapOf s) (followers (mapOf s .graph))) (halves (mapOf s)) ∷ [])
+  pub clean-fault : fault s ≡ firstOf (clashFault (mapOf s .graph) ∷ firstAt 10 (disagrees (mapOf s) (followers (mapOf s .graph))) (halves (mapOf s)) ∷ [])
   unfolding fault
   clean-fault =
       first-none (formFaults s) (partFaults gr ++ netFaults m) (is-nothing (formFaults s) (form-nothing s (K .mendable .form)))
       ∙ first-none (partFaults gr) (netFaults m) (is-nothing (partFaults gr) (n5, (n6, (n7, tt)))) ∙ past8 rule8
 
-  numbered : (r : Option Refusal) (b c : Bool) (i j : ℕ) → firstOf (given 8 i b ∷ given 10 j c ∷ []) ≡ r → (r ≡ none) ⊎ ((x : Refusal) × (r ≡ some x) × ((x .number ≡ 8) ⊎ (x .number ≡ 10)))
-  numbered r true c i j e = inr (record { number = 8; map = 0; place = i }, sym e, inl refl)
-  numbered r false true i j e = inr (record { number = 10; map = 0; place = j }, sym e, inr refl)
-  numbered r false false i j e = inl (sym e)
+  numbered : (r : Option Refusal) (b c : Bool) (i o j : ℕ) → firstOf (beside 8 i o b ∷ given 10 j c ∷ []) ≡ r → (r ≡ none) ⊎ ((x : Refusal) × (r ≡ some x) × ((x .number ≡ 8) ⊎ (x .number ≡ 10)))
+  numbered r true c i o j e = inr (record { number = 8; map = 0; place = i; other = o }, sym e, inl refl)
+  numbered r false true i o j e = inr (record { number = 10; map = 0; place = j; other = 0 }, sym e, inr refl)
+  numbered r false false i o j e = inl (sym e)
 
   pub clean-refusal : (fault s ≡ none) ⊎ ((x : Refusal) × (fault s ≡ some x) × ((x .number ≡ 8) ⊎ (x .number ≡ 10)))
-  clean-refusal = numbered (fault s) (someBelow (clashing gr) (edges m)) (someBelow (disagrees m (followers gr)) (halves m)) (least (clashing gr) (edges m)) (least (disagrees m (followers gr)) (halves m)) (sym clean-fault)
+  clean-refusal = numbered (fault s) (someBelow (clashing gr) (edges m)) (someBelow (disagrees m (followers gr)) (halves m)) (clashPlace gr) (clashOther gr) (least (disagrees m (followers gr)) (halves m)) (sym clean-fault)

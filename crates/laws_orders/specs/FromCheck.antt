@@ -8,51 +8,17 @@ use Prim.Native.Nat.{_<_, _≤_}
 use native.Mathlib.Nat.{not-suc-le-zero}
 use native.Mathlib.Decide.{ℕ-discrete}
 use native.Mathlib.Omega.{arith}
-use Rattle.seq.specs.Seq.{Bool, true, false, not, _||_, List, [], _∷_, _++_, Option, none, some, ℕ, zero, suc, ltb, eqb, length, getD, least}
-use Rattle.seq.specs.Terms.{Every}
-use Rattle.paper.specs.Limits.{mapVertices, mapEdges, mapHead}
-use Rattle.paper.specs.Bytes.{ascii, marked, u16}
-use Rattle.paper.specs.Graph.{edgeCount, halfCount, followers}
-use Rattle.paper.specs.Refusal.{Refusal, done, refused, given, firstAt, firstOf, answer}
-use Rattle.paper.specs.Map.{mapOf, mapLength, vertexCount, edgesIn, formFaults, tooFar, doubled, badEnds, partFaults, clashing, lonely, disagrees, netFaults, fault, check}
+use Rattle.seq.specs.Seq.{List, [], Option, none, some, ℕ, zero, suc, ltb, length, getD}
+use Rattle.paper.specs.Refusal.{Refusal, done, refused, firstOf, answer}
+use Rattle.paper.specs.Map.{vertexCount, edgesIn, fault, check}
 use Rattle.paper.specs.Faces.{overlayOf}
 use Rattle.paper.specs.Tables.{Counts, countsOf, tablesOf}
 use Rattle.paper.specs.Lent.{Lengths, Outcome, outcome, roomIn, roomFaults, zeroTables}
 use Rattle.paper.specs.Overlay.{lent}
-use Rattle.laws_refusals.specs.Refusals.{no-refusal, done-none, refused-some}
+use Rattle.laws_refusals.specs.Refusals.{Keeps, beside-keeps, first-keeps, keeps-some, done-none, refused-some}
+use Rattle.laws_map.specs.Refused.{fault-keeps}
 use Rattle.laws_overlay.specs.Files.{AllPass, mapsOf}
 use Rattle.laws_orders.specs.Orders.{named, first-named, all-pass-room}
-
--- ── rules of given numbers ──
-
--- a refusal has a number from a to b, and no map
-abbrev WithinBy : ℕ → ℕ → Option Refusal → Type 0
-WithinBy a b none = Unit {0}
-WithinBy a b (some r) = (a ≤ r .number) × (r .number ≤ b) × (r .map ≡ 0)
-
-record Within (a b : ℕ) (f : Option Refusal) : Type 0 where
-  by : WithinBy a b f
-
-module _ (a b : ℕ) where
-  given-within : (r k : ℕ) (c : Bool) → a ≤ r → r ≤ b → Within a b (given r k c)
-  given-within r k true p q = record { by = (p, q, refl) }
-  given-within r k false p q = record { by = tt }
-
-  at-within : (r : ℕ) (p : ℕ → Bool) (n : ℕ) → a ≤ r → r ≤ b → Within a b (firstAt r p n)
-  at-within r p n = given-within r (least p n) (ltb (least p n) n)
-
-  first-within : (rs : List (Option Refusal)) → Every (Within a b) rs → Within a b (firstOf rs)
-  first-within [] h = record { by = tt }
-  first-within (none ∷ rs) h = first-within rs (h .1)
-  first-within (some r ∷ rs) h = h .0
-
-  within-some : (f : Option Refusal) (r : Refusal) → Within a b f → f ≡ some r → (a ≤ r .number) × (r .number ≤ b) × (r .map ≡ 0)
-  within-some none r h e = absurd (no-refusal (sym e))
-  within-some (some x) r h e =
-      let (p, q, m) = h .by in
-      let n : x .number ≡ r .number = cc in
-      let k : x .map ≡ r .map = cc in
-      (omega (arith, p, n), omega (arith, q, n), sym k ∙ m)
 
 -- ── the check of one file ──
 
@@ -64,44 +30,10 @@ module _ (s : List ℕ) where
   abbrev counts : ℕ × ℕ
   counts = (vertexCount s, edgesIn s)
 
-  fault-within : Within 1 10 (fault s)
-  unfolding fault
-  fault-within =
-      let m = mapOf s in
-      let g = m .graph in
-      let nx = followers g in
-      first-within 1 10 (formFaults s ++ partFaults g ++ netFaults m) (
-        given-within 1 10 1 0 (ltb (length s) mapHead || not (marked (ascii "ZMP") s 0)) (omega arith) (omega arith),
-        (
-          given-within 1 10 2 0 (not (eqb (u16 s 3) 1)) (omega arith) (omega arith),
-          (
-            given-within 1 10 3 0 (ltb mapVertices (vertexCount s) || ltb mapEdges (edgesIn s)) (omega arith) (omega arith),
-            (
-              given-within 1 10 4 0 (not (eqb (length s) (mapLength s))) (omega arith) (omega arith),
-              (
-                at-within 1 10 5 (tooFar g) (length (g .points)) (omega arith) (omega arith),
-                (
-                  at-within 1 10 6 (doubled g) (length (g .points)) (omega arith) (omega arith),
-                  (
-                    at-within 1 10 7 (badEnds g) (edgeCount g) (omega arith) (omega arith),
-                    (
-                      at-within 1 10 8 (clashing g) (edgeCount g) (omega arith) (omega arith),
-                      (
-                        at-within 1 10 9 (lonely g) (length (g .points)) (omega arith) (omega arith),
-                        (at-within 1 10 10 (disagrees m nx) (halfCount g) (omega arith) (omega arith), tt),
-                      ),
-                    ),
-                  ),
-                ),
-              ),
-            ),
-          ),
-        ),
-      )
-
   -- "or with rules 1 to 10"; "An operation that does not take two or more maps answers with map 0"
   pub check-rules : (r : Refusal) → check s ≡ refused r → (1 ≤ r .number) × (r .number ≤ 10) × (r .map ≡ 0)
-  check-rules r e = within-some 1 10 (fault s) r fault-within (refused-some counts r (fault s) e)
+  check-rules r e =
+      fault-keeps s (λ q. (1 ≤ q .number) × (q .number ≤ 10) × (q .map ≡ 0)) (λ n k low high d. (low, high, refl)) (omega arith, omega arith, refl) r (refused-some counts r (fault s) e)
 
   pub good-passes : Good s → fault s ≡ none
   good-passes (n, e) = done-none counts n (fault s) e .0
@@ -156,6 +88,7 @@ pub record ForRoom (fs : List (List ℕ)) (q : Refusal) : Type 0 where
   pub good : AllGood fs
   pub number : q .number ≡ 11
   pub map : q .map ≡ 0
+  pub other : q .other ≡ 0
 
 module _ (l : Lengths) (fs : List (List ℕ)) where
   abbrev defined : Counts
@@ -177,13 +110,16 @@ module _ (l : Lengths) (fs : List (List ℕ)) where
   pub good-room : AllGood fs → lent l fs ≡ outcome l (countsOf (overlayOf (mapsOf fs))) (tablesOf (mapsOf fs) (overlayOf (mapsOf fs))) (firstOf (roomFaults (roomIn (length fs) l) (countsOf (overlayOf (mapsOf fs)))))
   good-room G = ap (outcome l defined (tablesOf (mapsOf fs) (overlayOf (mapsOf fs)))) (all-pass-room l fs (all-pass G))
 
-  room-within : Within 11 11 (firstOf (roomFaults room defined))
-  room-within =
-      first-within 11 11 (roomFaults room defined) (
-        given-within 11 11 11 1 (ltb (room .vertices) (defined .vertices)) (omega arith) (omega arith),
+  abbrev OfRoom : Refusal → Type 0
+  OfRoom r = (r .number ≡ 11) × (r .map ≡ 0) × (r .other ≡ 0)
+
+  room-keeps : Keeps OfRoom (firstOf (roomFaults room defined))
+  room-keeps =
+      first-keeps OfRoom (roomFaults room defined) (
+        beside-keeps OfRoom 11 1 0 (ltb (room .vertices) (defined .vertices)) (refl, refl, refl),
         (
-          given-within 11 11 11 2 (ltb (room .edges) (defined .edges)) (omega arith) (omega arith),
-          (given-within 11 11 11 3 (ltb (room .faces) (defined .faces)) (omega arith) (omega arith), tt),
+          beside-keeps OfRoom 11 2 0 (ltb (room .edges) (defined .edges)) (refl, refl, refl),
+          (beside-keeps OfRoom 11 3 0 (ltb (room .faces) (defined .faces)) (refl, refl, refl), tt),
         ),
       )
 
@@ -191,8 +127,8 @@ module _ (l : Lengths) (fs : List (List ℕ)) where
     for-room : AllGood fs → ForRoom fs q
     for-room G =
         let a : answer defined (firstOf (roomFaults room defined)) ≡ refused q = sym (ap (λ (o : Outcome). o .answer) (good-room G)) ∙ e in
-        let (low, high, none-named) = within-some 11 11 (firstOf (roomFaults room defined)) q room-within (refused-some defined q (firstOf (roomFaults room defined)) a) in
-        record { good = G; number = omega (arith, low, high); map = none-named }
+        let (eleven, no-map, no-other) = keeps-some OfRoom (firstOf (roomFaults room defined)) q room-keeps (refused-some defined q (firstOf (roomFaults room defined)) a) in
+        record { good = G; number = eleven; map = no-map; other = no-other }
 
     by-check : (i : ℕ) (r : Refusal) → FirstBad fs i r → ByCheck fs q
     by-check i r F = record { file = i; said = r; first = F; same = let a = sym e ∙ check-refuses i r F .0 in cc }

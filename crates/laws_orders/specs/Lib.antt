@@ -2,3 +2,4 @@ pub mod Orders
 pub mod Exchanged
 pub mod Empty
 pub mod FromCheck
+pub mod Other

@@ -32,7 +32,7 @@ pub record FilesRenumbered (fs gs : List (List ℕ)) (to back : ℕ → ℕ) : T
 
 -- the same refusal, of map m
 abbrev pub named : ℕ → Refusal → Refusal
-named m r = record { number = r .number; map = m; place = r .place }
+named m r = record { number = r .number; map = m; place = r .place; other = r .other }
 
 module _ (l : Lengths) (fs : List (List ℕ)) where
   abbrev of : ℕ → Option Refusal

@@ -11,7 +11,7 @@ use Rattle.seq.specs.Put.{put, length-put, put-before, put-own, put-past, table
 use Rattle.paper.specs.Plane.{Pt}
 use Rattle.paper.specs.Graph.{Graph, edgeCount}
 use Rattle.paper.specs.Map.{Map, empty}
-use Rattle.paper.specs.Pieces.{layer, meetings, crossings, inOrder, verticesOf, Piece, only, merged, joined, earlier, piecesInOrder, linksFrom, links, along, piecesOf, edgesOf, carrierOf, edgeOf}
+use Rattle.paper.specs.Pieces.{layer, crossedBy, crossings, inOrder, verticesOf, Piece, only, merged, joined, earlier, piecesInOrder, linksFrom, links, along, piecesOf, edgesOf, carrierOf, edgeOf}
 use Rattle.laws_overlay.specs.Links.{cutOut}
 use Rattle.laws_overlay.specs.Net.{netOf}
 use Rattle.laws_overlay.specs.Inside.{overlaid}
@@ -53,27 +53,27 @@ module _ (ms : List Map) (a : ℕ) (h : a ≤ length ms) where
       (λ i l. ap (λ (m : Map). m .graph .points) (layer-past i l)) (length ms) h
 
   -- with an empty map there is no crossing
-  first-empty : (b : Graph) → meetings (g′ a) b ≡ []
-  first-empty b = ap (λ (m : Map). meetings (m .graph) b) layer-own
+  first-empty : (b : Graph) → crossedBy (g′ a) b ≡ []
+  first-empty b = ap (λ (m : Map). crossedBy (m .graph) b) layer-own
 
-  second-empty : (b : Graph) → meetings b (g′ a) ≡ []
-  second-empty b = ap (λ (m : Map). meetings b (m .graph)) layer-own ∙ rows-none (edgeCount b)
+  second-empty : (b : Graph) → crossedBy b (g′ a) ≡ []
+  second-empty b = ap (λ (m : Map). crossedBy b (m .graph)) layer-own ∙ rows-none (edgeCount b)
 
-  both : {k m n r : Map} → k ≡ m → n ≡ r → meetings (k .graph) (n .graph) ≡ meetings (m .graph) (r .graph)
-  both p q = λ x. meetings (p x .graph) (q x .graph)
+  both : {k m n r : Map} → k ≡ m → n ≡ r → crossedBy (k .graph) (n .graph) ≡ crossedBy (m .graph) (r .graph)
+  both p q = λ x. crossedBy (p x .graph) (q x .graph)
 
   same-crossings : crossings more ≡ crossings ms
-  same-crossings = ap (rows (λ j. rows (λ i. meetings (g′ i) (g′ j)) j)) one-more ∙ rows-put a (λ j. rows (λ i. meetings (g i) (g j)) j) (λ j. rows (λ i. meetings (g′ i) (g′ j)) j) below own past (length ms) h
+  same-crossings = ap (rows (λ j. rows (λ i. crossedBy (g′ i) (g′ j)) j)) one-more ∙ rows-put a (λ j. rows (λ i. crossedBy (g i) (g j)) j) (λ j. rows (λ i. crossedBy (g′ i) (g′ j)) j) below own past (length ms) h
     where
-      below : (j : ℕ) → j < a → rows (λ i. meetings (g′ i) (g′ j)) j ≡ rows (λ i. meetings (g i) (g j)) j
-      below j l = rows-ext (λ i. meetings (g′ i) (g′ j)) (λ i. meetings (g i) (g j)) j (λ i k. both (layer-before i (omega arith)) (layer-before j l))
+      below : (j : ℕ) → j < a → rows (λ i. crossedBy (g′ i) (g′ j)) j ≡ rows (λ i. crossedBy (g i) (g j)) j
+      below j l = rows-ext (λ i. crossedBy (g′ i) (g′ j)) (λ i. crossedBy (g i) (g j)) j (λ i k. both (layer-before i (omega arith)) (layer-before j l))
 
-      own : rows (λ i. meetings (g′ i) (g′ a)) a ≡ []
-      own = rows-ext (λ i. meetings (g′ i) (g′ a)) (λ i. []) a (λ i k. second-empty (g′ i)) ∙ rows-none a
+      own : rows (λ i. crossedBy (g′ i) (g′ a)) a ≡ []
+      own = rows-ext (λ i. crossedBy (g′ i) (g′ a)) (λ i. []) a (λ i k. second-empty (g′ i)) ∙ rows-none a
 
-      past : (j : ℕ) → a ≤ j → rows (λ i. meetings (g′ i) (g′ (suc j))) (suc j) ≡ rows (λ i. meetings (g i) (g j)) j
+      past : (j : ℕ) → a ≤ j → rows (λ i. crossedBy (g′ i) (g′ (suc j))) (suc j) ≡ rows (λ i. crossedBy (g i) (g j)) j
       past j l =
-          rows-put a (λ i. meetings (g i) (g j)) (λ i. meetings (g′ i) (g′ (suc j))) (λ i k. both (layer-before i k) (layer-past j l)) (first-empty (g′ (suc j)))
+          rows-put a (λ i. crossedBy (g i) (g j)) (λ i. crossedBy (g′ i) (g′ (suc j))) (λ i k. both (layer-before i k) (layer-past j l)) (first-empty (g′ (suc j)))
           (λ i k. both (layer-past i k) (layer-past j l)) j l
 
   pub empty-vertices : verticesOf (withEmpty a ms) ≡ verticesOf ms

@@ -16,7 +16,7 @@ use Rattle.paper.specs.Limits.{reach}
 use Rattle.paper.specs.Plane.{Pt, Vec, whole, nowhere, head, before, crossing}
 use Rattle.paper.specs.Graph.{Graph, point}
 use Rattle.paper.specs.Map.{Map}
-use Rattle.paper.specs.Pieces.{layer, meeting, meetings, crossings, verticesOf}
+use Rattle.paper.specs.Pieces.{layer, crossedAt, crossedBy, crossings, verticesOf}
 use Rattle.laws_plane.specs.Points.{LowestP, same-point, before-transitive}
 use Rattle.laws_plane.specs.Bounds.{Reaches, Bounded, crossing-bounded, corner-bounded}
 use Rattle.laws_plane.specs.Crossing.{Touch, touch-swap, crossing-touch, touch-crossing}
@@ -76,17 +76,17 @@ module _ (ms : List Map) (K : AllKeep ms) where
   pub crossings-from : (p : Pt) → Among p (crossings ms) →
       (i : ℕ) × (j : ℕ) × (e : ℕ) × (f : ℕ) × (i < j) × (j < length ms) × (e < edges (layer ms i)) × (f < edges (layer ms j)) × Among p (optional (crossing (seg (layer ms i) e) (seg (layer ms j) f)))
   crossings-from p a =
-      let (j, lj, s) = rows-among (λ j. rows (λ i. meetings (g i) (g j)) j) (length ms) p a in
-      let (i, li, t) = rows-among (λ i. meetings (g i) (g j)) j p s in
-      let (e, le, u) = rows-among (λ e. rows (meeting (g i) (g j) e) (edges (layer ms j))) (edges (layer ms i)) p t in
-      let (f, lf, w) = rows-among (meeting (g i) (g j) e) (edges (layer ms j)) p u in
+      let (j, lj, s) = rows-among (λ j. rows (λ i. crossedBy (g i) (g j)) j) (length ms) p a in
+      let (i, li, t) = rows-among (λ i. crossedBy (g i) (g j)) j p s in
+      let (e, le, u) = rows-among (λ e. rows (crossedAt (g i) (g j) e) (edges (layer ms j))) (edges (layer ms i)) p t in
+      let (f, lf, w) = rows-among (crossedAt (g i) (g j) e) (edges (layer ms j)) p u in
       (i, j, e, f, li, lj, le, lf, w)
 
   pub crossings-has : (p : Pt) (i j e f : ℕ) → i < j → j < length ms → e < edges (layer ms i) → f < edges (layer ms j) → Among p (optional (crossing (seg (layer ms i) e) (seg (layer ms j) f))) → Among p (crossings ms)
   crossings-has p i j e f li lj le lf w =
-      among-rows (λ j. rows (λ i. meetings (g i) (g j)) j) (length ms) j p lj
-      (among-rows (λ i. meetings (g i) (g j)) j i p li
-      (among-rows (λ e. rows (meeting (g i) (g j) e) (edges (layer ms j))) (edges (layer ms i)) e p le (among-rows (meeting (g i) (g j) e) (edges (layer ms j)) f p lf w)))
+      among-rows (λ j. rows (λ i. crossedBy (g i) (g j)) j) (length ms) j p lj
+      (among-rows (λ i. crossedBy (g i) (g j)) j i p li
+      (among-rows (λ e. rows (crossedAt (g i) (g j) e) (edges (layer ms j))) (edges (layer ms i)) e p le (among-rows (crossedAt (g i) (g j) e) (edges (layer ms j)) f p lf w)))
 
   crossed-from : (p : Pt) → Among p (crossings ms) → Crossed ms p
   crossed-from p a =

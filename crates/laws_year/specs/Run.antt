@@ -264,7 +264,7 @@ bad-stays st [] k e = e
 bad-stays st (x ∷ xs) k e = bad-stays (addFile st x) xs k (file-bad st x k (ltb (st .files) yearFiles) e)
 
 -- once a file is refused the run's refusal is settled, whatever follows
-pub bad-named : (xs ys : List Sheet) (k : ℕ) (zones blocks : List ℕ) → yearFrom start xs .bad ≡ some k → yearFault (xs ++ ys) zones blocks ≡ some (record { number = 17; map = 0; place = k })
+pub bad-named : (xs ys : List Sheet) (k : ℕ) (zones blocks : List ℕ) → yearFrom start xs .bad ≡ some k → yearFault (xs ++ ys) zones blocks ≡ some (record { number = 17; map = 0; place = k; other = 0 })
 bad-named xs ys k zones blocks e = sym (state-fault (xs ++ ys) zones blocks) ∙ rw (named)
   where
     named : yearFrom start (xs ++ ys) .bad ≡ some k

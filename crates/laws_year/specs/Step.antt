@@ -72,7 +72,7 @@ yearFrom st (x ∷ xs) = yearFrom (addFile st x) xs
 
 abbrev pub badFault : Option ℕ → Option Refusal
 badFault none = none
-badFault (some k) = some (record { number = 17; map = 0; place = k })
+badFault (some k) = some (record { number = 17; map = 0; place = k; other = 0 })
 
 abbrev pub stateFault : State → List ℕ → List ℕ → Option Refusal
 stateFault st zones blocks = firstOf (

@@ -1,24 +1,31 @@
 -- Rules 8 to 10 of a map in flat tables: what the searches find is what the rules name (`flat-clashing`, `flat-lonely`); where rule 8 finds nothing in a graph laid
 -- in corners it is plane (`clear-plane`); and the order of the rules. Assumes nothing.
-use mathlib.Core.Path.{_≡_, sym, ap, _∙_}
+use mathlib.Core.Path.{_≡_, refl, sym, ap, _∙_, subst}
+use Prim.Native.Nat.{_<_}
+use borrow.Author.Tests.{ltb-true}
 use Rattle.seq.specs.Least.{least-ext, some-ext, no-some-is}
-use Rattle.seq.specs.Seq.{not, _&&_, Option, none, some, List, [], _∷_, ℕ, _*_, eqb, ltb, length, ℤ, least, someBelow}
-use Rattle.paper.specs.Plane.{clash}
-use Rattle.paper.specs.Refusal.{Refusal, given, firstAt, firstOf}
+use Rattle.seq.specs.Seq.{Bool, true, false, not, _&&_, Option, none, some, List, [], _∷_, ℕ, _*_, eqb, ltb, length, ℤ, least, someBelow}
+use Rattle.paper.specs.Plane.{Seg, clash}
+use Rattle.paper.specs.Refusal.{Refusal, beside, given, firstAt, firstOf}
 use Rattle.paper.specs.Graph.{Graph, edgeCount, halfCount, leaves, followers}
-use Rattle.paper.specs.Map.{Map, clashes, clashing, lonely, disagrees, netFaults}
-use Rattle.laws_refusals.specs.Refusals.{first-one, first-none, first-some, nothing, least-none-is}
-use Rattle.laws_graph.specs.Laid.{Laid}
+use Rattle.paper.specs.Map.{Map, clashes, clashing, clashPlace, clashOther, clashFault, lonely, disagrees, netFaults}
+use Rattle.laws_refusals.specs.Refusals.{first-one, first-none, first-some, nothing, none-below}
+use Rattle.laws_plane.specs.Cone.{UpV}
+use Rattle.laws_graph.specs.Laid.{Laid, carrier-up}
 use Rattle.laws_graph.specs.Plane.{Plane}
 use Rattle.laws_graph.specs.Corners.{corners-plane}
 use Rattle.laws_graph.specs.Rules.{clear-is}
 use Rattle.graph.specs.Flat.{flatGraph}
 use Rattle.graph.specs.Laws.Decode.{flat-points, flat-edges, flat-halves, flat-carrier, flat-origin}
-use Rattle.map_check.specs.Net.{clashAt, clashingAt, startsAt, lonelyAt}
+use Rattle.map_check.specs.Net.{Upright, clashAt, clashingAt, clashPlaceAt, clashFaultAt, startsAt, lonelyAt}
 
 module _ (ps : List ℤ) (os : List ℕ) (cs : List ℤ) (n e : ℕ) where
   abbrev g : Graph
   g = flatGraph ps os cs n e
+
+  -- edges laid in corners go up
+  pub laid-upright : Laid g → Upright cs e
+  laid-upright L = record { up = λ k l. subst (λ (s : Seg). UpV (s .up)) (flat-carrier ps os cs n e k l) (carrier-up g L k (subst (λ (m : ℕ). k < m) (sym (flat-edges ps os cs n e)) l)) }
 
   -- ── rules 8 and 9 ──
 
@@ -34,15 +41,28 @@ module _ (ps : List ℤ) (os : List ℕ) (cs : List ℤ) (n e : ℕ) where
       (λ v l. ap not (some-ext (startsAt os v) (leaves g v) (2 * e) (λ h b. ap (λ (x : ℕ). eqb x v) (sym (flat-origin ps os cs n e h b)))))
       ∙ (λ i. least (λ v. not (someBelow (leaves g v) (sym (flat-halves ps os cs n e) i))) (sym (flat-points ps os cs n e) i))
 
+  -- with a place the other edge is the same too
+  other-is : (k : ℕ) → k < e → least (clashAt cs k) e ≡ least (clashes g k) (edgeCount g)
+  other-is k l =
+      least-ext (clashAt cs k) (clashes g k) e (λ j b. λ i. not (eqb k j) && clash (sym (flat-carrier ps os cs n e k l) i) (sym (flat-carrier ps os cs n e j b) i))
+      ∙ (λ i. least (clashes g k) (sym (flat-edges ps os cs n e) i))
+
   abbrev eight : Option Refusal
-  eight = firstAt 8 (clashing g) (edgeCount g)
+  eight = clashFault g
 
   abbrev nine : Option Refusal
   nine = firstAt 9 (lonely g) (length (g .points))
 
   -- as the code gives them
-  pub gives-eight : {r : Option Refusal} {k : ℕ} → r ≡ given 8 k (ltb k e) → k ≡ least (clashingAt cs e) e → r ≡ eight
-  gives-eight q f = q ∙ (λ i. given 8 (f i) (ltb (f i) e)) ∙ (λ i. given 8 (clashing-is i) (ltb (clashing-is i) (sym (flat-edges ps os cs n e) i)))
+  pub gives-eight : {r : Option Refusal} → r ≡ clashFaultAt cs e → r ≡ eight
+  gives-eight q =
+      let k = clashPlaceAt cs e in
+      q ∙ same-other (least (clashAt cs k) e) (least (clashes g k) (edgeCount g)) (ltb k e) (λ t. other-is k (ltb-true k e t))
+      ∙ (λ i. beside 8 (clashing-is i) (least (clashes g (clashing-is i)) (edgeCount g)) (ltb (clashing-is i) (sym (flat-edges ps os cs n e) i)))
+    where
+      same-other : (j h : ℕ) (b : Bool) → (b ≡ true → j ≡ h) → beside 8 (clashPlaceAt cs e) j b ≡ beside 8 (clashPlaceAt cs e) h b
+      same-other j h true f = ap (λ (x : ℕ). beside 8 (clashPlaceAt cs e) x true) (f refl)
+      same-other j h false f = refl
 
   pub gives-nine : {r : Option Refusal} {v : ℕ} → r ≡ given 9 v (ltb v n) → v ≡ least (lonelyAt os (2 * e)) n → r ≡ nine
   gives-nine q f = q ∙ (λ i. given 9 (f i) (ltb (f i) n)) ∙ (λ i. given 9 (lonely-is i) (ltb (lonely-is i) (sym (flat-points ps os cs n e) i)))
@@ -51,7 +71,7 @@ module _ (ps : List ℤ) (os : List ℕ) (cs : List ℤ) (n e : ℕ) where
 
   pub clear-plane : Laid g → firstOf (eight ∷ nine ∷ []) ≡ none → Plane g
   clear-plane L e =
-      let clear = least-none-is 8 (clashing g) (edgeCount g) (nothing (eight ∷ nine ∷ []) e .0) in
+      let clear = none-below 8 (clashPlace g) (clashOther g) (clashing g) (edgeCount g) (nothing (eight ∷ nine ∷ []) e .0) in
       corners-plane g (record { laid = L; no-clash = λ k r lk lr. clear-is g k r (no-some-is (clashes g k) (edgeCount g) (clear k lk) r lr) })
 
   -- ── the order of the rules ──

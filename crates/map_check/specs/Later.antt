@@ -1,17 +1,19 @@
--- Clashing is mutual, whether or not an edge goes up: so the least edge that clashes with another is the least that clashes with a later one. Assumes nothing.
-use mathlib.Core.Path.{_≡_, sym, _∙_, ap}
-use Prim.Native.Nat.{_<_}
+-- Clashing is mutual, whether or not an edge goes up: so the least edge that clashes with another is the least that clashes with a later one, and the other edge, the least that clashes
+-- with it, comes after it. Assumes nothing.
+use mathlib.Core.Path.{_≡_, sym, _∙_, ap, subst}
+use Prim.Native.Nat.{_<_, _≤_}
 use native.Mathlib.Decide.{decLt}
 use native.Mathlib.Omega.{arith}
 use borrow.Author.Tests.{ltb-true, lt-ltb, le-ltb, eq-eqb, ne-eqb}
-use Rattle.seq.specs.Seq.{Bool, true, false, not, _&&_, List, ℕ, _+_, ltb, ℤ, least, someBelow}
-use Rattle.seq.specs.Least.{least-le, least-holds, least-min, least-by, least-none, some-has, some-witness, no-some, no-some-is}
+use Rattle.seq.specs.Seq.{Bool, true, false, not, _&&_, List, Option, none, ℕ, _+_, ltb, ℤ, least, someBelow}
+use Rattle.seq.specs.Least.{least-le, least-holds, least-min, least-by, least-none, least-ext, some-has, some-witness, no-some, no-some-is}
 use Rattle.seq.specs.Tests.{bool-ext, and-parts}
 use Rattle.paper.specs.Plane.{Seg, head, whole, clash}
+use Rattle.paper.specs.Refusal.{Refusal, beside}
 use Rattle.laws_plane.specs.Clash.{Clash, foot-in, head-in, in-foot, in-head, across, equal, clash-way, way-clash}
 use Rattle.laws_plane.specs.Points.{same-sym}
 use Rattle.graph.specs.Flat.{carrierAt}
-use Rattle.map_check.specs.Net.{clashAt, clashingAt}
+use Rattle.map_check.specs.Net.{clashAt, clashingAt, clashPlaceAt, clashFaultAt}
 
 pub way-swap : (s t : Seg) → Clash s t → Clash t s
 way-swap s t (foot-in i) = in-foot i
@@ -75,3 +77,37 @@ module _ (cs : List ℤ) (e : ℕ) where
   pub least-later : r ≡ least (clashingAt cs e) e
   least-later =
       sym (least-by (clashingAt cs e) e r (least-le (laterClashing cs e) e) (λ k b. no-some (clashAt cs k) e (λ j h. none-below k j b h)) found-clashes)
+
+  -- ── the other edge ──
+
+  -- with the place no edge before it clashes, since it would itself be the place
+  before-place : clashPlaceAt cs e < e → (j : ℕ) → j < e → clashAt cs (clashPlaceAt cs e) j ≡ laterAt cs (clashPlaceAt cs e) j
+  before-place l j h =
+      let k = clashPlaceAt cs e in
+      let c = clash (carrierAt cs k) (carrierAt cs j) in
+      elim (decLt k j) [
+        | yes b ↦ (λ i. not (ne-eqb k j (λ q. omega arith) i) && c) ∙ sym (later-is cs k j b)
+        | no b ↦ elim (decLt j k) [
+          | yes a ↦ (λ i. not (ne-eqb k j (λ q. omega arith) i) && c) ∙ apart j k a l (λ q. omega arith) ∙ sym (ap (λ (x : Bool). x && c) (le-ltb k j (omega arith)))
+          | no a ↦ let q : k ≡ j = omega arith in ap (λ (x : Bool). not x && c) (eq-eqb k j q) ∙ sym (ap (λ (x : Bool). x && c) (le-ltb k j (omega arith)))
+        ]
+      ]
+    where
+      apart : (j k : ℕ) → j < clashPlaceAt cs e → k < e → (j ≡ k → ⊥) → clash (carrierAt cs k) (carrierAt cs j) ≡ false
+      apart j k a l f =
+          let d = no-some-is (clashAt cs j) e (least-min (clashingAt cs e) e j a) k l in
+          clash-mutual (carrierAt cs k) (carrierAt cs j) ∙ sym (λ i. not (ne-eqb j k f i) && clash (carrierAt cs j) (carrierAt cs k)) ∙ d
+
+  -- the least edge that clashes with the place is the least after it that does
+  pub other-later : clashPlaceAt cs e < e → least (clashAt cs (clashPlaceAt cs e)) e ≡ least (laterAt cs (clashPlaceAt cs e)) e
+  other-later l = least-ext (clashAt cs (clashPlaceAt cs e)) (laterAt cs (clashPlaceAt cs e)) e (before-place l)
+
+  -- rule 8 as the code gives it
+  pub gives-clash : {r : Option Refusal} {k j : ℕ} → r ≡ beside 8 k j true → k ≡ clashPlaceAt cs e → j ≡ least (laterAt cs k) e → k < e → r ≡ clashFaultAt cs e
+  gives-clash {r} {k} {j} q f g l =
+      let here : clashPlaceAt cs e < e = subst (λ (x : ℕ). x < e) f l in
+      let other : j ≡ least (clashAt cs (clashPlaceAt cs e)) e = g ∙ ap (λ (x : ℕ). least (laterAt cs x) e) f ∙ sym (other-later here) in
+      q ∙ (λ i. beside 8 (f i) (other i) (sym (lt-ltb (clashPlaceAt cs e) e here) i))
+
+  pub gives-none : {k : ℕ} → k ≡ clashPlaceAt cs e → e ≤ k → none ≡ clashFaultAt cs e
+  gives-none {k} f h = sym (ap (beside 8 (clashPlaceAt cs e) (least (clashAt cs (clashPlaceAt cs e)) e)) (le-ltb (clashPlaceAt cs e) e (subst (λ (x : ℕ). e ≤ x) f h)))

@@ -36,7 +36,7 @@ answer-only (Good a) (Bad b) e = absurd (differ (answerOf (Good a)) (answerOf (B
 answer-only (Bad a) (Good b) e = absurd (differ (answerOf (Bad a)) (answerOf (Good b)) e (λ z. omega arith))
 answer-only (Bad a) (Bad b) e =
     let d : refusalOf a ≡ refusalOf b = ap (refusal (refusalOf a)) e in
-    λ i. Bad (record { number = d i .number; map = d i .map; place = d i .place })
+    λ i. Bad (record { number = d i .number; map = d i .map; place = d i .place; other = d i .other })
 
 pub check-unique : (s : List ℕ) (a b : Checked) → answerOf a ≡ check s → answerOf b ≡ check s → a ≡ b
 check-unique s a b p q = answer-only a b (determined check s (answerOf a) (answerOf b) p q)

@@ -1,7 +1,7 @@
 // Rules 8 and 9: edges that share more than ends, and vertices without an edge, each a search for its least place.
 use graph::carrier_at;
 use plane::Seg;
-use plane::clash;
+use plane::clash_by;
 ghost use mathlib.Core.Path.{_≡_};
 ghost use Prim.Native.Nat.{_≤_, _<_};
 ghost use lib.ListN.{length};
@@ -10,7 +10,7 @@ ghost use Rattle.paper.specs.Plane.{clash};
 ghost use Rattle.plane.specs.Values.{segOf};
 ghost use Rattle.plane.specs.Bounds.{Edge};
 ghost use Rattle.graph.specs.Flat.{carrierAt, Carriers};
-ghost use Rattle.map_check.specs.Net.{clashingAt, startsAt, lonelyAt};
+ghost use Rattle.map_check.specs.Net.{Upright, clashingAt, startsAt, lonelyAt};
 ghost use Rattle.map_check.specs.Later.{laterAt};
 ghost use Rattle.map_check.specs.Heights.{lesser, parted};
 
@@ -43,9 +43,10 @@ fn parted(s: Seg, t: Seg) -> bool
     }
 }
 
-// Whether edges k and j share a point that is not an end of both. No sides are reckoned of two of which one lies wholly below the other.
+// Whether edges k and j share a point that is not an end of both, by how they meet; edges go up. Nothing more is reckoned of two of which one lies wholly below
+// the other.
 fn clashes(carriers: &[i64], e: usize, k: usize, j: usize) -> bool
-    requires { ⌜ Carriers (now carriers) e × (k < e) × (j < e) ⌝ }
+    requires { ⌜ Carriers (now carriers) e × (k < e) × (j < e) × Upright (now carriers) e ⌝ }
     ensures { λ r. ⌜ r ≡ clash (carrierAt (now (carriers .entry)) k) (carrierAt (now (carriers .entry)) j) ⌝ }
 {
     let s = carrier_at(carriers, k);
@@ -53,12 +54,12 @@ fn clashes(carriers: &[i64], e: usize, k: usize, j: usize) -> bool
     if parted(s, t) {
         return false;
     }
-    clash(s, t)
+    clash_by(s, t)
 }
 
 // The least edge after k that edge k clashes with, or e.
-fn first_clash(carriers: &[i64], e: usize, k: usize) -> usize
-    requires { ⌜ Carriers (now carriers) e × (k < e) ⌝ }
+pub fn first_clash(carriers: &[i64], e: usize, k: usize) -> usize
+    requires { ⌜ Carriers (now carriers) e × (k < e) × Upright (now carriers) e ⌝ }
     ensures { λ r. ⌜ r ≡ least (laterAt (now (carriers .entry)) k) e ⌝ }
 {
     let mut j = k + 1;
@@ -73,7 +74,7 @@ fn first_clash(carriers: &[i64], e: usize, k: usize) -> usize
 
 // 8 "an edge shares with another any point that is not an end of both": the least such edge, or e. It clashes with a later one.
 pub fn first_clashing(carriers: &[i64], e: usize) -> usize
-    requires { ⌜ Carriers (now carriers) e ⌝ }
+    requires { ⌜ Carriers (now carriers) e × Upright (now carriers) e ⌝ }
     ensures { λ r. ⌜ r ≡ least (clashingAt (now (carriers .entry)) e) e ⌝ }
 {
     let mut k = 0;

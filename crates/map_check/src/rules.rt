@@ -1,4 +1,5 @@
 // Rules 8 to 10 of a map in its tables: n vertices, e edges, and rules 5 to 7 find nothing.
+use super::edges::first_clash;
 use super::edges::first_clashing;
 use super::edges::first_lonely;
 use super::labels::first_disagreeing;
@@ -7,6 +8,7 @@ use graph::headings;
 use limits::MAP_HALVES;
 use limits::MAP_HEADING_CELLS;
 use map_file::Check;
+use map_file::beside;
 use map_file::first;
 use map_file::given;
 ghost use mathlib.Core.Path.{_≡_};
@@ -19,9 +21,24 @@ ghost use Rattle.paper.specs.Refusal.{firstAt, firstOf};
 ghost use Rattle.paper.specs.Map.{disagrees, netFaults};
 ghost use Rattle.laws_graph.specs.Laid.{Laid};
 ghost use Rattle.laws_graph.specs.Plane.{Plane};
-ghost use Rattle.graph.specs.Flat.{flatGraph, Flat};
+ghost use Rattle.graph.specs.Flat.{flatGraph, Carriers, Flat};
 ghost use Rattle.map_file.specs.Verdict.{verdict};
+ghost use Rattle.map_check.specs.Net.{Upright, clashFaultAt};
 ghost use Rattle.map_check.specs.Held.{flatMap};
+
+// 8 "an edge shares with another any point that is not an end of both", and "the other edge's number": it comes after the place, and is searched only where there is one.
+fn edges_clash(carriers: &[i64], e: usize) -> Check
+    requires { ⌜ Carriers (now carriers) e × (e ≤ mapEdges) × Upright (now carriers) e ⌝ }
+    ensures { λ r. ⌜ verdict r ≡ clashFaultAt (now (carriers .entry)) e ⌝ }
+{
+    let k = first_clashing(carriers, e);
+    if k < e {
+        let j = first_clash(carriers, e, k);
+        beside(8, k as u16, j as u16, true)
+    } else {
+        Check::Fine
+    }
+}
 
 // The least half-edge of a map in tables at which labels disagree, or the number of half-edges: first the headings, then the followers.
 fn first_by_followers(
@@ -71,9 +88,8 @@ pub fn net_fault(
     requires { ⌜ Flat (now points) (now origins) (now carriers) n e ⌝ ∗ ⌜ n ≤ mapVertices ⌝ ∗ ⌜ e ≤ mapEdges ⌝ ∗ ⌜ 2 * e ≤ length (now labels) ⌝ ∗ ⌜ Laid (flatGraph (now points) (now origins) (now carriers) n e) ⌝ }
     ensures { λ r. ⌜ verdict r ≡ firstOf (netFaults (flatMap (now (points .entry)) (now (origins .entry)) (now (carriers .entry)) (take (2 * e) (now (labels .entry))) n e)) ⌝ }
 {
-    let clashing = first_clashing(carriers, e);
+    let eight = edges_clash(carriers, e);
     let lonely = first_lonely(origins, 2 * e, n);
-    let eight = given(8, clashing as u16, clashing < e);
     let nine = given(9, lonely as u16, lonely < n);
     let c = first(eight, nine);
     match c {

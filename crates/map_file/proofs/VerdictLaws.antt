@@ -41,4 +41,4 @@ verdict-only Fine (Bad r) e = absurd (no-refusal (sym e))
 verdict-only (Bad r) Fine e = absurd (no-refusal e)
 verdict-only (Bad r) (Bad q) e =
     let d : refusalOf r ≡ refusalOf q = ap (λ (o : Option Refusal). Option·getD o (refusalOf r)) e in
-    λ i. Bad (record { number = d i .number; map = d i .map; place = d i .place })
+    λ i. Bad (record { number = d i .number; map = d i .map; place = d i .place; other = d i .other })

@@ -6,9 +6,9 @@ use Rattle.map_file.specs.declared.refusal.Refusal.{Refusal}
 use Rattle.map_file.specs.declared.refusal.Check.{Check}
 use Rattle.map_file.specs.declared.refusal.Check.the-variants.{Fine, Bad}
 
--- "a refusal with number, map and place"
+-- "a refusal with number, map and place", and the other edge
 abbrev pub refusalOf : Refusal → paper.Refusal
-refusalOf r = record { number = r .number; map = r .map; place = r .place }
+refusalOf r = record { number = r .number; map = r .map; place = r .place; other = r .other }
 
 -- nothing is refused, or this is
 abbrev pub verdict : Check → Option paper.Refusal

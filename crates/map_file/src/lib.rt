@@ -19,5 +19,6 @@ pub use reader::Header;
 pub use reader::read_header;
 pub use refusal::Check;
 pub use refusal::Refusal;
+pub use refusal::beside;
 pub use refusal::first;
 pub use refusal::given;

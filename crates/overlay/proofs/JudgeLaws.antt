@@ -130,7 +130,7 @@ module _ (ms : List Map) (c : Cut) (C : CutOf ms c) where
           judged-first ∙ ap (λ (x : Option Refusal). firstOf (x ∷ given 11 3 (ltb (room .faces) (countsOf o .faces)) ∷ [])) nothing-yet
           ∙ first-one (given 11 3 (ltb (room .faces) (countsOf o .faces))) ∙ ap (λ (n : ℕ). given 11 3 (ltb (room .faces) n)) faces-are
 
-      pub faces-refused : room .faces < n + 1 → refusedWith l (record { number = 11; map = 0; place = 3 }) ≡ overlaid ms l
+      pub faces-refused : room .faces < n + 1 → refusedWith l (record { number = 11; map = 0; place = 3; other = 0 }) ≡ overlaid ms l
       faces-refused h =
           sym (ap (outcome l (countsOf o) (tablesOf ms o)) (faces-last ∙ ap (given 11 3) (lt-ltb (room .faces) (n + 1) h)))
 

@@ -97,6 +97,7 @@ fn from_cut(
             number: 11,
             map: 0,
             place: 3,
+            other: 0,
         };
         refuse(over, vertices, halves, sources, faces)
     } else {

@@ -1,18 +1,19 @@
--- What the tables say the crossings are: where an edge meets those before it, of a map and of all maps. Assumes nothing.
+-- Where the edges of the tables meet, by the point of each meeting: an edge and those before it, of a map and of all maps. Assumes nothing.
 use Prim.Native.Nat.{_≤_}
 use native.Mathlib.Omega.{arith}
 use lib.IntN.{ℤ}
 use Rattle.seq.specs.Seq.{List, ℕ, _+_, _*_, length, rows, optional}
 use Rattle.exact.specs.Lowest.{Pt}
 use Rattle.paper.specs.Limits.{maps}
-use Rattle.paper.specs.Plane.{Seg, crossing}
+use Rattle.paper.specs.Plane.{Seg}
+use Rattle.paper.specs.Meeting.{meeting, pointOf}
 use Rattle.graph.specs.Flat.{pointWidth, carrierAt, Carriers}
 use Rattle.overlay_cut.specs.Rooms.{vertexRows}
 use Rattle.overlay_cut.specs.Cuts.{startOf, edgesFrom}
 
 -- where t meets the first e edges
 abbrev pub crossRow : List ℤ → ℕ → Seg → List Pt
-crossRow cs e t = rows (λ j. optional (crossing (carrierAt cs j) t)) e
+crossRow cs e t = rows (λ j. optional (pointOf (meeting (carrierAt cs j) t))) e
 
 -- where the e edges from row a on meet those before them
 abbrev pub crossMap : List ℤ → ℕ → ℕ → List Pt

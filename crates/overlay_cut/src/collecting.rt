@@ -5,17 +5,17 @@ use graph::point_at;
 use limits::MAPS;
 use limits::POINT_WIDTH;
 use limits::VERTEX_ROWS;
-use plane::Cross;
+use plane::Meeting;
 use plane::Point;
 use plane::Seg;
-use plane::crossing;
+use plane::meeting;
 use seq::store4_i64;
 ghost use mathlib.Core.Path.{_≡_};
 ghost use mathlib.Core.List.{[], _∷_, _++_};
 ghost use Prim.Native.Nat.{_+_, _*_, _≤_, _<_};
 ghost use lib.ListN.{length};
 ghost use Rattle.seq.specs.Seq.{optional};
-ghost use Rattle.paper.specs.Plane.{crossing};
+ghost use Rattle.paper.specs.Meeting.{meeting, pointOf};
 ghost use Rattle.plane.specs.Bounds.{Near, Edge};
 ghost use Rattle.plane.specs.Values.{ptOf, segOf};
 ghost use Rattle.graph.specs.Flat.{Points, Carriers, pointAt};
@@ -72,14 +72,16 @@ fn append_new(points: &mut [i64], n: usize, p: Point) -> usize
     n + 1
 }
 
-// Appends the point where s and t meet.
+// Appends the point where s and t touch or cross.
 fn cross_pair(s: Seg, t: Seg, points: &mut [i64], n: usize) -> usize
     requires { ⌜ PointTable (now points) n ⌝ ∗ ⌜ Edge (segOf s) × Edge (segOf t) ⌝ }
-    ensures { λ r. ⌜ pointsOf (now (points .exit)) r ≡ gathered vertexRows (pointsOf (now (points .entry)) n) (optional (crossing (segOf s) (segOf t))) ⌝ }
+    ensures { λ r. ⌜ pointsOf (now (points .exit)) r ≡ gathered vertexRows (pointsOf (now (points .entry)) n) (optional (pointOf (meeting (segOf s) (segOf t)))) ⌝ }
 {
-    match crossing(s, t) {
-        Cross::Nothing => n,
-        Cross::At(p) => append_new(points, n, p),
+    match meeting(s, t) {
+        Meeting::Apart => n,
+        Meeting::Touching(p) => append_new(points, n, p),
+        Meeting::Crossing(p) => append_new(points, n, p),
+        Meeting::Sharing => n,
     }
 }
 

@@ -31,6 +31,7 @@ fn of_map(map: u16, c: Checked) -> Check
             number: r.number,
             map,
             place: r.place,
+            other: r.other,
         }),
         Checked::Good(_) => Check::Fine,
     }

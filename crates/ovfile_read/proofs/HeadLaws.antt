@@ -45,7 +45,7 @@ module _ (s : List ℕ) where
   rest l = given 3 0 (over numbers (countsIn s)) ∷ given 4 0 (not (eqb (length s) (fileLength l (countsIn s)))) ∷ []
 
   head-by : (b : Bool) → unknown ≡ b → firstOf (mark ∷ given 2 0 b ∷ rest layout) ≡ firstOf (mark ∷ given 2 0 b ∷ rest (layoutOf layouts (u16 s 3)))
-  head-by true e = skip mark (record { number = 2; map = 0; place = 0 }) (rest layout) (rest (layoutOf layouts (u16 s 3)))
+  head-by true e = skip mark (record { number = 2; map = 0; place = 0; other = 0 }) (rest layout) (rest (layoutOf layouts (u16 s 3)))
   head-by false e = rw (known-layout e)
 
   pub head-is : firstOf (headFaults (length layouts) layout s) ≡ firstOf (headFaults (length layouts) (layoutOf layouts (u16 s 3)) s)

@@ -13,7 +13,7 @@ use Rattle.ovfile_write.specs.Answers.{answerOf, writtenOf}
 
 abbrev answerBack : Answer ℕ → WriteAnswer
 answerBack (done n) = Done n
-answerBack (refused r) = Refused (record { number = r .number; map = r .map; place = r .place })
+answerBack (refused r) = Refused (record { number = r .number; map = r .map; place = r .place; other = r .other })
 
 there-and-back : (a : WriteAnswer) → answerBack (answerOf a) ≡ a
 there-and-back (Done n) = refl

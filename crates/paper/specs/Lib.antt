@@ -3,6 +3,7 @@ pub mod Plane
 pub mod Graph
 pub mod Bytes
 pub mod Refusal
+pub mod Meeting
 pub mod Map
 pub mod Pieces
 pub mod Guards
@@ -19,3 +20,4 @@ pub mod Sample
 pub mod SampleFile
 pub mod Sheets
 pub mod Touching
+pub mod Meetings

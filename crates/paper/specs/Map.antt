@@ -1,10 +1,10 @@
 -- Map files (01, "Map file"): the map that the bytes hold, and its check, refusals 1 to 10. Assumes nothing.
-use Rattle.seq.specs.Seq.{Bool, not, _&&_, _||_, List, [], _∷_, _++_, map, Option, ℕ, _+_, _*_, _/_, _%_, leb, ltb, eqb, length, getD, natAbs, someBelow, table, orZero}
+use Rattle.seq.specs.Seq.{Bool, not, _&&_, _||_, List, [], _∷_, _++_, map, Option, ℕ, _+_, _*_, _/_, _%_, leb, ltb, eqb, length, getD, natAbs, least, someBelow, table, orZero}
 use Rattle.paper.specs.Limits.{mapVertices, mapEdges, reach, mapHead}
 use Rattle.paper.specs.Plane.{Vec, vec, nowhere, whole, same, between, clash}
 use Rattle.paper.specs.Graph.{edgeCount, halfCount, point, edge, leaves, followers, makesHole, holeLook, Edge, Graph}
 use Rattle.paper.specs.Bytes.{ascii, marked, u16, signedAt}
-use Rattle.paper.specs.Refusal.{given, firstAt, firstOf, answer, Refusal, Answer}
+use Rattle.paper.specs.Refusal.{given, beside, firstAt, firstOf, answer, Refusal, Answer}
 
 -- a map: its graph, and of each half-edge its label. "half-edge 2k is edge k from `from` to `to` with the left label; 2k+1 is its twin with
 -- the right label"
@@ -99,6 +99,17 @@ clashes g k j = not (eqb k j) && clash (edge g k .carrier) (edge g j .carrier)
 abbrev pub clashing : Graph → ℕ → Bool
 clashing g k = someBelow (clashes g k) (edgeCount g)
 
+-- its place: the least edge number
+abbrev pub clashPlace : Graph → ℕ
+clashPlace g = least (clashing g) (edgeCount g)
+
+-- "the other edge's number, the least one that clashes with it" (02, Ask 2)
+abbrev pub clashOther : Graph → ℕ
+clashOther g = least (clashes g (clashPlace g)) (edgeCount g)
+
+abbrev pub clashFault : Graph → Option Refusal
+clashFault g = beside 8 (clashPlace g) (clashOther g) (someBelow (clashing g) (edgeCount g))
+
 -- 9 "a vertex has no edge"
 abbrev pub lonely : Graph → ℕ → Bool
 lonely g v = not (someBelow (leaves g v) (halfCount g))
@@ -113,7 +124,7 @@ disagrees m nx h =
 
 abbrev pub netFaults : Map → List (Option Refusal)
 netFaults m = let g = m .graph in let nx = followers g in
-    firstAt 8 (clashing g) (edgeCount g)
+    clashFault g
     ∷ firstAt 9 (lonely g) (length (g .points))
     ∷ firstAt 10 (disagrees m nx) (halfCount g)
     ∷ []

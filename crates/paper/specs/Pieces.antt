@@ -11,15 +11,15 @@ layer ms i = getD ms i empty
 -- ── vertices ──
 
 -- where edge j of the one graph crosses edge k of the other
-abbrev pub meeting : Graph → Graph → ℕ → ℕ → List Pt
-meeting a b j k = optional (crossing (edge a j .carrier) (edge b k .carrier))
+abbrev pub crossedAt : Graph → Graph → ℕ → ℕ → List Pt
+crossedAt a b j k = optional (crossing (edge a j .carrier) (edge b k .carrier))
 
-abbrev pub meetings : Graph → Graph → List Pt
-meetings a b = rows (λ j. rows (meeting a b j) (edgeCount b)) (edgeCount a)
+abbrev pub crossedBy : Graph → Graph → List Pt
+crossedBy a b = rows (λ j. rows (crossedAt a b j) (edgeCount b)) (edgeCount a)
 
 -- the crossings of edges of two different maps
 abbrev pub crossings : List Map → List Pt
-crossings ms = rows (λ j. rows (λ i. meetings (layer ms i .graph) (layer ms j .graph)) j) (length ms)
+crossings ms = rows (λ j. rows (λ i. crossedBy (layer ms i .graph) (layer ms j .graph)) j) (length ms)
 
 -- points in order, each at its place, and nowhere if it is there already
 abbrev pub inOrder : List Pt → List Pt

@@ -35,7 +35,7 @@ abbrev pub counted : ℕ → ℕ → ℕ → Answer Counts
 counted v e f = done (record { vertices = v; edges = e; faces = f })
 
 abbrev pub refusedWith : {A : Type 0} → ℕ → ℕ → ℕ → Answer A
-refusedWith r m k = refused (record { number = r; map = m; place = k })
+refusedWith r m k = refused (record { number = r; map = m; place = k; other = 0 })
 
 -- the numbers of face f: labels, least half-edge, holes
 abbrev faceNumbers : Outcome → ℕ → List ℕ

@@ -1,14 +1,12 @@
--- Signs by the tests that the code makes: whether a number, or a pair as `lexS` picks, is above 0; whether a number is 0; opposite signs as a product below 0.
+-- Signs by the tests that the code makes: whether a number, or a pair as `lexS` picks, is above 0; whether a number is 0.
 -- Assumes nothing.
 use mathlib.Core.Path.{_≡_, refl, sym, _∙_}
 use mathlib.Core.Bool.{true, false}
-use Prim.Native.Nat.{zero, suc, _≤_}
-use native.Mathlib.Omega.{arith}
-use lib.IntN.{ℤ, pos, negsuc, natAbs, _*ℤ_, +ℤ-idr}
+use Prim.Native.Nat.{zero, suc}
+use lib.IntN.{ℤ, pos, negsuc, +ℤ-idr}
 use lib.Signed.{ltZ}
-use Rattle.exact.specs.Sign.{Sign, neg, zer, plus, sgn, isZer, isPlus, pick, lexS}
+use Rattle.exact.specs.Sign.{sgn, isZer, isPlus, pick, lexS}
 use Rattle.exact.specs.Tests.{gt-sign}
-use Rattle.paper.specs.Plane.{signNumber, opposed}
 
 -- ---- above 0
 pub plus-test : (z : ℤ) → ltZ (pos 0) z ≡ isPlus (sgn z)
@@ -31,20 +29,3 @@ pub zer-no : (z : ℤ) → (z ≡ pos 0 → ⊥) → isZer (sgn z) ≡ false
 zer-no (pos zero) f = absurd (f refl)
 zer-no (pos (suc n)) f = refl
 zer-no (negsuc n) f = refl
-
--- ---- opposite signs
-pub opposed-number : (s t : Sign) → ltZ (signNumber s *ℤ signNumber t) (pos 0) ≡ opposed s t
-opposed-number neg neg = refl
-opposed-number neg zer = refl
-opposed-number neg plus = refl
-opposed-number zer neg = refl
-opposed-number zer zer = refl
-opposed-number zer plus = refl
-opposed-number plus neg = refl
-opposed-number plus zer = refl
-opposed-number plus plus = refl
-
-pub number-bound : (s : Sign) → natAbs (signNumber s) ≤ 1
-number-bound neg = omega arith
-number-bound zer = omega arith
-number-bound plus = omega arith

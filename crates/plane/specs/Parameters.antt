@@ -17,5 +17,5 @@ abbrev pub numberOver : Seg → Seg → Seg → ℤ
 numberOver s t e = cross (minusV (t .foot) (s .foot)) (e .up)
 
 -- the point of s at n/d, over d
-abbrev pub meeting : Seg → ℤ → ℤ → Pt
-meeting s n d = pt (s .foot .x *ℤ d +ℤ n *ℤ s .up .x) (s .foot .y *ℤ d +ℤ n *ℤ s .up .y) d
+abbrev pub pointAlong : Seg → ℤ → ℤ → Pt
+pointAlong s n d = pt (s .foot .x *ℤ d +ℤ n *ℤ s .up .x) (s .foot .y *ℤ d +ℤ n *ℤ s .up .y) d

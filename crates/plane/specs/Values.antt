@@ -1,5 +1,5 @@
 -- The values of the code as the values of document 01's definitions: a Point is a point in fractions, a Vector a corner or a direction, a Seg an edge in whole
--- numbers, a Cross a point or none. Assumes nothing.
+-- numbers, a Cross a point or none, a Meeting one of the four ways in which two edges meet. Assumes nothing.
 use lib.IntN.{ℤ}
 use Rattle.exact.specs.Lowest.{pt}
 use Rattle.exact.specs.declared.terms.Point.{Point}
@@ -9,6 +9,10 @@ use Rattle.plane.specs.declared.point.Vector.{Vector}
 use Rattle.plane.specs.declared.point.Seg.{Seg}
 use Rattle.plane.specs.declared.crossings.Cross.{Cross}
 use Rattle.plane.specs.declared.crossings.Cross.the-variants.{Nothing, At}
+use Rattle.paper.specs.Meeting.{apart, touching, crossing, sharing}
+use Rattle.paper.specs.Meeting as Meetings
+use Rattle.plane.specs.declared.kinds.Meeting.{Meeting}
+use Rattle.plane.specs.declared.kinds.Meeting.the-variants.{Apart, Touching, Crossing, Sharing}
 use Rattle.seq.specs.Seq.{Option, none, some}
 
 -- the edge from the corner x, y along u, v
@@ -31,3 +35,9 @@ segOf s = seg (s .x) (s .y) (s .u) (s .v)
 abbrev pub crossOf : Cross → Option Pt
 crossOf Nothing = none
 crossOf (At p) = some (ptOf p)
+
+abbrev pub meetingOf : Meeting → Meetings.Meeting
+meetingOf Apart = apart
+meetingOf (Touching p) = touching (ptOf p)
+meetingOf (Crossing p) = crossing (ptOf p)
+meetingOf Sharing = sharing

@@ -11,32 +11,31 @@ ghost use Rattle.paper.specs.Limits.{denominators};
 ghost use Rattle.paper.specs.Plane.{within, crossAt, crossBy, crossing};
 ghost use Rattle.plane.specs.Values.{ptOf, segOf, crossOf};
 ghost use Rattle.plane.specs.Bounds.{Near, Edge, Over, NearIf};
-ghost use Rattle.plane.specs.Parameters.{firstOver, secondOver, numberOver, meeting};
+ghost use Rattle.plane.specs.Parameters.{firstOver, secondOver, numberOver, pointAlong};
 
 pub enum Cross {
     Nothing,
     At(Point),
 }
 
-// Where s and t meet, in lowest terms.
-pub fn crossing(s: Seg, t: Seg) -> Cross
-    requires { ⌜ Edge (segOf s) × Edge (segOf t) ⌝ }
-    ensures is { λ r. ⌜ crossOf r ≡ crossing (segOf s) (segOf t) ⌝ }
-    ensures near { λ r. ⌜ NearIf (crossOf r) ⌝ }
-{
-    let d = over(s, t);
-    let n = number_over(s, t, t);
-    let m = number_over(s, t, s);
-    cross_by(s, n, m, d)
-}
-
 // The denominator of both parameters.
-fn over(s: Seg, t: Seg) -> i64
+pub fn over(s: Seg, t: Seg) -> i64
     requires { ⌜ Edge (segOf s) × Edge (segOf t) ⌝ }
     ensures both { λ r. ⌜ (r ≡ firstOver (segOf s) (segOf t)) × (r ≡ secondOver (segOf s) (segOf t)) ⌝ }
     ensures bound { λ r. ⌜ natAbs r ≤ denominators ⌝ }
 {
     cross_of(s.u, s.v, t.u, t.v)
+}
+
+// Where s and t meet, in lowest terms; d is the denominator of both parameters.
+pub fn crossing_over(s: Seg, t: Seg, d: i64) -> Cross
+    requires { ⌜ Edge (segOf s) × Edge (segOf t) × (d ≡ firstOver (segOf s) (segOf t)) × (natAbs d ≤ denominators) ⌝ }
+    ensures is { λ r. ⌜ crossOf r ≡ crossing (segOf s) (segOf t) ⌝ }
+    ensures near { λ r. ⌜ NearIf (crossOf r) ⌝ }
+{
+    let n = number_over(s, t, t);
+    let m = number_over(s, t, s);
+    cross_by(s, n, m, d)
 }
 
 // What stands over it: with e for t, of the point along s; with e for s, of the point along t.
@@ -92,7 +91,7 @@ fn within(n: i64, d: i64) -> bool
 // The point of s at n/d, over d.
 fn along(s: Seg, n: i64, d: i64) -> Point
     requires { ⌜ Edge (segOf s) × Over n d × (within n d ≡ true) ⌝ }
-    ensures is { λ r. ⌜ ptOf r ≡ meeting (segOf s) n d ⌝ }
+    ensures is { λ r. ⌜ ptOf r ≡ pointAlong (segOf s) n d ⌝ }
     ensures near { λ r. ⌜ Near (ptOf r) ⌝ }
 {
     Point {

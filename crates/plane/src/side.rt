@@ -1,13 +1,11 @@
 // On which side of an edge's line a point lies.
 use super::point::Point;
 use super::point::Seg;
-use exact::Ordering;
 ghost use mathlib.Core.Path.{_≡_};
 ghost use Prim.Native.Nat.{_≤_};
 ghost use lib.IntN.{natAbs};
-ghost use Rattle.exact.specs.Compare.{signOf};
 ghost use Rattle.exact.specs.Lowest.{pt};
-ghost use Rattle.paper.specs.Plane.{leftBy, side, signNumber};
+ghost use Rattle.paper.specs.Plane.{leftBy};
 ghost use Rattle.plane.specs.Values.{seg, ptOf, segOf};
 ghost use Rattle.plane.specs.Bounds.{Near, Edge, lefts};
 
@@ -27,23 +25,4 @@ pub fn left_by(s: Seg, p: Point) -> i64
     ensures bound { λ r. ⌜ natAbs r ≤ lefts ⌝ }
 {
     left_of(s.x, s.y, s.u, s.v, p.x, p.y, p.d)
-}
-
-// -1, 0 or 1.
-fn number(o: Ordering) -> i64
-    ensures { λ r. ⌜ r ≡ signNumber (signOf o) ⌝ }
-{
-    match o {
-        Ordering::Less => -1,
-        Ordering::Equal => 0,
-        Ordering::Greater => 1,
-    }
-}
-
-// "+1 left, 0 on it, −1 right"
-pub fn side(s: Seg, p: Point) -> i64
-    requires { ⌜ Edge (segOf s) × Near (ptOf p) ⌝ }
-    ensures { λ r. ⌜ r ≡ side (segOf s) (ptOf p) ⌝ }
-{
-    number(exact::order(left_by(s, p), 0))
 }

@@ -19,7 +19,7 @@ use Rattle.tables.specs.Found.{sourceFrom, foundOf}
 
 abbrev answerBack : refusal.Answer paper.Counts → Answer
 answerBack (refusal.done c) = Done (record { vertices = c .vertices; edges = c .edges; faces = c .faces })
-answerBack (refusal.refused r) = Refused (record { number = r .number; map = r .map; place = r .place })
+answerBack (refusal.refused r) = Refused (record { number = r .number; map = r .map; place = r .place; other = r .other })
 
 there-and-back : (a : Answer) → answerBack (answerOf a) ≡ a
 there-and-back (Done c) = refl

@@ -21,7 +21,7 @@ pub fn counts_line(vertices: u16, edges: u16, faces: u16, line: &mut [u8; LINE])
 
 // "On refusal the only line is `refused N map M place P`"
 pub fn refused_line(number: u16, map: u16, place: u16, line: &mut [u8; LINE]) -> usize
-    ensures { λ r. ⌜ Line 64 (refusedLine (record { number = number; map = map; place = place })) (now (line .entry)) (now (line .exit)) r ⌝ }
+    ensures { λ r. ⌜ Line 64 (refusedLine (record { number = number; map = map; place = place; other = 0 })) (now (line .entry)) (now (line .exit)) r ⌝ }
 {
     let at = field(line, 0, b"refused ", number);
     let at = field(line, at, b" map ", map);

@@ -77,7 +77,7 @@ pub fn listing(
 
 // "On refusal the only line is `refused N map M place P`"
 pub fn refused_listing(number: u16, map: u16, place: u16, out: &mut [u8; LISTING]) -> usize
-    ensures { λ r. ⌜ Line 85504 (refusedLine (record { number = number; map = map; place = place })) (now (out .entry)) (now (out .exit)) r ⌝ }
+    ensures { λ r. ⌜ Line 85504 (refusedLine (record { number = number; map = map; place = place; other = 0 })) (now (out .entry)) (now (out .exit)) r ⌝ }
 {
     let mut line = [0u8; LINE];
     let n = refused_line(number, map, place, &mut line);

@@ -5,7 +5,8 @@ use console::say_number;
 use map_check::Checked;
 use map_file::Refusal;
 
-fn say_name(i: usize) {
+// The name of the file that an argument names.
+pub fn say_name(i: usize) {
     let mut name = io::buffer();
     let n = os::arg(i, &mut name);
     say(&name[..n]);
@@ -17,13 +18,17 @@ fn put(text: &[u8], n: u16) {
     say_number(n as u64);
 }
 
-// What 01's line says, and then a sentence.
-fn say_bad(r: Refusal) {
+// What 01's line says, and then a sentence; of refusal 8 how the two edges of the file meet.
+fn say_bad(r: Refusal, file: &[u8]) {
     put(b"refused ", r.number);
     put(b" map ", r.map);
     put(b" place ", r.place);
     say(b": ");
-    console::say_sentence(r.number, r.map, r.place);
+    if r.number == 8 {
+        console::say_clash(file, r.place, r.other);
+    } else {
+        console::say_sentence(r.number, r.map, r.place);
+    }
 }
 
 fn say_good(vertices: u16, edges: u16) {
@@ -44,7 +49,7 @@ fn check_arg(i: usize) -> bool {
             true
         }
         Checked::Bad(f) => {
-            say_bad(f);
+            say_bad(f, &file[..n]);
             false
         }
     }

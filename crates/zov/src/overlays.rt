@@ -1,7 +1,9 @@
 // Overlays, listed and written.
+use crate::maps::say_name;
 use console::load_arg;
 use console::say;
 use limits::LISTING;
+use map_file::Refusal;
 use ovfile_write::WriteAnswer;
 use tables::Answer;
 
@@ -10,6 +12,30 @@ fn explain(answer: Answer) {
     match answer {
         Answer::Done(_) => {}
         Answer::Refused(r) => console::say_sentence(r.number, r.map, r.place),
+    }
+}
+
+// Refusal 8 of one of the two maps: its name, and how the two edges of that file meet.
+fn explain_clash(r: Refusal, zones: &[u8], blocks: &[u8]) {
+    say_name(r.map as usize);
+    if r.map == 1 {
+        console::say_clash(zones, r.place, r.other);
+    } else {
+        console::say_clash(blocks, r.place, r.other);
+    }
+}
+
+// A refusal of two maps in a sentence, under its line.
+fn explain_maps(answer: Answer, zones: &[u8], blocks: &[u8]) {
+    match answer {
+        Answer::Done(_) => {}
+        Answer::Refused(r) => {
+            if r.number == 8 {
+                explain_clash(r, zones, blocks);
+            } else {
+                console::say_sentence(r.number, r.map, r.place);
+            }
+        }
     }
 }
 
@@ -44,7 +70,7 @@ pub fn lay() {
     let length = listed.length;
     say(&out[..length]);
     let answer = listed.answer;
-    explain(answer);
+    explain_maps(answer, &zones[..n], &blocks[..m]);
 }
 
 // Its overlay file, to the file that the third argument names; nothing is written where the overlay is refused.

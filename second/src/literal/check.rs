@@ -19,8 +19,9 @@ pub fn fault(map: &Map, slip: Option<Slip>) -> Option<Refusal> {
         .or_else(|| place(7, (0..edges).find(|&k| bad_ends(map, k))))
         .or_else(|| {
             let other = |j: usize, k: usize| j < k || (slip != Some(Slip::LaterEdge) && j > k);
-            let clashes = |k: usize| (0..edges).any(|j| other(j, k) && clash(map, j, k));
-            place(8, (0..edges).find(|&k| clashes(k)))
+            let clashing = |k: usize| (0..edges).find(|&j| other(j, k) && clash(map, j, k));
+            let mut found = (0..edges).filter_map(|k| clashing(k).map(|j| (k, j)));
+            found.next().map(|(k, j)| Refusal::new(8, k).beside(j))
         })
         .or_else(|| {
             let ends = |v: usize, k: usize| {

@@ -2,6 +2,7 @@
 //! the self-check holds the rest of the program against it.
 
 pub mod check;
+pub mod meet;
 pub mod net;
 pub mod overlay;
 pub mod reader;

@@ -59,6 +59,9 @@ pub const KINDS: &[PairKind] = &[
     kind("bad-both", "both maps are damaged", bad_both),
 ];
 
+/// A kind that is not among all kinds: packs end with it.
+pub const CLASHING: PairKind = kind("clashing", "a map with several clashes", clashing);
+
 /// The two files of a pair of this kind; `any` takes one of all kinds.
 pub fn pair_files(kind: &str, seed: u64) -> Option<[Vec<u8>; 2]> {
     let mut random = Random::new(seed, kind);
@@ -66,7 +69,7 @@ pub fn pair_files(kind: &str, seed: u64) -> Option<[Vec<u8>; 2]> {
         let kind = &KINDS[random.below(KINDS.len())];
         return pair_files(kind.name, random.bits());
     }
-    let kind = KINDS.iter().find(|k| k.name == kind)?;
+    let kind = KINDS.iter().chain([&CLASHING]).find(|k| k.name == kind)?;
     let mut files = (kind.make)(&mut random);
     let fixed = kind.name.starts_with("empty") || kind.name.starts_with("bad");
     if !fixed && random.once_in(2) {
@@ -366,4 +369,8 @@ fn bad_second(random: &mut Random) -> [Vec<u8>; 2] {
 
 fn bad_both(random: &mut Random) -> [Vec<u8>; 2] {
     [damage::any(random), damage::any(random)]
+}
+
+fn clashing(random: &mut Random) -> [Vec<u8>; 2] {
+    [damage::several_clashes(random), valid_map(random).bytes()]
 }

@@ -6,10 +6,12 @@ mod turned;
 
 use crate::check::{check, fault};
 use crate::literal;
-use crate::make::{map_file, pairs::pair_files};
+use crate::make::{self, map_file, pairs::pair_files};
 use crate::map::{decode, Map};
+use crate::meet;
 use crate::overlay::{overlay, Overlay, Room};
 use crate::random::Random;
+use crate::segment::Segment;
 
 /// What a check found wrong.
 pub type Found = Result<(), String>;
@@ -32,6 +34,9 @@ pub fn run(n: u64, seed: u64) -> Result<String, String> {
         let file = map_file("any", seed).expect("any is a kind");
         let one = single(&file).map_err(|what| format!("make any {seed}: {what}"))?;
         valid += one as u64;
+        meets(seed).map_err(|what| format!("make-meets {seed} 20: {what}"))?;
+        let clashing = pair_files("clashing", seed).expect("a kind");
+        clashing.iter().try_for_each(|file| single(file).map(|_| ()))?;
         let files = pair_files("any", seed).expect("any is a kind");
         match pair(&files).map_err(|what| format!("pair any {seed}: {what}"))? {
             true => done += 1,
@@ -50,6 +55,21 @@ fn single(file: &[u8]) -> Result<bool, String> {
     holds(found == literal, || format!("check: {found:?}, by 01's words {literal:?}"))?;
     turned::checks(&map, found)?;
     Ok(found.is_none())
+}
+
+/// How two edges meet is what 01's parameters say, whichever edge and whichever end comes first.
+fn meets(seed: u64) -> Found {
+    for record in make::meets::file(seed, 20).chunks_exact(meet::ASK) {
+        let ask = meet::parse(record);
+        let Ok(found) = meet::asked(&ask) else { continue };
+        let [s, t] = meet::edges(&ask);
+        let literal = literal::meet::meeting(&s, &t);
+        holds(found == literal, || format!("{ask:?}: {found}, by parameters {literal}"))?;
+        let back = Segment { ax: s.bx, ay: s.by, bx: s.ax, by: s.ay };
+        let turned = [meet::meeting(&t, &s), meet::meeting(&back, &t)];
+        holds(turned == [found; 2], || format!("{ask:?}: {found}, turned {turned:?}"))?;
+    }
+    Ok(())
 }
 
 /// Checks of a pair; says whether there is an overlay.

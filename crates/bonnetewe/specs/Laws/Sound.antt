@@ -1,18 +1,18 @@
--- Every answer that check, overlay, read and write can give is sound: a refusal's number is not 0, and it, its map, its place and all counts have 16 bits, whatever the bytes,
+-- Every answer that check, overlay, read and write can give is sound: a refusal's number is not 0, and it, its map, its place, its other edge and all counts have 16 bits, whatever the bytes,
 -- the lengths and the counts are. So one number that a C function answers is one answer, and nothing is asked (`check-means`, `overlay-means`, `read-means`, `write-means`). Assumes nothing.
 use mathlib.Core.Path.{_≡_, refl, sym, _∙_}
 use Prim.Native.Nat.{_<_, _≤_}
 use native.Mathlib.Omega.{arith}
 use borrow.Author.Tests.{ltb-false}
-use Rattle.seq.specs.Seq.{Bool, true, false, not, _||_, List, [], _∷_, _++_, Option, none, some, ℕ, ltb, eqb, length, least}
+use Rattle.seq.specs.Seq.{Bool, true, false, not, _||_, List, [], _∷_, _++_, Option, none, some, ℕ, ltb, eqb, length, least, someBelow}
 use Rattle.seq.specs.Tests.{or-false}
 use Rattle.seq.specs.Terms.{Every}
 use Rattle.seq.specs.Least.{least-le}
 use Rattle.paper.specs.Limits.{maps, mapVertices, mapEdges, mapHead, overlayHead}
 use Rattle.paper.specs.Bytes.{ascii, marked, u16}
 use Rattle.paper.specs.Graph.{edgeCount, halfCount, followers}
-use Rattle.paper.specs.Refusal.{Refusal, given, firstAt, firstOf, ofMap, answer}
-use Rattle.paper.specs.Map.{Map, mapOf, mapLength, vertexCount, edgesIn, formFaults, tooFar, doubled, badEnds, partFaults, clashing, lonely, disagrees, netFaults, fault, check}
+use Rattle.paper.specs.Refusal.{Refusal, beside, given, firstAt, firstOf, ofMap, answer}
+use Rattle.paper.specs.Map.{Map, mapOf, mapLength, vertexCount, edgesIn, formFaults, tooFar, doubled, badEnds, partFaults, clashes, clashing, clashPlace, clashOther, lonely, disagrees, netFaults, fault, check}
 use Rattle.paper.specs.Faces.{overlayOf}
 use Rattle.paper.specs.Tables.{Counts, Tables, countsOf}
 use Rattle.paper.specs.Lent.{Lengths, lengthsOf, roomIn, roomFaults}
@@ -31,15 +31,18 @@ use Rattle.bonnetewe.specs.Laws.Means.{Sound, CountsFit, PairFits, told-
 -- a refusal has a number, and all of it has 16 bits
 abbrev FitBy : Option Refusal → Type 0
 FitBy none = Unit {0}
-FitBy (some r) = (0 < r .number) × (r .number < 65536) × (r .map < 65536) × (r .place < 65536)
+FitBy (some r) = (0 < r .number) × (r .number < 65536) × (r .map < 65536) × (r .place < 65536) × (r .other < 65536)
 
 -- nothing is refused, or such a refusal is given
 record Fit (f : Option Refusal) : Type 0 where
   by : FitBy f
 
+beside-fits : (r k j : ℕ) (b : Bool) → 0 < r → r < 65536 → k < 65536 → j < 65536 → Fit (beside r k j b)
+beside-fits r k j true p q l h = record { by = (p, q, omega arith, l, h) }
+beside-fits r k j false p q l h = record { by = tt }
+
 given-fits : (r k : ℕ) (b : Bool) → 0 < r → r < 65536 → k < 65536 → Fit (given r k b)
-given-fits r k true p q l = record { by = (p, q, omega arith, l) }
-given-fits r k false p q l = record { by = tt }
+given-fits r k b p q l = beside-fits r k 0 b p q l (omega arith)
 
 -- a place below a bound that fits
 at-fits : (r : ℕ) (p : ℕ → Bool) (n : ℕ) → 0 < r → r < 65536 → n < 65536 → Fit (firstAt r p n)
@@ -58,7 +61,7 @@ then-fits (some r ∷ xs) ys h g = h .0
 
 of-fits : (m : ℕ) (r : Option Refusal) → m < 65536 → Fit r → Fit (ofMap m r)
 of-fits m none l h = record { by = tt }
-of-fits m (some r) l h = let (z, n, _, k) = h .by in record { by = (z, n, l, k) }
+of-fits m (some r) l h = let (z, n, _, k, j) = h .by in record { by = (z, n, l, k, j) }
 
 sound-by : {A : Type 0} (P : A → Type 0) (a : A) (f : Option Refusal) → Fit f → (f ≡ none → P a) → Sound P (answer a f)
 sound-by P a none h g = g refl
@@ -119,7 +122,8 @@ module _ (s : List ℕ) where
           (
             place-fits 7 (badEnds g) (edgeCount g) (omega arith) (omega arith) (omega (arith, e)),
             (
-              place-fits 8 (clashing g) (edgeCount g) (omega arith) (omega arith) (omega (arith, e)),
+              beside-fits 8 (clashPlace g) (clashOther g) (someBelow (clashing g) (edgeCount g)) (omega arith) (omega arith)
+                  (omega (arith, e, least-le (clashing g) (edgeCount g))) (omega (arith, e, least-le (clashes g (clashPlace g)) (edgeCount g))),
               (
                 place-fits 9 (lonely g) (length (g .points)) (omega arith) (omega arith) v,
                 (place-fits 10 (disagrees map-in (followers g)) (halfCount g) (omega arith) (omega arith) (omega (arith, e)), tt),

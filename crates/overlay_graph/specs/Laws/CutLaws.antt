@@ -17,7 +17,7 @@ use Rattle.overlay_cut.specs.Laws.VerticesAre.{Vertices, vertices-are, vertices
 use Rattle.overlay_cut.specs.Laws.EdgesAre.{edges-are, edges-over}
 use Rattle.overlay_maps.specs.Held.{vertexStart, heldMaps, Held}
 use Rattle.overlay_maps.specs.Layers.{Layers}
-use Rattle.overlay_graph.specs.Laws.Standing.{holds, corners-lowest, vertices-near, unordered-near}
+use Rattle.overlay_graph.specs.Laws.Standing.{keep, holds, vertices-near, unordered-near}
 use Rattle.overlay_graph.specs.Cut.{cutBy, CutOf}
 
 -- the n points in a table are those that are collected
@@ -28,7 +28,7 @@ module _ (l : Layers) (H : Held l) (out : List ℤ) (n : ℕ) (e : Collected l o
   -- no more of them than the overlay may have
   module _ (few : n < vertexRows) where
     each : Vertices (heldMaps l) out n
-    each = vertices-are (holds l H) (corners-lowest l H) out n e (omega arith)
+    each = vertices-are (holds l H) (keep l H) out n e (omega arith)
 
     pub collected-once : Once (pointsOf out n)
     collected-once = each .once
@@ -58,7 +58,7 @@ module _ (l : Layers) (H : Held l) (out : List ℤ) (n : ℕ) (e : Collected l o
   pub cut-over : vertexRows ≤ n → (ps : List ℤ) (rows : List ℕ) (r : ℕ) → CutOf (heldMaps l) (cutBy n ps r rows)
   cut-over more ps rows r = record {
     vertices-are = λ h. absurd (omega arith);
-    vertices-over = λ h. vertices-over (holds l H) (corners-lowest l H) out n e h;
+    vertices-over = λ h. vertices-over (holds l H) (keep l H) out n e h;
     edges-are = λ h q. absurd (omega arith);
     edges-over = λ h q. absurd (omega arith);
   }

@@ -9,8 +9,8 @@ use native.Mathlib.Omega.{arith}
 use lib.Seq.{getD-take, getD-drop}
 use Rattle.exact.specs.Lowest.{Pt, pt, Lowest}
 use Rattle.seq.specs.Seq.{List, _++_, ℕ, zero, suc, _+_, _*_, _-_, length, getD, drop, ℤ, pos, natAbs, table, rows}
-use Rattle.seq.specs.Terms.{Among, Every}
-use Rattle.seq.specs.Members.{every-in, in-every}
+use Rattle.seq.specs.Terms.{Among}
+use Rattle.seq.specs.Members.{every-in}
 use Rattle.seq.specs.Table.{length-table, table-at, table-+, table-ext, table-among}
 use Rattle.seq.specs.Rows.{rows-ext, rows-among}
 use Rattle.seq.specs.Inserted.{inOrder-has}
@@ -25,7 +25,7 @@ use Rattle.plane.specs.Bounds as Bounds
 use Rattle.laws_plane.specs.Points.{same-point}
 use Rattle.laws_plane.specs.Bounds.{Bounded}
 use Rattle.laws_map.specs.Keeps.{Keeps}
-use Rattle.laws_overlay.specs.Maps.{AllKeep, vertex-end, points-lowest}
+use Rattle.laws_overlay.specs.Maps.{AllKeep, vertex-end}
 use Rattle.laws_overlay.specs.Vertices.{InReach, vertices-bounded}
 use Rattle.graph.specs.Flat.{numberAt, pointAt, carrierAt, Points, flatGraph}
 use Rattle.graph.specs.Laws.Decode.{flat-edges, flat-carrier}
@@ -168,11 +168,6 @@ module _ (l : Layers) (H : Held l) where
   corners-near =
       points-by (l .corners) (vertexStart l maps) (H .stands 1 (omega arith) .points-in)
       (λ p j. let r = corner-of p j in held-near (r .0) (r .1) p (r .2))
-
-  pub corners-lowest : Every Lowest (pointsOf (l .corners) (vertexStart l maps))
-  corners-lowest =
-      in-every Lowest (pointsOf (l .corners) (vertexStart l maps))
-      (λ p j. let r = corner-of p j in every-in Lowest (heldMap l (r .0) .graph .points) (points-lowest (heldMap l (r .0)) (H .keeps (r .0) (r .1))) p (r .2))
 
   carried-near : (k : ℕ) → k < edgeStart l maps → Bounds.Edge (carrierAt (l .carriers) k)
   carried-near k h =

@@ -7,7 +7,7 @@ use crate::make::drawing::Place;
 use crate::make::plain::place;
 use crate::map::{Edge, Map};
 use crate::random::Random;
-use crate::segment::{clash, meeting, Meeting, Segment};
+use crate::segment::{clash, shared, Segment, Shared};
 
 pub fn beyond(random: &mut Random, map: &mut Map) {
     let vertices = map.vertices.len();
@@ -102,10 +102,17 @@ fn put_clash(random: &mut Random, map: &mut Map, wanted: fn(&Segment, &Segment) 
 }
 
 pub fn crossing(random: &mut Random, map: &mut Map) {
-    put_clash(random, map, |s, t| match meeting(s, t) {
-        Meeting::At(p) => !s.ends().contains(&p) && !t.ends().contains(&p),
+    put_clash(random, map, |s, t| match shared(s, t) {
+        Shared::At(p) => !s.ends().contains(&p) && !t.ends().contains(&p),
         _ => false,
     });
+}
+
+/// Several edges put in, each with a clash.
+pub fn clashes(random: &mut Random, map: &mut Map) {
+    for _ in 0..random.range(2, 6) {
+        put_clash(random, map, clash);
+    }
 }
 
 pub fn tee(random: &mut Random, map: &mut Map) {
@@ -114,10 +121,10 @@ pub fn tee(random: &mut Random, map: &mut Map) {
 
 /// Do two edges cross inside both, or share a stretch?
 fn crosses_within(s: &Segment, t: &Segment) -> bool {
-    match meeting(s, t) {
-        Meeting::At(p) => !s.ends().contains(&p) && !t.ends().contains(&p),
-        Meeting::Stretch(..) => true,
-        Meeting::Nothing => false,
+    match shared(s, t) {
+        Shared::At(p) => !s.ends().contains(&p) && !t.ends().contains(&p),
+        Shared::Stretch(..) => true,
+        Shared::Nothing => false,
     }
 }
 

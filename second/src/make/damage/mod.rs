@@ -85,6 +85,18 @@ pub fn any(random: &mut Random) -> Vec<u8> {
     damaged(&KINDS[random.below(KINDS.len())], random)
 }
 
+/// A map that is refused by rule 8, and most often an edge clashes with several.
+pub fn several_clashes(random: &mut Random) -> Vec<u8> {
+    loop {
+        let mut map = valid_map(random);
+        maps::clashes(random, &mut map);
+        let bytes = map.bytes();
+        if check(&bytes).is_err_and(|refusal| refusal.number == 8) {
+            return bytes;
+        }
+    }
+}
+
 /// Damage to the map first, then to its bytes.
 fn several(random: &mut Random, bytes: &mut Vec<u8>) {
     let mut map = crate::map::decode(bytes).unwrap_or_default();

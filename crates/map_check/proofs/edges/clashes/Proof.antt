@@ -3,7 +3,8 @@ use mathlib.Core.Path.{_≡_, sym, _∙_}
 use borrow.Author.Needs.{needs}
 use denote.Ref.{now}
 use Rattle.seq.specs.Seq.{true}
-use Rattle.paper.specs.Plane.{clash}
+use Rattle.paper.specs.Meeting.{meeting, clashBy}
+use Rattle.laws_meet.specs.Uses.{clash-meeting}
 use Rattle.graph.specs.Flat.{carrierAt}
 use Rattle.map_check.specs.Heights.{parted, parted-clear}
 use Rattle.map_check.specs.Laws.Rows.{carried}
@@ -30,7 +31,13 @@ returns-2 : tie.Need-returns-2
 returns-2 c =
     let after-carrier-at : tie.After-carrier-at = search needs in
     let after-carrier-at2 : tie.After-carrier-at2 = search needs in
-    c .clash .ensures ∙ (λ i. clash (after-carrier-at .carrier-at .ensures .0 i) (after-carrier-at2 .carrier-at2 .ensures .0 i))
+    let start : tie.Start = search needs in
+    let a = start .args in
+    let s = after-carrier-at .carrier-at .ensures .0 in
+    let t = after-carrier-at2 .carrier-at2 .ensures .0 in
+    let up = start .pre .3 .up in
+    c .clash-by .ensures ∙ (λ i. clashBy (s i) (t i) (meeting (s i) (t i)))
+    ∙ sym (clash-meeting (carrierAt (now (a .carriers)) (a .k)) (carrierAt (now (a .carriers)) (a .j)) (up (a .k) (start .pre .1)) (up (a .j) (start .pre .2)))
 
 pub clashes-spec : {M : Type 1} → statement M
 clashes-spec = tie.close (tie.spec carrier-at-requires carrier-at-requires-2 (λ c κs. search needs) returns (λ c κs. search needs) returns-2)

@@ -1,10 +1,12 @@
--- `overlay_cut::collecting::cross_pair` meets its contract, whatever the answer of `crossing`. Assumes nothing.
-use mathlib.Core.Path.{sym, _∙_, ap, subst}
-use Rattle.seq.specs.Seq.{Option, optional}
+-- `overlay_cut::collecting::cross_pair` meets its contract, whatever the answer of `meeting`. Assumes nothing.
+use mathlib.Core.Path.{_≡_, sym, _∙_, ap, subst}
+use Rattle.seq.specs.Seq.{List, Option, optional}
 use Rattle.paper.specs.Plane.{Pt}
+use Rattle.paper.specs.Meeting as Ways
+use Rattle.paper.specs.Meeting.{meeting, pointOf}
 use Rattle.plane.specs.Bounds.{NearIf}
-use Rattle.plane.specs.Values.{crossOf}
-use Rattle.plane.specs.declared.crossings.Cross.{Cross}
+use Rattle.plane.specs.Values.{segOf, meetingOf}
+use Rattle.plane.specs.declared.kinds.Meeting.{Meeting}
 use Rattle.overlay_cut.specs.Rooms.{vertexRows}
 use Rattle.overlay_cut.specs.Points.{pointsOf}
 use Rattle.overlay_cut.specs.Collecting.{gathered}
@@ -12,26 +14,46 @@ use borrow.Author.Needs.{needs}
 use Rattle.overlay_cut.proofs.collecting.cross_pair.Statement.{statement}
 use Rattle.overlay_cut.proofs.collecting.cross_pair.Tie as tie
 
+-- what the call of `meeting` told, of each way
+module _ (c : tie.After-meeting) where
+  abbrev after : Option Pt → List Pt
+  after o = gathered vertexRows (pointsOf (c .before .args .points .now) (c .before .args .n)) (optional o)
+
+  told : (m : Meeting) → c .meeting .result ≡ m → after (pointOf (meetingOf m)) ≡ after (pointOf (meeting (segOf (c .before .args .s)) (segOf (c .before .args .t))))
+  told m e = ap (λ (w : Ways.Meeting). after (pointOf w)) (sym (ap meetingOf e) ∙ c .meeting .ensures .0)
+
+  near : (m : Meeting) → c .meeting .result ≡ m → NearIf (pointOf (meetingOf m))
+  near m e = subst (λ (x : Meeting). NearIf (pointOf (meetingOf x))) e (c .meeting .ensures .1)
+
 append-new-requires : tie.Need-append-new-requires
 append-new-requires c κs =
     let start : tie.Start = search needs in
-    let after-crossing : tie.After-crossing = search needs in
-    (start .pre .0, subst (λ (x : Cross). NearIf (crossOf x)) (c .before .before .p .given .1) (after-crossing .crossing .ensures .1))
+    let after-meeting : tie.After-meeting = search needs in
+    (start .pre .0, near after-meeting _ (c .before .before .p .given .1))
+
+append-new-requires-2 : tie.Need-append-new-requires-2
+append-new-requires-2 c κs =
+    let start : tie.Start = search needs in
+    let after-meeting : tie.After-meeting = search needs in
+    (start .pre .0, near after-meeting _ (c .before .before .p2 .given .1))
 
 returns : tie.Need-returns
-returns c =
-    let start : tie.Start = search needs in
-    let a = start .args in
-    ap (λ (o : Option Pt). gathered vertexRows (pointsOf (a .points .now) (a .n)) (optional o)) (sym (ap crossOf (c .enum-told .given .1)) ∙ c .before .before .crossing .ensures .0)
+returns c = told (c .before .before) _ (c .enum-told .given .1)
 
 returns-2 : tie.Need-returns-2
 returns-2 c =
-    let start : tie.Start = search needs in
+    let after-meeting : tie.After-meeting = search needs in
     let after-p : tie.After-p = search needs in
-    let after-crossing : tie.After-crossing = search needs in
-    let a = start .args in
-    c .before .append-new .ensures
-    ∙ ap (λ (o : Option Pt). gathered vertexRows (pointsOf (a .points .now) (a .n)) (optional o)) (sym (ap crossOf (after-p .p .given .1)) ∙ after-crossing .crossing .ensures .0)
+    c .before .append-new .ensures ∙ told after-meeting _ (after-p .p .given .1)
+
+returns-3 : tie.Need-returns-3
+returns-3 c =
+    let after-meeting : tie.After-meeting = search needs in
+    let after-p : tie.After-p2 = search needs in
+    c .before .append-new2 .ensures ∙ told after-meeting _ (after-p .p2 .given .1)
+
+returns-4 : tie.Need-returns-4
+returns-4 c = told (c .before .before) _ (c .enum-told2 .given .1)
 
 pub cross-pair-spec : {M : Type 1} → statement M
 cross-pair-spec =
@@ -41,6 +63,12 @@ cross-pair-spec =
     (λ c. search needs)
     (λ c. search needs)
     append-new-requires
+    (λ c. search needs)
+    append-new-requires-2
+    (λ c. search needs)
     returns
     (λ c. search needs)
-    returns-2)
+    returns-2
+    (λ c. search needs)
+    returns-3
+    returns-4)

@@ -2,7 +2,8 @@
 use mathlib.Core.Path.{_∙_, ap}
 use Prim.Native.Nat.{_-_}
 use Rattle.seq.specs.Seq.{optional}
-use Rattle.paper.specs.Plane.{Seg, crossing}
+use Rattle.paper.specs.Plane.{Seg}
+use Rattle.paper.specs.Meeting.{meeting, pointOf}
 use Rattle.plane.specs.Values.{segOf}
 use Rattle.graph.specs.Flat.{carrierAt}
 use Rattle.overlay_cut.specs.Rooms.{vertexRows}
@@ -14,7 +15,7 @@ use Rattle.overlay_cut.proofs.collecting.cross_row.Statement.{statement
 use Rattle.overlay_cut.proofs.collecting.cross_row.Tie as tie
 
 abbrev Inv-loop : tie.InvT-loop
-Inv-loop carriers e t points₀ n total₀ j₀ points total j = Gathering vertexRows (λ k. optional (crossing (carrierAt carriers k) (segOf t))) e points₀ n points total j
+Inv-loop carriers e t points₀ n total₀ j₀ points total j = Gathering vertexRows (λ k. optional (pointOf (meeting (carrierAt carriers k) (segOf t)))) e points₀ n points total j
 
 abbrev μ-loop : tie.MeasureT-loop
 μ-loop carriers e t points₀ n total₀ j₀ points total j = e - j
@@ -37,7 +38,7 @@ loop-again c =
     let l = at-loop .loop in
     let r = c .before .cross-pair in
     let t = segOf (start .args .t) in
-    gather-turns (l .inv) (omega arith) (r .kept .1 .1 .0) (r .ensures ∙ ap (λ (s : Seg). gathered vertexRows (pointsOf (l .points) (l .total)) (optional (crossing s t))) (after-carrier-at .carrier-at .ensures .0))
+    gather-turns (l .inv) (omega arith) (r .kept .1 .1 .0) (r .ensures ∙ ap (λ (s : Seg). gathered vertexRows (pointsOf (l .points) (l .total)) (optional (pointOf (meeting s t)))) (after-carrier-at .carrier-at .ensures .0))
 
 pub cross-row-spec : {M : Type 1} → statement M
 cross-row-spec =

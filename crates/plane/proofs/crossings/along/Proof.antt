@@ -8,14 +8,14 @@ use Rattle.exact.specs.Tests.{and-parts, le-t}
 use Rattle.paper.specs.Limits.{reach, denominators}
 use Rattle.plane.specs.Values.{segOf}
 use Rattle.plane.specs.Bounds.{Near}
-use Rattle.plane.specs.Parameters.{meeting}
+use Rattle.plane.specs.Parameters.{pointAlong}
 use Rattle.plane.proofs.Machine.{back}
 use Rattle.plane.proofs.Box.{weighed-below}
 use Rattle.plane.proofs.crossings.along.Statement.{statement}
 use Rattle.plane.proofs.crossings.along.Tie as tie
 
 -- the point, before the machine has it
-near : (c : tie.Start) → Near (meeting (segOf (c .args .s)) (c .args .n) (c .args .d))
+near : (c : tie.Start) → Near (pointAlong (segOf (c .args .s)) (c .args .n) (c .args .d))
 near c =
     let s = c .args .s in
     let n = c .args .n in
@@ -40,7 +40,7 @@ returns c =
     let x : back (back (back (s .x) *ℤ back d) +ℤ back (back n *ℤ back (s .u))) ≡ s .x *ℤ d +ℤ n *ℤ s .u = plain (search tr depth 20) tt in
     let y : back (back (back (s .y) *ℤ back d) +ℤ back (back n *ℤ back (s .v))) ≡ s .y *ℤ d +ℤ n *ℤ s .v = plain (search tr depth 20) tt in
     let z : back d ≡ d = plain (search tr depth 20) tt in
-    let is : pt (back (back (back (s .x) *ℤ back d) +ℤ back (back n *ℤ back (s .u)))) (back (back (back (s .y) *ℤ back d) +ℤ back (back n *ℤ back (s .v)))) (back d) ≡ meeting (segOf s) n d = λ i. pt (x i) (y i) (z i) in
+    let is : pt (back (back (back (s .x) *ℤ back d) +ℤ back (back n *ℤ back (s .u)))) (back (back (back (s .y) *ℤ back d) +ℤ back (back n *ℤ back (s .v)))) (back d) ≡ pointAlong (segOf s) n d = λ i. pt (x i) (y i) (z i) in
     (is, subst Near (sym is) (near st))
 
 pub along-spec : {M : Type 1} → statement M

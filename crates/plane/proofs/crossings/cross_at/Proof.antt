@@ -8,15 +8,15 @@ use Rattle.seq.specs.Seq.{none, some}
 use Rattle.paper.specs.Plane.{Seg, within, crossAt}
 use Rattle.plane.specs.Values.{segOf, ptOf}
 use Rattle.plane.specs.Bounds.{Near, Over}
-use Rattle.plane.specs.Parameters.{meeting}
+use Rattle.plane.specs.Parameters.{pointAlong}
 use Rattle.plane.proofs.Machine.{back, number-back, pt-back}
 use Rattle.plane.proofs.Crosses.{lowestOf, near-lowest}
 use Rattle.plane.proofs.crossings.cross_at.Statement.{statement}
 use Rattle.plane.proofs.crossings.cross_at.Tie as tie
 
 -- the definition, where it is known of the two parameters
-by : (s : Seg) (n m d : ℤ) {a b : Bool} → a ≡ within n d → b ≡ within m d → cond (a && b) (some (lowestOf (meeting s n d))) none ≡ crossAt s n m d
-by s n m d e f = λ i. cond (e i && f i) (some (lowestOf (meeting s n d))) none
+by : (s : Seg) (n m d : ℤ) {a b : Bool} → a ≡ within n d → b ≡ within m d → cond (a && b) (some (lowestOf (pointAlong s n d))) none ≡ crossAt s n m d
+by s n m d e f = λ i. cond (e i && f i) (some (lowestOf (pointAlong s n d))) none
 
 -- the test of a parameter, as the machine makes it
 told : (n d : ℤ) → Over n d → within (back n) (back d) ≡ within n d
@@ -52,7 +52,7 @@ returns c =
     let first = sym (then1 .if1 .taken) ∙ after-within .within .ensures ∙ told n d o in
     let second = sym (then2 .if2 .taken) ∙ after-within2 .within2 .ensures ∙ told (st .args .m) d (st .pre .2) in
     let low : ptOf (c .lowest .result) ≡ lowestOf (ptOf (p .result)) = c .lowest .ensures ∙ ap lowestOf (pt-back (p .result .x) (p .result .y) (p .result .d) (p .ensures .1)) in
-    let at : ptOf (p .result) ≡ meeting s n d = p .ensures .0 ∙ (λ i. meeting s (number-back n (o .n-is) i) (number-back d (o .d-is) i)) in
+    let at : ptOf (p .result) ≡ pointAlong s n d = p .ensures .0 ∙ (λ i. pointAlong s (number-back n (o .n-is) i) (number-back d (o .d-is) i)) in
     (ap some (low ∙ ap lowestOf at) ∙ by s n (st .args .m) d first second, subst Near (sym low) (near-lowest (ptOf (p .result)) (p .ensures .1)))
 
 returns-2 : tie.Need-returns-2
