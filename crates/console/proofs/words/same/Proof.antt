@@ -1,9 +1,9 @@
--- `zov::words::same` is safe and ends: the place rises. Assumes nothing.
+-- `console::words::same` is safe and ends: the place rises. Assumes nothing.
 use Prim.Native.Nat.{_-_}
 use borrow.Author.Needs.{needs}
 use lib.ListN.{length}
-use Rattle.zov.proofs.words.same.Statement.{statement}
-use Rattle.zov.proofs.words.same.Tie as tie
+use Rattle.console.proofs.words.same.Statement.{statement}
+use Rattle.console.proofs.words.same.Tie as tie
 
 abbrev Inv-loop : tie.InvT-loop
 Inv-loop word text i₀ i = Unit {0}
