@@ -26,11 +26,14 @@
 extern "C" {
 #endif
 
-/* Tables of these lengths hold every overlay, and a buffer of this length every overlay file. */
+/* Tables of these lengths hold every overlay, a buffer of this length every overlay file, and a file and a list of these lengths
+ * every mended map. */
 #define BONNETEWE_VERTEX_CELLS (4 * 1000)
 #define BONNETEWE_HALF_CELLS (5 * 4000)
 #define BONNETEWE_SOURCE_CELLS (2 * 2000)
 #define BONNETEWE_FACE_CELLS (4 * 1334)
+#define BONNETEWE_MEND_BYTES (9 + 4 * 200 + 8 * 300)
+#define BONNETEWE_MEND_CELLS (2 * (200 + 300))
 #define BONNETEWE_FILE_BYTES (11 + 14 * 1000 + 16 * 2000 + 8 * 1334)
 
 /* An answer: four numbers of 16 bits, the lowest first. The first is 0 where the call is done, otherwise the number of the rule that is broken. */
@@ -61,6 +64,17 @@ static inline unsigned bonnetewe_faces(bonnetewe_answer a)
 static inline size_t bonnetewe_length(bonnetewe_answer a)
 {
     return a >> 16;
+}
+
+/* Done, from bonnetewe_mend: the length of the mended file in bytes, and the number of entries. */
+static inline unsigned bonnetewe_mended_length(bonnetewe_answer a)
+{
+    return a >> 16 & 65535;
+}
+
+static inline unsigned bonnetewe_entries(bonnetewe_answer a)
+{
+    return a >> 32 & 65535;
 }
 
 /* Refused: the rule's number, the map (1 or 2, 0 for neither) and the place. README.md says what each means. */
@@ -130,6 +144,12 @@ bonnetewe_answer bonnetewe_check(const uint8_t *file, size_t file_length);
  * behind; it is all zero where there is no such point. */
 bonnetewe_answer bonnetewe_meet(int16_t ax, int16_t ay, int16_t bx, int16_t by, int16_t cx, int16_t cy, int16_t dx, int16_t dy,
                                 int64_t *point, size_t point_cells);
+
+/* Mends a map file into a lent file, and lists what was done: in the list each entry is two numbers, the step (1 a vertex merged, 2 an edge without length dropped,
+ * 3 an edge doubled dropped, 4 a vertex without edge dropped) and the original number, by step, then number. Past the file and the list all is 0; where it is
+ * refused, with 1 to 5, 7, or 11 (place 4 for the file, 5 for the list), both are all 0. */
+bonnetewe_answer bonnetewe_mend(const uint8_t *file, size_t file_length, uint8_t *out, size_t out_length,
+                                uint16_t *list, size_t list_cells);
 
 /* Lays the second map file over the first, into the tables. */
 bonnetewe_answer bonnetewe_overlay(const uint8_t *zones, size_t zones_length, const uint8_t *blocks, size_t blocks_length,

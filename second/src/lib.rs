@@ -11,6 +11,7 @@ pub mod locate;
 pub mod make;
 pub mod map;
 pub mod meet;
+pub mod mend;
 pub mod overlay;
 pub mod ovfile;
 pub mod pack;

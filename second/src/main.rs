@@ -4,6 +4,7 @@ use second::check::check;
 use second::make;
 use second::map::decode;
 use second::meet;
+use second::mend;
 use second::overlay::{overlay_files, Room};
 use second::ovfile::{file_of, read};
 use second::pack;
@@ -29,6 +30,9 @@ second pack SEED N FILE                   N pairs of all kinds and N/10 clashing
                                           tables to lend
 second answers FILE                       the answer and digest of each pair of a pack
 second unpack FILE I DIR                  make the maps of pair I of a pack in DIR, and say its ROOM
+second mend IN OUT                        mend a map file, and list what was done
+second mend-pack SEED N FILE              N files to be mended in one file, with the room to lend
+second mend-answers FILE                  the answer for each file of such a pack, and a digest
 second damage-overlay SEED FILE OUT       damage an overlay file
 second meets FILE                         how two edges meet, for each 16 bytes of a file
 second clash FILE                         of a map file refused with 8, how the two edges meet
@@ -84,6 +88,12 @@ fn run(args: &[&str]) -> Outcome {
         }
         ["answers", file] => answers(file),
         ["unpack", file, i, dir] => unpack(file, number(i)?, dir),
+        ["mend", file, out] => mend_file(file, out),
+        ["mend-pack", seed, n, out] => {
+            let cases = make::mends::make(number(seed)?, number(n)?);
+            save(out, &make::mends::bytes(&cases)).map(|()| String::new())
+        }
+        ["mend-answers", file] => mend_answers(file),
         ["damage-overlay", seed, file, out] => damage_overlay(number(seed)?, file, out),
         ["meets", file] => Ok(meet::lines(&bytes(file))),
         ["clash", file] => clash(file),
@@ -254,6 +264,23 @@ fn unpack(file: &str, i: usize, dir: &str) -> Outcome {
     let pair = pairs.get(i).ok_or("no such pair")?;
     let [v, h, s, f] = pair.rows;
     save_pair(&pair.files, dir).map(|_| format!("--tables {v} {h} {s} {f}\n"))
+}
+
+/// The file is written where it is not refused.
+fn mend_file(file: &str, out: &str) -> Outcome {
+    match mend::mend(&bytes(file)) {
+        Ok(mended) => save(out, &mended.map.bytes()).map(|()| mend::lines(&mended)),
+        Err(refusal) => Ok(format!("{refusal}\n")),
+    }
+}
+
+/// `I ANSWER` for each file of a pack of files to be mended.
+fn mend_answers(file: &str) -> Outcome {
+    let cases = make::mends::parse(&bytes(file)).ok_or(format!("{file}: not a pack of files"))?;
+    let line = |(i, c): (usize, &make::mends::Case)| {
+        format!("{i} {}\n", mend::answer(&c.file, c.room as usize, c.list as usize))
+    };
+    Ok(cases.iter().enumerate().map(line).collect())
 }
 
 fn damage_overlay(seed: u64, file: &str, out: &str) -> Outcome {

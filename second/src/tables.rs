@@ -136,16 +136,16 @@ impl Tables {
 }
 
 /// The FNV-1a sum of 64 bits.
-struct Fnv {
-    value: u64,
+pub struct Fnv {
+    pub value: u64,
 }
 
 impl Fnv {
-    fn new() -> Fnv {
+    pub fn new() -> Fnv {
         Fnv { value: 0xcbf2_9ce4_8422_2325 }
     }
 
-    fn add(&mut self, bytes: &[u8]) {
+    pub fn add(&mut self, bytes: &[u8]) {
         for &byte in bytes {
             self.value = (self.value ^ byte as u64).wrapping_mul(0x0000_0100_0000_01b3);
         }

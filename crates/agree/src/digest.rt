@@ -1,9 +1,10 @@
-// The digest of an overlay's tables, as the second program reckons it (second/README.md): FNV-1a of 64 bits.
+// The digest of an overlay's tables, and of a mended file with its list, as the second program reckons it (second/README.md): FNV-1a of 64 bits.
 use exact::magnitude;
 use limits::EDGE_WIDTH;
 use limits::FACE_WIDTH;
 use limits::SOURCE_WIDTH;
 use limits::VERTEX_WIDTH;
+use map_file::byte_at;
 use ovfile::i64_at;
 use ovfile::u16_at;
 use ovfile::u32_at;
@@ -82,4 +83,19 @@ pub fn of(c: Counts, vertices: &[i64], halves: &[u16], sources: &[u32], faces: &
     let sum = add_u16s(sum, halves, EDGE_WIDTH * c.edges as usize);
     let sum = add_u32s(sum, sources, SOURCE_WIDTH * c.edges as usize);
     add_u16s(sum, faces, FACE_WIDTH * c.faces as usize)
+}
+
+fn add_u8s(digest: u64, t: &[u8]) -> u64 {
+    let mut sum = digest;
+    let mut i = 0;
+    while i < t.len() {
+        sum = add(sum, byte_at(t, i) as u64, 1);
+        i += 1;
+    }
+    sum
+}
+
+// All bytes of a lent file, and all numbers of a lent list.
+pub fn of_lent(file: &[u8], list: &[u16]) -> u64 {
+    add_u16s(add_u8s(START, file), list, list.len())
 }

@@ -1,6 +1,7 @@
-// Many overlays: a line for each pair of map files in the pack `pairs` (second/README.md), the answer and a digest of all tables. What is printed is held to
-// the second program's answers.
-mod digest; // the digest of the tables
+// Many overlays: a line for each pair of map files in the pack `pairs` (second/README.md), the answer and a digest of all tables. Then many
+// files mended. What is printed is held to the second program's answers.
+mod digest; // the digest of what is lent
+mod mends; // files mended
 mod pack; // the numbers and files of a pack
 
 use console::say;
@@ -108,4 +109,5 @@ fn main() {
     }
     each(fd, pack::number(fd));
     libc::close(fd);
+    mends::all();
 }

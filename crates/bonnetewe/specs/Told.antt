@@ -6,6 +6,7 @@ use Rattle.seq.specs.Seq.{List, Option, none, some, ℕ, _+_, _*_, _^_, length}
 use Rattle.paper.specs.Refusal.{Answer, done, refused, answer, Refusal}
 use Rattle.paper.specs.Tables.{Counts, Tables}
 use Rattle.paper.specs.Lent.{Outcome, lengthsOf}
+use Rattle.paper.specs.Mend.{Mending}
 use Rattle.paper.specs.Record.{Source, first, second, both, OverlayEdge}
 use Rattle.paper.specs.Ovfile.{layouts, fileLength, layoutOf}
 use Rattle.paper.specs.Writer.{Written, writeFault, write}
@@ -18,7 +19,7 @@ abbrev pub told : Answer Counts → ℕ
 told (done c) = four 0 (c .vertices) (c .edges) (c .faces)
 told (refused r) = four (r .number) (r .map) (r .place) (r .other)
 
--- the same of one map: 0 and its two counts
+-- the same of one map, 0 and its two counts; or of a mended file, 0, its length and the number of entries
 abbrev pub toldMap : Answer (ℕ × ℕ) → ℕ
 toldMap (done c) = four 0 (c .0) (c .1) 0
 toldMap (refused r) = four (r .number) (r .map) (r .place) (r .other)
@@ -76,6 +77,15 @@ pub record ToldFile (w : Written) (b : List ℕ) (r : ℕ) : Type 0 where
 pub told-file : (w : Written) {a : Answer ℕ} {b : List ℕ} {r : ℕ} → _≡_ {A = Written} (record { answer = a; buffer = b }) w → r ≡ toldLength a → ToldFile w b r
 told-file w {a} {b} {r} e h = record { answer = h ∙ ap (λ (x : Written). toldLength (x .answer)) e; buffer = ap (λ (x : Written). x .buffer) e }
 
+-- r tells what mending answers, and f and l are the lent file and list
+pub record ToldMending (m : Mending) (f l : List ℕ) (r : ℕ) : Type 0 where
+  pub answer : r ≡ toldMap (m .answer)
+  pub file : f ≡ m .file
+  pub list : l ≡ m .list
+
+pub told-mending : (m : Mending) {a : Answer (ℕ × ℕ)} {f l : List ℕ} {r : ℕ} → _≡_ {A = Mending} (record { answer = a; file = f; list = l }) m → r ≡ toldMap a → ToldMending m f l r
+told-mending m {a} {f} {l} {r} e h = record { answer = h ∙ ap (λ (x : Mending). toldMap (x .answer)) e; file = ap (λ (x : Mending). x .file) e; list = ap (λ (x : Mending). x .list) e }
+
 short-by : (n : ℕ) (f : Option Refusal) → n < 2 ^ 32 → Short (answer n f)
 short-by n none h = h
 short-by n (some r) h = tt
@@ -98,6 +108,10 @@ told-once a b = (a .tables ∙ sym (b .tables), a .answer ∙ sym (b .answer))
 
 pub told-file-once : {w : Written} {x y : List ℕ} {r q : ℕ} → ToldFile w x r → ToldFile w y q → (x ≡ y) × (r ≡ q)
 told-file-once a b = (a .buffer ∙ sym (b .buffer), a .answer ∙ sym (b .answer))
+
+-- nor a second number, file and list a mending
+pub told-mending-once : {m : Mending} {f g x y : List ℕ} {r q : ℕ} → ToldMending m f x r → ToldMending m g y q → (f ≡ g) × (x ≡ y) × (r ≡ q)
+told-mending-once a b = (a .file ∙ sym (b .file), a .list ∙ sym (b .list), a .answer ∙ sym (b .answer))
 
 -- nor a second number an edge record's ends, or its sources, or a map's check
 pub told-number-once : {n r q : ℕ} → r ≡ n → q ≡ n → r ≡ q

@@ -1,11 +1,13 @@
 // "The answer is either the three counts or a refusal with number, map and place": four numbers of 16 bits in one of 64, the lowest first. The first is 0
 // where it is done, and the counts follow; otherwise it is the refusal's number, and map, place and other edge follow.
 use map_check::Checked;
+use mend::Mended;
 use ovfile_write::WriteAnswer;
 use tables::Answer;
 ghost use mathlib.Core.Path.{_≡_};
 ghost use Rattle.tables.specs.Values.{answerOf};
 ghost use Rattle.map_check.specs.Answer.{answerOf as checkedOf};
+ghost use Rattle.mend.specs.Answers.{answerOf as mendedAnswer};
 ghost use Rattle.ovfile_write.specs.Answers.{answerOf as writtenAnswer};
 ghost use Rattle.bonnetewe.specs.Told.{four, told, toldMap, toldLength, Short};
 
@@ -47,5 +49,15 @@ pub fn of_checked(answer: Checked) -> u64
     match answer {
         Checked::Good(c) => join(0, c.vertices, c.edges, 0),
         Checked::Bad(r) => join(r.number, r.map, r.place, r.other),
+    }
+}
+
+// The file's length and the number of entries both fit 16 bits.
+pub fn of_mended(answer: Mended) -> u64
+    ensures { λ r. ⌜ r ≡ toldMap (mendedAnswer answer) ⌝ }
+{
+    match answer {
+        Mended::Done(m) => join(0, m.length, m.entries, 0),
+        Mended::Refused(r) => join(r.number, r.map, r.place, r.other),
     }
 }

@@ -1,6 +1,7 @@
 // The operations, as C calls them.
 use crate::answer::of_answer;
 use crate::answer::of_checked;
+use crate::answer::of_mended;
 use crate::answer::of_written;
 use crate::met::lay_point;
 use crate::met::of_met;
@@ -13,13 +14,14 @@ ghost use mathlib.Core.List.{[]};
 ghost use lib.ListN.{length};
 ghost use Rattle.paper.specs.Map.{check};
 ghost use Rattle.paper.specs.Meeting.{meet};
+ghost use Rattle.paper.specs.Mend.{mend};
 ghost use Rattle.paper.specs.Lent.{lengthsOf};
 ghost use Rattle.paper.specs.Overlay.{overlay};
 ghost use Rattle.paper.specs.Record.{edgeRecord};
 ghost use Rattle.paper.specs.Reader.{read};
 ghost use Rattle.paper.specs.Writer.{write};
 ghost use Rattle.tables.specs.Values.{lengthsBy, tablesBy};
-ghost use Rattle.bonnetewe.specs.Told.{toldMap, Told, ToldFile, counts, toldEnds, toldSources};
+ghost use Rattle.bonnetewe.specs.Told.{toldMap, Told, ToldFile, ToldMending, counts, toldEnds, toldSources};
 ghost use Rattle.bonnetewe.specs.Met.{ToldMeeting};
 
 // The check of one map file of any bytes: done with its counts of vertices and edges, or refused.
@@ -103,6 +105,15 @@ pub extern "C" fn bonnetewe_write(
     };
     let answer = ovfile_write::write(c, vertices, halves, sources, faces, buffer);
     of_written(answer)
+}
+
+// Mends a map file of any bytes into a lent file and a lent list of two numbers an entry: done with the file's length and the number of entries, or refused.
+#[no_mangle]
+pub extern "C" fn bonnetewe_mend(file: &[u8], out: &mut [u8], list: &mut [u16]) -> u64
+    ensures { λ r. ⌜ ToldMending (mend (length (now (out .entry))) (length (now (list .entry))) (now (file .entry))) (now (out .exit)) (now (list .exit)) r ⌝ }
+{
+    let answer = mend::mend(file, out, list);
+    of_mended(answer)
 }
 
 // "it is handed out by edge number, and a number with no edge is answered as absent": the ends of edge k, in tables of any contents.

@@ -5,6 +5,7 @@ mod edges; // the edges of an overlay file
 mod files; // files by name
 mod lines; // printing
 mod sentence; // a refusal in a sentence
+mod words; // the program's arguments
 
 pub use clash::say_clash;
 pub use edges::say_edges;
@@ -15,4 +16,7 @@ pub use files::within;
 pub use lines::say;
 pub use lines::say_number;
 pub use lines::say_refused;
+pub use sentence::say_mend_sentence;
 pub use sentence::say_sentence;
+pub use words::is_arg;
+pub use words::same_args;

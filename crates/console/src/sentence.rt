@@ -8,7 +8,8 @@ fn say_room(place: u16) {
         1 => say(b"the overlay has more vertices than there is room for"),
         2 => say(b"the overlay has more edges than there is room for"),
         3 => say(b"the overlay has more faces than there is room for"),
-        _ => say(b"the room for the overlay file is too short"),
+        4 => say(b"the room for the file is too short"),
+        _ => say(b"the room for the list is too short"),
     }
 }
 
@@ -62,4 +63,15 @@ pub fn say_sentence(number: u16, map: u16, place: u16) {
         say_map(map);
     }
     say(b"\n");
+}
+
+// The same for a file that was to be mended: refusal 7 is "only for an end that names no vertex".
+pub fn say_mend_sentence(number: u16, map: u16, place: u16) {
+    if number == 7 {
+        say(b"an end names no vertex: edge ");
+        say_number(place as u64);
+        say(b"\n");
+    } else {
+        say_sentence(number, map, place);
+    }
 }

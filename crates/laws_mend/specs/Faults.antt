@@ -13,7 +13,7 @@ use Rattle.paper.specs.Map.{mapOf, vertexCount, edgesIn, mapLength, tooFar}
 use Rattle.laws_map.specs.Keeps.{edges, vertices}
 use Rattle.laws_map.specs.Passes.{nothing-form, form-nothing, near-is, is-near}
 use Rattle.laws_refusals.specs.Refusals.{nothing, is-nothing, given-none, none-given, least-none-is, none-least}
-use Rattle.laws_mend.specs.Mend.{noVertex, entryWidth, mendFault}
+use Rattle.paper.specs.Mend.{noVertex, entryWidth, mendFault}
 use Rattle.laws_mend.specs.Clean.{Mendable}
 
 no-two : {a b : Bool} → a ≡ false → b ≡ false → (a || b) ≡ false

@@ -23,7 +23,7 @@ use Rattle.laws_map.specs.Rules.{Form}
 use Rattle.laws_file.specs.Bytes.{Bytes, number-of, number-below, signed-of}
 use Rattle.laws_file.specs.Stands.{stands-self}
 use Rattle.laws_file.specs.Fields.{stands-marked}
-use Rattle.laws_mend.specs.Mend.{fromNow, toNow, keptEdge, keptEdges, hasEdge, keptVertices, cornerOf, edgeRow, mended}
+use Rattle.paper.specs.Mend.{fromNow, toNow, keptEdge, keptEdges, hasEdge, keptVertices, cornerOf, edgeRow, mended}
 use Rattle.laws_mend.specs.MapFile.{Placed, edgePlace, length-map-file, map-placed}
 use Rattle.laws_mend.specs.Merged.{kept-two, kept-first, is-alike, has-is, is-has, has-self, into-le, into-point, into-eq}
 use Rattle.laws_mend.specs.Clean.{Clean, SameEnds, Mendable}

@@ -1,4 +1,3 @@
-pub mod Mend
 pub mod MapFile
 pub mod Merged
 pub mod Clean

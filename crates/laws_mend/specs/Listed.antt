@@ -19,7 +19,7 @@ use Rattle.seq.specs.Pairs.{parts-pairs, map-pairs}
 use Rattle.paper.specs.Plane.{same}
 use Rattle.paper.specs.Graph.{Graph, edgeCount, point}
 use Rattle.paper.specs.Map.{doubled}
-use Rattle.laws_mend.specs.Mend.{fromNow, toNow, shrunk, alike, repeated, keptEdge, keptEdges, hasEdge, bare, keptVertices, listed, entries}
+use Rattle.paper.specs.Mend.{fromNow, toNow, shrunk, alike, repeated, keptEdge, keptEdges, hasEdge, bare, keptVertices, listed, entries}
 use Rattle.laws_mend.specs.Merged.{edge-three, vertex-three, alike-is, is-alike, keeps-edge}
 
 -- how many entries have a step

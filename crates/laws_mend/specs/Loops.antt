@@ -15,7 +15,7 @@ use Rattle.seq.specs.Members.{gather-++}
 use Rattle.paper.specs.Graph.{Graph, edge, edgeCount}
 use Rattle.paper.specs.Bytes.{ascii, le}
 use Rattle.paper.specs.Map.{Map, label, doubled}
-use Rattle.laws_mend.specs.Mend.{fromNow, toNow, shrunk, alike, repeated, keptEdge, keptEdges, endsAt, hasEdge, bare, keptVertices, listed, entries, cornerBytes, cornerOf, edgeRow, mended, mapFile}
+use Rattle.paper.specs.Mend.{fromNow, toNow, shrunk, alike, repeated, keptEdge, keptEdges, endsAt, hasEdge, bare, keptVertices, listed, entries, cornerBytes, cornerOf, edgeRow, mended, mapFile}
 use Rattle.laws_mend.specs.Merged.{is-has, into-le}
 use Rattle.laws_mend.specs.Listed.{repeats-kept}
 

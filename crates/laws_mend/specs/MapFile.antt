@@ -16,7 +16,7 @@ use Rattle.paper.specs.Bytes.{ascii, le, leSigned}
 use Rattle.paper.specs.Map.{vertexPlace}
 use Rattle.laws_file.specs.Bytes.{Bytes, Stands, length-leSigned, wrapped, leSigned-wrapped}
 use Rattle.laws_file.specs.Stands.{front-stands, back-stands, both-stand, row-stands, rows-stand, field-stands, fields-stand, length-fields}
-use Rattle.laws_mend.specs.Mend.{cornerBytes, mapFile}
+use Rattle.paper.specs.Mend.{cornerBytes, mapFile}
 
 -- where edge k starts, after v vertices
 abbrev pub edgePlace : ℕ → ℕ → ℕ

@@ -14,7 +14,7 @@ use Rattle.paper.specs.Graph.{Graph, point, edge}
 use Rattle.paper.specs.Map.{mapOf, label, doubled}
 use Rattle.laws_map.specs.Keeps.{edges, vertices}
 use Rattle.laws_file.specs.Bytes.{Bytes}
-use Rattle.laws_mend.specs.Mend.{shrunk, repeated, keptEdge, keptEdges, hasEdge, bare, keptVertices, entries, mended}
+use Rattle.paper.specs.Mend.{shrunk, repeated, keptEdge, keptEdges, hasEdge, bare, keptVertices, entries, mended}
 use Rattle.laws_mend.specs.Merged.{edge-three, vertex-three}
 use Rattle.laws_mend.specs.Clean.{Mendable}
 use Rattle.laws_mend.specs.Kept.{equal-points, vertices-now, edges-now, vertex-of, edge-of, point-now, from-point, to-point, left-now, right-now, new-vertex, new-edge}

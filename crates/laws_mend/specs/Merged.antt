@@ -16,7 +16,7 @@ use Rattle.paper.specs.Plane.{Pt, same}
 use Rattle.paper.specs.Graph.{Graph, edgeCount, point, edge}
 use Rattle.paper.specs.Map.{doubled}
 use Rattle.laws_plane.specs.Points.{same-self}
-use Rattle.laws_mend.specs.Mend.{into, fromNow, toNow, shrunk, alike, repeated, keptEdge, keptEdges, endsAt, hasEdge, bare}
+use Rattle.paper.specs.Mend.{into, fromNow, toNow, shrunk, alike, repeated, keptEdge, keptEdges, endsAt, hasEdge, bare}
 
 -- ── edges: shrunk, repeated or kept ──
 

@@ -12,7 +12,7 @@ use Rattle.paper.specs.Graph.{Graph}
 use Rattle.paper.specs.Refusal.{Refusal, done, refused, answer}
 use Rattle.paper.specs.Map.{mapOf, fault}
 use Rattle.laws_file.specs.Bytes.{Bytes}
-use Rattle.laws_mend.specs.Mend.{keptEdges, keptVertices, entries, cornerOf, edgeRow, mended, mendFault, mendingBy, mend, Mending}
+use Rattle.paper.specs.Mend.{keptEdges, keptVertices, entries, cornerOf, edgeRow, mended, mendFault, mendingBy, mend, Mending}
 use Rattle.laws_mend.specs.MapFile.{file-bytes}
 use Rattle.laws_mend.specs.Clean.{Clean, passes-clean, clean-refusal, Mendable}
 use Rattle.laws_mend.specs.Same.{clean-entries, clean-same}

@@ -19,7 +19,7 @@ use Rattle.laws_map.specs.Rules.{Form}
 use Rattle.laws_file.specs.Bytes.{Bytes, Stands, le-number, leSigned-signed}
 use Rattle.laws_file.specs.Stands.{stands-whole}
 use Rattle.laws_file.specs.Fields.{marked-stands}
-use Rattle.laws_mend.specs.Mend.{into, fromNow, toNow, shrunk, alike, repeated, keptEdge, keptEdges, hasEdge, bare, keptVertices, entries, cornerOf, edgeRow, mended, mapFile}
+use Rattle.paper.specs.Mend.{into, fromNow, toNow, shrunk, alike, repeated, keptEdge, keptEdges, hasEdge, bare, keptVertices, entries, cornerOf, edgeRow, mended, mapFile}
 use Rattle.laws_mend.specs.MapFile.{Placed, edgePlace, length-map-file, placed-map}
 use Rattle.laws_mend.specs.Merged.{keeps-edge, alike-is, is-has, into-self}
 use Rattle.laws_mend.specs.Clean.{Clean, SameEnds}

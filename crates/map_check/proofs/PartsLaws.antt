@@ -29,13 +29,13 @@ module _ {s : List ℕ} {ps : List ℤ} {os ls : List ℕ} (R : MapRead s ps os 
   pub corner-read : (v : ℕ) → v < vertexCount s → cornerIn ps v ≡ cornerAt s v
   corner-read v l = let q = R .point-is v l ∙ point-at s v l in λ i. vec (q i .X) (q i .Y)
 
-  far-read : (v : ℕ) → v < vertexCount s → farAt ps v ≡ tooFar g v
+  pub far-read : (v : ℕ) → v < vertexCount s → farAt ps v ≡ tooFar g v
   far-read v l = ap (λ (p : Pt). ltb reach (natAbs (p .X)) || ltb reach (natAbs (p .Y))) (R .point-is v l)
 
-  lies-read : (v u : ℕ) → v < vertexCount s → u < vertexCount s → liesOn ps v u ≡ same (point g v) (point g u)
+  pub lies-read : (v u : ℕ) → v < vertexCount s → u < vertexCount s → liesOn ps v u ≡ same (point g v) (point g u)
   lies-read v u l m = (λ i. same (whole (corner-read v l i)) (whole (corner-read u m i))) ∙ (λ i. same (sym (point-at s v l) i) (sym (point-at s u m) i))
 
-  doubled-read : (v : ℕ) → v < vertexCount s → doubledAt ps v ≡ doubled g v
+  pub doubled-read : (v : ℕ) → v < vertexCount s → doubledAt ps v ≡ doubled g v
   doubled-read v l = some-ext (liesOn ps v) (λ u. same (point g v) (point g u)) v (λ u m. lies-read v u l (omega arith))
 
   ends-read : (k : ℕ) → k < edgesIn s → badEndsAt os (vertexCount s) k ≡ badEnds g k
@@ -46,7 +46,7 @@ module _ {s : List ℕ} {ps : List ℤ} {os ls : List ℕ} (R : MapRead s ps os 
       λ i. (leb (sym n i) (a i) || leb (sym n i) (b i)) || eqb (a i) (b i)
 
   -- rule r at its least place
-  at-place : (r n m : ℕ) (p q : ℕ → Bool) → ((k : ℕ) → k < n → p k ≡ q k) → m ≡ n → given r (least p n) (ltb (least p n) n) ≡ given r (least q m) (ltb (least q m) m)
+  pub at-place : (r n m : ℕ) (p q : ℕ → Bool) → ((k : ℕ) → k < n → p k ≡ q k) → m ≡ n → given r (least p n) (ltb (least p n) n) ≡ given r (least q m) (ltb (least q m) m)
   at-place r n m p q f e = ap (λ (k : ℕ). given r k (ltb k n)) (least-ext p q n f) ∙ ap (λ (k : ℕ). given r (least q k) (ltb (least q k) k)) (sym e)
 
   pub parts-read : partFaultsAt ps os (vertexCount s) (edgesIn s) ≡ partFaults (mapOf s .graph)

@@ -46,7 +46,7 @@ fn too_far(points: &[i64], v: usize) -> bool
 }
 
 // The least vertex too far out, or the number of vertices.
-fn first_too_far(points: &[i64], n: usize) -> usize
+pub fn first_too_far(points: &[i64], n: usize) -> usize
     requires { ⌜ 4 * n ≤ length (now points) ⌝ }
     ensures { λ r. ⌜ r ≡ least (farAt (now (points .entry))) n ⌝ }
 {
@@ -74,7 +74,7 @@ fn lies_on(points: &[i64], v: usize, u: usize) -> bool
 }
 
 // The least vertex below v that v lies on, or v.
-fn first_under(points: &[i64], v: usize) -> usize
+pub fn first_under(points: &[i64], v: usize) -> usize
     requires { ⌜ 4 * v + 4 ≤ length (now points) ⌝ }
     ensures { λ r. ⌜ r ≡ least (liesOn (now (points .entry)) v) v ⌝ }
 {

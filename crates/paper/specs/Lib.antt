@@ -16,8 +16,10 @@ pub mod Ovfile
 pub mod Writer
 pub mod Reader
 pub mod Listing
+pub mod Mend
 pub mod Sample
 pub mod SampleFile
 pub mod Sheets
 pub mod Touching
 pub mod Meetings
+pub mod MendSample

@@ -1,4 +1,6 @@
 // What the program's arguments ask for.
+use console::is_arg;
+use console::same_args;
 
 pub enum Task {
     Usage,
@@ -11,26 +13,6 @@ pub enum Task {
     Write,
 }
 
-fn same(word: &[u8], text: &[u8]) -> bool {
-    if word.len() != text.len() {
-        return false;
-    }
-    let mut i = 0;
-    while i < text.len() {
-        if word[i] != text[i] {
-            return false;
-        }
-        i += 1;
-    }
-    true
-}
-
-fn is_arg(i: usize, text: &[u8]) -> bool {
-    let mut word = io::buffer();
-    let n = os::arg(i, &mut word);
-    same(&word[..n], text)
-}
-
 // Whether an argument begins like an option. A file of such a name is given as `./--name`.
 fn is_option(i: usize) -> bool {
     let mut word = io::buffer();
@@ -39,15 +21,6 @@ fn is_option(i: usize) -> bool {
         return false;
     }
     word[1] == b'-'
-}
-
-// Whether two arguments are the same word.
-fn same_args(i: usize, j: usize) -> bool {
-    let mut first = io::buffer();
-    let n = os::arg(i, &mut first);
-    let mut second = io::buffer();
-    let m = os::arg(j, &mut second);
-    same(&first[..n], &second[..m])
 }
 
 // One file, of an option.

@@ -4,6 +4,7 @@ pub mod damage;
 pub mod drawing;
 pub mod few;
 pub mod meets;
+pub mod mends;
 pub mod overlay_damage;
 pub mod pairs;
 pub mod plain;

@@ -1,0 +1,6 @@
+pub mod AppendLaws
+pub mod StepLaws
+pub mod ByteLaws
+pub mod ListLaws
+pub mod TableLaws
+pub mod OutcomeLaws

@@ -1,0 +1,108 @@
+-- `mend::entries::put_step` meets its contract: what is stored are the entries of those below the counter at which the step is taken. Assumes nothing.
+use mathlib.Core.Path.{_≡_, refl, sym, ap, _∙_}
+use mathlib.Core.Logic.{⊎-elim}
+use native.Mathlib.Numerals.{add-one}
+use native.Mathlib.Omega.{arith}
+use borrow.Author.Needs.{needs}
+use lib.ListN.{set, length-set}
+use Rattle.seq.specs.Count.{count-below}
+use Rattle.seq.specs.Seq.{List, [], _∷_, ℕ, _+_, _-_, sets}
+use Rattle.mend.specs.Stored.{takenIn}
+use Rattle.mend.proofs.AppendLaws.{Appending, append-starts, append-takes, append-leaves, append-ends, append-place}
+use Rattle.mend.proofs.entries.put_step.Statement.{statement}
+use Rattle.mend.proofs.entries.put_step.Tie as tie
+
+-- the two numbers of an entry
+at-next : (d : List ℕ) (a x y : ℕ) → set (set d a x) (a + 1) y ≡ sets d a (x ∷ y ∷ [])
+at-next d a x y = ap (λ (k : ℕ). set (set d a x) k y) (add-one a)
+
+abbrev Inv-loop : tie.InvT-loop
+Inv-loop into ends e step n list₀ start at₀ i₀ list at i = Appending 2 (takenIn into ends e step) (λ j. step ∷ j ∷ []) start n list₀ list at i
+
+abbrev μ-loop : tie.MeasureT-loop
+μ-loop into ends e step n list₀ start at₀ i₀ list at i = n - i
+
+mul-list : tie.Need-mul-list Inv-loop μ-loop
+mul-list c =
+    let s : tie.Start Inv-loop μ-loop = search needs in
+    let l : tie.At-loop Inv-loop μ-loop = search needs in
+    let r = l .loop .inv in
+    let a = s .args in
+    let more = count-below (takenIn (a .into .now) (a .ends .now) (a .e) (a .step)) (a .n) (l .loop .i) (omega arith) (sym (c .before .taken .ensures) ∙ c .if1 .taken) in
+    omega (arith, r .place, r .room, r .kept, more, length-set (l .loop .list) (l .loop .at) (a .step))
+
+slice-write-list : tie.Need-slice-write-list Inv-loop μ-loop
+slice-write-list c =
+    let s : tie.Start Inv-loop μ-loop = search needs in
+    let l : tie.At-loop Inv-loop μ-loop = search needs in
+    let r = l .loop .inv in
+    let a = s .args in
+    let more = count-below (takenIn (a .into .now) (a .ends .now) (a .e) (a .step)) (a .n) (l .loop .i) (omega arith) (sym (c .before .taken .ensures) ∙ c .if1 .taken) in
+    omega (arith, r .place, r .room, r .kept, more, length-set (l .loop .list) (l .loop .at) (a .step))
+
+add-list : tie.Need-add-list Inv-loop μ-loop
+add-list c =
+    let s : tie.Start Inv-loop μ-loop = search needs in
+    let l : tie.At-loop Inv-loop μ-loop = search needs in
+    let r = l .loop .inv in
+    let a = s .args in
+    let more = count-below (takenIn (a .into .now) (a .ends .now) (a .e) (a .step)) (a .n) (l .loop .i) (omega arith) (sym (c .before .taken .ensures) ∙ c .if1 .taken) in
+    omega (arith, r .place, r .room, r .kept, more, length-set (l .loop .list) (l .loop .at) (a .step))
+
+mul-list-2 : tie.Need-mul-list-2 Inv-loop μ-loop
+mul-list-2 c =
+    let s : tie.Start Inv-loop μ-loop = search needs in
+    let l : tie.At-loop Inv-loop μ-loop = search needs in
+    let r = l .loop .inv in
+    let a = s .args in
+    let more = count-below (takenIn (a .into .now) (a .ends .now) (a .e) (a .step)) (a .n) (l .loop .i) (omega arith) (sym (c .before .taken .ensures) ∙ c .if1 .taken) in
+    omega (arith, r .place, r .room, r .kept, more, length-set (l .loop .list) (l .loop .at) (a .step))
+
+slice-write-list-2 : tie.Need-slice-write-list-2 Inv-loop μ-loop
+slice-write-list-2 c =
+    let s : tie.Start Inv-loop μ-loop = search needs in
+    let l : tie.At-loop Inv-loop μ-loop = search needs in
+    let r = l .loop .inv in
+    let a = s .args in
+    let more = count-below (takenIn (a .into .now) (a .ends .now) (a .e) (a .step)) (a .n) (l .loop .i) (omega arith) (sym (c .before .taken .ensures) ∙ c .if1 .taken) in
+    omega (arith, r .place, r .room, r .kept, more, length-set (l .loop .list) (l .loop .at) (a .step))
+
+add-at : tie.Need-add-at Inv-loop μ-loop
+add-at c =
+    let s : tie.Start Inv-loop μ-loop = search needs in
+    let l : tie.At-loop Inv-loop μ-loop = search needs in
+    let r = l .loop .inv in
+    let a = s .args in
+    let more = count-below (takenIn (a .into .now) (a .ends .now) (a .e) (a .step)) (a .n) (l .loop .i) (omega arith) (sym (c .before .taken .ensures) ∙ c .if1 .taken) in
+    omega (arith, r .place, r .room, r .kept, more, length-set (l .loop .list) (l .loop .at) (a .step))
+
+loop-again : tie.Need-loop-again Inv-loop μ-loop
+loop-again c =
+    let s : tie.Start Inv-loop μ-loop = search needs in
+    let l = c .before .before .before .loop in
+    let b = c .before .before .loop-test .taken in
+    let q = sym (c .before .taken .ensures) in
+    ⊎-elim (λ w. append-takes (l .inv) (λ j. refl) b (q ∙ w .0 .taken) (w .1 ∙ at-next (l .list) (l .at) (s .args .step) (l .i)) (w .2)) (λ w. append-leaves (l .inv) b (q ∙ w .0 .left) (w .1) (w .2)) (c .if1 .came)
+
+returns : tie.Need-returns Inv-loop μ-loop
+returns c = (append-ends (c .before .loop .inv) (omega arith), append-place (c .before .loop .inv) (omega arith))
+
+pub put-step-spec : {M : Type 1} → statement M
+put-step-spec =
+    tie.close
+    (tie.spec
+    Inv-loop
+    μ-loop
+    (λ c. append-starts (search needs))
+    (λ c κs. search needs)
+    mul-list
+    slice-write-list
+    add-list
+    mul-list-2
+    slice-write-list-2
+    add-at
+    (λ c. search needs)
+    (λ c. search needs)
+    loop-again
+    (λ c. c .before .loop .inv .kept)
+    returns)

@@ -1,0 +1,39 @@
+-- `mend::steps::first_keeping` meets its contract: nothing below the counter has been found. Assumes nothing.
+use mathlib.Core.Path.{sym, _∙_}
+use native.Mathlib.Omega.{arith}
+use borrow.Author.Needs.{needs}
+use Rattle.seq.specs.Loops.Searching.{Searching, search-starts, search-turns, search-finds, search-ends}
+use Rattle.seq.specs.Seq.{_-_}
+use Rattle.mend.specs.Steps.{keepsIn}
+use Rattle.mend.proofs.steps.first_keeping.Statement.{statement}
+use Rattle.mend.proofs.steps.first_keeping.Tie as tie
+
+abbrev Inv-loop : tie.InvT-loop
+Inv-loop ends e v k₀ k = Searching (keepsIn ends v) e k
+
+abbrev μ-loop : tie.MeasureT-loop
+μ-loop ends e v k₀ k = e - k
+
+returns : tie.Need-returns Inv-loop μ-loop
+returns c =
+    let at : tie.At-loop Inv-loop μ-loop = search needs in
+    search-finds (at .loop .inv) (omega arith) (sym (c .before .keeps .ensures) ∙ c .if1 .taken)
+
+loop-again : tie.Need-loop-again Inv-loop μ-loop
+loop-again c =
+    let at : tie.At-loop Inv-loop μ-loop = search needs in
+    search-turns (at .loop .inv) (omega arith) (sym (c .before .keeps .ensures) ∙ c .if1 .left)
+
+pub first-keeping-spec : {M : Type 1} → statement M
+first-keeping-spec =
+    tie.close
+    (tie.spec
+    Inv-loop
+    μ-loop
+    (λ c. search-starts)
+    (λ c κs. search needs)
+    returns
+    (λ c. search needs)
+    (λ c. search needs)
+    loop-again
+    (λ c. search-ends (c .before .loop .inv) (omega arith)))

@@ -1,0 +1,6 @@
+pub mod Steps
+pub mod Stored
+pub mod Ready
+pub mod Answers
+pub mod Unique
+pub mod Promise

@@ -1,0 +1,48 @@
+// Step 1: "a vertex on another is merged into the one of lowest number". A table of the vertex into which each is merged, and one of the ends of all half-edges afterwards.
+use map_check::first_under;
+use ovfile::u16_at;
+ghost use mathlib.Core.Path.{_≡_};
+ghost use Prim.Native.Nat.{_+_, _*_, _≤_};
+ghost use lib.ListN.{length, getD};
+ghost use Rattle.seq.specs.Seq.{filled};
+ghost use Rattle.mend.specs.Steps.{intoAt, nowIn};
+
+// The lowest vertex at the point of each of n vertices.
+pub fn merge(points: &[i64], n: u16, into: &mut [u16])
+    requires { ⌜ (4 * n ≤ length (now points)) × (n ≤ length (now into)) ⌝ }
+    ensures { λ _. ⌜ now (into .exit) ≡ filled n (intoAt (now (points .entry))) (now (into .entry)) ⌝ }
+{
+    let mut v: u16 = 0;
+    while v < n {
+        let i = v as usize;
+        into[i] = first_under(points, i) as u16;
+        v += 1;
+    }
+}
+
+// The vertex that each half-edge of e edges starts from afterwards.
+pub fn move_ends(into: &[u16], origins: &[u16], e: u16, ends: &mut [u16])
+    requires { ⌜ 2 * e ≤ length (now ends) ⌝ }
+    ensures { λ _. ⌜ now (ends .exit) ≡ filled (2 * e) (nowIn (now (into .entry)) (now (origins .entry))) (now (ends .entry)) ⌝ }
+{
+    let m = 2 * e as usize;
+    let mut h = 0;
+    while h < m {
+        let v = u16_at(origins, h) as usize;
+        ends[h] = u16_at(into, v);
+        h += 1;
+    }
+}
+
+// The ends of edge k afterwards.
+pub fn from_now(ends: &[u16], k: u16) -> u16
+    ensures { λ r. ⌜ r ≡ getD (now (ends .entry)) (2 * k) 0 ⌝ }
+{
+    u16_at(ends, 2 * k as usize)
+}
+
+pub fn to_now(ends: &[u16], k: u16) -> u16
+    ensures { λ r. ⌜ r ≡ getD (now (ends .entry)) (2 * k + 1) 0 ⌝ }
+{
+    u16_at(ends, 2 * k as usize + 1)
+}

@@ -1,0 +1,155 @@
+// The operation: judged first, with nothing stored; then both are stored, or both are wiped.
+use crate::answer::Mended;
+use crate::answer::Mending;
+use crate::bytes::put_file;
+use crate::entries::put_list;
+use crate::faults::table_fault;
+use crate::merge::merge;
+use crate::merge::move_ends;
+use crate::numbers::count_kept;
+use crate::numbers::number;
+use limits::MAP_HALVES;
+use limits::MAP_POINT_CELLS;
+use limits::MAP_VERTICES;
+use map_file::Check;
+use map_file::Header;
+use map_file::Refusal;
+use map_file::first;
+use map_file::form_fault;
+use map_file::given;
+use map_file::map_length;
+use map_file::read_header;
+use map_file::read_map;
+use seq::wipe_u8;
+use seq::wipe_u16;
+ghost use mathlib.Core.Path.{_≡_};
+ghost use mathlib.Core.List.{[], _∷_};
+ghost use mathlib.Core.Option.{none};
+ghost use Prim.Native.Nat.{_/_};
+ghost use lib.Dec.{ltb};
+ghost use lib.ListN.{length};
+ghost use Rattle.paper.specs.Map.{vertexCount, edgesIn, formFaults};
+ghost use Rattle.paper.specs.Mend.{mend, entryWidth};
+ghost use Rattle.paper.specs.Refusal.{given, firstOf};
+ghost use Rattle.map_file.specs.Header.{headerOf};
+ghost use Rattle.map_file.specs.Verdict.{refusalOf, verdict};
+ghost use Rattle.map_check.specs.Held.{MapRead};
+ghost use Rattle.mend.specs.Steps.{fileFaults};
+ghost use Rattle.mend.specs.Ready.{Ready};
+ghost use Rattle.mend.specs.Answers.{mendingOf, allZero};
+
+// "with file and list left all zero"
+fn refuse(r: Refusal, out: &mut [u8], list: &mut [u16]) -> Mended
+    ensures { λ m. ⌜ mendingOf m (now (out .exit)) (now (list .exit)) ≡ allZero (length (now (out .entry))) (length (now (list .entry))) (refusalOf r) ⌝ }
+{
+    wipe_u8(out);
+    wipe_u16(list);
+    Mended::Refused(r)
+}
+
+// "11 with place 4 for a lent file too short, then place 5 for a list too short"
+fn judge(n: usize, l: usize, long: usize, many: u16) -> Check
+    ensures { λ r. ⌜ verdict r ≡ firstOf (given 11 4 (ltb n long) ∷ given 11 5 (ltb (l / entryWidth) many) ∷ []) ⌝ }
+{
+    let short = given(11, 4, n < long);
+    let few = given(11, 5, l / 2 < many as usize);
+    first(short, few)
+}
+
+// By the tables of a file that can be mended: so many of its n vertices and e edges are kept.
+fn finish(
+    file: &[u8],
+    points: &[i64],
+    labels: &[u16],
+    into: &[u16],
+    ends: &[u16],
+    numbers: &[u16],
+    n: u16,
+    e: u16,
+    vertices: u16,
+    edges: u16,
+    out: &mut [u8],
+    list: &mut [u16],
+) -> Mended
+    requires { ⌜ (n ≡ vertexCount (now file)) × (e ≡ edgesIn (now file)) × Ready (now file) (now points) (now labels) (now into) (now ends) (now numbers) vertices edges ⌝ }
+    ensures { λ r. ⌜ mendingOf r (now (out .exit)) (now (list .exit)) ≡ mend (length (now (out .entry))) (length (now (list .entry))) (now (file .entry)) ⌝ }
+{
+    let bytes = map_length(vertices, edges);
+    let length = bytes as u16;
+    let entries = (n - vertices) + (e - edges);
+    let check = judge(out.len(), list.len(), bytes, entries);
+    match check {
+        Check::Bad(r) => refuse(r, out, list),
+        Check::Fine => {
+            put_file(points, labels, ends, numbers, n, e, vertices, edges, out);
+            put_list(into, ends, n, e, list);
+            Mended::Done(Mending { length, entries })
+        }
+    }
+}
+
+// A file that can be mended, with its map in tables: the tables of what it becomes.
+fn mend_map(
+    file: &[u8],
+    h: Header,
+    points: &[i64],
+    origins: &[u16],
+    labels: &[u16],
+    out: &mut [u8],
+    list: &mut [u16],
+) -> Mended
+    requires { ⌜ h ≡ headerOf (now file) ⌝ ∗ ⌜ firstOf (fileFaults (now file)) ≡ none ⌝ ∗ ⌜ MapRead (now file) (now points) (now origins) (now labels) ⌝ }
+    ensures { λ r. ⌜ mendingOf r (now (out .exit)) (now (list .exit)) ≡ mend (length (now (out .entry))) (length (now (list .entry))) (now (file .entry)) ⌝ }
+{
+    let n = h.vertices;
+    let e = h.edges;
+    let mut into = [0u16; MAP_VERTICES as usize];
+    merge(points, n, &mut into);
+    let mut ends = [0u16; MAP_HALVES];
+    move_ends(&into, origins, e, &mut ends);
+    let mut numbers = [0u16; MAP_VERTICES as usize];
+    let vertices = number(&ends, e, n, &mut numbers);
+    let edges = count_kept(&ends, e);
+    finish(
+        file,
+        points,
+        labels,
+        &into,
+        &ends,
+        &numbers,
+        n,
+        e,
+        vertices,
+        edges,
+        out,
+        list,
+    )
+}
+
+// A file that passes rules 1 to 4: its map is read once, front to back.
+fn mend_read(file: &[u8], h: Header, out: &mut [u8], list: &mut [u16]) -> Mended
+    requires { ⌜ h ≡ headerOf (now file) ⌝ ∗ ⌜ firstOf (formFaults (now file)) ≡ none ⌝ }
+    ensures { λ r. ⌜ mendingOf r (now (out .exit)) (now (list .exit)) ≡ mend (length (now (out .entry))) (length (now (list .entry))) (now (file .entry)) ⌝ }
+{
+    let mut points = [0i64; MAP_POINT_CELLS];
+    let mut origins = [0u16; MAP_HALVES];
+    let mut labels = [0u16; MAP_HALVES];
+    read_map(file, h, &mut points, &mut origins, &mut labels);
+    let check = table_fault(&points, &origins, h.vertices as usize, h.edges as usize);
+    match check {
+        Check::Bad(r) => refuse(r, out, list),
+        Check::Fine => mend_map(file, h, &points, &origins, &labels, out, list),
+    }
+}
+
+// Mends a map file of any bytes into a lent file and a lent list, which has two numbers an entry: the step and the original number.
+pub fn mend(file: &[u8], out: &mut [u8], list: &mut [u16]) -> Mended
+    ensures { λ r. ⌜ mendingOf r (now (out .exit)) (now (list .exit)) ≡ mend (length (now (out .entry))) (length (now (list .entry))) (now (file .entry)) ⌝ }
+{
+    let h = read_header(file);
+    let check = form_fault(file, h);
+    match check {
+        Check::Bad(r) => refuse(r, out, list),
+        Check::Fine => mend_read(file, h, out, list),
+    }
+}
