@@ -1,4 +1,4 @@
-/* Bonnetewe: an exact, proved overlay of two maps, for C.
+/* Bonnetewe: an exact, proved overlay of two maps, and heights of tide, for C.
  *
  * `rt staticlib bonnetewe` proves the library and writes target/staticlib/libbonnetewe.a, for x86-64 Linux. It allocates nothing and keeps nothing between
  * calls. Of the C library it needs memcpy, memmove and memset, which the compiler may call for it, and nothing else. Each function takes any bytes, any numbers and tables of any lengths; what it answers and what every lent table holds
@@ -136,6 +136,18 @@ static inline unsigned bonnetewe_edge_second(bonnetewe_edge_record r)
     return r >> 32 & 65535;
 }
 
+/* The height of tide: a zone's rule is of one of these kinds. A reading is a whole number of millimetres, or missing. */
+#define BONNETEWE_NO_RULE 0
+#define BONNETEWE_RATIO 1
+#define BONNETEWE_WEIGHTS 2
+#define BONNETEWE_MISSING INT32_MIN
+
+/* Done, from bonnetewe_tide: the whole millimetres, of which the answer has the sign and then the magnitude. */
+static inline long bonnetewe_millimetres(bonnetewe_answer a)
+{
+    return a >> 16 & 1 ? -(long)(a >> 32) : (long)(a >> 32);
+}
+
 /* Checks one map file: done with its counts of vertices and edges, or refused with rules 1 to 10 and map 0. */
 bonnetewe_answer bonnetewe_check(const uint8_t *file, size_t file_length);
 
@@ -170,6 +182,13 @@ bonnetewe_answer bonnetewe_write(uint16_t vertex_count, uint16_t edge_count, uin
 /* Edge k of the tables of half-edges and sources, whatever they hold: its kind and ends, and its kind and sources. */
 bonnetewe_edge_record bonnetewe_edge_ends(const uint16_t *halves, size_t half_cells, const uint32_t *sources, size_t source_cells, size_t k);
 bonnetewe_edge_record bonnetewe_edge_sources(const uint16_t *halves, size_t half_cells, const uint32_t *sources, size_t source_cells, size_t k);
+
+/* The height of tide by a zone's rule and both readings. BONNETEWE_RATIO has the ratio a, from 0.25 to 4, of the first gauge; BONNETEWE_WEIGHTS (and any other
+ * kind but BONNETEWE_NO_RULE) the weights a and b, from 0 to 1, of both. What the kind does not use is not looked at. Done with the nearest whole millimetre,
+ * halves away from zero, of the height that bonnetewe_tide_height has before rounding (0 where it is refused). Refused with map 0 and place 0: 14 for no rule, 15
+ * for a ratio or weight out of its range or not a number, 16 for a reading missing or beyond 20,000 either way, in that order. */
+bonnetewe_answer bonnetewe_tide(uint16_t kind, double a, double b, int32_t first, int32_t second);
+double bonnetewe_tide_height(uint16_t kind, double a, double b, int32_t first, int32_t second);
 
 #ifdef __cplusplus
 }

@@ -1,9 +1,10 @@
-/* For a compiler that comes without headers: only what bench/ uses. */
+/* For a compiler that comes without headers: only what bench/ and examples/ use. */
 #ifndef STRING_H
 #define STRING_H
 #include <stddef.h>
 int memcmp(const void *, const void *, size_t);
 void *memcpy(void *, const void *, size_t);
 void *memset(void *, int, size_t);
+int strcmp(const char *, const char *);
 char *strrchr(const char *, int);
 #endif

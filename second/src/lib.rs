@@ -21,4 +21,5 @@ pub mod segment;
 pub mod selftest;
 pub mod tables;
 pub mod text;
+pub mod tide;
 pub mod trial;

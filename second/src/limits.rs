@@ -1,4 +1,4 @@
-//! Document 01's numbers, each once, by name.
+//! The numbers of document 01 and of the requests, each once, by name.
 
 /// Bytes of a map file before its first vertex.
 pub const MAP_HEAD: usize = 9;
@@ -44,3 +44,6 @@ pub const WIDE: usize = 5;
 
 /// Stands for "no half-edge" in the tables.
 pub const NO_HALF_EDGE: u16 = 65_535;
+
+/// A reading lies from -GAUGE_REACH to GAUGE_REACH (02, Ask 5).
+pub const GAUGE_REACH: i32 = 20_000;

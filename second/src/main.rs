@@ -39,8 +39,10 @@ second clash FILE                         of a map file refused with 8, how the 
 second make-meets SEED N FILE             N pairs of edges of all kinds, for `meets`
 second text FILE.txt OUT.zmp              make a map file from text, and check it
 second untext FILE.zmp                    the text of a map file
+second tides FILE                         the height of tide of each record
+second make-tides SEED N FILE             make N records of all kinds
 second trial SEED N                       N rounds of small inputs with their answers
-second selftest N SEED                    check the program itself on N pairs and N maps
+second selftest N SEED                    check the program itself on N pairs, N maps, 100 N tides
 
 ROOM is `--room V E F` (vertices, edges, faces there is room for) or `--tables V H S F` (rows
 of the lent tables of vertices, half-edges, sources, faces).";
@@ -103,6 +105,10 @@ fn run(args: &[&str]) -> Outcome {
         }
         ["text", file, out] => from_text(file, out),
         ["untext", file] => to_text(file),
+        ["tides", file] => Ok(second::tide::lines(&bytes(file))),
+        ["make-tides", seed, n, out] => {
+            save(out, &make::tides::file(number(seed)?, number(n)?)).map(|()| String::new())
+        }
         ["trial", seed, n] => Ok(second::trial::run(number(seed)?, number(n)?)),
         ["selftest", n, seed] => second::selftest::run(number(n)?, number(seed)?),
         ["pair", kind, seed, dir] => pair(kind, number(seed)?, dir),

@@ -1,3 +1,4 @@
 pub mod Told
 pub mod Met
+pub mod ToldTide
 pub mod Laws

@@ -3,6 +3,10 @@ use crate::answer::of_answer;
 use crate::answer::of_checked;
 use crate::answer::of_mended;
 use crate::answer::of_written;
+use crate::height::height_of;
+use crate::height::of_tide;
+use crate::height::reading_by;
+use crate::height::rule_by;
 use crate::met::lay_point;
 use crate::met::of_met;
 use crate::met::point_of;
@@ -20,9 +24,11 @@ ghost use Rattle.paper.specs.Overlay.{overlay};
 ghost use Rattle.paper.specs.Record.{edgeRecord};
 ghost use Rattle.paper.specs.Reader.{read};
 ghost use Rattle.paper.specs.Writer.{write};
+ghost use Rattle.paper.specs.Tide.{tide};
 ghost use Rattle.tables.specs.Values.{lengthsBy, tablesBy};
 ghost use Rattle.bonnetewe.specs.Told.{toldMap, Told, ToldFile, ToldMending, counts, toldEnds, toldSources};
 ghost use Rattle.bonnetewe.specs.Met.{ToldMeeting};
+ghost use Rattle.bonnetewe.specs.ToldTide.{ruleBy, readingBy, toldTide, toldHeight};
 
 // The check of one map file of any bytes: done with its counts of vertices and edges, or refused.
 #[no_mangle]
@@ -132,4 +138,22 @@ pub extern "C" fn bonnetewe_edge_sources(halves: &[u16], sources: &[u32], k: usi
 {
     let found = tables::edge(halves, sources, k);
     sources_of(found)
+}
+
+// The height of tide by a zone's rule (`kind` 0 none, 1 the ratio a, any other the weights a and b) and both readings: done with its whole millimetres, or refused.
+#[no_mangle]
+pub extern "C" fn bonnetewe_tide(kind: u16, a: f64, b: f64, first: i32, second: i32) -> u64
+    ensures { λ r. ⌜ r ≡ toldTide (tide (ruleBy kind a b) (readingBy first) (readingBy second)) ⌝ }
+{
+    let answer = tide::height(rule_by(kind, a, b), reading_by(first), reading_by(second));
+    of_tide(answer)
+}
+
+// The same height before rounding, 0 where it is refused.
+#[no_mangle]
+pub extern "C" fn bonnetewe_tide_height(kind: u16, a: f64, b: f64, first: i32, second: i32) -> f64
+    ensures { λ r. ⌜ r ≡ toldHeight (tide (ruleBy kind a b) (readingBy first) (readingBy second)) ⌝ }
+{
+    let answer = tide::height(rule_by(kind, a, b), reading_by(first), reading_by(second));
+    height_of(answer)
 }

@@ -2,4 +2,5 @@
 mod answer; // an answer as one number
 mod met; // how two edges meet as one number, and the point
 mod record; // an edge record as two numbers
+mod height; // the height of tide from and as numbers
 mod calls; // the operations

@@ -26,6 +26,9 @@ fn say_cause(number: u16, place: u16) {
         9 => say(b"a vertex has no edge"),
         10 => say(b"the labels disagree"),
         11 => say_room(place),
+        14 => say(b"the zone has no tide rule"),
+        15 => say(b"a ratio or weight is out of its range, or not a number"),
+        16 => say(b"a reading that the rule uses is missing or out of its range"),
         _ => say(b"an edge record is not sound"),
     }
 }

@@ -133,6 +133,11 @@ pub const LAYER_POINT_CELLS: usize = MAPS * MAP_POINT_CELLS;
 
 pub const LAYER_CARRIER_CELLS: usize = MAPS * MAP_CARRIER_CELLS;
 
+// The height of tide.
+
+// "whole millimetres from −20,000 to 20,000" (02, Ask 5)
+pub const GAUGE_REACH: i32 = 20000;
+
 // The listing.
 
 // the bytes of a line, at most

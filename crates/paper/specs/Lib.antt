@@ -23,3 +23,5 @@ pub mod Sheets
 pub mod Touching
 pub mod Meetings
 pub mod MendSample
+pub mod Tide
+pub mod TideSample

@@ -1,4 +1,4 @@
--- The numbers of 01, each once: limits and byte widths. Everything else is defined from them. Assumes nothing.
+-- The numbers of 01 and of the requests, each once: limits and byte widths. Everything else is defined from them. Assumes nothing.
 use Prim.Native.Nat.{ℕ, _*_}
 
 -- "V ≤ 200, E ≤ 300, coordinates from −2,000 to 2,000"
@@ -46,3 +46,7 @@ maps = 2
 -- "65,535 for face 0", "65,535 if none": no half-edge
 abbrev pub absent : ℕ
 absent = 65535
+
+-- "whole millimetres from −20,000 to 20,000" (02, Ask 5)
+abbrev pub gaugeReach : ℕ
+gaugeReach = 20000

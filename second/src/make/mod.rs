@@ -11,6 +11,7 @@ pub mod plain;
 pub mod sizes;
 pub mod table_damage;
 pub mod telling;
+pub mod tides;
 pub mod wild;
 
 use crate::map::Map;

@@ -1,7 +1,9 @@
-//! The self-check: laws that every overlay obeys, and document 01 by its own ways.
+//! The self-check: laws that every overlay obeys, document 01 by its own ways, and heights of tide
+//! by the machine's floats.
 
 mod files;
 mod laws;
+mod tides;
 mod turned;
 
 use crate::check::{check, fault};
@@ -25,8 +27,8 @@ fn holds(it: bool, what: impl Fn() -> String) -> Found {
     }
 }
 
-/// Runs n pairs and n single maps of any kinds; says how many of each answer there were, or
-/// what is wrong with which input.
+/// Runs n pairs, n single maps of any kinds and n hundred heights of tide; says how many of each
+/// answer there were, or what is wrong with which input.
 pub fn run(n: u64, seed: u64) -> Result<String, String> {
     let (mut done, mut refused, mut valid) = (0, 0, 0);
     for i in 0..n {
@@ -38,6 +40,7 @@ pub fn run(n: u64, seed: u64) -> Result<String, String> {
         let clashing = pair_files("clashing", seed).expect("a kind");
         clashing.iter().try_for_each(|file| single(file).map(|_| ()))?;
         let files = pair_files("any", seed).expect("any is a kind");
+        tides::hundred(seed).map_err(|what| format!("tides {seed}: {what}"))?;
         match pair(&files).map_err(|what| format!("pair any {seed}: {what}"))? {
             true => done += 1,
             false => refused += 1,
