@@ -34,7 +34,7 @@ extern "C" {
 #define BONNETEWE_FACE_CELLS (4 * 1334)
 #define BONNETEWE_MEND_BYTES (9 + 4 * 200 + 8 * 300)
 #define BONNETEWE_MEND_CELLS (2 * (200 + 300))
-#define BONNETEWE_FILE_BYTES (11 + 14 * 1000 + 16 * 2000 + 8 * 1334)
+#define BONNETEWE_FILE_BYTES (11 + 16 * 1000 + 16 * 2000 + 8 * 1334)
 
 /* An answer: four numbers of 16 bits, the lowest first. The first is 0 where the call is done, otherwise the number of the rule that is broken. */
 typedef uint64_t bonnetewe_answer;
@@ -151,7 +151,7 @@ static inline long bonnetewe_millimetres(bonnetewe_answer a)
 /* Checks one map file: done with its counts of vertices and edges, or refused with rules 1 to 10 and map 0. */
 bonnetewe_answer bonnetewe_check(const uint8_t *file, size_t file_length);
 
-/* How the edge from a to b and the edge from c to d meet; refused with 5 for a coordinate beyond 2,000 either way, then 7 for an edge of no length (place 0 the first
+/* How the edge from a to b and the edge from c to d meet; refused with 5 for a coordinate beyond 16,000 either way, then 7 for an edge of no length (place 0 the first
  * edge, 1 the second). The table point gets X, Y and D of the one point where they touch or cross, X/D, Y/D in lowest terms, as far as it has cells, and zeros
  * behind; it is all zero where there is no such point. */
 bonnetewe_answer bonnetewe_meet(int16_t ax, int16_t ay, int16_t bx, int16_t by, int16_t cx, int16_t cy, int16_t dx, int16_t dy,

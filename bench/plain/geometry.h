@@ -1,4 +1,5 @@
-/* Points, directions, and lines in whole numbers. Every product fits 64 bits: D is at most 32,000,000, X and Y are within 2,000 D. */
+/* Points, directions, and lines in whole numbers. With corners up to 16,000 either way D is at most 2,048,000,000 and X and Y are within 16,000 D: the products
+ * that compare two points, or two edges at the height of a point, have up to 78 bits and are taken in 128. All others fit 64. */
 #ifndef GEOMETRY_H
 #define GEOMETRY_H
 
@@ -25,12 +26,20 @@ static inline int sign(int64_t n)
     return (n > 0) - (n < 0);
 }
 
+/* The order of a b and c d: below 0, 0 or above 0. */
+static inline int compare_products(int64_t a, int64_t b, int64_t c, int64_t d)
+{
+    __int128 first = (__int128)a * b, second = (__int128)c * d;
+
+    return (first > second) - (first < second);
+}
+
 /* Smaller y first, then smaller x: below 0, 0 or above 0. */
 static inline int compare_points(const struct point *a, const struct point *b)
 {
-    int by_y = sign(a->y * b->d - b->y * a->d);
+    int by_y = compare_products(a->y, b->d, b->y, a->d);
 
-    return by_y != 0 ? by_y : sign(a->x * b->d - b->x * a->d);
+    return by_y != 0 ? by_y : compare_products(a->x, b->d, b->x, a->d);
 }
 
 /* Above 0 if p is left of the line, below 0 if it is right of it. */

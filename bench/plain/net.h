@@ -7,7 +7,7 @@
 enum {
     MAP_VERTICES = 200,
     MAP_EDGES = 300,
-    REACH = 2000,
+    REACH = 16000,
     VERTICES = 1000,
     EDGES = 2000,
     FACES = 1334,

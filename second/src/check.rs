@@ -100,7 +100,8 @@ pub fn graph_of(map: &Map) -> Graph {
 ///
 /// All vertices lie on whole heights, so half a unit above the vertex no two edges meet, and
 /// the edges there are the ones with lower y <= y of the vertex < upper y. Of those that are
-/// west at the vertex's own height the one furthest east there is seen.
+/// west at the vertex's own height the one furthest east there is seen. With coordinates up to
+/// 16,000 a top has 32 bits and a bottom 16.
 fn seen_west(map: &Map, vertex: u16) -> Option<usize> {
     let (px, py) = map.place(vertex);
     let mut best: Option<(i64, i64, usize)> = None;

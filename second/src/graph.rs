@@ -3,6 +3,7 @@
 //! Half-edge 2k runs along edge k from its first end to its second, 2k + 1 back. No two edges
 //! share a point that is not an end of both.
 
+use crate::area::Area;
 use crate::point::{is_west, side, Point};
 use std::cmp::Ordering;
 
@@ -77,18 +78,10 @@ impl Graph {
         (0..up.len()).map(|v| root(&mut up, v)).collect()
     }
 
-    /// Twice the area to the left of the closed walk, in units of 2^-100.
-    ///
-    /// Each step adds a fraction with a bottom of at most 32,000,000 squared, cut off after 100
-    /// places; a walk and its way back cancel to exactly 0. Any polygon over such points can be
-    /// cut into triangles over them, each of twice the area 2^-75 or more, and the error of all
-    /// steps together is below 2^-87: so the sign is right, and so is the comparison of two
-    /// areas where one polygon lies within the other. The sum may wrap on its way, its end
-    /// (below 2^125) does not.
-    pub fn area(&self, walk: &[usize]) -> i128 {
-        let step =
-            |&h: &usize| twice_area(&self.points[self.origin(h)], &self.points[self.origin(h ^ 1)]);
-        walk.iter().map(step).fold(0, i128::wrapping_add)
+    /// Twice the area to the left of the closed walk; of part of a walk, what it adds to that.
+    pub fn area(&self, walk: &[usize]) -> Area {
+        let end = |h: usize| &self.points[self.origin(h)];
+        walk.iter().map(|&h| Area::step(end(h), end(h ^ 1))).sum()
     }
 
     /// How often the walk runs round p, counter-clockwise, p being on none of its edges:
@@ -107,25 +100,6 @@ impl Graph {
         }
         turns
     }
-}
-
-/// Places behind the point of an area.
-const AREA_PLACES: u32 = 100;
-/// Twice the area of a walk round something is above this, of a walk round nothing below.
-const AREA_FLOOR: i128 = 1 << (AREA_PLACES - 80);
-
-/// Twice the area of the triangle from the origin over a to b, cut off towards 0.
-fn twice_area(a: &Point, b: &Point) -> i128 {
-    let top = a.x as i128 * b.y as i128 - b.x as i128 * a.y as i128;
-    let bottom = a.d as i128 * b.d as i128;
-    let mut value = top / bottom;
-    let mut rest = top % bottom;
-    for _ in 0..2 {
-        rest <<= AREA_PLACES / 2;
-        value = (value << (AREA_PLACES / 2)) + rest / bottom;
-        rest %= bottom;
-    }
-    value
 }
 
 /// The walks of a graph and the faces that they bound.
@@ -174,8 +148,8 @@ fn walks(followers: &[usize]) -> (Vec<Vec<usize>>, Vec<usize>) {
 /// smallest face, by area within its outer walk, that runs round it in another piece.
 pub fn faces(graph: &Graph, followers: &[usize]) -> Faces {
     let (walks, walk_of) = walks(followers);
-    let areas: Vec<i128> = walks.iter().map(|walk| graph.area(walk)).collect();
-    let hole: Vec<bool> = areas.iter().map(|&area| area < AREA_FLOOR).collect();
+    let areas: Vec<Area> = walks.iter().map(|walk| graph.area(walk)).collect();
+    let hole: Vec<bool> = areas.iter().map(|&area| area < Area::SLACK).collect();
     let mut face = vec![0; walks.len()];
     let mut outer = vec![None];
     for w in (0..walks.len()).filter(|&w| !hole[w]) {

@@ -3,6 +3,7 @@
 //! ray to the north from the middle of a piece. See README.md.
 
 pub mod answer;
+pub mod area;
 pub mod check;
 pub mod graph;
 pub mod limits;
@@ -23,3 +24,4 @@ pub mod tables;
 pub mod text;
 pub mod tide;
 pub mod trial;
+pub mod version;

@@ -16,10 +16,10 @@ pub const MAP_VERTICES: usize = 200;
 /// Most edges of a map.
 pub const MAP_EDGES: usize = 300;
 /// A coordinate lies from -REACH to REACH.
-pub const REACH: i64 = 2_000;
+pub const REACH: i64 = 16_000;
 
 /// Greatest denominator of an overlay vertex.
-pub const DENOMINATOR: i64 = 32_000_000;
+pub const DENOMINATOR: i64 = 2_048_000_000;
 /// Most vertices of an overlay.
 pub const VERTICES: usize = 1_000;
 /// Most edges of an overlay.
@@ -29,18 +29,12 @@ pub const FACES: usize = 1_334;
 
 /// Mark of an overlay file.
 pub const OVERLAY_MARK: &[u8; 3] = b"ZOV";
-/// Version of an overlay file.
-pub const OVERLAY_VERSION: u16 = 1;
 /// Bytes of an overlay file before its first vertex.
 pub const OVERLAY_HEAD: usize = 11;
-/// Bytes of a vertex in an overlay file.
-pub const OVERLAY_VERTEX: usize = 14;
 /// Bytes of an edge in an overlay file.
 pub const OVERLAY_EDGE: usize = 16;
 /// Bytes of a face in an overlay file.
 pub const OVERLAY_FACE: usize = 8;
-/// Bytes of X and of Y in an overlay file.
-pub const WIDE: usize = 5;
 
 /// Stands for "no half-edge" in the tables.
 pub const NO_HALF_EDGE: u16 = 65_535;

@@ -1,4 +1,7 @@
 //! The label of a map at a point that lies on none of its edges, by a ray to the north.
+//!
+//! With coordinates up to 16,000 the d of a spot has 63 bits and its x and y 77; a height has 94,
+//! and two heights are compared as products of 109.
 
 use crate::map::Map;
 use crate::point::Point;

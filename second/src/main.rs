@@ -6,10 +6,11 @@ use second::map::decode;
 use second::meet;
 use second::mend;
 use second::overlay::{overlay_files, Room};
-use second::ovfile::{file_of, read};
+use second::ovfile::{file_as, file_of, read};
 use second::pack;
 use second::random::Random;
 use second::text;
+use second::version::Version;
 use std::io::Write;
 use std::process::ExitCode;
 
@@ -20,6 +21,7 @@ second overlay ZONES BLOCKS OUT           write the overlay file
 second read FILE [ROOM]                   check and list an overlay file
 second edges FILE                         check an overlay file and list its edges
 second rewrite FILE OUT                   read an overlay file and write it again
+second as-version N FILE OUT              the same, as a file of version N
 second digest ZONES BLOCKS [ROOM]         counts and digest of the overlay's tables
 second kinds                              the kinds of maps and pairs
 second make KIND SEED OUT.zmp             make a map file
@@ -75,7 +77,10 @@ fn run(args: &[&str]) -> Outcome {
         ["overlay", zones, blocks, out] => overlay(zones, blocks, out),
         ["read", file, room @ ..] => read_file(file, &room_of(room)?),
         ["edges", file] => Ok(edges(file)),
-        ["rewrite", file, out] => rewrite(file, out),
+        ["rewrite", file, out] => rewrite(Version::NEWEST, file, out),
+        ["as-version", n, file, out] => {
+            rewrite(Version::of(number(n)?).ok_or("no such version")?, file, out)
+        }
         ["digest", zones, blocks, room @ ..] => Ok(digest(zones, blocks, &room_of(room)?)),
         ["kinds"] => Ok(kinds()),
         ["make", kind, seed, out] => {
@@ -189,8 +194,8 @@ fn edges(path: &str) -> String {
     }
 }
 
-fn rewrite(path: &str, out: &str) -> Outcome {
-    match read(&bytes(path), &Room::FULL).and_then(|tables| file_of(&tables)) {
+fn rewrite(version: Version, path: &str, out: &str) -> Outcome {
+    match read(&bytes(path), &Room::FULL).and_then(|tables| file_as(version, &tables)) {
         Ok(file) => save(out, &file).map(|()| format!("{} bytes\n", file.len())),
         Err(refusal) => Ok(format!("{refusal}\n")),
     }

@@ -1,10 +1,12 @@
-//! Overlay files: the writer and the reader with all their refusals.
+//! Overlay files: the writer and the reader with all their refusals. Both are over a version; the
+//! reader takes every one, the writer's own is the newest.
 
 use crate::answer::Refusal;
 use crate::limits::*;
 use crate::map::numbers;
 use crate::overlay::Room;
 use crate::tables::{FaceRow, HalfEdgeRow, Sources, Tables, VertexRow};
+use crate::version::Version;
 
 /// The counts that a file announces.
 #[derive(Clone, Copy, PartialEq, Eq, Debug)]
@@ -25,10 +27,10 @@ impl Counts {
         self.vertices > VERTICES || self.edges > EDGES || self.faces > FACES
     }
 
-    /// The length of the file.
-    pub fn length(&self) -> usize {
+    /// The length of the file in this version.
+    pub fn length(&self, version: Version) -> usize {
         OVERLAY_HEAD
-            + OVERLAY_VERTEX * self.vertices
+            + version.vertex() * self.vertices
             + OVERLAY_EDGE * self.edges
             + OVERLAY_FACE * self.faces
     }
@@ -71,6 +73,16 @@ fn unsound(records: &[Record], counts: &Counts) -> Option<usize> {
 
 /// The refusal of the writer, or the file. `length` is the length of the lent buffer.
 pub fn write(tables: &Tables, counts: Counts, length: usize) -> Result<Vec<u8>, Refusal> {
+    write_as(Version::NEWEST, tables, counts, length)
+}
+
+/// The same for a file of any version.
+fn write_as(
+    version: Version,
+    tables: &Tables,
+    counts: Counts,
+    length: usize,
+) -> Result<Vec<u8>, Refusal> {
     let rows_short = counts.vertices > tables.vertices.len()
         || counts.edges > tables.half_edges.len() / 2
         || counts.edges > tables.sources.len()
@@ -79,9 +91,8 @@ pub fn write(tables: &Tables, counts: Counts, length: usize) -> Result<Vec<u8>, 
         return Err(Refusal::new(3, 0));
     }
     let half_edges = &tables.half_edges[..2 * counts.edges];
-    if let Some(v) =
-        (0..counts.vertices).find(|&v| !vertex_fits(&tables.vertices[v], v, half_edges))
-    {
+    let fits = |v: usize| vertex_fits(version, &tables.vertices[v], v, half_edges);
+    if let Some(v) = (0..counts.vertices).find(|&v| !fits(v)) {
         return Err(Refusal::new(5, v));
     }
     let sources = &tables.sources[..counts.edges];
@@ -92,15 +103,15 @@ pub fn write(tables: &Tables, counts: Counts, length: usize) -> Result<Vec<u8>, 
     if let Some(&k) = faults.iter().flatten().min() {
         return Err(Refusal::new(21, k));
     }
-    if length < counts.length() {
+    if length < counts.length(version) {
         return Err(Refusal::new(11, 4));
     }
-    Ok(file_bytes(tables, &records, &counts))
+    Ok(file_bytes(version, tables, &records, &counts))
 }
 
 /// Do X, Y and D fit their bytes, and is the outgoing entry the least half-edge there?
-fn vertex_fits(row: &VertexRow, v: usize, half_edges: &[HalfEdgeRow]) -> bool {
-    let wide = 1i64 << (8 * WIDE - 1);
+fn vertex_fits(version: Version, row: &VertexRow, v: usize, half_edges: &[HalfEdgeRow]) -> bool {
+    let wide = 1i64 << (8 * version.wide - 1);
     let fits = |c: i64| -wide <= c && c < wide;
     let least = half_edges.iter().position(|h| h.origin as usize == v);
     fits(row.x)
@@ -132,15 +143,15 @@ fn rows_linked(half_edges: &[HalfEdgeRow], sources: &Sources, k: usize) -> bool 
 }
 
 /// The bytes of a file that is not refused.
-fn file_bytes(tables: &Tables, records: &[Record], counts: &Counts) -> Vec<u8> {
-    let mut out = Vec::with_capacity(counts.length());
+fn file_bytes(version: Version, tables: &Tables, records: &[Record], counts: &Counts) -> Vec<u8> {
+    let mut out = Vec::with_capacity(counts.length(version));
     out.extend_from_slice(OVERLAY_MARK);
-    for n in [OVERLAY_VERSION as usize, counts.vertices, counts.edges, counts.faces] {
+    for n in [version.number as usize, counts.vertices, counts.edges, counts.faces] {
         out.extend_from_slice(&(n as u16).to_le_bytes());
     }
     for row in &tables.vertices[..counts.vertices] {
-        out.extend_from_slice(&row.x.to_le_bytes()[..WIDE]);
-        out.extend_from_slice(&row.y.to_le_bytes()[..WIDE]);
+        out.extend_from_slice(&row.x.to_le_bytes()[..version.wide]);
+        out.extend_from_slice(&row.y.to_le_bytes()[..version.wide]);
         out.extend_from_slice(&(row.d as u32).to_le_bytes());
     }
     for r in records {
@@ -158,8 +169,13 @@ fn file_bytes(tables: &Tables, records: &[Record], counts: &Counts) -> Vec<u8> {
 
 /// The whole of the tables as a file.
 pub fn file_of(tables: &Tables) -> Result<Vec<u8>, Refusal> {
+    file_as(Version::NEWEST, tables)
+}
+
+/// The whole of the tables as a file of any version, if it holds them.
+pub fn file_as(version: Version, tables: &Tables) -> Result<Vec<u8>, Refusal> {
     let counts = Counts::of(tables);
-    write(tables, counts, counts.length())
+    write_as(version, tables, counts, counts.length(version))
 }
 
 /// The refusal of the reader, or the tables.
@@ -170,16 +186,14 @@ pub fn read(bytes: &[u8], room: &Room) -> Result<Tables, Refusal> {
     let head = numbers(&bytes[OVERLAY_MARK.len()..OVERLAY_HEAD]);
     let [vertices, edges, faces] = [1, 2, 3].map(|i| head[i] as usize);
     let counts = Counts { vertices, edges, faces };
-    if head[0] != OVERLAY_VERSION {
-        return Err(Refusal::new(2, 0));
-    }
+    let version = Version::of(head[0]).ok_or(Refusal::new(2, 0))?;
     if counts.over() {
         return Err(Refusal::new(3, 0));
     }
-    if bytes.len() != counts.length() {
+    if bytes.len() != counts.length(version) {
         return Err(Refusal::new(4, 0));
     }
-    let (vertices, rest) = bytes[OVERLAY_HEAD..].split_at(OVERLAY_VERTEX * counts.vertices);
+    let (vertices, rest) = bytes[OVERLAY_HEAD..].split_at(version.vertex() * counts.vertices);
     let (edges, faces) = rest.split_at(OVERLAY_EDGE * counts.edges);
     let records: Vec<Record> = numbers(edges).chunks(8).map(stored_record).collect();
     if let Some(k) = unsound(&records, &counts) {
@@ -191,7 +205,7 @@ pub fn read(bytes: &[u8], room: &Room) -> Result<Tables, Refusal> {
         return Err(Refusal::new(11, kind + 1));
     }
     let mut tables = Tables {
-        vertices: vertices.chunks(OVERLAY_VERTEX).map(stored_vertex).collect(),
+        vertices: vertices.chunks(version.vertex()).map(|b| stored_vertex(version, b)).collect(),
         half_edges: half_edges(&records),
         sources: records.iter().map(stored_sources).collect(),
         faces: numbers(faces).chunks(4).map(stored_face).collect(),
@@ -210,13 +224,12 @@ fn stored_record(n: &[u16]) -> Record {
 }
 
 /// X and Y in two's complement, D without a sign.
-fn stored_vertex(bytes: &[u8]) -> VertexRow {
-    let wide = |b: &[u8]| {
-        let raw = b.iter().rev().fold(0i64, |n, &byte| n << 8 | byte as i64);
-        raw << (64 - 8 * WIDE) >> (64 - 8 * WIDE)
-    };
-    let d = bytes[2 * WIDE..].iter().rev().fold(0, |n, &byte| n << 8 | byte as i64);
-    VertexRow { x: wide(&bytes[..WIDE]), y: wide(&bytes[WIDE..2 * WIDE]), d, out: NO_HALF_EDGE }
+fn stored_vertex(version: Version, bytes: &[u8]) -> VertexRow {
+    let number = |b: &[u8]| b.iter().rev().fold(0i64, |n, &byte| n << 8 | byte as i64);
+    let signed = |b: &[u8]| number(b) << (64 - 8 * b.len()) >> (64 - 8 * b.len());
+    let (x, rest) = bytes.split_at(version.wide);
+    let (y, d) = rest.split_at(version.wide);
+    VertexRow { x: signed(x), y: signed(y), d: number(d), out: NO_HALF_EDGE }
 }
 
 fn stored_sources(record: &Record) -> Sources {

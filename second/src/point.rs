@@ -1,4 +1,7 @@
 //! Points with fractional coordinates: the common form, the order, the side.
+//!
+//! Of an overlay vertex with coordinates up to 16,000 D is at most 2,048,000,000 (31 bits), X and
+//! Y at most 32,768,000,000,000 (45 bits).
 
 use std::cmp::Ordering;
 
@@ -42,7 +45,7 @@ pub fn common(a: i64, b: i64) -> i64 {
     (a << twos) as i64
 }
 
-/// Point order: smaller y first, then smaller x.
+/// Point order: smaller y first, then smaller x. The products have 76 bits.
 impl Ord for Point {
     fn cmp(&self, other: &Point) -> Ordering {
         let across = |a: i64, b: i64| a as i128 * b as i128;
@@ -63,7 +66,8 @@ pub fn is_west(a: &Point, b: &Point) -> bool {
 }
 
 /// The side of p against the line from a to b: 1 left, 0 on it, -1 right. It is the sign of
-/// the determinant with the rows (X, Y, D) of the three points.
+/// the determinant with the rows (X, Y, D) of the three points: six products of an X, a Y and
+/// a D, each below 2^121, together below 2^124.
 pub fn side(a: &Point, b: &Point, p: &Point) -> i32 {
     let minor = |s: &Point, t: &Point| {
         (

@@ -1,4 +1,8 @@
 //! Straight edges between whole points, and what two of them have in common.
+//!
+//! With coordinates up to 16,000 a direction is at most 32,000, the c of a line at most
+//! 1,024,000,000 (30 bits), and the top and bottom of a crossing have 46 and 31 bits; a box at its
+//! bottom has 45. All fit 64 bits.
 
 use crate::point::Point;
 

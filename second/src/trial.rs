@@ -4,7 +4,7 @@
 use crate::check::check;
 use crate::literal::slip::{OF_MAPS, OF_PAIRS};
 use crate::make::damage::{damage_map, KINDS};
-use crate::make::few::{few, two_few};
+use crate::make::few::{diagonals, few, two_few};
 use crate::make::meets;
 use crate::make::overlay_damage;
 use crate::make::table_damage::{self, Order};
@@ -58,9 +58,10 @@ fn hex(bytes: &[u8]) -> String {
 }
 
 /// The pair of a round. Of four pairs three are made to show a slip, and of the fourth kind
-/// every second has a damaged file.
+/// every second has a damaged file and every fourth the greatest denominators.
 fn pair(random: &mut Random, round: usize) -> [Vec<u8>; 2] {
     let [first, second] = match round % 4 {
+        0 if round % 16 == 8 => diagonals(random),
         0 => two_few(random),
         _ => telling_pair(random, OF_PAIRS[(round - round / 4 - 1) % OF_PAIRS.len()], two_few),
     };
@@ -163,9 +164,10 @@ fn small_overlay(random: &mut Random) -> (Tables, Vec<u8>) {
 
 fn read_line(random: &mut Random) -> String {
     let (t, mut file) = small_overlay(random);
-    if !random.once_in(5) {
-        file = overlay_damage::damaged(random, &file);
-    }
+    file = match random.once_in(5) {
+        true => overlay_damage::any_version(random, &file),
+        false => overlay_damage::damaged(random, &file),
+    };
     let full = [t.vertices.len(), t.half_edges.len(), t.edges(), t.faces.len()];
     let rows = if random.once_in(4) { rows(random, full) } else { full.map(|n| n + 1) };
     let room = Room::lent(rows[0], rows[1], rows[2], rows[3]);

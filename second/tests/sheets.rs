@@ -4,8 +4,9 @@ use second::answer::Refusal;
 use second::check::check;
 use second::map::{Edge, Map};
 use second::overlay::{overlay_files, Overlay, Room};
-use second::ovfile::{file_of, read};
+use second::ovfile::{file_as, file_of, read};
 use second::point::{side, Point};
+use second::version::Version;
 
 /// A map of edges (from, to, left, right).
 fn map(vertices: &[(i16, i16)], edges: &[(u16, u16, u16, u16)]) -> Map {
@@ -79,8 +80,8 @@ fn s6_one_edge() {
 
 #[test]
 fn s7_the_range() {
-    assert!(check(&lone((-2000, 0), (0, 0)).bytes()).is_ok());
-    assert_eq!(refusal(&lone((-2001, 0), (0, 0))), Refusal::new(5, 0));
+    assert!(check(&lone((-16_000, 0), (0, 0)).bytes()).is_ok());
+    assert_eq!(refusal(&lone((-16_001, 0), (0, 0))), Refusal::new(5, 0));
 }
 
 #[test]
@@ -122,6 +123,9 @@ fn s12_the_listing() {
     ];
     assert_eq!(done.listing(), lines.join("\n") + "\n");
     let file = file_of(&done).expect("the file is written");
-    assert_eq!(file.len(), 375);
+    assert_eq!(file.len(), 395);
+    let older = file_as(Version::FIRST, &done).expect("version 1 holds it");
+    assert_eq!(older.len(), 375);
+    assert_eq!(read(&older, &Room::FULL), read(&file, &Room::FULL));
     assert_eq!(read(&file, &Room::FULL), Ok(done));
 }

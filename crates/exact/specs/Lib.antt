@@ -19,6 +19,7 @@ pub mod Mach
 pub mod Gcd
 pub mod Lowest
 pub mod Compare
+pub mod Words
 pub mod Digits
 pub mod Floor
 pub mod Worked

@@ -1,4 +1,5 @@
 pub mod Flat
+pub mod Upright
 pub mod Places
 pub mod Heading
 pub mod Pick

@@ -2,6 +2,8 @@
 use super::heading::carrier_at;
 use super::heading::goes_up;
 use super::heading::start;
+use exact::Ordering;
+use exact::products;
 use plane::Point;
 use plane::Seg;
 use plane::Vector;
@@ -59,9 +61,11 @@ fn nearer(s: Seg, t: Seg, p: Point) -> bool
     requires { ⌜ Edge (segOf s) × Edge (segOf t) × Near (ptOf p) ⌝ }
     ensures { λ r. ⌜ r ≡ nearerOf (segOf s) (segOf t) (ptOf p) ⌝ }
 {
-    let turn = cross_of(s.u, s.v, t.u, t.v);
-    let ahead = left_by(s, p) * t.v - left_by(t, p) * s.v;
-    rises(Vector { x: turn, y: ahead })
+    match products(left_by(s, p), t.v, left_by(t, p), s.v) {
+        Ordering::Less => false,
+        Ordering::Equal => 0 < cross_of(s.u, s.v, t.u, t.v),
+        Ordering::Greater => true,
+    }
 }
 
 // Whether edge k is a candidate.

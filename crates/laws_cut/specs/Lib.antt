@@ -1,5 +1,4 @@
 pub mod Between
-pub mod Boxes
 pub mod Crossings
 pub mod Gathering
 pub mod Remembered

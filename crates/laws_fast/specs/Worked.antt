@@ -1,12 +1,12 @@
 -- The definitions at work, each on a small case that is computed. Assumes nothing.
 use mathlib.Core.Path.{_≡_, refl}
 use lib.Signed.{ltZ, quotZ}
-use Rattle.seq.specs.Seq.{true, false, cond, List, [], _∷_, map, some, ℕ, suc, _%_, getD, ltb, pos, negsuc, _-ℤ_, _*ℤ_, table}
+use Rattle.seq.specs.Seq.{true, false, cond, List, [], _∷_, map, some, ℕ, suc, _+_, _*_, _%_, getD, ltb, pos, negsuc, _-ℤ_, _*ℤ_, table}
 use Rattle.paper.specs.Plane.{Seg, Vec, vec, whole, head, between, nowhere, clash}
 use Rattle.paper.specs.Graph.{Graph, follower, followers, walk, greatestOut}
 use Rattle.paper.specs.Map.{edgeBetween}
 use Rattle.laws_fast.specs.Below.{pastBy, goneBy}
-use Rattle.laws_fast.specs.Keys.{numberOf}
+use Rattle.laws_fast.specs.Keys.{keyWidth, numberOf}
 use Rattle.laws_fast.specs.Sides.{quickClash}
 use Rattle.laws_fast.specs.Stars.{starOf}
 use Rattle.laws_fast.specs.Once.{lowOf}
@@ -53,7 +53,8 @@ nothing = refl
 
 -- ── keys, whole parts ──
 
-origin-key : numberOf nowhere ≡ 8194000
+-- the middle of all keys
+origin-key : 2 * numberOf nowhere + 1 ≡ keyWidth * keyWidth
 origin-key = refl
 
 -- −7/2 cut off towards 0 is −3; its whole part is −4

@@ -22,13 +22,14 @@ use Rattle.laws_plane.specs.Points.{LowestP, same-equal}
 use Rattle.laws_plane.specs.Ends.{corner-lowest}
 use Rattle.laws_plane.specs.Edges.{IsEnd}
 use Rattle.laws_plane.specs.Bounds.{Reaches, Bounded, crossing-bounded, corner-bounded}
+use Rattle.laws_plane.specs.Boxes.{BoxesApart, boxes-point}
 use Rattle.laws_plane.specs.Crossing.{crossing-touch}
 use Rattle.laws_map.specs.Keeps.{seg, edges}
 use Rattle.laws_overlay.specs.Maps.{AllKeep, foot-vertex, head-vertex}
 use Rattle.laws_overlay.specs.Vertices.{collected, crossings-from, crossings-has}
 use Rattle.paper.specs.Meeting.{Meeting, apart as separate, touching, crossing as crossed, sharing, meeting, pointOf, clashBy}
 use Rattle.laws_meet.specs.Means.{parallel-ends, parallel-crossed}
-use Rattle.laws_meet.specs.Uses.{clash-meeting, crossing-meeting, touching-is}
+use Rattle.laws_meet.specs.Uses.{clash-meeting, crossing-meeting, touching-is, is-apart}
 use Rattle.laws_meet.specs.Other.{Upward}
 use Rattle.laws_graph.specs.Plane.{upward-up}
 use Rattle.laws_overlay.specs.Collected.{with-corners}
@@ -86,7 +87,7 @@ module _ (s t : Seg) (us : UpV (s .up)) (ut : UpV (t .up)) (p : Pt) where
       go true z = absurd (crossing-touch s t us ut p e .turned (zero-is (cross (s .up) (t .up)) z))
       go false z = sym (crossing-meeting s t ∙ ap (λ (c : Bool). cond c none (pointOf (meeting s t))) z) ∙ e
 
--- the point of a meeting is within 01's bounds: "D is at most 32,000,000; X and Y lie within 2,000·D either way"
+-- the point of a meeting is within 01's bounds: "D may then reach 2,048,000,000"; X and Y lie within 16,000·D either way
 pub meeting-bounded : (s t : Seg) → UpV (s .up) → UpV (t .up) → Reaches reach s → Reaches reach t → (p : Pt) → pointOf (meeting s t) ≡ some p → Bounded p
 meeting-bounded s t us ut hs ht p e = go (met-from s t us ut p e)
   where
@@ -94,6 +95,10 @@ meeting-bounded s t us ut hs ht p e = go (met-from s t us ut p e)
     go (inl q) = crossing-bounded s t p us ut hs ht q
     go (inr (l, inl q)) = subst Bounded (same-equal (whole (s .foot)) p (corner-lowest (s .foot)) l q) (corner-bounded (s .foot) (hs .foot-x) (hs .foot-y))
     go (inr (l, inr q)) = subst Bounded (same-equal (whole (head s)) p (corner-lowest (head s)) l q) (corner-bounded (head s) (hs .head-x) (hs .head-y))
+
+-- edges whose boxes are apart do not meet
+pub boxes-meeting : (s t : Seg) → UpV (s .up) → UpV (t .up) → BoxesApart s t → meeting s t ≡ separate
+boxes-meeting s t us ut b = is-apart s t us ut (boxes-point s t us ut b)
 
 module _ (ms : List Map) (K : AllKeep ms) where
   abbrev g : ℕ → Graph

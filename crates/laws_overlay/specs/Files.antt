@@ -43,7 +43,7 @@ module _ (files : List (List ℕ)) where
     pub files-reach : (i : ℕ) → i < length (mapsOf files) → InReach (layer (mapsOf files) i)
     files-reach i l = let r = passes-rules (getD files i []) (passes i (in-files l)) in subst InReach (sym (layer-is i)) (λ v b. (r .x-near v b, r .y-near v b))
 
-    -- "D is at most 32,000,000; X and Y lie within 2,000·D either way"
+    -- "D may then reach 2,048,000,000"; X and Y lie within 16,000·D either way
     pub files-bounded : Every Bounded (verticesOf (mapsOf files))
     files-bounded = vertices-bounded (mapsOf files) files-keep files-reach
 

@@ -192,7 +192,7 @@ module _ (ms : List Map) (K : AllKeep ms) (R : (i : ℕ) → i < length ms → I
       let h = close-at i l (whole (head (seg (layer ms i) k))) (head-vertex (layer ms i) (K i l) k b) in
       record { foot-x = f .0; foot-y = f .1; head-x = h .0; head-y = h .1 }
 
-  -- "D is at most 32,000,000; X and Y lie within 2,000·D either way"
+  -- "D may then reach 2,048,000,000"; X and Y lie within 16,000·D either way
   pub vertex-bounded : (p : Pt) → Vertex ms p → Bounded p
   vertex-bounded p (inl c) =
       let (a, e) = corner-is (layer ms (c .layer-of)) (K (c .layer-of) (c .in-list)) (c .vertex) (c .below) in

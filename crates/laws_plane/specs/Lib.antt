@@ -14,3 +14,4 @@ pub mod Meeting
 pub mod Clash
 pub mod NoClash
 pub mod Disjoint
+pub mod Boxes

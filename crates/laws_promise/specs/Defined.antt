@@ -69,7 +69,7 @@ pub record VertexRows (ms : List Map) (c : Counts) (t : Tables) : Type 0 where
   -- "Vertices stand in point order", each once
   pub in-order : (u v : ℕ) → u < v → v < c .vertices → before (pointAt t u) (pointAt t v) ≡ true
   pub once : (u v : ℕ) → u < c .vertices → v < c .vertices → pointAt t u ≡ pointAt t v → u ≡ v
-  -- "divided by the greatest common divisor of the three. D is at most 32,000,000; X and Y lie within 2,000·D either way"
+  -- "divided by the greatest common divisor of the three"; "D may then reach 2,048,000,000" (02, Ask 7), and X and Y lie within 16,000·D either way
   pub lowest : (v : ℕ) → v < c .vertices → LowestP (pointAt t v)
   pub bounded : (v : ℕ) → v < c .vertices → Bounded (pointAt t v)
   -- no digitised corner moves

@@ -19,3 +19,4 @@ pub mod SameEdges
 pub mod SameFaces
 pub mod Unique
 pub mod Delivered
+pub mod Versions

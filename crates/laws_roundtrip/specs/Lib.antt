@@ -5,4 +5,6 @@ pub mod Halves
 pub mod Counted
 pub mod Zeros
 pub mod ReadWritten
+pub mod ReadGood
 pub mod WrittenRead
+pub mod OlderRead

@@ -1,38 +1,31 @@
--- "writing what was read gives the same bytes": what the reader accepts, the writer gives back byte for byte, with zeros past it. First for any version's layout that the writer
--- writes (`read-is-written`), then for the reader and the writer as they stand (`written-read`). Assumes nothing.
+-- "writing what was read gives the same bytes only for the newest version" (02, Ask 7): what the reader accepts of that version, the writer gives back byte for byte, with zeros past it. First for any
+-- version's layout that the writer writes (`read-is-written`), then for the reader and the writer as they stand (`written-read`). Assumes nothing.
 use mathlib.Core.Path.{_≡_, sym, _∙_, ap, subst}
 use Prim.Native.Nat.{_<_, _≤_}
-use native.Mathlib.Nat.{not-suc-le-zero}
+use native.Mathlib.Nat.{le-refl}
 use native.Mathlib.Omega.{arith}
 use borrow.Author.Tests.{lt-ltb}
-use Rattle.seq.specs.Seq.{Bool, true, cond, List, Option, none, ℕ, zero, suc, _+_, _*_, _/_, _%_, _^_, ltb, eqb, length, getD, ℤ, pos, table, position, padded}
-use Rattle.seq.specs.Least.{least-ext}
-use Rattle.seq.specs.Table.{table-at, table-ext}
-use Rattle.paper.specs.Limits.{absent, denominatorBytes, maps}
-use Rattle.paper.specs.Bytes.{ascii, number, u16, signedAt, le, leSigned, fitsSigned, fitsUnsigned}
+use Rattle.seq.specs.Seq.{Bool, cond, List, Option, none, ℕ, _+_, _*_, _/_, _%_, length, getD, ℤ, padded}
+use Rattle.paper.specs.Limits.{denominatorBytes, maps}
+use Rattle.paper.specs.Bytes.{ascii, number, u16, signedAt, le, leSigned}
 use Rattle.paper.specs.Refusal.{Refusal, done, unlessRefused}
-use Rattle.paper.specs.Tables.{vertexCell, originOf, followerOf, predecessorOf, sourceCell, faceCell, Counts, Tables}
+use Rattle.paper.specs.Tables.{vertexCell, sourceCell, faceCell, Counts, Tables}
 use Rattle.paper.specs.Lent.{Lengths, lengthsOf, paddedTables, zeroTables}
 use Rattle.paper.specs.Ovfile.{Layout, layouts, fileLength, edgeFields, overlayFile, layoutOf}
 use Rattle.paper.specs.Writer.{writeBy, write}
-use Rattle.paper.specs.Reader.{countsIn, edgeField, storedOrigin, storedFollower, tablesIn, readFault, readBy, read}
+use Rattle.paper.specs.Reader.{countsIn, edgeField, tablesIn, readFault, readBy, read}
 use Rattle.laws_refusals.specs.Refusals.{done-none}
-use Rattle.laws_file.specs.Bytes.{Bytes, Stands, number-below, le-number, leSigned-signed, signed-fits}
+use Rattle.laws_file.specs.Bytes.{Bytes, Stands, le-number, leSigned-signed}
 use Rattle.laws_file.specs.Stands.{stands-whole}
 use Rattle.laws_file.specs.Agree.{file-same, padded-agree}
 use Rattle.laws_file.specs.Placed.{vertexAt, edgeAt, faceAt, edgeWidth, Placed, length-file, placed-file}
 use Rattle.laws_file.specs.EdgeFields.{fields-are}
 use Rattle.laws_file.specs.Fields.{marked-stands}
-use Rattle.laws_roundtrip.specs.Sound.{GoodHalf, GoodEdge, GoodVertex}
 use Rattle.laws_roundtrip.specs.Accepts.{is-write, Reads, read-is}
-use Rattle.laws_roundtrip.specs.ReadCells.{followersIn, vertex-cell, half-cell, source-cell, face-fields, read-lengths}
-use Rattle.laws_roundtrip.specs.Halves.{position-below, position-follows}
+use Rattle.laws_roundtrip.specs.ReadCells.{vertex-cell, half-cell, source-cell, face-fields, read-lengths}
 use Rattle.laws_roundtrip.specs.Zeros.{padded-writes}
-use Rattle.laws_roundtrip.specs.ReadWritten.{least-of-table, write-done}
-
-pub signed-fits-wide : (w : ℕ) (s : List ℕ) (i : ℕ) → 0 < w → Bytes s → fitsSigned w (signedAt w s i) ≡ true
-signed-fits-wide zero s i l h = absurd (not-suc-le-zero l)
-signed-fits-wide (suc w) s i l h = signed-fits w s i h
+use Rattle.laws_roundtrip.specs.ReadWritten.{write-done}
+use Rattle.laws_roundtrip.specs.ReadGood.{origin-is, follower-is, good-vertex, good-edge}
 
 module _ (l : Layout) (some-bytes : 0 < l .coordinate) (s : List ℕ) (B : Bytes s) where
   abbrev c : Counts
@@ -41,14 +34,7 @@ module _ (l : Layout) (some-bytes : 0 < l .coordinate) (s : List ℕ) (B : Bytes
   abbrev u : Tables
   u = tablesIn (l .maps) l s
 
-  -- ── half-edges and sources ──
-
-  module _ (h : ℕ) (b : h < 2 * countsIn s .edges) where
-    origin-is : originOf u h ≡ storedOrigin l s h
-    origin-is = half-cell (l .maps) l s h 0 b (omega arith)
-
-    follower-is : followerOf u h ≡ storedFollower l s h
-    follower-is = half-cell (l .maps) l s h 2 b (omega arith) ∙ table-at (storedFollower l s) (2 * c .edges) h 0 b
+  -- ── edges ──
 
   -- field j of half-edge 2k + b
   at-edge : (k b j : ℕ) → b < 2 → edgeField l s ((2 * k + b) / 2) (j + (2 * k + b) % 2) ≡ edgeField l s k (j + b)
@@ -63,9 +49,9 @@ module _ (l : Layout) (some-bytes : 0 < l .coordinate) (s : List ℕ) (B : Bytes
   edge-fields : (k j : ℕ) → k < c .edges → j < edgeWidth (l .maps) → getD (edgeFields (l .maps) u k) j 0 ≡ edgeField l s k j
   edge-fields k j b m =
       fields-are (l .maps) u k (edgeField l s k)
-      (λ x lx. let e : (2 * k + x) / 2 ≡ k = omega arith in let f : (2 * k + x) % 2 ≡ x = omega arith in origin-is (2 * k + x) (omega arith) ∙ (λ i. edgeField l s (e i) (f i)))
+      (λ x lx. let e : (2 * k + x) / 2 ≡ k = omega arith in let f : (2 * k + x) % 2 ≡ x = omega arith in origin-is (l .maps) l s B (2 * k + x) (omega arith) ∙ (λ i. edgeField l s (e i) (f i)))
       (λ i li. source-is k i b li)
-      (λ x lx. follower-is (2 * k + x) (omega arith) ∙ at-edge k x (2 + l .maps) lx)
+      (λ x lx. follower-is (l .maps) l s B (2 * k + x) (omega arith) ∙ at-edge k x (2 + l .maps) lx)
       (λ x lx. half-cell (l .maps) l s (2 * k + x) 4 (omega arith) (omega arith) ∙ at-edge k x (4 + l .maps) lx)
       j m
 
@@ -98,38 +84,6 @@ module _ (l : Layout) (some-bytes : 0 < l .coordinate) (s : List ℕ) (B : Bytes
   -- ── the writer accepts them ──
 
   module _ (versions : ℕ) (ls : Lengths) (R : Reads (l .maps) versions l ls s (tablesIn (l .maps) l s)) where
-    followers-are : followersIn l s ≡ table (followerOf u) (2 * c .edges)
-    followers-are = sym (table-ext (followerOf u) (storedFollower l s) (2 * c .edges) follower-is)
-
-    good-vertex : (v : ℕ) → v < c .vertices → GoodVertex l c u v
-    good-vertex v b =
-        let w = l .coordinate in
-        let i = vertexAt l v in
-        record {
-          x-fits = ap (fitsSigned w) (vertex-cell (l .maps) l s v 0 b (omega arith)) ∙ signed-fits-wide w s i some-bytes B;
-          y-fits = ap (fitsSigned w) (vertex-cell (l .maps) l s v 1 b (omega arith)) ∙ signed-fits-wide w s (i + w) some-bytes B;
-          d-fits = ap (fitsUnsigned denominatorBytes) (vertex-cell (l .maps) l s v 2 b (omega arith)) ∙ lt-ltb (number denominatorBytes s (i + 2 * w)) (256 ^ denominatorBytes) (number-below denominatorBytes s (i + 2 * w) B);
-          out-is = vertex-cell (l .maps) l s v 3 b (omega arith) ∙ ap pos (least-of-table (storedOrigin l s) (2 * c .edges) v
-              ∙ ap (λ (h : ℕ). cond (ltb h (2 * c .edges)) h absent) (least-ext (λ h. eqb (storedOrigin l s h) v) (λ h. eqb (originOf u h) v) (2 * c .edges) (λ h m. ap (λ (x : ℕ). eqb x v) (sym (origin-is h m)))));
-        }
-
-    good-half : (h : ℕ) → h < 2 * c .edges → GoodHalf c u h
-    good-half h b =
-        let e : predecessorOf u h ≡ position h (table (followerOf u) (2 * c .edges)) = half-cell (l .maps) l s h 3 b (omega arith) ∙ ap (position h) followers-are in
-        record {
-          twin-is = half-cell (l .maps) l s h 1 b (omega arith);
-          predecessor-below = subst (λ (p : ℕ). p < 2 * c .edges) (sym e) (position-below (l .maps) c u (R .sound) h b);
-          forth = ap (followerOf u) e ∙ position-follows (l .maps) c u (R .sound) h b;
-        }
-
-    good-edge : (k : ℕ) → k < c .edges → GoodEdge (l .maps) c u k
-    good-edge k b = record {
-      sound = R .sound k b;
-      narrow = λ i m. subst (λ (x : ℕ). x < 256 ^ 2) (sym (source-is k i b m)) (number-below 2 s (edgeAt l c k + 2 * (2 + i)) B);
-      good-there = good-half (2 * k) (omega arith);
-      good-back = good-half (2 * k + 1) (omega arith);
-    }
-
     -- ── with zeros past them ──
 
     abbrev t : Tables
@@ -138,7 +92,7 @@ module _ (l : Layout) (some-bytes : 0 < l .coordinate) (s : List ℕ) (B : Bytes
     pub written : (n : ℕ) → length s ≤ n → writeBy (u16 s 3) l n (countsIn s) (paddedTables ls (tablesIn (l .maps) l s)) ≡ record { answer = done (length s); buffer = padded 0 n s }
     written n m =
         let file : overlayFile (u16 s 3) l c t ≡ s = file-same (u16 s 3) l c t u (padded-agree (l .maps) c ls u) ∙ sym (read-file (marked-stands (ascii "ZOV") s 0 (R .mark)) (R .exact)) in
-        write-done (u16 s 3) l n c t (is-write l n (lengthsOf t) c t (padded-writes l n ls c u (read-lengths (l .maps) l s) (R .room) good-vertex good-edge (omega (arith, R .exact)))) ∙ (λ i. record { answer = done (sym (R .exact) i); buffer = padded 0 n (file i) })
+        write-done (u16 s 3) l n c t (is-write l n (lengthsOf t) c t (padded-writes l n ls c u (read-lengths (l .maps) l s) (R .room) (good-vertex (l .maps) l s B some-bytes l (le-refl (l .coordinate))) (good-edge (l .maps) l s B versions ls R) (omega (arith, R .exact)))) ∙ (λ i. record { answer = done (sym (R .exact) i); buffer = padded 0 n (file i) })
 
 -- ── of a version that the writer writes ──
 
@@ -169,13 +123,6 @@ module _ (known : List Layout) (version : ℕ) (some-bytes : 0 < layoutOf known 
 
 -- ── the reader and the writer ──
 
--- only the newest version is known
-newest : (s : List ℕ) (ls : Lengths) (c : Counts) → read ls s .answer ≡ done c → u16 s 3 ≡ length layouts
-newest s ls c d =
-    let lo = layoutOf layouts (u16 s 3) in
-    let R = read-is maps (length layouts) lo ls s (tablesIn maps lo s) (done-none (countsIn s) c (readFault maps (length layouts) lo ls s (tablesIn maps lo s)) d .0) in
-    omega (arith, R .version, R .known)
-
-pub written-read : (ls : Lengths) (s : List ℕ) → Bytes s → (c : Counts) → read ls s .answer ≡ done c → (n : ℕ) → length s ≤ n
+pub written-read : (ls : Lengths) (s : List ℕ) → Bytes s → (c : Counts) → read ls s .answer ≡ done c → u16 s 3 ≡ length layouts → (n : ℕ) → length s ≤ n
     → write n c (read ls s .tables) ≡ record { answer = done (length s); buffer = padded 0 n s }
-written-read ls s B c d = read-is-written layouts (length layouts) (omega arith) s B (newest s ls c d) ls c d
+written-read ls s B c d v = read-is-written layouts (length layouts) (omega arith) s B v ls c d

@@ -11,12 +11,12 @@ pub const MAP_HEAD: usize = 9;
 pub const MAP_VERTEX_SIZE: usize = 4;
 
 pub const MAP_EDGE_SIZE: usize = 8;
-// "V ≤ 200, E ≤ 300, coordinates from −2,000 to 2,000"
+// "V ≤ 200, E ≤ 300", coordinates from "−16,000 to 16,000" (02, Ask 7)
 pub const MAP_VERTICES: u16 = 200;
 
 pub const MAP_EDGES: u16 = 300;
 
-pub const REACH: u64 = 2000;
+pub const REACH: u64 = 16000;
 
 // The overlay.
 
@@ -33,24 +33,22 @@ pub const ABSENT: u16 = 65535;
 
 // The overlay file.
 
-// the newest version of the file
-pub const VERSION: u16 = 1;
+// the newest version of the file: "The reader takes both versions; the writer writes 2" (02, Ask 7)
+pub const VERSION: u16 = 2;
 // mark, version and the three counts
 pub const OVERLAY_HEAD: usize = 11;
-// "X and Y in five bytes each (two's complement) and D in four (unsigned)"
-pub const COORDINATE_BYTES: usize = 5;
+// "X and Y in five bytes each (two's complement) and D in four (unsigned)"; "overlay files get version 2 with six bytes each" (02, Ask 7)
+pub const FIRST_COORDINATE_BYTES: usize = 5;
+
+pub const COORDINATE_BYTES: usize = 6;
 
 pub const DENOMINATOR_BYTES: usize = 4;
-// the bytes of one vertex, edge and face: "edges as eight 16-bit numbers", of which one for each map is a source; "faces as four (labels, least half-edge, holes)"
+// the bytes of one vertex, edge and face in the newest version: "edges as eight 16-bit numbers", of which one for each map is a source; "faces as four (labels, least half-edge, holes)"
 pub const VERTEX_SIZE: usize = 2 * COORDINATE_BYTES + DENOMINATOR_BYTES;
 
 pub const EDGE_SIZE: usize = 12 + 2 * MAPS;
 
 pub const FACE_SIZE: usize = 4 + 2 * MAPS;
-// where the 16-bit numbers of an edge are, behind lower, upper and for each map the source + 1 or 0: both followers, and both faces
-pub const EDGE_FOLLOWERS: u32 = 2 + MAPS as u32;
-
-pub const EDGE_FACES: u32 = EDGE_FOLLOWERS + 2;
 
 // Cells of a row. The first four are the rows of the lent tables.
 

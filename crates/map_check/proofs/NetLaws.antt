@@ -17,7 +17,8 @@ use Rattle.laws_graph.specs.Corners.{corners-plane}
 use Rattle.laws_graph.specs.Rules.{clear-is}
 use Rattle.graph.specs.Flat.{flatGraph}
 use Rattle.graph.specs.Laws.Decode.{flat-points, flat-edges, flat-halves, flat-carrier, flat-origin}
-use Rattle.map_check.specs.Net.{Upright, clashAt, clashingAt, clashPlaceAt, clashFaultAt, startsAt, lonelyAt}
+use Rattle.graph.specs.Upright.{Upright}
+use Rattle.map_check.specs.Net.{clashAt, clashingAt, clashPlaceAt, clashFaultAt, startsAt, lonelyAt}
 
 module _ (ps : List ℤ) (os : List ℕ) (cs : List ℤ) (n e : ℕ) where
   abbrev g : Graph

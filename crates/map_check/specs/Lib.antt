@@ -1,7 +1,6 @@
 pub mod Parts
 pub mod Net
 pub mod Later
-pub mod Heights
 pub mod Labels
 pub mod Held
 pub mod Answer

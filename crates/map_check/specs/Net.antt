@@ -1,14 +1,8 @@
 -- Rules 8 and 9 on flat tables: what the code tests of one edge or vertex. Assumes nothing.
-use Prim.Native.Nat.{_<_}
 use Rattle.seq.specs.Seq.{Bool, not, _&&_, List, Option, ℕ, eqb, ℤ, least, someBelow}
 use Rattle.paper.specs.Plane.{clash}
 use Rattle.paper.specs.Refusal.{beside, Refusal}
-use Rattle.laws_plane.specs.Cone.{UpV}
 use Rattle.graph.specs.Flat.{carrierAt, originAt}
-
--- each of e edges goes up
-pub record Upright (cs : List ℤ) (e : ℕ) : Type 0 where
-  pub up : (k : ℕ) → k < e → UpV (carrierAt cs k .up)
 
 -- edges k and j are two, and share a point that is not an end of both
 abbrev pub clashAt : List ℤ → ℕ → ℕ → Bool

@@ -1,57 +1,26 @@
 // Rules 8 and 9: edges that share more than ends, and vertices without an edge, each a search for its least place.
 use graph::carrier_at;
-use plane::Seg;
+use plane::boxes_apart;
 use plane::clash_by;
 ghost use mathlib.Core.Path.{_≡_};
 ghost use Prim.Native.Nat.{_≤_, _<_};
 ghost use lib.ListN.{length};
 ghost use Rattle.seq.specs.Seq.{least};
 ghost use Rattle.paper.specs.Plane.{clash};
-ghost use Rattle.plane.specs.Values.{segOf};
-ghost use Rattle.plane.specs.Bounds.{Edge};
 ghost use Rattle.graph.specs.Flat.{carrierAt, Carriers};
-ghost use Rattle.map_check.specs.Net.{Upright, clashingAt, startsAt, lonelyAt};
+ghost use Rattle.graph.specs.Upright.{Upright};
+ghost use Rattle.map_check.specs.Net.{clashingAt, startsAt, lonelyAt};
 ghost use Rattle.map_check.specs.Later.{laterAt};
-ghost use Rattle.map_check.specs.Heights.{lesser, parted};
 
-// Whether a and b are both less than c and d.
-fn lesser(a: i64, b: i64, c: i64, d: i64) -> bool
-    ensures { λ r. ⌜ r ≡ lesser a b c d ⌝ }
-{
-    if a < c {
-        if a < d {
-            if b < c { b < d } else { false }
-        } else {
-            false
-        }
-    } else {
-        false
-    }
-}
-
-// Whether one of s and t lies wholly below the other.
-fn parted(s: Seg, t: Seg) -> bool
-    requires { ⌜ Edge (segOf s) × Edge (segOf t) ⌝ }
-    ensures { λ r. ⌜ r ≡ parted (segOf s) (segOf t) ⌝ }
-{
-    let top = s.y + s.v;
-    let end = t.y + t.v;
-    if lesser(s.y, top, t.y, end) {
-        true
-    } else {
-        lesser(t.y, end, s.y, top)
-    }
-}
-
-// Whether edges k and j share a point that is not an end of both, by how they meet; edges go up. Nothing more is reckoned of two of which one lies wholly below
-// the other.
+// Whether edges k and j share a point that is not an end of both, by how they meet; edges go up. Nothing more is reckoned of two whose
+// boxes are apart.
 fn clashes(carriers: &[i64], e: usize, k: usize, j: usize) -> bool
     requires { ⌜ Carriers (now carriers) e × (k < e) × (j < e) × Upright (now carriers) e ⌝ }
     ensures { λ r. ⌜ r ≡ clash (carrierAt (now (carriers .entry)) k) (carrierAt (now (carriers .entry)) j) ⌝ }
 {
     let s = carrier_at(carriers, k);
     let t = carrier_at(carriers, j);
-    if parted(s, t) {
+    if boxes_apart(s, t) {
         return false;
     }
     clash_by(s, t)

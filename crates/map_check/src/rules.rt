@@ -21,9 +21,10 @@ ghost use Rattle.paper.specs.Refusal.{firstAt, firstOf};
 ghost use Rattle.paper.specs.Map.{disagrees, netFaults};
 ghost use Rattle.laws_graph.specs.Laid.{Laid};
 ghost use Rattle.laws_graph.specs.Plane.{Plane};
+ghost use Rattle.graph.specs.Upright.{Upright};
 ghost use Rattle.graph.specs.Flat.{flatGraph, Carriers, Flat};
 ghost use Rattle.map_file.specs.Verdict.{verdict};
-ghost use Rattle.map_check.specs.Net.{Upright, clashFaultAt};
+ghost use Rattle.map_check.specs.Net.{clashFaultAt};
 ghost use Rattle.map_check.specs.Held.{flatMap};
 
 // 8 "an edge shares with another any point that is not an end of both", and "the other edge's number": it comes after the place, and is searched only where there is one.

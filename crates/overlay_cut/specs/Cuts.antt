@@ -54,10 +54,14 @@ starts-le : {st : List ℕ} {cs : List ℤ} → Starts st cs → (d m : ℕ) →
 starts-le {st} r zero m e = let q : m ≡ maps = omega arith in omega (arith, ap (startOf st) q)
 starts-le {st} r (suc d) m e = omega (arith, starts-le r d (m + 1) (omega arith), r .rises m (omega arith))
 
+-- the edges of a map end before those of all maps do
+pub part-within : {st : List ℕ} {cs : List ℤ} → Starts st cs → (m : ℕ) → m < maps → startOf st m + edgesFrom st m ≤ startOf st maps
+part-within {st} r m h = omega (arith, r .rises m h, starts-le r (maps - (m + 1)) (m + 1) (omega arith))
+
 -- the carriers of a map
 pub part-carried : {st : List ℕ} {cs : List ℤ} → Starts st cs → (m : ℕ) → m < maps → Carriers cs (startOf st m + edgesFrom st m)
 part-carried {st} r m h =
-    let l : startOf st m + edgesFrom st m ≤ startOf st maps = omega (arith, r .rises m h, starts-le r (maps - (m + 1)) (m + 1) (omega arith)) in
+    let l = part-within r m h in
     record { long = omega (arith, r .carried .long); near = λ k q. r .carried .near k (omega arith) }
 
 -- a table of pieces with c of them

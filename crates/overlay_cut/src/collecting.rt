@@ -8,6 +8,7 @@ use limits::VERTEX_ROWS;
 use plane::Meeting;
 use plane::Point;
 use plane::Seg;
+use plane::boxes_apart;
 use plane::meeting;
 use seq::store4_i64;
 ghost use mathlib.Core.Path.{_≡_};
@@ -16,14 +17,17 @@ ghost use Prim.Native.Nat.{_+_, _*_, _≤_, _<_};
 ghost use lib.ListN.{length};
 ghost use Rattle.seq.specs.Seq.{optional};
 ghost use Rattle.paper.specs.Meeting.{meeting, pointOf};
+ghost use Rattle.paper.specs.Limits.{maps};
+ghost use Rattle.laws_plane.specs.Cone.{UpV};
 ghost use Rattle.plane.specs.Bounds.{Near, Edge};
 ghost use Rattle.plane.specs.Values.{ptOf, segOf};
 ghost use Rattle.graph.specs.Flat.{Points, Carriers, pointAt};
+ghost use Rattle.graph.specs.Upright.{Upright};
 ghost use Rattle.overlay_cut.specs.Rooms.{vertexRows};
 ghost use Rattle.overlay_cut.specs.Points.{pointsOf, equal};
 ghost use Rattle.overlay_cut.specs.Collecting.{gathered, standsAmong};
 ghost use Rattle.overlay_cut.specs.Crossed.{PointTable, crossRow, crossMap, crossAll};
-ghost use Rattle.overlay_cut.specs.Cuts.{Starts};
+ghost use Rattle.overlay_cut.specs.Cuts.{startOf, Starts};
 
 // Whether row k holds the three numbers of p.
 fn is_at(points: &[i64], k: usize, p: Point) -> bool
@@ -72,11 +76,14 @@ fn append_new(points: &mut [i64], n: usize, p: Point) -> usize
     n + 1
 }
 
-// Appends the point where s and t touch or cross.
+// Appends the point where s and t touch or cross; edges go up. Nothing is reckoned of two whose boxes are apart.
 fn cross_pair(s: Seg, t: Seg, points: &mut [i64], n: usize) -> usize
-    requires { ⌜ PointTable (now points) n ⌝ ∗ ⌜ Edge (segOf s) × Edge (segOf t) ⌝ }
+    requires { ⌜ PointTable (now points) n ⌝ ∗ ⌜ Edge (segOf s) × Edge (segOf t) ⌝ ∗ ⌜ UpV (segOf s .up) × UpV (segOf t .up) ⌝ }
     ensures { λ r. ⌜ pointsOf (now (points .exit)) r ≡ gathered vertexRows (pointsOf (now (points .entry)) n) (optional (pointOf (meeting (segOf s) (segOf t)))) ⌝ }
 {
+    if boxes_apart(s, t) {
+        return n;
+    }
     match meeting(s, t) {
         Meeting::Apart => n,
         Meeting::Touching(p) => append_new(points, n, p),
@@ -87,7 +94,7 @@ fn cross_pair(s: Seg, t: Seg, points: &mut [i64], n: usize) -> usize
 
 // Appends the points where t meets the first e edges.
 fn cross_row(carriers: &[i64], e: usize, t: Seg, points: &mut [i64], n: usize) -> usize
-    requires { ⌜ PointTable (now points) n ⌝ ∗ ⌜ Carriers (now carriers) e ⌝ ∗ ⌜ Edge (segOf t) ⌝ }
+    requires { ⌜ PointTable (now points) n ⌝ ∗ ⌜ Carriers (now carriers) e ⌝ ∗ ⌜ Edge (segOf t) ⌝ ∗ ⌜ Upright (now carriers) e ⌝ ∗ ⌜ UpV (segOf t .up) ⌝ }
     ensures { λ r. ⌜ pointsOf (now (points .exit)) r ≡ gathered vertexRows (pointsOf (now (points .entry)) n) (crossRow (now (carriers .entry)) e (segOf t)) ⌝ }
 {
     let mut total = n;
@@ -102,7 +109,7 @@ fn cross_row(carriers: &[i64], e: usize, t: Seg, points: &mut [i64], n: usize) -
 
 // Appends the points where the e edges from row `from` on, those of one map, meet the edges before them.
 fn cross_map(carriers: &[i64], from: usize, e: usize, points: &mut [i64], n: usize) -> usize
-    requires { ⌜ PointTable (now points) n ⌝ ∗ ⌜ Carriers (now carriers) (from + e) ⌝ }
+    requires { ⌜ PointTable (now points) n ⌝ ∗ ⌜ Carriers (now carriers) (from + e) ⌝ ∗ ⌜ Upright (now carriers) (from + e) ⌝ }
     ensures { λ r. ⌜ pointsOf (now (points .exit)) r ≡ gathered vertexRows (pointsOf (now (points .entry)) n) (crossMap (now (carriers .entry)) from e) ⌝ }
 {
     let mut total = n;
@@ -132,7 +139,7 @@ fn corners(corners: &[i64], c: usize, points: &mut [i64], n: usize) -> usize
 
 // Appends the points where edges of different maps meet.
 fn crossings(carriers: &[i64], starts: &[usize], points: &mut [i64], n: usize) -> usize
-    requires { ⌜ PointTable (now points) n ⌝ ∗ ⌜ Starts (now starts) (now carriers) ⌝ }
+    requires { ⌜ PointTable (now points) n ⌝ ∗ ⌜ Starts (now starts) (now carriers) ⌝ ∗ ⌜ Upright (now carriers) (startOf (now starts) maps) ⌝ }
     ensures { λ r. ⌜ pointsOf (now (points .exit)) r ≡ gathered vertexRows (pointsOf (now (points .entry)) n) (crossAll (now (carriers .entry)) (now (starts .entry))) ⌝ }
 {
     let mut total = n;
@@ -154,7 +161,7 @@ pub fn collect(
     starts: &[usize],
     out: &mut [i64],
 ) -> usize
-    requires { ⌜ PointTable (now out) 0 ⌝ ∗ ⌜ Points (now «corner_rows») c ⌝ ∗ ⌜ Starts (now starts) (now carriers) ⌝ }
+    requires { ⌜ PointTable (now out) 0 ⌝ ∗ ⌜ Points (now «corner_rows») c ⌝ ∗ ⌜ Starts (now starts) (now carriers) ⌝ ∗ ⌜ Upright (now carriers) (startOf (now starts) maps) ⌝ }
     ensures { λ r. ⌜ pointsOf (now (out .exit)) r ≡ gathered vertexRows [] (pointsOf (now («corner_rows» .entry)) c ++ crossAll (now (carriers .entry)) (now (starts .entry))) ⌝ }
 {
     let n = corners(corner_rows, c, out, 0);

@@ -15,8 +15,8 @@ use Rattle.seq.specs.Position.{position-least}
 use Rattle.paper.specs.Limits.{absent, overlayHead, denominatorBytes}
 use Rattle.paper.specs.Bytes.{signedAt, number}
 use Rattle.paper.specs.Tables.{leastHalf}
+use Rattle.paper.specs.Ovfile.{Layout, vertexSize}
 use Rattle.paper.specs.Reader.{countsIn, edgeField, storedOrigin, storedFollower, vertexRead}
-use Rattle.ovfile.specs.Values.{layout}
 use Rattle.ovfile.specs.Firsts.{FirstPlaces}
 use Rattle.ovfile.proofs.SoundLaws.{first-at}
 use Rattle.ovfile_read.specs.Filled.{storedField, startsIn, followersIn, vertexBy, Predecessors, LeastStarts}
@@ -29,45 +29,45 @@ or-bound : (h n : ℕ) (c : Bool) → ltb h n ≡ c → h ≤ n → cond c h n �
 or-bound h n true e l = refl
 or-bound h n false e l = omega (arith, ltb-false h n e)
 
-module _ (s : List ℕ) where
+module _ (l : Layout) (s : List ℕ) where
   abbrev count : ℕ
   count = 2 * countsIn s .edges
 
   -- ── predecessors ──
 
-  place-position : (h : ℕ) → least (λ k. eqb (storedField s 4 k) h) count ≡ position h (followersIn s)
+  place-position : (h : ℕ) → least (λ k. eqb (storedField l s (2 + l .maps) k) h) count ≡ position h (followersIn l s)
   place-position h =
-      let e : length (followersIn s) ≡ count = length-table (storedFollower layout s) count in
-      least-ext (λ k. eqb (storedField s 4 k) h) (standsAt h (followersIn s)) count
-      (λ k l. eqb-swap (storedField s 4 k) h ∙ ap (eqb h) (sym (table-at (storedFollower layout s) count k 0 l)))
-      ∙ ap (least (standsAt h (followersIn s))) (sym e) ∙ position-least h (followersIn s)
+      let e : length (followersIn l s) ≡ count = length-table (storedFollower l s) count in
+      least-ext (λ k. eqb (storedField l s (2 + l .maps) k) h) (standsAt h (followersIn l s)) count
+      (λ k b. eqb-swap (storedField l s (2 + l .maps) k) h ∙ ap (eqb h) (sym (table-at (storedFollower l s) count k 0 b)))
+      ∙ ap (least (standsAt h (followersIn l s))) (sym e) ∙ position-least h (followersIn l s)
 
-  pub predecessors-by : {n : ℕ} {d t : List ℕ} → FirstPlaces (storedField s 4) n d t → n ≡ count → count ≤ length t → ((h : ℕ) → h < n → getD d h 0 ≡ n) → Predecessors s t
+  pub predecessors-by : {n : ℕ} {d t : List ℕ} → FirstPlaces (storedField l s (2 + l .maps)) n d t → n ≡ count → count ≤ length t → ((h : ℕ) → h < n → getD d h 0 ≡ n) → Predecessors l s t
   predecessors-by {n} {d} {t} r e b none = record {
-    at = λ h l. first-at (storedField s 4) (same-count (storedField s 4) e r) h count (omega arith) (none h (omega arith) ∙ e)
-        ∙ or-bound (least (λ k. eqb (storedField s 4 k) h) count) count (ltb (least (λ k. eqb (storedField s 4 k) h) count) count) refl
-        (least-le (λ k. eqb (storedField s 4 k) h) count)
+    at = λ h m. first-at (storedField l s (2 + l .maps)) (same-count (storedField l s (2 + l .maps)) e r) h count (omega arith) (none h (omega arith) ∙ e)
+        ∙ or-bound (least (λ k. eqb (storedField l s (2 + l .maps) k) h) count) count (ltb (least (λ k. eqb (storedField l s (2 + l .maps) k) h) count) count) refl
+        (least-le (λ k. eqb (storedField l s (2 + l .maps) k) h) count)
         ∙ place-position h;
   }
 
   -- ── least outgoing half-edges ──
 
-  place-start : (v : ℕ) → (let h = least (λ k. eqb (storedField s 0 k) v) count in cond (ltb h count) h absent) ≡ leastHalf (λ h. eqb (getD (startsIn s) h 0) v) (length (startsIn s))
+  place-start : (v : ℕ) → (let h = least (λ k. eqb (storedField l s 0 k) v) count in cond (ltb h count) h absent) ≡ leastHalf (λ h. eqb (getD (startsIn l s) h 0) v) (length (startsIn l s))
   place-start v =
-      let e : length (startsIn s) ≡ count = length-table (storedOrigin layout s) count in
-      let g : least (λ k. eqb (storedField s 0 k) v) count ≡ least (λ h. eqb (getD (startsIn s) h 0) v) count =
-      least-ext (λ k. eqb (storedField s 0 k) v) (λ h. eqb (getD (startsIn s) h 0) v) count
-      (λ k l. ap (λ (x : ℕ). eqb x v) (ap (edgeField layout s (k / 2)) (zero-add (k % 2)) ∙ sym (table-at (storedOrigin layout s) count k 0 l))) in
-      ap (λ (h : ℕ). cond (ltb h count) h absent) g ∙ ap (leastHalf (λ h. eqb (getD (startsIn s) h 0) v)) (sym e)
+      let e : length (startsIn l s) ≡ count = length-table (storedOrigin l s) count in
+      let g : least (λ k. eqb (storedField l s 0 k) v) count ≡ least (λ h. eqb (getD (startsIn l s) h 0) v) count =
+      least-ext (λ k. eqb (storedField l s 0 k) v) (λ h. eqb (getD (startsIn l s) h 0) v) count
+      (λ k b. ap (λ (x : ℕ). eqb x v) (ap (edgeField l s (k / 2)) (zero-add (k % 2)) ∙ sym (table-at (storedOrigin l s) count k 0 b))) in
+      ap (λ (h : ℕ). cond (ltb h count) h absent) g ∙ ap (leastHalf (λ h. eqb (getD (startsIn l s) h 0) v)) (sym e)
 
-  pub starts-by : {n : ℕ} {d t : List ℕ} → FirstPlaces (storedField s 0) n d t → n ≡ count → countsIn s .vertices ≤ length t → ((v : ℕ) → v < countsIn s .vertices → getD d v 0 ≡ absent) → LeastStarts s t
-  starts-by {n} {d} {t} r e b none = record { at = λ v l. first-at (storedField s 0) (same-count (storedField s 0) e r) v absent (omega arith) (none v l) ∙ place-start v }
+  pub starts-by : {n : ℕ} {d t : List ℕ} → FirstPlaces (storedField l s 0) n d t → n ≡ count → countsIn s .vertices ≤ length t → ((v : ℕ) → v < countsIn s .vertices → getD d v 0 ≡ absent) → LeastStarts l s t
+  starts-by {n} {d} {t} r e b none = record { at = λ v m. first-at (storedField l s 0) (same-count (storedField l s 0) e r) v absent (omega arith) (none v m) ∙ place-start v }
 
   -- ── the rows ──
 
-  pub vertices-are : {t : List ℕ} → LeastStarts s t → rows (vertexBy s t) (countsIn s .vertices) ≡ rows (vertexRead layout s (startsIn s)) (countsIn s .vertices)
+  pub vertices-are : {t : List ℕ} → LeastStarts l s t → rows (vertexBy l s t) (countsIn s .vertices) ≡ rows (vertexRead l s (startsIn l s)) (countsIn s .vertices)
   vertices-are {t} r =
-      rows-ext (vertexBy s t) (vertexRead layout s (startsIn s)) (countsIn s .vertices)
-      (λ v l.
-      ap (λ (x : ℕ). signedAt 5 s (overlayHead + 14 * v) ∷ signedAt 5 s (overlayHead + 14 * v + 5) ∷ pos (number denominatorBytes s (overlayHead + 14 * v + 10)) ∷ pos x ∷ [])
-      (r .at v l))
+      rows-ext (vertexBy l s t) (vertexRead l s (startsIn l s)) (countsIn s .vertices)
+      (λ v b. let w = l .coordinate in
+      ap (λ (x : ℕ). signedAt w s (overlayHead + vertexSize l * v) ∷ signedAt w s (overlayHead + vertexSize l * v + w) ∷ pos (number denominatorBytes s (overlayHead + vertexSize l * v + 2 * w)) ∷ pos x ∷ [])
+      (r .at v b))

@@ -15,9 +15,8 @@ use Rattle.paper.specs.Reader.{countsIn, tablesIn, numbers, headFaults, readFau
 use Rattle.laws_refusals.specs.Refusals.{nothing, is-nothing, given-none}
 use Rattle.laws_refusals.specs.Room.{not-over}
 use Rattle.laws_file.specs.Agree.{sound-same, padded-agree}
-use Rattle.ovfile.specs.Values.{edgeTables, layout}
+use Rattle.ovfile.specs.Values.{edgeTables}
 use Rattle.ovfile_read.specs.Filled.{Within, Roomy}
-use Rattle.ovfile_read.proofs.HeadLaws.{known-layout}
 
 -- the layout that the file's version names
 abbrev pub layoutIn : List ℕ → Layout
@@ -31,21 +30,18 @@ abbrev pub bodyIn : Layout → List ℕ → Lengths → List (Option Refusal)
 bodyIn l s ls = firstAt 21 (unsoundIn l s) (countsIn s .edges) ∷ roomFaults (roomIn maps ls) (countsIn s)
 
 -- zeros past the tables make no edge record sound or unsound
-pub least-padded : (s : List ℕ) (c : Counts) (hs ss : List ℕ) (ls : Lengths) → hs ≡ paddedTables ls (tablesIn maps layout s) .halves → ss ≡ paddedTables ls (tablesIn maps layout s) .sources → c ≡ countsIn s
-    → least (λ k. not (soundEdge maps c (edgeTables hs ss) k)) (c .edges) ≡ least (unsoundIn layout s) (countsIn s .edges)
-least-padded s c hs ss ls e g q =
+pub least-padded : (l : Layout) (s : List ℕ) (c : Counts) (hs ss : List ℕ) (ls : Lengths) → hs ≡ paddedTables ls (tablesIn maps l s) .halves → ss ≡ paddedTables ls (tablesIn maps l s) .sources → c ≡ countsIn s
+    → least (λ k. not (soundEdge maps c (edgeTables hs ss) k)) (c .edges) ≡ least (unsoundIn l s) (countsIn s .edges)
+least-padded l s c hs ss ls e g q =
     (λ i. least (λ k. not (soundEdge maps (q i) (edgeTables (e i) (g i)) k)) (q i .edges))
-    ∙ least-ext (λ k. not (soundEdge maps (countsIn s) (paddedTables ls (tablesIn maps layout s)) k)) (unsoundIn layout s) (countsIn s .edges)
-    (λ k l. ap not (sound-same maps (countsIn s) (paddedTables ls (tablesIn maps layout s)) (tablesIn maps layout s) (padded-agree maps (countsIn s) ls (tablesIn maps layout s)) k l))
+    ∙ least-ext (λ k. not (soundEdge maps (countsIn s) (paddedTables ls (tablesIn maps l s)) k)) (unsoundIn l s) (countsIn s .edges)
+    (λ k b. ap not (sound-same maps (countsIn s) (paddedTables ls (tablesIn maps l s)) (tablesIn maps l s) (padded-agree maps (countsIn s) ls (tablesIn maps l s)) k b))
 
 module _ (s : List ℕ) where
   -- ── a file whose form is right ──
 
   abbrev form : List (Option Refusal)
   form = headFaults (length layouts) (layoutIn s) s
-
-  pub right-layout : firstOf form ≡ none → layoutIn s ≡ layout
-  right-layout h = known-layout s (given-none 2 0 _ (nothing form h .1 .0))
 
   pub right-counts : firstOf form ≡ none → Within (countsIn s)
   right-counts h =
@@ -76,8 +72,8 @@ module _ (s : List ℕ) where
 
     -- ── what comes out ──
 
-    pub read-done : fault ≡ none → record { answer = done (countsIn s); tables = paddedTables ls (tablesIn maps layout s) } ≡ read ls s
-    read-done e = sym ((λ i. outcome ls (countsIn s) (tablesIn maps (layoutIn s) s) (e i)) ∙ ap (λ (l : Layout). outcome ls (countsIn s) (tablesIn maps l s) none) (right-layout (form-right e)))
+    pub read-done : (l : Layout) → l ≡ layoutIn s → fault ≡ none → record { answer = done (countsIn s); tables = paddedTables ls (tablesIn maps l s) } ≡ read ls s
+    read-done l q e = (λ i. record { answer = done (countsIn s); tables = paddedTables ls (tablesIn maps (q i) s) }) ∙ (λ i. outcome ls (countsIn s) (tablesIn maps (layoutIn s) s) (sym e i))
 
     pub read-refused : (r : Refusal) → fault ≡ some r → record { answer = refused r; tables = zeroTables ls } ≡ read ls s
     read-refused r e = λ i. outcome ls (countsIn s) (tablesIn maps (layoutIn s) s) (sym e i)

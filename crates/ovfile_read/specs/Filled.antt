@@ -1,4 +1,4 @@
--- What the functions that fill the reader's tables ask and promise of each other: counts within 01's numbers, and the tables of least half-edges and of
+-- What the functions that fill the reader's tables ask and promise of each other, of a file of any layout: counts within 01's numbers, and the tables of least half-edges and of
 -- predecessors that they hand on. Assumes nothing.
 use mathlib.Core.Path.{_≡_}
 use Prim.Native.Nat.{_<_, _≤_}
@@ -7,24 +7,23 @@ use Rattle.paper.specs.Limits.{overlayVertices, overlayEdges, overlayFaces, ove
 use Rattle.paper.specs.Bytes.{number, signedAt}
 use Rattle.paper.specs.Tables.{leastHalf, Counts}
 use Rattle.paper.specs.Lent.{Lengths}
-use Rattle.paper.specs.Ovfile.{vertexSize}
+use Rattle.paper.specs.Ovfile.{Layout, vertexSize}
 use Rattle.paper.specs.Reader.{countsIn, edgeField, storedOrigin, storedFollower}
-use Rattle.ovfile.specs.Values.{layout}
 
 -- field j of the edge of half-edge 2k, and the one after it of 2k + 1
-abbrev pub storedField : List ℕ → ℕ → ℕ → ℕ
-storedField s j h = edgeField layout s (h / 2) (j + h % 2)
+abbrev pub storedField : Layout → List ℕ → ℕ → ℕ → ℕ
+storedField l s j h = edgeField l s (h / 2) (j + h % 2)
 
 -- the origins and the followers of a file
-abbrev pub startsIn : List ℕ → List ℕ
-startsIn s = table (storedOrigin layout s) (2 * countsIn s .edges)
+abbrev pub startsIn : Layout → List ℕ → List ℕ
+startsIn l s = table (storedOrigin l s) (2 * countsIn s .edges)
 
-abbrev pub followersIn : List ℕ → List ℕ
-followersIn s = table (storedFollower layout s) (2 * countsIn s .edges)
+abbrev pub followersIn : Layout → List ℕ → List ℕ
+followersIn l s = table (storedFollower l s) (2 * countsIn s .edges)
 
 -- a vertex's row, with the least outgoing half-edge by a table
-abbrev pub vertexBy : List ℕ → List ℕ → ℕ → List ℤ
-vertexBy s least v = let w = layout .coordinate in let b = overlayHead + vertexSize layout * v in
+abbrev pub vertexBy : Layout → List ℕ → List ℕ → ℕ → List ℤ
+vertexBy l s least v = let w = l .coordinate in let b = overlayHead + vertexSize l * v in
     signedAt w s b ∷ signedAt w s (b + w) ∷ pos (number denominatorBytes s (b + 2 * w)) ∷ pos (getD least v 0) ∷ []
 
 -- no count is over its number
@@ -41,9 +40,9 @@ pub record Roomy (c : Counts) (ls : Lengths) : Type 0 where
   pub faces : 4 * c .faces ≤ ls .faces
 
 -- t has in cell h the predecessor of h
-pub record Predecessors (s t : List ℕ) : Type 0 where
-  pub at : (h : ℕ) → h < 2 * countsIn s .edges → getD t h 0 ≡ position h (followersIn s)
+pub record Predecessors (l : Layout) (s t : List ℕ) : Type 0 where
+  pub at : (h : ℕ) → h < 2 * countsIn s .edges → getD t h 0 ≡ position h (followersIn l s)
 
 -- t has in cell v the least outgoing half-edge of v
-pub record LeastStarts (s t : List ℕ) : Type 0 where
-  pub at : (v : ℕ) → v < countsIn s .vertices → getD t v 0 ≡ leastHalf (λ h. eqb (getD (startsIn s) h 0) v) (length (startsIn s))
+pub record LeastStarts (l : Layout) (s t : List ℕ) : Type 0 where
+  pub at : (v : ℕ) → v < countsIn s .vertices → getD t v 0 ≡ leastHalf (λ h. eqb (getD (startsIn l s) h 0) v) (length (startsIn l s))

@@ -5,19 +5,20 @@ use crate::stored::edge_field;
 use crate::stored::face;
 use crate::stored::face_field;
 use crate::stored::follower;
+use crate::stored::label;
 use crate::stored::origin;
+use crate::stored::source;
 use exact::of_u16;
 use exact::of_u64;
 use limits::ABSENT;
-use limits::COORDINATE_BYTES;
 use limits::DENOMINATOR_BYTES;
-use limits::EDGE_FOLLOWERS;
 use limits::EDGE_WIDTH;
 use limits::FACE_WIDTH;
 use limits::HALVES;
 use limits::SOURCE_WIDTH;
 use limits::VERTEX_WIDTH;
 use limits::VERTICES;
+use ovfile::Layout;
 use ovfile::number_at;
 use ovfile::signed_at;
 use ovfile::store;
@@ -39,43 +40,41 @@ ghost use lib.Seq.{sets};
 ghost use Rattle.seq.specs.Seq.{rows, padded, table};
 ghost use Rattle.paper.specs.Limits.{maps};
 ghost use Rattle.paper.specs.Reader.{countsIn, storedSource, halfRead, faceRead, tablesIn};
-ghost use Rattle.ovfile.specs.Values.{layout};
+ghost use Rattle.ovfile.specs.Values.{layoutFrom};
+ghost use Rattle.ovfile.specs.Known.{Known};
 ghost use Rattle.ovfile.specs.Firsts.{FirstPlaces};
 ghost use Rattle.ovfile_read.specs.Filled.{storedField, followersIn, vertexBy, Within, Predecessors, LeastStarts};
 
-// The field of an edge from which on its followers are.
-const FOLLOWERS: u16 = EDGE_FOLLOWERS as u16;
-
 // In each cell of `out` the first of n half-edges that has its number as field j of its edge, or as the one after it. From the last half-edge down.
-fn first_stored(file: &[u8], j: u16, n: u32, out: &mut [u16])
-    requires { ⌜ n ≤ 65536 ⌝ }
-    ensures { λ _. ⌜ FirstPlaces (storedField (now (file .entry)) j) n (now (out .entry)) (now (out .exit)) ⌝ }
+fn first_stored(layout: Layout, file: &[u8], j: u16, n: u32, out: &mut [u16])
+    requires { ⌜ Known (layoutFrom layout) × (n ≤ 65536) ⌝ }
+    ensures { λ _. ⌜ FirstPlaces (storedField (layoutFrom layout) (now (file .entry)) j) n (now (out .entry)) (now (out .exit)) ⌝ }
 {
     let mut h = n;
     while 0 < h {
         h -= 1;
         store(
             out,
-            edge_field(file, h / 2, j as u32 + h % 2) as usize,
+            edge_field(layout, file, h / 2, j as u32 + h % 2) as usize,
             h as u16,
         );
     }
 }
 
 // The predecessor of each half-edge.
-fn predecessors(file: &[u8]) -> [u16; HALVES]
-    requires { ⌜ Within (countsIn (now file)) ⌝ }
-    ensures { λ r. ⌜ Predecessors (now (file .entry)) r ⌝ }
+fn predecessors(layout: Layout, file: &[u8]) -> [u16; HALVES]
+    requires { ⌜ Known (layoutFrom layout) × Within (countsIn (now file)) ⌝ }
+    ensures { λ r. ⌜ Predecessors (layoutFrom layout) (now (file .entry)) r ⌝ }
 {
     let n = 2 * counts(file).edges as u32;
     let mut first = [n as u16; HALVES];
-    first_stored(file, FOLLOWERS, n, &mut first);
+    first_stored(layout, file, 2 + layout.maps as u16, n, &mut first);
     first
 }
 
-fn lay_halves(file: &[u8], first: &[u16], halves: &mut [u16])
-    requires { ⌜ Within (countsIn (now file)) × Predecessors (now file) (now first) × (5 * (2 * countsIn (now file) .edges) ≤ length (now halves)) ⌝ }
-    ensures { λ _. ⌜ now (halves .exit) ≡ sets (now (halves .entry)) 0 (rows (halfRead layout (now (file .entry)) (followersIn (now (file .entry)))) (2 * countsIn (now (file .entry)) .edges)) ⌝ }
+fn lay_halves(layout: Layout, file: &[u8], first: &[u16], halves: &mut [u16])
+    requires { ⌜ Known (layoutFrom layout) × Within (countsIn (now file)) × Predecessors (layoutFrom layout) (now file) (now first) × (5 * (2 * countsIn (now file) .edges) ≤ length (now halves)) ⌝ }
+    ensures { λ _. ⌜ now (halves .exit) ≡ sets (now (halves .entry)) 0 (rows (halfRead (layoutFrom layout) (now (file .entry)) (followersIn (layoutFrom layout) (now (file .entry)))) (2 * countsIn (now (file .entry)) .edges)) ⌝ }
 {
     let n = 2 * counts(file).edges as u32;
     let mut h: u32 = 0;
@@ -83,48 +82,49 @@ fn lay_halves(file: &[u8], first: &[u16], halves: &mut [u16])
         store5_u16(
             halves,
             h as usize,
-            origin(file, h),
+            origin(layout, file, h),
             twin(h) as u16,
-            follower(file, h),
+            follower(layout, file, h),
             u16_at(first, h as usize),
-            face(file, h),
+            face(layout, file, h),
         );
         h += 1;
     }
 }
 
 // The half-edge table of a file.
-pub fn fill_halves(file: &[u8], halves: &mut [u16])
-    requires { ⌜ Within (countsIn (now file)) × (5 * (2 * countsIn (now file) .edges) ≤ length (now halves)) ⌝ }
-    ensures { λ _. ⌜ now (halves .exit) ≡ padded 0 (length (now (halves .entry))) (tablesIn maps layout (now (file .entry)) .halves) ⌝ }
+pub fn fill_halves(layout: Layout, file: &[u8], halves: &mut [u16])
+    requires { ⌜ Known (layoutFrom layout) × Within (countsIn (now file)) × (5 * (2 * countsIn (now file) .edges) ≤ length (now halves)) ⌝ }
+    ensures { λ _. ⌜ now (halves .exit) ≡ padded 0 (length (now (halves .entry))) (tablesIn maps (layoutFrom layout) (now (file .entry)) .halves) ⌝ }
 {
-    let first = predecessors(file);
-    lay_halves(file, &first, halves);
+    let first = predecessors(layout, file);
+    lay_halves(layout, file, &first, halves);
     let c = counts(file);
     wipe_from_u16(halves, EDGE_WIDTH * c.edges as usize);
 }
 
 // The least outgoing half-edge of each vertex.
-fn least_starts(file: &[u8]) -> [u16; VERTICES]
-    requires { ⌜ Within (countsIn (now file)) ⌝ }
-    ensures { λ r. ⌜ LeastStarts (now (file .entry)) r ⌝ }
+fn least_starts(layout: Layout, file: &[u8]) -> [u16; VERTICES]
+    requires { ⌜ Known (layoutFrom layout) × Within (countsIn (now file)) ⌝ }
+    ensures { λ r. ⌜ LeastStarts (layoutFrom layout) (now (file .entry)) r ⌝ }
 {
     let mut least = [ABSENT; VERTICES];
-    first_stored(file, 0, 2 * counts(file).edges as u32, &mut least);
+    first_stored(layout, file, 0, 2 * counts(file).edges as u32, &mut least);
     least
 }
 
-fn lay_vertices(file: &[u8], least: &[u16], vertices: &mut [i64])
-    requires { ⌜ 4 * countsIn (now file) .vertices ≤ length (now vertices) ⌝ }
-    ensures { λ _. ⌜ now (vertices .exit) ≡ sets (now (vertices .entry)) 0 (rows (vertexBy (now (file .entry)) (now (least .entry))) (countsIn (now (file .entry)) .vertices)) ⌝ }
+fn lay_vertices(layout: Layout, file: &[u8], least: &[u16], vertices: &mut [i64])
+    requires { ⌜ Known (layoutFrom layout) × (4 * countsIn (now file) .vertices ≤ length (now vertices)) ⌝ }
+    ensures { λ _. ⌜ now (vertices .exit) ≡ sets (now (vertices .entry)) 0 (rows (vertexBy (layoutFrom layout) (now (file .entry)) (now (least .entry))) (countsIn (now (file .entry)) .vertices)) ⌝ }
 {
     let n = counts(file).vertices;
     let mut v: u16 = 0;
     while v < n {
-        let p = vertex_place(v);
-        let x = signed_at(file, p, COORDINATE_BYTES);
-        let y = signed_at(file, p + COORDINATE_BYTES, COORDINATE_BYTES);
-        let d = of_u64(number_at(file, p + 2 * COORDINATE_BYTES, DENOMINATOR_BYTES));
+        let w = layout.coordinate;
+        let p = vertex_place(layout, v);
+        let x = signed_at(file, p, w);
+        let y = signed_at(file, p + w, w);
+        let d = of_u64(number_at(file, p + 2 * w, DENOMINATOR_BYTES));
         store4_i64(
             vertices,
             v as usize,
@@ -138,19 +138,19 @@ fn lay_vertices(file: &[u8], least: &[u16], vertices: &mut [i64])
 }
 
 // The vertex table of a file.
-pub fn fill_vertices(file: &[u8], vertices: &mut [i64])
-    requires { ⌜ Within (countsIn (now file)) × (4 * countsIn (now file) .vertices ≤ length (now vertices)) ⌝ }
-    ensures { λ _. ⌜ now (vertices .exit) ≡ padded (pos 0) (length (now (vertices .entry))) (tablesIn maps layout (now (file .entry)) .vertices) ⌝ }
+pub fn fill_vertices(layout: Layout, file: &[u8], vertices: &mut [i64])
+    requires { ⌜ Known (layoutFrom layout) × Within (countsIn (now file)) × (4 * countsIn (now file) .vertices ≤ length (now vertices)) ⌝ }
+    ensures { λ _. ⌜ now (vertices .exit) ≡ padded (pos 0) (length (now (vertices .entry))) (tablesIn maps (layoutFrom layout) (now (file .entry)) .vertices) ⌝ }
 {
-    let least = least_starts(file);
-    lay_vertices(file, &least, vertices);
+    let least = least_starts(layout, file);
+    lay_vertices(layout, file, &least, vertices);
     let c = counts(file);
     wipe_from_i64(vertices, VERTEX_WIDTH * c.vertices as usize);
 }
 
-fn lay_sources(file: &[u8], sources: &mut [u32])
-    requires { ⌜ 2 * countsIn (now file) .edges ≤ length (now sources) ⌝ }
-    ensures { λ _. ⌜ now (sources .exit) ≡ sets (now (sources .entry)) 0 (rows (λ k. table (storedSource layout (now (file .entry)) k) maps) (countsIn (now (file .entry)) .edges)) ⌝ }
+fn lay_sources(layout: Layout, file: &[u8], sources: &mut [u32])
+    requires { ⌜ Known (layoutFrom layout) × (2 * countsIn (now file) .edges ≤ length (now sources)) ⌝ }
+    ensures { λ _. ⌜ now (sources .exit) ≡ sets (now (sources .entry)) 0 (rows (λ k. table (storedSource (layoutFrom layout) (now (file .entry)) k) maps) (countsIn (now (file .entry)) .edges)) ⌝ }
 {
     let n = counts(file).edges as u32;
     let mut k: u32 = 0;
@@ -158,26 +158,26 @@ fn lay_sources(file: &[u8], sources: &mut [u32])
         store2_u32(
             sources,
             k as usize,
-            edge_field(file, k, 2) as u32,
-            edge_field(file, k, 3) as u32,
+            source(layout, file, k, 0) as u32,
+            source(layout, file, k, 1) as u32,
         );
         k += 1;
     }
 }
 
 // The source table of a file.
-pub fn fill_sources(file: &[u8], sources: &mut [u32])
-    requires { ⌜ 2 * countsIn (now file) .edges ≤ length (now sources) ⌝ }
-    ensures { λ _. ⌜ now (sources .exit) ≡ padded 0 (length (now (sources .entry))) (tablesIn maps layout (now (file .entry)) .sources) ⌝ }
+pub fn fill_sources(layout: Layout, file: &[u8], sources: &mut [u32])
+    requires { ⌜ Known (layoutFrom layout) × (2 * countsIn (now file) .edges ≤ length (now sources)) ⌝ }
+    ensures { λ _. ⌜ now (sources .exit) ≡ padded 0 (length (now (sources .entry))) (tablesIn maps (layoutFrom layout) (now (file .entry)) .sources) ⌝ }
 {
-    lay_sources(file, sources);
+    lay_sources(layout, file, sources);
     let c = counts(file);
     wipe_from_u32(sources, SOURCE_WIDTH * c.edges as usize);
 }
 
-fn lay_faces(file: &[u8], faces: &mut [u16])
-    requires { ⌜ 4 * countsIn (now file) .faces ≤ length (now faces) ⌝ }
-    ensures { λ _. ⌜ now (faces .exit) ≡ sets (now (faces .entry)) 0 (rows (faceRead maps layout (now (file .entry))) (countsIn (now (file .entry)) .faces)) ⌝ }
+fn lay_faces(layout: Layout, file: &[u8], faces: &mut [u16])
+    requires { ⌜ Known (layoutFrom layout) × (4 * countsIn (now file) .faces ≤ length (now faces)) ⌝ }
+    ensures { λ _. ⌜ now (faces .exit) ≡ sets (now (faces .entry)) 0 (rows (faceRead maps (layoutFrom layout) (now (file .entry))) (countsIn (now (file .entry)) .faces)) ⌝ }
 {
     let n = counts(file).faces as u32;
     let mut f: u32 = 0;
@@ -185,21 +185,21 @@ fn lay_faces(file: &[u8], faces: &mut [u16])
         store4_u16(
             faces,
             f as usize,
-            face_field(file, f, 0),
-            face_field(file, f, 1),
-            face_field(file, f, 2),
-            face_field(file, f, 3),
+            label(layout, file, f, 0),
+            label(layout, file, f, 1),
+            face_field(layout, file, f, layout.maps as u32),
+            face_field(layout, file, f, 1 + layout.maps as u32),
         );
         f += 1;
     }
 }
 
 // The face table of a file.
-pub fn fill_faces(file: &[u8], faces: &mut [u16])
-    requires { ⌜ 4 * countsIn (now file) .faces ≤ length (now faces) ⌝ }
-    ensures { λ _. ⌜ now (faces .exit) ≡ padded 0 (length (now (faces .entry))) (tablesIn maps layout (now (file .entry)) .faces) ⌝ }
+pub fn fill_faces(layout: Layout, file: &[u8], faces: &mut [u16])
+    requires { ⌜ Known (layoutFrom layout) × (4 * countsIn (now file) .faces ≤ length (now faces)) ⌝ }
+    ensures { λ _. ⌜ now (faces .exit) ≡ padded 0 (length (now (faces .entry))) (tablesIn maps (layoutFrom layout) (now (file .entry)) .faces) ⌝ }
 {
-    lay_faces(file, faces);
+    lay_faces(layout, file, faces);
     let c = counts(file);
     wipe_from_u16(faces, FACE_WIDTH * c.faces as usize);
 }

@@ -1,5 +1,6 @@
 // The form of an overlay file: "1 (under 11 bytes or wrong mark), 2 (version), 3 (a count over its number above), 4 (length)".
 use crate::stored::counts;
+use crate::stored::layout_in;
 use limits::OVERLAY_HEAD;
 use limits::VERSION;
 use map_file::Check;
@@ -17,8 +18,8 @@ ghost use lib.ListN.{length};
 ghost use Rattle.paper.specs.Limits.{overlayHead};
 ghost use Rattle.paper.specs.Bytes.{ascii, marked, u16};
 ghost use Rattle.paper.specs.Refusal.{firstOf};
-ghost use Rattle.paper.specs.Ovfile.{layouts, layoutOf};
-ghost use Rattle.paper.specs.Reader.{headFaults};
+ghost use Rattle.paper.specs.Ovfile.{layouts, fileLength, layoutOf};
+ghost use Rattle.paper.specs.Reader.{countsIn, headFaults};
 ghost use Rattle.map_file.specs.Verdict.{verdict};
 
 // "under 11 bytes or wrong mark"
@@ -37,6 +38,13 @@ fn bad_version(file: &[u8]) -> bool
     (version == 0) | (VERSION < version)
 }
 
+// a length that is not the one of the counts, in the version's layout
+fn bad_length(file: &[u8]) -> bool
+    ensures { λ r. ⌜ r ≡ not (eqb (length (now (file .entry))) (fileLength (layoutOf layouts (u16 (now (file .entry)) 3)) (countsIn (now (file .entry))))) ⌝ }
+{
+    file.len() != file_length(layout_in(file), counts(file))
+}
+
 // The first of rules 1 to 4 that the file breaks.
 pub fn head(file: &[u8]) -> Check
     ensures { λ r. ⌜ verdict r ≡ firstOf (headFaults (length layouts) (layoutOf layouts (u16 (now (file .entry)) 3)) (now (file .entry))) ⌝ }
@@ -45,6 +53,6 @@ pub fn head(file: &[u8]) -> Check
     let version = given(2, 0, bad_version(file));
     let c = counts(file);
     let limits = given(3, 0, over(numbers(), c));
-    let length = given(4, 0, file.len() != file_length(c));
+    let length = given(4, 0, bad_length(file));
     first(mark, first(version, first(limits, length)))
 }

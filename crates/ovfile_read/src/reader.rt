@@ -6,11 +6,13 @@ use crate::fill::fill_sources;
 use crate::fill::fill_vertices;
 use crate::head::head;
 use crate::stored::counts;
+use crate::stored::layout_in;
 use limits::HALF_CELLS;
 use limits::SOURCE_CELLS;
 use map_file::Check;
 use map_file::first;
 use map_file::given;
+use ovfile::Layout;
 use ovfile::first_unsound;
 use tables::Answer;
 use tables::room_in;
@@ -29,36 +31,44 @@ ghost use Rattle.paper.specs.Ovfile.{layouts, soundEdge, layoutOf};
 ghost use Rattle.paper.specs.Reader.{countsIn, tablesIn, readFault, read};
 ghost use Rattle.map_file.specs.Verdict.{verdict};
 ghost use Rattle.tables.specs.Values.{lengthsBy, tablesBy, outcomeOf};
-ghost use Rattle.ovfile.specs.Values.{layout};
+ghost use Rattle.ovfile.specs.Values.{layoutFrom};
+ghost use Rattle.ovfile.specs.Known.{Known};
 ghost use Rattle.ovfile_read.specs.Filled.{Within, Roomy};
 
 // The least edge record that is not sound, or the number of edges, by tables that the file's edges are read into.
-fn unsound_by(file: &[u8], halves: &mut [u16], sources: &mut [u32]) -> u16
-    requires { ⌜ Within (countsIn (now file)) × (10 * countsIn (now file) .edges ≤ length (now halves)) × (2 * countsIn (now file) .edges ≤ length (now sources)) ⌝ }
-    ensures { λ r. ⌜ r ≡ least (λ k. not (soundEdge maps (countsIn (now (file .entry))) (tablesIn maps layout (now (file .entry))) k)) (countsIn (now (file .entry)) .edges) ⌝ }
+fn unsound_by(layout: Layout, file: &[u8], halves: &mut [u16], sources: &mut [u32]) -> u16
+    requires { ⌜ Known (layoutFrom layout) × Within (countsIn (now file)) × (10 * countsIn (now file) .edges ≤ length (now halves)) × (2 * countsIn (now file) .edges ≤ length (now sources)) ⌝ }
+    ensures { λ r. ⌜ r ≡ least (λ k. not (soundEdge maps (countsIn (now (file .entry))) (tablesIn maps (layoutFrom layout) (now (file .entry))) k)) (countsIn (now (file .entry)) .edges) ⌝ }
 {
-    fill_halves(file, halves);
-    fill_sources(file, sources);
+    fill_halves(layout, file, halves);
+    fill_sources(layout, file, sources);
     first_unsound(counts(file), halves, sources)
 }
 
-fn unsound(file: &[u8]) -> u16
-    requires { ⌜ Within (countsIn (now file)) ⌝ }
-    ensures { λ r. ⌜ r ≡ least (λ k. not (soundEdge maps (countsIn (now (file .entry))) (tablesIn maps layout (now (file .entry))) k)) (countsIn (now (file .entry)) .edges) ⌝ }
+fn unsound(layout: Layout, file: &[u8]) -> u16
+    requires { ⌜ Known (layoutFrom layout) × Within (countsIn (now file)) ⌝ }
+    ensures { λ r. ⌜ r ≡ least (λ k. not (soundEdge maps (countsIn (now (file .entry))) (tablesIn maps (layoutFrom layout) (now (file .entry))) k)) (countsIn (now (file .entry)) .edges) ⌝ }
 {
     let mut halves = [0u16; HALF_CELLS];
     let mut sources = [0u32; SOURCE_CELLS];
-    unsound_by(file, &mut halves, &mut sources)
+    unsound_by(layout, file, &mut halves, &mut sources)
 }
 
 // 21 and 11, of a file whose form is right.
-fn body(file: &[u8], vertices: usize, halves: usize, sources: usize, faces: usize) -> Check
-    requires { ⌜ Within (countsIn (now file)) ⌝ }
-    ensures { λ r. ⌜ verdict r ≡ firstOf (firstAt 21 (λ k. not (soundEdge maps (countsIn (now (file .entry))) (tablesIn maps layout (now (file .entry))) k)) (countsIn (now (file .entry)) .edges) ∷ roomFaults (roomIn maps (lengthsBy vertices halves sources faces)) (countsIn (now (file .entry)))) ⌝ }
+fn body(
+    layout: Layout,
+    file: &[u8],
+    vertices: usize,
+    halves: usize,
+    sources: usize,
+    faces: usize,
+) -> Check
+    requires { ⌜ Known (layoutFrom layout) × Within (countsIn (now file)) ⌝ }
+    ensures { λ r. ⌜ verdict r ≡ firstOf (firstAt 21 (λ k. not (soundEdge maps (countsIn (now (file .entry))) (tablesIn maps (layoutFrom layout) (now (file .entry))) k)) (countsIn (now (file .entry)) .edges) ∷ roomFaults (roomIn maps (lengthsBy vertices halves sources faces)) (countsIn (now (file .entry)))) ⌝ }
 {
     let c = counts(file);
     let room = room_in(vertices, halves, sources, faces);
-    let k = unsound(file);
+    let k = unsound(layout, file);
     let unsound = given(21, k, k < c.edges);
     let place1 = given(11, 1, room.vertices < c.vertices);
     let place2 = given(11, 2, room.edges < c.edges);
@@ -73,25 +83,26 @@ fn judge(file: &[u8], vertices: usize, halves: usize, sources: usize, faces: usi
     let c = head(file);
     match c {
         Check::Bad(_) => c,
-        Check::Fine => body(file, vertices, halves, sources, faces),
+        Check::Fine => body(layout_in(file), file, vertices, halves, sources, faces),
     }
 }
 
 // "Done: places past the counts are zero"
 fn fill(
+    layout: Layout,
     file: &[u8],
     vertices: &mut [i64],
     halves: &mut [u16],
     sources: &mut [u32],
     faces: &mut [u16],
 )
-    requires { ⌜ Within (countsIn (now file)) × Roomy (countsIn (now file)) (lengthsBy (length (now vertices)) (length (now halves)) (length (now sources)) (length (now faces))) ⌝ }
-    ensures { λ _. ⌜ tablesBy (now (vertices .exit)) (now (halves .exit)) (now (sources .exit)) (now (faces .exit)) ≡ paddedTables (lengthsBy (length (now (vertices .entry))) (length (now (halves .entry))) (length (now (sources .entry))) (length (now (faces .entry)))) (tablesIn maps layout (now (file .entry))) ⌝ }
+    requires { ⌜ Known (layoutFrom layout) × Within (countsIn (now file)) × Roomy (countsIn (now file)) (lengthsBy (length (now vertices)) (length (now halves)) (length (now sources)) (length (now faces))) ⌝ }
+    ensures { λ _. ⌜ tablesBy (now (vertices .exit)) (now (halves .exit)) (now (sources .exit)) (now (faces .exit)) ≡ paddedTables (lengthsBy (length (now (vertices .entry))) (length (now (halves .entry))) (length (now (sources .entry))) (length (now (faces .entry)))) (tablesIn maps (layoutFrom layout) (now (file .entry))) ⌝ }
 {
-    fill_vertices(file, vertices);
-    fill_halves(file, halves);
-    fill_sources(file, sources);
-    fill_faces(file, faces);
+    fill_vertices(layout, file, vertices);
+    fill_halves(layout, file, halves);
+    fill_sources(layout, file, sources);
+    fill_faces(layout, file, faces);
 }
 
 // Reads an overlay file into the lent tables.
@@ -117,7 +128,7 @@ pub fn read(
             Answer::Refused(r)
         }
         Check::Fine => {
-            fill(file, vertices, halves, sources, faces);
+            fill(layout_in(file), file, vertices, halves, sources, faces);
             Answer::Done(counts(file))
         }
     }

@@ -1,16 +1,27 @@
-// The stored fields of an overlay file. A byte past the end counts as 0.
-use limits::EDGE_FACES;
-use limits::EDGE_FOLLOWERS;
-use limits::EDGE_SIZE;
-use limits::FACE_SIZE;
+// The stored fields of an overlay file of a layout. A byte past the end counts as 0, and so does a source or label that the layout does not store.
 use map_file::u16_at;
+use ovfile::Layout;
+use ovfile::edge_size;
 use ovfile::edges_at;
+use ovfile::face_size;
 use ovfile::faces_at;
+use ovfile::field_at;
+use ovfile::layout_of;
 use tables::Counts;
 ghost use mathlib.Core.Path.{_≡_};
-ghost use Rattle.paper.specs.Reader.{countsIn, edgeField, faceField, storedOrigin, storedFollower, storedFace};
+ghost use Rattle.paper.specs.Bytes.{u16};
+ghost use Rattle.paper.specs.Ovfile.{layouts, layoutOf};
+ghost use Rattle.paper.specs.Reader.{countsIn, edgeField, faceField, storedOrigin, storedFollower, storedFace, storedSource, storedLabel};
 ghost use Rattle.tables.specs.Values.{countsOf};
-ghost use Rattle.ovfile.specs.Values.{layout};
+ghost use Rattle.ovfile.specs.Values.{layoutFrom};
+ghost use Rattle.ovfile.specs.Known.{Known};
+
+// The layout of the version that the file names.
+pub fn layout_in(file: &[u8]) -> Layout
+    ensures { λ r. ⌜ (layoutFrom r ≡ layoutOf layouts (u16 (now (file .entry)) 3)) × Known (layoutFrom r) ⌝ }
+{
+    layout_of(u16_at(file, 3))
+}
 
 pub fn counts(file: &[u8]) -> Counts
     ensures { λ r. ⌜ countsOf r ≡ countsIn (now (file .entry)) ⌝ }
@@ -23,39 +34,62 @@ pub fn counts(file: &[u8]) -> Counts
 }
 
 // The 16-bit number j of edge k.
-pub fn edge_field(file: &[u8], k: u32, j: u32) -> u16
-    ensures { λ r. ⌜ r ≡ edgeField layout (now (file .entry)) k j ⌝ }
+pub fn edge_field(layout: Layout, file: &[u8], k: u32, j: u32) -> u16
+    requires { ⌜ Known (layoutFrom layout) ⌝ }
+    ensures { λ r. ⌜ r ≡ edgeField (layoutFrom layout) (now (file .entry)) k j ⌝ }
 {
-    u16_at(
-        file,
-        edges_at(counts(file)) + EDGE_SIZE * k as usize + 2 * j as usize,
-    )
+    let c = counts(file);
+    u16_at(file, field_at(edges_at(layout, c), edge_size(layout), k, j))
 }
 
 // The 16-bit number j of face f.
-pub fn face_field(file: &[u8], f: u32, j: u32) -> u16
-    ensures { λ r. ⌜ r ≡ faceField layout (now (file .entry)) f j ⌝ }
+pub fn face_field(layout: Layout, file: &[u8], f: u32, j: u32) -> u16
+    requires { ⌜ Known (layoutFrom layout) ⌝ }
+    ensures { λ r. ⌜ r ≡ faceField (layoutFrom layout) (now (file .entry)) f j ⌝ }
 {
-    u16_at(
-        file,
-        faces_at(counts(file)) + FACE_SIZE * f as usize + 2 * j as usize,
-    )
+    let c = counts(file);
+    u16_at(file, field_at(faces_at(layout, c), face_size(layout), f, j))
 }
 
-pub fn origin(file: &[u8], h: u32) -> u16
-    ensures { λ r. ⌜ r ≡ storedOrigin layout (now (file .entry)) h ⌝ }
+pub fn origin(layout: Layout, file: &[u8], h: u32) -> u16
+    requires { ⌜ Known (layoutFrom layout) ⌝ }
+    ensures { λ r. ⌜ r ≡ storedOrigin (layoutFrom layout) (now (file .entry)) h ⌝ }
 {
-    edge_field(file, h / 2, h % 2)
+    edge_field(layout, file, h / 2, h % 2)
 }
 
-pub fn follower(file: &[u8], h: u32) -> u16
-    ensures { λ r. ⌜ r ≡ storedFollower layout (now (file .entry)) h ⌝ }
+pub fn follower(layout: Layout, file: &[u8], h: u32) -> u16
+    requires { ⌜ Known (layoutFrom layout) ⌝ }
+    ensures { λ r. ⌜ r ≡ storedFollower (layoutFrom layout) (now (file .entry)) h ⌝ }
 {
-    edge_field(file, h / 2, EDGE_FOLLOWERS + h % 2)
+    edge_field(layout, file, h / 2, 2 + layout.maps as u32 + h % 2)
 }
 
-pub fn face(file: &[u8], h: u32) -> u16
-    ensures { λ r. ⌜ r ≡ storedFace layout (now (file .entry)) h ⌝ }
+pub fn face(layout: Layout, file: &[u8], h: u32) -> u16
+    requires { ⌜ Known (layoutFrom layout) ⌝ }
+    ensures { λ r. ⌜ r ≡ storedFace (layoutFrom layout) (now (file .entry)) h ⌝ }
 {
-    edge_field(file, h / 2, EDGE_FACES + h % 2)
+    edge_field(layout, file, h / 2, 4 + layout.maps as u32 + h % 2)
+}
+
+// The source of edge k in map i + 1, or 0.
+pub fn source(layout: Layout, file: &[u8], k: u32, i: u32) -> u16
+    requires { ⌜ Known (layoutFrom layout) ⌝ }
+    ensures { λ r. ⌜ r ≡ storedSource (layoutFrom layout) (now (file .entry)) k i ⌝ }
+{
+    if i < layout.maps as u32 {
+        return edge_field(layout, file, k, 2 + i);
+    }
+    0
+}
+
+// The label of face f in map i + 1, or 0.
+pub fn label(layout: Layout, file: &[u8], f: u32, i: u32) -> u16
+    requires { ⌜ Known (layoutFrom layout) ⌝ }
+    ensures { λ r. ⌜ r ≡ storedLabel (layoutFrom layout) (now (file .entry)) f i ⌝ }
+{
+    if i < layout.maps as u32 {
+        return face_field(layout, file, f, i);
+    }
+    0
 }

@@ -13,7 +13,7 @@ use Rattle.seq.specs.Tests.{clash, and-parts}
 use Rattle.exact.specs.Order.{pos≮0}
 use Rattle.exact.specs.Mach.{trn-sfits, eqb-is}
 use Rattle.exact.specs.Tests.{eq-sign}
-use Rattle.paper.specs.Limits.{absent, overlayVertices}
+use Rattle.paper.specs.Limits.{absent, overlayVertices, coordinateBytes, denominatorBytes}
 use Rattle.paper.specs.Plane.{isZer, sgn}
 use Rattle.paper.specs.Bytes.{fitsSigned, fitsUnsigned}
 use Rattle.paper.specs.Tables.{Counts}
@@ -65,13 +65,13 @@ module _ (c : Counts) (vs : List ℤ) (hs : List ℕ) where
   pub by-table : {t : List ℕ} → LeastStarts hs (2 * c .edges) t → c .vertices ≤ overlayVertices → least (badVertexBy vs t) (c .vertices) ≡ least (badVertex layout c (tablesBy vs hs [] [])) (c .vertices)
   by-table {t} r b =
       least-ext (badVertexBy vs t) (badVertex layout c (tablesBy vs hs [] [])) (c .vertices)
-      (λ v l. ap (λ (h : ℕ). not (fitsSigned 5 (vertexAt vs v 0) && (fitsSigned 5 (vertexAt vs v 1) && (fitsUnsigned 4 (vertexAt vs v 2) && isZer (sgn (vertexAt vs v 3 -ℤ pos h))))))
+      (λ v l. ap (λ (h : ℕ). not (fitsSigned coordinateBytes (vertexAt vs v 0) && (fitsSigned coordinateBytes (vertexAt vs v 1) && (fitsUnsigned denominatorBytes (vertexAt vs v 2) && isZer (sgn (vertexAt vs v 3 -ℤ pos h))))))
       (r .at v (omega arith)))
 
   -- a vertex that is not refused fits
   pub good-fits : (v : ℕ) → badVertex layout c (tablesBy vs hs [] []) v ≡ false → VertexFits vs v
   good-fits v e =
-      let x = and-parts (fitsSigned 5 (vertexAt vs v 0)) _ (not-false _ e) in
-      let y = and-parts (fitsSigned 5 (vertexAt vs v 1)) _ (x .1) in
-      let d = and-parts (fitsUnsigned 4 (vertexAt vs v 2)) _ (y .1) in
-      record { x = signed-fits 5 (vertexAt vs v 0) (x .0); y = signed-fits 5 (vertexAt vs v 1) (y .0); d = unsigned-fits 4 (vertexAt vs v 2) (d .0) }
+      let x = and-parts (fitsSigned coordinateBytes (vertexAt vs v 0)) _ (not-false _ e) in
+      let y = and-parts (fitsSigned coordinateBytes (vertexAt vs v 1)) _ (x .1) in
+      let d = and-parts (fitsUnsigned denominatorBytes (vertexAt vs v 2)) _ (y .1) in
+      record { x = signed-fits coordinateBytes (vertexAt vs v 0) (x .0); y = signed-fits coordinateBytes (vertexAt vs v 1) (y .0); d = unsigned-fits denominatorBytes (vertexAt vs v 2) (d .0) }

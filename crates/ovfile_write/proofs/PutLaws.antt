@@ -3,12 +3,12 @@ use mathlib.Core.Path.{_≡_, refl, sym, _∙_, ap}
 use Prim.Native.Nat.{_≤_}
 use native.Mathlib.Nat.{zero-add}
 use lib.ListN.{length-append}
-use Rattle.seq.specs.Seq.{List, _++_, ℕ, _+_, length, ℤ, sets, rows, gather, padded, wiped}
+use Rattle.seq.specs.Seq.{List, _++_, ℕ, _+_, _*_, length, ℤ, sets, rows, gather, padded, wiped}
 use Rattle.seq.specs.Rows.{length-rows}
-use Rattle.paper.specs.Limits.{overlayHead, maps}
+use Rattle.paper.specs.Limits.{overlayHead, coordinateBytes, denominatorBytes, maps}
 use Rattle.paper.specs.Bytes.{ascii, le, leSigned}
 use Rattle.paper.specs.Tables.{vertexCell, Counts, Tables}
-use Rattle.paper.specs.Ovfile.{edgesAt, facesAt, fileLength, vertexBytes, edgeFields, faceFields, overlayFile}
+use Rattle.paper.specs.Ovfile.{layouts, vertexSize, edgeSize, faceSize, edgesAt, facesAt, fileLength, vertexBytes, edgeFields, faceFields, overlayFile}
 use Rattle.laws_file.specs.Bytes.{wrapped, length-leSigned, leSigned-wrapped}
 use Rattle.ovfile.specs.Values.{layout}
 use Rattle.seq.specs.Over.{stored-behind}
@@ -22,10 +22,10 @@ edgeBytes t k = gather (le 2) (edgeFields maps t k)
 abbrev pub faceBytes : Tables → ℕ → List ℕ
 faceBytes t f = gather (le 2) (faceFields maps t f)
 
-pub edge-long : (t : Tables) (k : ℕ) → length (edgeBytes t k) ≡ 16
+pub edge-long : (t : Tables) (k : ℕ) → length (edgeBytes t k) ≡ edgeSize layout
 edge-long t k = refl
 
-pub face-long : (t : Tables) (f : ℕ) → length (faceBytes t f) ≡ 8
+pub face-long : (t : Tables) (f : ℕ) → length (faceBytes t f) ≡ faceSize layout
 face-long t f = refl
 
 -- what is stored behind what was stored from a place on
@@ -40,24 +40,24 @@ signed-bytes w n y z e g = ap (le w) (e ∙ ap (wrapped w) g) ∙ sym (leSigned-
 
 module _ (t : Tables) (v : ℕ) where
   abbrev x : List ℕ
-  x = leSigned 5 (vertexCell t v 0)
+  x = leSigned coordinateBytes (vertexCell t v 0)
 
   abbrev y : List ℕ
-  y = leSigned 5 (vertexCell t v 1)
+  y = leSigned coordinateBytes (vertexCell t v 1)
 
   abbrev d : List ℕ
-  d = leSigned 4 (vertexCell t v 2)
+  d = leSigned denominatorBytes (vertexCell t v 2)
 
-  two-long : length (x ++ y) ≡ 10
-  two-long = length-append x y ∙ (λ i. length-leSigned 5 (vertexCell t v 0) i + length-leSigned 5 (vertexCell t v 1) i)
+  two-long : length (x ++ y) ≡ 2 * coordinateBytes
+  two-long = length-append x y ∙ (λ i. length-leSigned coordinateBytes (vertexCell t v 0) i + length-leSigned coordinateBytes (vertexCell t v 1) i)
 
-  pub vertex-long : length (vertexBytes layout t v) ≡ 14
-  vertex-long = length-append (x ++ y) d ∙ (λ i. two-long i + length-leSigned 4 (vertexCell t v 2) i)
+  pub vertex-long : length (vertexBytes layout t v) ≡ vertexSize layout
+  vertex-long = length-append (x ++ y) d ∙ (λ i. two-long i + length-leSigned denominatorBytes (vertexCell t v 2) i)
 
-  pub vertex-put : (s p q u : List ℕ) (at : ℕ) → p ≡ sets s at x → q ≡ sets p (at + 5) y → u ≡ sets q (at + 10) d → u ≡ sets s at (vertexBytes layout t v)
+  pub vertex-put : (s p q u : List ℕ) (at : ℕ) → p ≡ sets s at x → q ≡ sets p (at + coordinateBytes) y → u ≡ sets q (at + 2 * coordinateBytes) d → u ≡ sets s at (vertexBytes layout t v)
   vertex-put s p q u at e f g =
-      then-behind s at (x ++ y) d q u (at + 10)
-      (then-behind s at x y p q (at + 5) e f (ap (λ (k : ℕ). at + k) (sym (length-leSigned 5 (vertexCell t v 0)))))
+      then-behind s at (x ++ y) d q u (at + 2 * coordinateBytes)
+      (then-behind s at x y p q (at + coordinateBytes) e f (ap (λ (k : ℕ). at + k) (sym (length-leSigned coordinateBytes (vertexCell t v 0)))))
       g (ap (λ (k : ℕ). at + k) (sym two-long))
 
 -- ── the file ──
@@ -76,21 +76,21 @@ module _ (c : Counts) (t : Tables) where
   faces = rows (faceBytes t) (c .faces)
 
   vertices-long : length (head ++ vertices) ≡ edgesAt layout c
-  vertices-long = rw (length-append head vertices, length-rows 14 (vertexBytes layout t) (c .vertices) (λ v l. vertex-long t v))
+  vertices-long = rw (length-append head vertices, length-rows (vertexSize layout) (vertexBytes layout t) (c .vertices) (λ v l. vertex-long t v))
 
   edges-long : length ((head ++ vertices) ++ edges) ≡ facesAt layout c
-  edges-long = rw (length-append (head ++ vertices) edges, vertices-long, length-rows 16 (edgeBytes t) (c .edges) (λ k l. refl))
+  edges-long = rw (length-append (head ++ vertices) edges, vertices-long, length-rows (edgeSize layout) (edgeBytes t) (c .edges) (λ k l. refl))
 
   faces-long : length (((head ++ vertices) ++ edges) ++ faces) ≡ fileLength layout c
-  faces-long = rw (length-append ((head ++ vertices) ++ edges) faces, edges-long, length-rows 8 (faceBytes t) (c .faces) (λ f l. refl))
+  faces-long = rw (length-append ((head ++ vertices) ++ edges) faces, edges-long, length-rows (faceSize layout) (faceBytes t) (c .faces) (λ f l. refl))
 
-  whole : ((head ++ vertices) ++ edges) ++ faces ≡ overlayFile 1 layout c t
+  whole : ((head ++ vertices) ++ edges) ++ faces ≡ overlayFile (length layouts) layout c t
   unfolding overlayFile
   whole = refl
 
   -- part after part from the start of d on, and zeros past the last
   pub file-put : (d a b e f u : List ℕ) (k : ℕ) → a ≡ sets d 0 head → b ≡ sets a overlayHead vertices → e ≡ sets b (edgesAt layout c) edges → f ≡ sets e (facesAt layout c) faces
-      → u ≡ wiped 0 k f → k ≡ fileLength layout c → fileLength layout c ≤ length d → u ≡ padded 0 (length d) (overlayFile 1 layout c t)
+      → u ≡ wiped 0 k f → k ≡ fileLength layout c → fileLength layout c ≤ length d → u ≡ padded 0 (length d) (overlayFile (length layouts) layout c t)
   file-put d a b e f u k p q r s w z l =
       let v = then-behind d 0 head vertices a b overlayHead p q refl in
       let g = then-behind d 0 (head ++ vertices) edges b e (edgesAt layout c) v r (sym vertices-long ∙ sym (zero-add (length (head ++ vertices)))) in

@@ -4,12 +4,12 @@ use mathlib.Core.Path.{_≡_, sym}
 use Prim.Native.Nat.{_≤_}
 use native.Mathlib.Omega.{arith}
 use borrow.Author.Tests.{ltb-false}
-use Rattle.seq.specs.Seq.{List, [], _∷_, ℕ, Option, none, some, ltb, ℤ, padded}
+use Rattle.seq.specs.Seq.{List, [], _∷_, ℕ, Option, none, some, ltb, length, ℤ, padded}
 use Rattle.paper.specs.Limits.{maps, overlayVertices, overlayEdges}
 use Rattle.paper.specs.Refusal.{Refusal, given, firstAt, answer, unlessRefused, done, refused}
 use Rattle.paper.specs.Tables.{Counts, Tables}
 use Rattle.paper.specs.Lent.{Lengths, roomIn, lengthsOf}
-use Rattle.paper.specs.Ovfile.{over, fileLength, overlayFile}
+use Rattle.paper.specs.Ovfile.{layouts, over, fileLength, overlayFile}
 use Rattle.paper.specs.Writer.{badVertex, badEdge, writeFault, write}
 use Rattle.laws_refusals.specs.Refusals.{nothing, given-none, least-none-is}
 use Rattle.laws_refusals.specs.Room.{not-over}
@@ -51,14 +51,14 @@ module _ (n : ℕ) (c : Counts) (vs : List ℤ) (hs ss fs : List ℕ) where
 
   -- ── what comes out ──
 
-  pub write-done : fault ≡ none → record { answer = done (fileLength layout c); buffer = padded 0 n (overlayFile 1 layout c tables) } ≡ write n c tables
+  pub write-done : fault ≡ none → record { answer = done (fileLength layout c); buffer = padded 0 n (overlayFile (length layouts) layout c tables) } ≡ write n c tables
   write-done e i = record {
     answer = answer (fileLength layout c) (sym e i);
-    buffer = unlessRefused (padded 0 n (overlayFile 1 layout c tables)) (padded 0 n []) (sym e i);
+    buffer = unlessRefused (padded 0 n (overlayFile (length layouts) layout c tables)) (padded 0 n []) (sym e i);
   }
 
   pub write-refused : (r : Refusal) → fault ≡ some r → record { answer = refused r; buffer = padded 0 n [] } ≡ write n c tables
   write-refused r e i = record {
     answer = answer (fileLength layout c) (sym e i);
-    buffer = unlessRefused (padded 0 n (overlayFile 1 layout c tables)) (padded 0 n []) (sym e i);
+    buffer = unlessRefused (padded 0 n (overlayFile (length layouts) layout c tables)) (padded 0 n []) (sym e i);
   }

@@ -2,11 +2,12 @@
 -- fields of the head. The promise on a table is a record, so that a large table of one value is compared by its name and not cell by cell. Assumes nothing.
 use mathlib.Core.Path.{_≡_}
 use Prim.Native.Nat.{_<_, _≤_}
-use Rattle.seq.specs.Seq.{Bool, not, _&&_, List, [], _∷_, ℕ, _^_, eqb, getD, ℤ, pos, natAbs, _-ℤ_, cell}
+use Rattle.seq.specs.Seq.{Bool, not, _&&_, List, [], _∷_, ℕ, _^_, eqb, length, getD, ℤ, pos, natAbs, _-ℤ_, cell}
 use Rattle.paper.specs.Limits.{overlayVertices, coordinateBytes, denominatorBytes}
 use Rattle.paper.specs.Plane.{isZer, sgn}
 use Rattle.paper.specs.Bytes.{fitsSigned, fitsUnsigned}
 use Rattle.paper.specs.Tables.{vertexWidth, leastHalf, Counts}
+use Rattle.paper.specs.Ovfile.{layouts}
 use Rattle.ovfile.specs.Firsts.{column}
 
 -- the cell j of a vertex's row
@@ -33,6 +34,6 @@ pub record VertexFits (vs : List ℤ) (v : ℕ) : Type 0 where
 pub record VerticesFit (vs : List ℤ) (n : ℕ) : Type 0 where
   pub at : (v : ℕ) → v < n → VertexFits vs v
 
--- "16-bit version 1, three counts"
+-- "16-bit version .., three counts": the newest version
 abbrev pub headFields : Counts → List ℕ
-headFields c = 1 ∷ c .vertices ∷ c .edges ∷ c .faces ∷ []
+headFields c = length layouts ∷ c .vertices ∷ c .edges ∷ c .faces ∷ []

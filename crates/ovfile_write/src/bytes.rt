@@ -1,19 +1,19 @@
-// The bytes of the file, each part stored in the buffer at its place: "mark `ZOV`, 16-bit version 1, three counts; vertices ..; edges ..; faces ..".
+// The bytes of the file, each part stored in the buffer at its place: "mark `ZOV`, 16-bit version .., three counts; vertices ..; edges ..; faces ..".
+use crate::places::edges_at;
+use crate::places::faces_at;
+use crate::places::vertex_place;
 use limits::COORDINATE_BYTES;
 use limits::DENOMINATOR_BYTES;
 use limits::EDGE_SIZE;
 use limits::FACE_SIZE;
 use limits::VERSION;
-use ovfile::edges_at;
 use ovfile::face_cell;
-use ovfile::faces_at;
 use ovfile::half_cell;
 use ovfile::put;
 use ovfile::put_fields;
 use ovfile::source_cell;
 use ovfile::twos;
 use ovfile::vertex_cell;
-use ovfile::vertex_place;
 use tables::Counts;
 ghost use mathlib.Core.Path.{_≡_};
 ghost use mathlib.Core.List.{[], _++_};
@@ -38,7 +38,7 @@ fn put_mark(buffer: &mut [u8])
     buffer[2] = b'V';
 }
 
-// "mark `ZOV`, 16-bit version 1, three counts"
+// "mark `ZOV`, 16-bit version .., three counts": the newest
 pub fn put_head(c: Counts, buffer: &mut [u8])
     requires { ⌜ overlayHead ≤ length (now buffer) ⌝ }
     ensures { λ _. ⌜ now (buffer .exit) ≡ sets (now (buffer .entry)) 0 (ascii "ZOV" ++ gather (le 2) (headFields (countsOf c))) ⌝ }
@@ -52,7 +52,7 @@ pub fn put_head(c: Counts, buffer: &mut [u8])
     put_fields(buffer, 3, &fields);
 }
 
-// "X and Y in five bytes each (two's complement) and D in four (unsigned)"
+// X and Y in "six bytes each" (02, Ask 7), two's complement, "and D in four (unsigned)"
 fn put_vertex(vertices: &[i64], v: u16, buffer: &mut [u8], at: usize)
     requires { ⌜ VertexFits (now vertices) v × (at + vertexSize layout ≤ length (now buffer)) ⌝ }
     ensures { λ _. ⌜ now (buffer .exit) ≡ sets (now (buffer .entry)) at (vertexBytes layout (tablesBy (now (vertices .entry)) [] [] []) v) ⌝ }

@@ -2,6 +2,7 @@
 mod answer; // the answer
 mod vertices; // refusal 5
 mod edges; // refusal 21
+mod places; // where vertices, edges and faces stand in the file
 mod bytes; // the bytes of the file
 mod writer; // the writer
 

@@ -6,11 +6,11 @@ use crate::bytes::put_faces;
 use crate::bytes::put_head;
 use crate::bytes::put_vertices;
 use crate::edges::first_bad_edge;
+use crate::places::file_length;
 use crate::vertices::first_bad_vertex;
 use map_file::Check;
 use map_file::first;
 use map_file::given;
-use ovfile::file_length;
 use ovfile::over;
 use seq::wipe_from_u8;
 use seq::wipe_u8;
@@ -24,7 +24,7 @@ ghost use lib.ListN.{length};
 ghost use Rattle.seq.specs.Seq.{padded};
 ghost use Rattle.paper.specs.Limits.{maps, overlayVertices, overlayEdges};
 ghost use Rattle.paper.specs.Refusal.{given, firstAt, firstOf};
-ghost use Rattle.paper.specs.Ovfile.{fileLength, overlayFile};
+ghost use Rattle.paper.specs.Ovfile.{layouts, fileLength, overlayFile};
 ghost use Rattle.paper.specs.Writer.{badVertex, badEdge, writeFault, write};
 ghost use Rattle.map_file.specs.Verdict.{verdict};
 ghost use Rattle.tables.specs.Values.{countsOf, lengthsBy, tablesBy};
@@ -74,7 +74,7 @@ fn put_file(
     buffer: &mut [u8],
 )
     requires { ⌜ VerticesFit (now vertices) (c .vertices) × (fileLength layout (countsOf c) ≤ length (now buffer)) ⌝ }
-    ensures { λ _. ⌜ now (buffer .exit) ≡ padded 0 (length (now (buffer .entry))) (overlayFile 1 layout (countsOf c) (tablesBy (now (vertices .entry)) (now (halves .entry)) (now (sources .entry)) (now (faces .entry)))) ⌝ }
+    ensures { λ _. ⌜ now (buffer .exit) ≡ padded 0 (length (now (buffer .entry))) (overlayFile (length layouts) layout (countsOf c) (tablesBy (now (vertices .entry)) (now (halves .entry)) (now (sources .entry)) (now (faces .entry)))) ⌝ }
 {
     put_head(c, buffer);
     put_vertices(c.vertices, vertices, buffer);

@@ -1,7 +1,7 @@
 -- The numbers of 01 and of the requests, each once: limits and byte widths. Everything else is defined from them. Assumes nothing.
 use Prim.Native.Nat.{ℕ, _*_}
 
--- "V ≤ 200, E ≤ 300, coordinates from −2,000 to 2,000"
+-- "V ≤ 200, E ≤ 300"; "Raise the coordinate range to −16,000 to 16,000" (02, Ask 7)
 abbrev pub mapVertices : ℕ
 mapVertices = 200
 
@@ -9,9 +9,9 @@ abbrev pub mapEdges : ℕ
 mapEdges = 300
 
 abbrev pub reach : ℕ
-reach = 2000
+reach = 16000
 
--- "D is at most 32,000,000": the cross product of two directions, each number of which is at most twice the reach
+-- "D may then reach 2,048,000,000": the cross product of two directions, each number of which is at most twice the reach
 abbrev pub denominators : ℕ
 denominators = 2 * (2 * reach * (2 * reach))
 
@@ -32,9 +32,12 @@ mapHead = 9
 abbrev pub overlayHead : ℕ
 overlayHead = 11
 
--- "X and Y in five bytes each (two's complement) and D in four (unsigned)"
+-- "X and Y in five bytes each (two's complement) and D in four (unsigned)"; "overlay files get version 2 with six bytes each" (02, Ask 7)
+abbrev pub firstCoordinateBytes : ℕ
+firstCoordinateBytes = 5
+
 abbrev pub coordinateBytes : ℕ
-coordinateBytes = 5
+coordinateBytes = 6
 
 abbrev pub denominatorBytes : ℕ
 denominatorBytes = 4

@@ -48,7 +48,7 @@ within : meeting (between (at 0 0) (at 6 3)) (between (at 2 1) (at 4 2)) ≡ sha
 within = refl
 
 -- both edges are judged for 5 before 7
-five-first : meet (pos 0) (pos 0) (pos 0) (pos 0) (pos 2001) (pos 0) (pos 1) (pos 1) ≡ refused (record { number = 5; map = 0; place = 1; other = 0 })
+five-first : meet (pos 0) (pos 0) (pos 0) (pos 0) (pos 16001) (pos 0) (pos 1) (pos 1) ≡ refused (record { number = 5; map = 0; place = 1; other = 0 })
 five-first = refl
 
 seven : meet (pos 0) (pos 0) (pos 1) (pos 1) (pos 2) (pos 2) (pos 2) (pos 2) ≡ refused (record { number = 7; map = 0; place = 1; other = 0 })

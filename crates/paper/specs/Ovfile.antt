@@ -1,6 +1,6 @@
 -- The overlay file (01, "Overlay file"): its versions' layouts, which edge records are sound, and its writer, which "takes any counts and tables". Assumes nothing.
 use Rattle.seq.specs.Seq.{Bool, _&&_, List, [], _∷_, _++_, ℕ, _+_, _*_, ltb, getD, table, not, _||_, eqb, someBelow, rows, gather, _-_}
-use Rattle.paper.specs.Limits.{overlayHead, coordinateBytes, denominatorBytes, maps}
+use Rattle.paper.specs.Limits.{overlayHead, firstCoordinateBytes, coordinateBytes, denominatorBytes, maps}
 use Rattle.paper.specs.Graph.{twin}
 use Rattle.paper.specs.Bytes.{ascii, le, leSigned}
 use Rattle.paper.specs.Tables.{faceWidth, vertexCell, originOf, followerOf, faceOf, sourceCell, faceCell, leastHalf, Counts, Tables}
@@ -10,9 +10,9 @@ pub record Layout : Type 0 where
   pub coordinate : ℕ
   pub maps : ℕ
 
--- the layouts of version 1, 2, ..; the last is what the writer writes
+-- the layouts of version 1, 2, ..; "The reader takes both versions; the writer writes 2" (02, Ask 7), the last
 abbrev pub layouts : List Layout
-layouts = record { coordinate = coordinateBytes; maps = maps } ∷ []
+layouts = record { coordinate = firstCoordinateBytes; maps = 2 } ∷ record { coordinate = coordinateBytes; maps = maps } ∷ []
 
 -- the bytes of one vertex, edge and face
 abbrev pub vertexSize : Layout → ℕ
@@ -24,7 +24,7 @@ edgeSize l = 12 + 2 * l .maps
 abbrev pub faceSize : Layout → ℕ
 faceSize l = 4 + 2 * l .maps
 
--- "Length is 11 + 14 per vertex + 16 per edge + 8 per face": where edges and faces start, and the whole
+-- "Length is 11 + 14 per vertex + 16 per edge + 8 per face" in version 1, "11 + 16 per vertex + 16 per edge + 8 per face" in version 2: where edges and faces start, and the whole
 abbrev pub edgesAt : Layout → Counts → ℕ
 edgesAt l c = overlayHead + vertexSize l * c .vertices
 
@@ -60,7 +60,7 @@ leastStart c t v = leastHalf (λ h. eqb (originOf t h) v) (2 * c .edges)
 
 -- ── the bytes ──
 
--- "X and Y in five bytes each (two's complement) and D in four (unsigned)"
+-- "X and Y in five bytes each (two's complement) and D in four (unsigned)"; in version 2 in six each
 abbrev pub vertexBytes : Layout → Tables → ℕ → List ℕ
 vertexBytes l t v =
     leSigned (l .coordinate) (vertexCell t v 0) ++ leSigned (l .coordinate) (vertexCell t v 1)
@@ -76,7 +76,7 @@ edgeFields n t k = let a = 2 * k in let b = 2 * k + 1 in
 abbrev pub faceFields : ℕ → Tables → ℕ → List ℕ
 faceFields n t f = table (faceCell n t f) (faceWidth n)
 
--- "mark `ZOV`, 16-bit version 1, three counts"
+-- "mark `ZOV`, 16-bit version .., three counts"
 unfoldable pub overlayFile : ℕ → Layout → Counts → Tables → List ℕ
 overlayFile version l c t =
     ascii "ZOV" ++ gather (le 2) (version ∷ c .vertices ∷ c .edges ∷ c .faces ∷ [])

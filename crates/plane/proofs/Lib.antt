@@ -3,3 +3,4 @@ pub mod Signs
 pub mod Edges
 pub mod Box
 pub mod Crosses
+pub mod Fractions

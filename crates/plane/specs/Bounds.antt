@@ -1,13 +1,13 @@
 -- How large the numbers of corners, directions, points and edges are: document 01's limits, by their names. First the numbers, then a record for each kind of
 -- value. Assumes nothing.
 use Prim.Native.Nat.{ℕ, _*_, _≤_}
-use lib.IntN.{ℤ, pos, natAbs}
-use lib.Signed.{_<ℤ_}
+use lib.IntN.{ℤ, pos, negsuc, natAbs}
+use lib.Signed.{ltZ, _<ℤ_}
 use Rattle.paper.specs.Limits.{reach, denominators}
 use Rattle.paper.specs.Plane.{Vec, Pt, Seg, head}
-use Rattle.seq.specs.Seq.{Option, none, some}
+use Rattle.seq.specs.Seq.{Bool, _&&_, _||_, Option, none, some}
 
--- "X and Y lie within 2,000·D either way"
+-- X and Y lie within the reach times D either way
 abbrev pub numerators : ℕ
 numerators = reach * denominators
 
@@ -19,7 +19,7 @@ span = 2 * reach
 abbrev pub lefts : ℕ
 lefts = 2 * (span * (2 * numerators))
 
--- "coordinates from −2,000 to 2,000"
+-- coordinates from "−16,000 to 16,000"
 pub record Corner (a : Vec) : Type 0 where
   pub x-is : natAbs (a .x) ≤ reach
   pub y-is : natAbs (a .y) ≤ reach
@@ -35,6 +35,24 @@ pub record Near (p : Pt) : Type 0 where
   pub X-is : natAbs (p .X) ≤ numerators
   pub Y-is : natAbs (p .Y) ≤ numerators
   pub D-is : natAbs (p .D) ≤ denominators
+
+-- one of its coordinates: a number over the denominator
+pub record Coordinate (n d : ℤ) : Type 0 where
+  pub positive : pos 0 <ℤ d
+  pub n-is : natAbs n ≤ numerators
+  pub d-is : natAbs d ≤ denominators
+
+-- so small, as those of every corner are, that a coordinate's products with any other fit 64 bits: D < 2^18, and the number within 2^32 either way
+abbrev pub small : ℤ → ℤ → Bool
+small n d = ltZ d (pos 262144) && (ltZ (negsuc 4294967295) n && ltZ n (pos 4294967296))
+
+-- so small, as those of every sheet within 2,000 are, that its products with another such fit: D < 2^26, and the number within 2^36 either way
+abbrev pub middling : ℤ → ℤ → Bool
+middling n d = ltZ d (pos 67108864) && (ltZ (negsuc 68719476735) n && ltZ n (pos 68719476736))
+
+-- the cross products of n/d and m/e fit
+abbrev pub shortWay : ℤ → ℤ → ℤ → ℤ → Bool
+shortWay n d m e = small m e || (middling n d && middling m e)
 
 -- an edge between corners
 pub record Edge (s : Seg) : Type 0 where

@@ -8,11 +8,13 @@ mod angle; // angle.rt: the order of directions
 mod on_edge; // on_edge.rt: whether a point lies on an edge
 mod crossings; // crossings.rt: where two edges that are not parallel meet
 mod kinds; // kinds.rt: the four ways in which two edges meet
+mod boxes; // boxes.rt: edges that lie apart by height or by width
 mod meetings; // meetings.rt: how two edges meet, and which may not stand in one map
 
 pub use angle::cross_of;
 pub use angle::less_angle;
 pub use angle::rises;
+pub use boxes::boxes_apart;
 pub use edge::between;
 pub use kinds::Meeting;
 pub use meetings::clash_by;

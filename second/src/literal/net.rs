@@ -172,7 +172,8 @@ impl Net {
 }
 
 /// "Angles of outgoing half-edges run from 0 (east) counter-clockwise to just under 360 degrees":
-/// the quarter first, then the slope within it.
+/// the quarter first, then the slope within it. In a turned frame a direction is at most
+/// 2,048,000,000, so that the products have 62 bits.
 fn by_angle(a: (i64, i64), b: (i64, i64)) -> Ordering {
     let quarter = |(x, y): (i64, i64)| match (x.signum(), y.signum()) {
         (1, 0 | 1) => (0, x, y),
@@ -184,7 +185,8 @@ fn by_angle(a: (i64, i64), b: (i64, i64)) -> Ordering {
     p.cmp(&q).then((rise_a * run_b).cmp(&(rise_b * run_a)))
 }
 
-/// Compares two fractions with bottoms above 0.
+/// Compares two fractions with bottoms above 0. At a height they have tops of 62 bits and bottoms
+/// of 46, with coordinates up to 16,000.
 fn compare(a: (i128, i128), b: (i128, i128)) -> Ordering {
     (a.0 * b.1).cmp(&(b.0 * a.1))
 }

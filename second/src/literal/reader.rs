@@ -10,17 +10,19 @@ pub fn fault(file: &[u8], room: [usize; 3]) -> Option<Refusal> {
     if file.len() < 11 || file[0] != b'Z' || file[1] != b'O' || file[2] != b'V' {
         return refuse(1, 0);
     }
-    if number(3) != 1 {
-        return refuse(2, 0);
-    }
+    let vertex = match number(3) {
+        1 => 14,
+        2 => 16,
+        _ => return refuse(2, 0),
+    };
     let (v, e, f) = (number(5), number(7), number(9));
     if v > VERTICES || e > EDGES || f > FACES {
         return refuse(3, 0);
     }
-    if file.len() != 11 + 14 * v + 16 * e + 8 * f {
+    if file.len() != 11 + vertex * v + 16 * e + 8 * f {
         return refuse(4, 0);
     }
-    let field = |k: usize, i: usize| number(11 + 14 * v + 16 * k + 2 * i);
+    let field = |k: usize, i: usize| number(11 + vertex * v + 16 * k + 2 * i);
     if let Some(k) = (0..e).find(|&k| !sound(&field, k, v, e, f)) {
         return refuse(21, k);
     }

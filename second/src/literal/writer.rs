@@ -19,18 +19,18 @@ pub fn fault(tables: &Tables, counts: Counts, length: usize) -> Option<Refusal> 
     if let Some(k) = (0..e).find(|&k| !edge_good(t, v, e, f, k)) {
         return Some(Refusal::new(21, k));
     }
-    (length < 11 + 14 * v + 16 * e + 8 * f).then_some(Refusal::new(11, 4))
+    (length < 11 + 16 * v + 16 * e + 8 * f).then_some(Refusal::new(11, 4))
 }
 
-/// X and Y fit five bytes in two's complement, D fits four without a sign, and the outgoing entry
+/// X and Y fit six bytes in two's complement, D fits four without a sign, and the outgoing entry
 /// is "the least half-edge with that origin (65,535 if none)".
 fn vertex_good(t: &Tables, e: usize, v: usize) -> bool {
     let row = t.vertices[v];
-    let five = |c: i64| (-549_755_813_888..=549_755_813_887).contains(&c);
+    let six = |c: i64| (-140_737_488_355_328..=140_737_488_355_327).contains(&c);
     let outgoing: Vec<usize> =
         (0..2 * e).filter(|&h| t.half_edges[h].origin as usize == v).collect();
     let least = outgoing.iter().min().copied().unwrap_or(65_535);
-    five(row.x) && five(row.y) && (0..=4_294_967_295).contains(&row.d) && row.out as usize == least
+    six(row.x) && six(row.y) && (0..=4_294_967_295).contains(&row.d) && row.out as usize == least
 }
 
 /// The record is sound, no source is 65,535, twins and predecessors are as they should be.

@@ -4,6 +4,7 @@ use super::drawing::{Drawing, Place};
 use super::plain::place;
 use super::wild::{places, scribble};
 use super::Kind;
+use crate::limits::REACH;
 use crate::map::Map;
 use crate::random::Random;
 
@@ -118,7 +119,7 @@ fn draw(random: &mut Random, places: &[Place], reach: i64) -> Drawing {
 
 /// Small and large reaches, small ones more often.
 fn some_reach(random: &mut Random) -> i64 {
-    random.pick(&[1, 2, 2, 3, 3, 4, 7, 40, 500, 2_000, 2_000])
+    random.pick(&[1, 2, 2, 3, 3, 4, 7, 40, 500, 2_000, REACH])
 }
 
 pub fn few(random: &mut Random) -> Map {
@@ -128,8 +129,27 @@ pub fn few(random: &mut Random) -> Map {
     draw(random, &places, reach).any_map(random)
 }
 
-/// Two maps that mostly have places in common; now and then one is empty.
+/// Edges near one diagonal of the whole range over edges near the other: denominators up to the
+/// greatest.
+pub fn diagonals(random: &mut Random) -> [Map; 2] {
+    let rising = random.pick(&[1, -1]);
+    [rising, -rising].map(|slant| {
+        let mut drawing = Drawing::new();
+        while drawing.edges() < LEAST {
+            let (a, b) = (place(random, 99), place(random, 99));
+            let low = (a.0.abs() - REACH, slant * (a.1.abs() - REACH));
+            let high = (REACH - b.0.abs(), slant * (REACH - b.1.abs()));
+            drawing.join(low, high);
+        }
+        drawing.any_map(random)
+    })
+}
+
+/// Two maps that mostly have places in common; now and then one is empty, or both are diagonals.
 pub fn two_few(random: &mut Random) -> [Map; 2] {
+    if random.once_in(20) {
+        return diagonals(random);
+    }
     let reach = some_reach(random);
     let some = random.range(3, 9) as usize;
     let mut common = places(random, some, reach);

@@ -1,5 +1,6 @@
 //! Seeded inputs: drawings of many kinds, pairs that go together, damaged files.
 
+pub mod close;
 pub mod damage;
 pub mod drawing;
 pub mod few;

@@ -1,11 +1,14 @@
-//! Damaged overlay files, for every refusal of the reader, and harmless changes.
+//! Damaged overlay files of every version, for every refusal of the reader, and harmless changes.
 
 // All kinds of damage have one form, whether the length changes or not.
 #![allow(clippy::ptr_arg)]
 
 use crate::limits::*;
 use crate::map::numbers;
+use crate::overlay::Room;
+use crate::ovfile::{file_as, read};
 use crate::random::Random;
+use crate::version::Version;
 
 /// Version and counts in the head.
 const VERSION: usize = 0;
@@ -23,6 +26,7 @@ pub const KINDS: &[(u16, Damage)] = &[
     (4, cut),
     (4, long),
     (4, miscount),
+    (4, other_version),
     (21, bad_ends),
     (21, no_source),
     (21, bad_face),
@@ -34,9 +38,16 @@ pub const KINDS: &[(u16, Damage)] = &[
     (0, any_bit),
 ];
 
-/// The file, damaged in one of these ways.
+/// The file as any version that holds it; one that is refused, as it stands.
+pub fn any_version(random: &mut Random, file: &[u8]) -> Vec<u8> {
+    let version = random.pick(Version::ALL);
+    let other = read(file, &Room::FULL).and_then(|tables| file_as(version, &tables));
+    other.unwrap_or(file.to_vec())
+}
+
+/// The file as any version, damaged in one of these ways.
 pub fn damaged(random: &mut Random, file: &[u8]) -> Vec<u8> {
-    let mut bytes = file.to_vec();
+    let mut bytes = any_version(random, file);
     if bytes.len() >= OVERLAY_HEAD {
         random.pick(KINDS).1(random, &mut bytes);
     }
@@ -65,9 +76,23 @@ fn set_head(bytes: &mut [u8], at: usize, number: usize) {
 }
 
 fn version(random: &mut Random, bytes: &mut Vec<u8>) {
-    let any = random.range(2, 65_535) as usize;
-    let version = random.pick(&[0, 2, 257, any]);
+    let next = Version::NEWEST.number as usize + 1;
+    let any = random.range(next as i64, 65_535) as usize;
+    let version = random.pick(&[0, next, 257, 258, any]);
     set_head(bytes, VERSION, version);
+}
+
+/// Another known version in the head alone; a file without a vertex has the same length in both.
+fn other_version(_: &mut Random, bytes: &mut Vec<u8>) {
+    let here = Version::in_head(bytes);
+    let other = Version::ALL.iter().find(|&&version| Some(version) != here);
+    let number = other.map_or(0, |version| version.number);
+    set_head(bytes, VERSION, number as usize);
+}
+
+/// Bytes of a vertex of the file.
+fn vertex(bytes: &[u8]) -> usize {
+    Version::in_head(bytes).unwrap_or(Version::NEWEST).vertex()
 }
 
 fn many(random: &mut Random, bytes: &mut Vec<u8>) {
@@ -98,7 +123,7 @@ fn miscount(random: &mut Random, bytes: &mut Vec<u8>) {
 /// followers, 6 and 7 the faces. None if the file has no edge.
 fn field(random: &mut Random, bytes: &[u8], field: usize) -> Option<usize> {
     let (vertices, edges) = (head(bytes, COUNTS[0]), head(bytes, COUNTS[1]));
-    let start = OVERLAY_HEAD + OVERLAY_VERTEX * vertices;
+    let start = OVERLAY_HEAD + vertex(bytes) * vertices;
     (edges > 0).then(|| start + OVERLAY_EDGE * random.below(edges) + 2 * field)
 }
 
@@ -160,7 +185,7 @@ fn any_field(random: &mut Random, bytes: &mut Vec<u8>) {
 
 /// Changes what the reader gives back as it stands: a byte of a vertex or of a face row.
 fn harmless(random: &mut Random, bytes: &mut Vec<u8>) {
-    let vertices = OVERLAY_VERTEX * head(bytes, COUNTS[0]);
+    let vertices = vertex(bytes) * head(bytes, COUNTS[0]);
     let faces = OVERLAY_FACE * head(bytes, COUNTS[2]);
     for _ in 0..random.range(1, 6) {
         let at = random.below((vertices + faces).max(1));

@@ -1,15 +1,16 @@
 //! Pairs of maps that go together: alike, shifted, sharing stretches and corners, at and over
 //! the room.
 
+use super::close::close;
 use super::damage;
 use super::drawing::{Drawing, Place};
 use super::few::two_few;
 use super::plain::{cells, place};
-use super::sizes::{comb, filler, thick};
+use super::sizes::{comb, filler, scale, thick};
 use super::telling::telling_pair;
-use super::wild::{places, scribble};
+use super::wild::{far_within, places, scribble};
 use super::{kinds, map_file, valid_map};
-use crate::limits::{EDGES, MAP_EDGES, VERTICES};
+use crate::limits::{EDGES, MAP_EDGES, REACH, VERTICES};
 use crate::literal::slip::OF_PAIRS;
 use crate::map::{Edge, Map};
 use crate::overlay::{overlay, Room};
@@ -44,7 +45,8 @@ pub const KINDS: &[PairKind] = &[
     kind("skews", "a skewed grid over an upright one", skews),
     kind("onion", "rings of the two maps by turns", onion),
     kind("thin", "edges that cross at very small angles", thin),
-    kind("far", "denominators near 32,000,000", far),
+    kind("far", "denominators near 32,000,000 or 2,048,000,000", far),
+    kind("close", "crossings that all but coincide", some_close),
     kind("combs", "long edges across long edges", combs),
     kind("full", "two maps of full size", full),
     kind("empty-first", "an empty map and any map", empty_first),
@@ -189,7 +191,7 @@ fn corners(random: &mut Random) -> [Vec<u8>; 2] {
 
 fn pencil(random: &mut Random) -> [Vec<u8>; 2] {
     let mut drawings = [Drawing::new(), Drawing::new()];
-    let reach = random.pick(&[2, 4, 9, 100, 1_000]);
+    let reach = random.pick(&[2, 4, 9, 100, 1_000, 5_300]);
     for _ in 0..random.range(1, 4) {
         let (x, y) = place(random, 2 * reach);
         let through = random.below(4);
@@ -216,7 +218,8 @@ fn pencil(random: &mut Random) -> [Vec<u8>; 2] {
 }
 
 fn grids(random: &mut Random) -> [Vec<u8>; 2] {
-    let unit = random.range(1, 12);
+    let most = random.pick(&[12, 12, 500]);
+    let unit = random.range(1, most);
     let mut grid = || {
         let mut drawing = Drawing::new();
         let (m, n) = (random.range(1, 7), random.range(1, 7));
@@ -231,7 +234,8 @@ fn grids(random: &mut Random) -> [Vec<u8>; 2] {
 
 fn skews(random: &mut Random) -> [Vec<u8>; 2] {
     let (m, n) = (random.range(2, 9), random.range(2, 9));
-    let side = random.range(3, 100);
+    let most = random.pick(&[100, 100, 800]);
+    let side = random.range(3, most);
     let mut upright = Drawing::new();
     cells(&mut upright, m, n, |i, j| (i * side, j * side));
     let (a, b) = (random.range(1, side), random.range(-side, side));
@@ -244,8 +248,9 @@ fn skews(random: &mut Random) -> [Vec<u8>; 2] {
 fn onion(random: &mut Random) -> [Vec<u8>; 2] {
     let mut drawings = [Drawing::new(), Drawing::new()];
     let (x, y) = place(random, 50);
+    let scale = random.pick(&[1, 1, 300]);
     for r in 1..=random.range(3, 16) {
-        let r = r * random.range(2, 3);
+        let r = r * random.range(2 * scale, 3 * scale);
         let drawing = &mut drawings[random.below(2)];
         if random.once_in(2) {
             drawing.rectangle((x - r, y - r), (x + r, y + r));
@@ -259,7 +264,9 @@ fn onion(random: &mut Random) -> [Vec<u8>; 2] {
 /// Two fans of long edges, all nearly along one line.
 fn thin(random: &mut Random) -> [Vec<u8>; 2] {
     let mut drawings = [Drawing::new(), Drawing::new()];
-    let (dx, dy) = random.pick(&[(1_990, 3), (1_990, 1_987), (5, 1_990), (-1_990, 1_200)]);
+    let near = [(1_990, 3), (1_990, 1_987), (5, 1_990), (-1_990, 1_200)];
+    let wide = [(15_990, 3), (15_990, 15_987), (5, 15_990), (-15_990, 9_600)];
+    let (dx, dy) = random.pick(&[near, wide].concat());
     for drawing in &mut drawings {
         let mut ends = Vec::new();
         for _ in 0..random.range(2, 14) {
@@ -275,12 +282,25 @@ fn thin(random: &mut Random) -> [Vec<u8>; 2] {
 }
 
 fn far(random: &mut Random) -> [Vec<u8>; 2] {
-    files(super::wild::far(random), super::wild::far(random))
+    let reach = random.pick(&[2_000, REACH, REACH]);
+    files(far_within(random, reach), far_within(random, reach))
+}
+
+/// Upright or lying.
+fn some_close(random: &mut Random) -> [Vec<u8>; 2] {
+    let [mut long, mut fans] = close(random).map(|drawing| drawing.any_map(random));
+    if random.once_in(2) {
+        for map in [&mut long, &mut fans] {
+            *map = moved(map, |(x, y)| (y, x)).any_map(random);
+        }
+    }
+    files(long, fans)
 }
 
 fn combs(random: &mut Random) -> [Vec<u8>; 2] {
     let (m, n) = (random.range(2, 28) as usize, random.range(2, 28) as usize);
-    let (first, second) = (comb(random, m, true), comb(random, n, false));
+    let scale = scale(random);
+    let (first, second) = (comb(random, m, true, scale), comb(random, n, false, scale));
     two(random, &first, &second)
 }
 
@@ -312,25 +332,27 @@ fn size(first: &Drawing, second: &Drawing) -> (usize, usize) {
 
 /// Two combs, and a path that fills up to the wanted number of vertices.
 fn thousand(random: &mut Random) -> [Vec<u8>; 2] {
+    let scale = scale(random);
     let (first, mut second) = loop {
         let (m, n) = (random.range(26, 36) as usize, random.range(26, 36) as usize);
-        let (first, second) = (comb(random, m, true), comb(random, n, false));
+        let (first, second) = (comb(random, m, true, scale), comb(random, n, false, scale));
         if (850..990).contains(&size(&first, &second).0) {
             break (first, second);
         }
     };
     let wanted = VERTICES + random.below(5) - 2;
     let missing = wanted - size(&first, &second).0;
-    filler(&mut second, random, missing);
+    filler(&mut second, random, missing, scale);
     two(random, &first, &second)
 }
 
 /// Two triangulations, and a path that fills up to the wanted number of edges.
 fn edges_2000(random: &mut Random) -> [Vec<u8>; 2] {
     let wanted = EDGES + random.below(5) - 2;
+    let scale = scale(random);
     let (first, mut second) = loop {
         let n = random.range(97, 99) as usize;
-        let (first, second) = (thick(random, n), thick(random, n));
+        let (first, second) = (thick(random, n, scale), thick(random, n, scale));
         let (vertices, edges) = size(&first, &second);
         let spare = (MAP_EDGES - second.edges()).min(VERTICES.saturating_sub(vertices + 1));
         if edges < wanted && wanted - edges <= spare {
@@ -338,20 +360,22 @@ fn edges_2000(random: &mut Random) -> [Vec<u8>; 2] {
         }
     };
     let missing = wanted - size(&first, &second).1;
-    filler(&mut second, random, missing + 1);
+    filler(&mut second, random, missing + 1, scale);
     two(random, &first, &second)
 }
 
 fn over_vertices(random: &mut Random) -> [Vec<u8>; 2] {
     let (m, n) = (random.range(33, 199) as usize, random.range(33, 199) as usize);
-    let (first, second) = (comb(random, m, true), comb(random, n, false));
+    let scale = scale(random);
+    let (first, second) = (comb(random, m, true, scale), comb(random, n, false, scale));
     two(random, &first, &second)
 }
 
 fn over_edges(random: &mut Random) -> [Vec<u8>; 2] {
+    let scale = scale(random);
     loop {
         let n = random.range(99, 106) as usize;
-        let (first, second) = (thick(random, n), thick(random, n));
+        let (first, second) = (thick(random, n, scale), thick(random, n, scale));
         let (vertices, edges) = size(&first, &second);
         if vertices <= VERTICES && edges > EDGES {
             return two(random, &first, &second);

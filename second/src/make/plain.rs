@@ -2,6 +2,7 @@
 
 use super::drawing::{Drawing, Palette, Place};
 use super::Kind;
+use crate::limits::REACH;
 use crate::map::Map;
 use crate::random::Random;
 
@@ -30,7 +31,7 @@ pub fn place(random: &mut Random, reach: i64) -> Place {
 
 /// A small, a middle or the greatest reach.
 pub fn reach(random: &mut Random) -> i64 {
-    random.pick(&[3, 6, 12, 50, 300, 2_000])
+    random.pick(&[3, 6, 12, 50, 300, 2_000, REACH])
 }
 
 fn edge(random: &mut Random) -> Map {
@@ -44,7 +45,7 @@ fn edge(random: &mut Random) -> Map {
 
 fn square(random: &mut Random) -> Map {
     let (x, y) = place(random, 1_000);
-    let side = random.pick(&[1, 2, 3, 10, 77, 500, 1_000]);
+    let side = random.pick(&[1, 2, 3, 10, 77, 500, 1_000, 15_000]);
     let mut drawing = Drawing::new();
     drawing.rectangle((x, y), (x + side, y + side));
     let label = random.range(0, 65_535) as u16;
@@ -64,7 +65,8 @@ pub fn cells(drawing: &mut Drawing, m: i64, n: i64, at: impl Fn(i64, i64) -> Pla
 fn grid(random: &mut Random) -> Map {
     let mut drawing = Drawing::new();
     let (m, n) = (random.range(1, 9), random.range(1, 9));
-    let (w, h) = (random.range(1, 40), random.range(1, 40));
+    let most = random.pick(&[40, 40, 1_700]);
+    let (w, h) = (random.range(1, most), random.range(1, most));
     let (x, y) = place(random, 300);
     cells(&mut drawing, m, n, |i, j| (x + i * w, y + j * h));
     drawing.any_map(random)
@@ -73,7 +75,7 @@ fn grid(random: &mut Random) -> Map {
 fn skew(random: &mut Random) -> Map {
     let mut drawing = Drawing::new();
     let (m, n) = (random.range(1, 8), random.range(1, 8));
-    let scale = random.pick(&[2, 9, 100]);
+    let scale = random.pick(&[2, 9, 100, 900]);
     let (x, y) = place(random, 300);
     let (u, v) = loop {
         let (u, v) = (place(random, scale), place(random, scale));
@@ -97,7 +99,7 @@ fn ring_round(drawing: &mut Drawing, (x, y): Place, r: i64, standing: bool) {
 fn nested(random: &mut Random) -> Map {
     let mut drawing = Drawing::new();
     let middle = place(random, 200);
-    let step = random.pick(&[1, 2, 5, 30]);
+    let step = random.pick(&[1, 2, 5, 30, 105]);
     let standing = random.once_in(2);
     for n in 1..=random.range(2, 12) {
         let other = random.once_in(3);
@@ -108,7 +110,7 @@ fn nested(random: &mut Random) -> Map {
 
 fn islands(random: &mut Random) -> Map {
     let mut drawing = Drawing::new();
-    let side = random.pick(&[40, 200, 1_500]);
+    let side = random.pick(&[40, 200, 1_500, 12_000]);
     if !random.once_in(4) {
         drawing.rectangle((-side, -side), (side, side));
     }
@@ -129,7 +131,8 @@ fn islands(random: &mut Random) -> Map {
 fn touching(random: &mut Random) -> Map {
     let mut drawing = Drawing::new();
     let (mut x, mut y) = place(random, 100);
-    let side = random.range(2, 20);
+    let most = random.pick(&[20, 20, 1_200]);
+    let side = random.range(2, most);
     for _ in 0..random.range(1, 6) {
         drawing.rectangle((x, y), (x + 2 * side, y + 2 * side));
         // An island that hangs in a corner of its ring, or stands outside at it.
@@ -146,7 +149,8 @@ fn touching(random: &mut Random) -> Map {
 fn dangling(random: &mut Random) -> Map {
     let mut drawing = Drawing::new();
     let (m, n) = (random.range(1, 4), random.range(1, 4));
-    let side = random.range(6, 60);
+    let most = random.pick(&[60, 60, 3_000]);
+    let side = random.range(6, most);
     let shear = random.range(-1, 1);
     cells(&mut drawing, m, n, |i, j| (i * side + shear * j, j * side));
     for _ in 0..random.range(1, 30) {
@@ -161,7 +165,8 @@ fn dangling(random: &mut Random) -> Map {
 fn twice(random: &mut Random) -> Map {
     let mut drawing = Drawing::new();
     let foot = place(random, 200);
-    let size = random.range(4, 60);
+    let most = random.pick(&[60, 60, 5_000]);
+    let size = random.range(4, most);
     let down = random.once_in(4);
     let at = |x: i64, y: i64| (foot.0 + x, if down { foot.1 - y } else { foot.1 + y });
     for _ in 0..random.range(2, 8) {
@@ -184,7 +189,7 @@ fn twice(random: &mut Random) -> Map {
 fn star(random: &mut Random) -> Map {
     let mut drawing = Drawing::new();
     let (x, y) = place(random, 100);
-    let reach = random.pick(&[1, 2, 5, 40, 1_000]);
+    let reach = random.pick(&[1, 2, 5, 40, 1_000, 15_900]);
     let mut tips = vec![(x + reach, y), (x, y + reach), (x - reach, y), (x, y - reach)];
     for _ in 0..random.range(0, 30) {
         let step = place(random, reach);

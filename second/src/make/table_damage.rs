@@ -3,6 +3,7 @@
 use crate::ovfile::Counts;
 use crate::random::Random;
 use crate::tables::Tables;
+use crate::version::Version;
 
 /// What the writer is given: tables, counts and the length of the lent buffer.
 pub struct Order {
@@ -15,7 +16,7 @@ impl Order {
     /// The whole tables, and a buffer that just holds the file.
     pub fn whole(tables: &Tables) -> Order {
         let counts = Counts::of(tables);
-        Order { tables: tables.clone(), counts, length: counts.length() }
+        Order { tables: tables.clone(), counts, length: counts.length(Version::NEWEST) }
     }
 }
 
@@ -68,7 +69,7 @@ fn row<'a, T>(random: &mut Random, rows: &'a mut [T]) -> Option<&'a mut T> {
 /// Coordinates that just fit, and labels.
 fn harmless(random: &mut Random, order: &mut Order) {
     if let Some(vertex) = row(random, &mut order.tables.vertices) {
-        vertex.x = random.pick(&[(1 << 39) - 1, -1 << 39, 0]);
+        vertex.x = random.pick(&[(1 << 47) - 1, -1 << 47, 1 << 39, 0]);
         vertex.d = random.pick(&[0, (1 << 32) - 1]);
     }
     if let Some(face) = row(random, &mut order.tables.faces) {
@@ -98,7 +99,7 @@ fn table_short(random: &mut Random, order: &mut Order) {
 }
 
 fn wide(random: &mut Random, order: &mut Order) {
-    let far = random.pick(&[1 << 39, (-1 << 39) - 1, i64::MAX, i64::MIN]);
+    let far = random.pick(&[1 << 47, (-1 << 47) - 1, i64::MAX, i64::MIN]);
     if let Some(vertex) = row(random, &mut order.tables.vertices) {
         match random.below(3) {
             0 => vertex.x = far,

@@ -3,6 +3,7 @@
 use super::drawing::{Drawing, Place};
 use super::plain::{place, reach};
 use super::Kind;
+use crate::limits::REACH;
 use crate::map::Map;
 use crate::random::Random;
 
@@ -95,8 +96,8 @@ fn planar(random: &mut Random) -> Map {
 fn wide(random: &mut Random) -> Map {
     let mut drawing = Drawing::new();
     let some = random.range(5, 60) as usize;
-    let mut places = places(random, some, 2_000);
-    places.extend([(2_000, 2_000), (-2_000, 2_000), (2_000, -2_000), (-2_000, -2_000)]);
+    let mut places = places(random, some, REACH);
+    places.extend([(REACH, REACH), (-REACH, REACH), (REACH, -REACH), (-REACH, -REACH)]);
     let most = random.range(4, 80) as usize;
     scribble(&mut drawing, random, &places, most, 500);
     some_edge(&mut drawing, random);
@@ -119,7 +120,7 @@ pub fn triangulate(drawing: &mut Drawing, places: &[Place]) {
 }
 
 fn dense(random: &mut Random) -> Map {
-    let reach = random.pick(&[5, 20, 400, 2_000]);
+    let reach = random.pick(&[5, 20, 400, 2_000, REACH]);
     let some = random.range(4, 40) as usize;
     let mut places = places(random, some, reach);
     places.sort_unstable();
@@ -143,8 +144,9 @@ fn dense(random: &mut Random) -> Map {
 fn pieces(random: &mut Random) -> Map {
     let mut drawing = Drawing::new();
     for _ in 0..random.range(2, 7) {
-        let (x, y) = place(random, 60);
-        let reach = random.pick(&[2, 5, 15, 70]);
+        let scale = random.pick(&[1, 1, 1, 90]);
+        let (x, y) = place(random, 60 * scale);
+        let reach = random.pick(&[2, 5, 15, 70]) * scale;
         let some = random.range(3, 12) as usize;
         let places: Vec<Place> =
             places(random, some, reach).iter().map(|p| (p.0 + x, p.1 + y)).collect();
@@ -159,9 +161,14 @@ fn pieces(random: &mut Random) -> Map {
     drawing.any_map(random)
 }
 
-/// Long edges from one side of the range to the other, mostly near a diagonal, with some of
+fn far(random: &mut Random) -> Map {
+    let reach = random.pick(&[2_000, REACH]);
+    far_within(random, reach)
+}
+
+/// Long edges from one side of a reach to the other, mostly near a diagonal, with some of
 /// their ends joined.
-pub fn far(random: &mut Random) -> Map {
+pub fn far_within(random: &mut Random, reach: i64) -> Map {
     let mut drawing = Drawing::new();
     let rising = random.once_in(2);
     let width = random.pick(&[3, 40, 400]);
@@ -169,7 +176,7 @@ pub fn far(random: &mut Random) -> Map {
     for _ in 0..random.range(2, 24) {
         let (a, b) = (random.range(0, width), random.range(0, width));
         let (c, d) = (random.range(0, width), random.range(0, width));
-        let (low, high) = ((-2_000 + a, -2_000 + b), (2_000 - c, 2_000 - d));
+        let (low, high) = ((-reach + a, -reach + b), (reach - c, reach - d));
         let flip = |p: Place| if rising { p } else { (p.0, -p.1) };
         if drawing.join(flip(low), flip(high)) {
             ends.extend([flip(low), flip(high)]);

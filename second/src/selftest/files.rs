@@ -6,9 +6,10 @@ use crate::literal;
 use crate::make::overlay_damage::damaged;
 use crate::make::table_damage;
 use crate::overlay::{Overlay, Room};
-use crate::ovfile::{file_of, read, write};
+use crate::ovfile::{file_as, file_of, read, write};
 use crate::random::Random;
 use crate::tables::Tables;
+use crate::version::Version;
 
 /// Damaged files for each overlay.
 const TRIES: u64 = 8;
@@ -23,10 +24,18 @@ pub fn all(done: &Overlay) -> Found {
         reader(&damaged(&mut random, &file), &mut random)?;
         writer(&done.tables, &mut random)?;
     }
-    reader(&file, &mut Random::new(0, "files"))
+    for &version in Version::ALL {
+        if let Ok(file) = file_as(version, &done.tables) {
+            let same = read(&file, &Room::FULL).as_ref() == Ok(&done.tables);
+            holds(same, || format!("version {} is not read as it was", version.number))?;
+            reader(&file, &mut Random::new(0, "files"))?;
+        }
+    }
+    Ok(())
 }
 
-/// The reader refuses as 01's words say, and what it takes is written as the same bytes.
+/// The reader refuses as 01's words say. What it takes is written as the same bytes in its own
+/// version, and in the newest it is read as the same tables.
 fn reader(file: &[u8], random: &mut Random) -> Found {
     let room = match random.below(3) {
         0 => Room { vertices: random.below(20), edges: random.below(20), faces: random.below(9) },
@@ -38,8 +47,13 @@ fn reader(file: &[u8], random: &mut Random) -> Found {
     holds(refusal == literal, || format!("reader: {refusal:?}, by 01's words {literal:?}"))?;
     match found {
         Ok(tables) => {
-            let twice = file_of(&tables).map_err(|refusal| format!("the writer: {refusal}"))?;
-            holds(twice == file, || "writing what was read gives other bytes".into())
+            let here = Version::in_head(file).ok_or("a file of no version is read")?;
+            let why = |refusal| format!("the writer: {refusal}");
+            let twice = file_as(here, &tables).map_err(why)?;
+            holds(twice == file, || "writing what was read gives other bytes".into())?;
+            let newest = file_of(&tables).map_err(why)?;
+            let same = read(&newest, &Room::FULL) == Ok(tables);
+            holds(same, || "the newest version of what was read is read otherwise".into())
         }
         Err(_) => Ok(()),
     }

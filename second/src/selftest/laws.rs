@@ -1,6 +1,7 @@
 //! Laws of one overlay: Euler's formula, one pair in each face, areas, vertices in order.
 
 use super::{holds, Found};
+use crate::area::Area;
 use crate::check::graph_of;
 use crate::graph::Graph;
 use crate::limits::{DENOMINATOR, REACH};
@@ -84,34 +85,31 @@ fn areas(maps: [&Map; 2], done: &Overlay) -> Found {
         ends: t.half_edges.chunks(2).map(|r| (r[0].origin.into(), r[1].origin.into())).collect(),
         ways: Vec::new(),
     };
-    let mut of_face = vec![0i128; t.faces.len()];
+    let mut of_face = vec![Area::default(); t.faces.len()];
     for (h, row) in t.half_edges.iter().enumerate() {
         let sum = &mut of_face[row.face as usize];
-        *sum = sum.wrapping_add(graph.area(&[h]));
+        *sum = *sum + graph.area(&[h]);
     }
-    holds(of_face[1..].iter().all(|&area| area > SLACK), || "a face without an area".into())?;
-    let mut whole = 0i128;
-    of_face[1..].iter().for_each(|area| whole += area);
-    holds((whole + of_face[0]).abs() < SLACK, || "inside and outside differ in area".into())?;
+    let above = of_face[1..].iter().all(|&area| area > Area::SLACK);
+    holds(above, || "a face without an area".into())?;
+    let whole: Area = of_face.iter().copied().sum();
+    holds(whole.is_nothing(), || "inside and outside differ in area".into())?;
     for (m, map) in maps.into_iter().enumerate() {
-        let mut by_label: BTreeMap<u16, i128> = BTreeMap::new();
+        let mut by_label: BTreeMap<u16, Area> = BTreeMap::new();
         for (face, &area) in t.faces.iter().zip(&of_face) {
             let sum = by_label.entry([face.first, face.second][m]).or_default();
-            *sum = sum.wrapping_add(area);
+            *sum = *sum + area;
         }
         let graph = graph_of(map);
         for h in 0..graph.half_edges() {
             let sum = by_label.entry(map.label(h)).or_default();
-            *sum = sum.wrapping_sub(graph.area(&[h]));
+            *sum = *sum - graph.area(&[h]);
         }
-        let even = by_label.values().all(|rest| rest.abs() < SLACK);
+        let even = by_label.values().all(|rest| rest.is_nothing());
         holds(even, || format!("areas by label differ in map {}", m + 1))?;
     }
     holds(distinct(done), || "an edge stands twice".into())
 }
-
-/// Areas may be wrong by this much, far below the least area of a face.
-const SLACK: i128 = 1 << 20;
 
 fn distinct(done: &Overlay) -> bool {
     let mut known = HashSet::new();

@@ -2,6 +2,7 @@
 
 use super::{holds, Found};
 use crate::answer::Refusal;
+use crate::area::Area;
 use crate::check::fault;
 use crate::graph::Graph;
 use crate::map::{Edge, Map};
@@ -90,21 +91,21 @@ fn renumbered(map: &Map) -> (Map, Vec<u16>) {
 }
 
 /// The faces by pair, holes and twice the area, and the three counts, in an order of their own.
-fn faces(tables: &Tables) -> Vec<(u16, u16, u16, i128)> {
+fn faces(tables: &Tables) -> Vec<(u16, u16, u16, Area)> {
     let rows = &tables.half_edges;
     let graph = Graph {
         points: tables.vertices.iter().map(|v| Point { x: v.x, y: v.y, d: v.d }).collect(),
         ends: rows.chunks(2).map(|r| (r[0].origin.into(), r[1].origin.into())).collect(),
         ways: Vec::new(),
     };
-    let mut areas = vec![0i128; tables.faces.len()];
+    let mut areas = vec![Area::default(); tables.faces.len()];
     for (h, row) in rows.iter().enumerate() {
         let sum = &mut areas[row.face as usize];
-        *sum = sum.wrapping_add(graph.area(&[h]));
+        *sum = *sum + graph.area(&[h]);
     }
-    let face = |(f, &area): (&crate::tables::FaceRow, &i128)| (f.first, f.second, f.holes, area);
+    let face = |(f, &area): (&crate::tables::FaceRow, &Area)| (f.first, f.second, f.holes, area);
     let mut faces: Vec<_> = tables.faces.iter().zip(&areas).map(face).collect();
     faces.sort_unstable();
-    faces.push((tables.vertices.len() as u16, tables.edges() as u16, 0, 0));
+    faces.push((tables.vertices.len() as u16, tables.edges() as u16, 0, Area::default()));
     faces
 }

@@ -15,19 +15,22 @@ use Rattle.seq.specs.Table.{length-table, table-at, table-+, table-ext, table-a
 use Rattle.seq.specs.Rows.{rows-ext, rows-among}
 use Rattle.seq.specs.Inserted.{inOrder-has}
 use Rattle.paper.specs.Limits.{maps, reach, denominators}
-use Rattle.paper.specs.Plane.{Vec, whole, before}
+use Rattle.paper.specs.Plane.{Vec, Seg, whole, before}
 use Rattle.paper.specs.Graph.{edge}
 use Rattle.paper.specs.Map.{Map, empty}
 use Rattle.paper.specs.Pieces.{layer, verticesOf}
 use Rattle.plane.specs.Values.{seg}
 use Rattle.plane.specs.Bounds.{Near, Corner}
 use Rattle.plane.specs.Bounds as Bounds
+use Rattle.laws_plane.specs.Cone.{UpV}
 use Rattle.laws_plane.specs.Points.{same-point}
 use Rattle.laws_plane.specs.Bounds.{Bounded}
+use Rattle.laws_graph.specs.Plane.{upward-up}
 use Rattle.laws_map.specs.Keeps.{Keeps}
 use Rattle.laws_overlay.specs.Maps.{AllKeep, vertex-end}
 use Rattle.laws_overlay.specs.Vertices.{InReach, vertices-bounded}
 use Rattle.graph.specs.Flat.{numberAt, pointAt, carrierAt, Points, flatGraph}
+use Rattle.graph.specs.Upright.{Upright}
 use Rattle.graph.specs.Laws.Decode.{flat-edges, flat-carrier}
 use Rattle.overlay_cut.specs.Points.{pointsOf, points-by}
 use Rattle.overlay_cut.specs.Cuts.{Starts}
@@ -121,7 +124,7 @@ module _ (l : Layers) (H : Held l) where
     edge-near : (k : ℕ) → k < ee - es → Bounds.Edge (carrierAt cs k)
     edge-near k q = H .stands i h .flat .carriers .near k q
 
-    -- "coordinates from −2,000 to 2,000": a vertex is the end of an edge
+    -- coordinates from "−16,000 to 16,000": a vertex is the end of an edge
     held-reach : InReach (heldMap l i)
     held-reach v q =
         let r = vertex-end (heldMap l i) (H .keeps i h) v q in
@@ -182,6 +185,14 @@ module _ (l : Layers) (H : Held l) where
     rises = λ m h. H .stands m h .climbing;
     few = λ m h. omega (arith, H .stands m h .few);
     carried = record { long = H .stands 1 (omega arith) .carriers-in; near = carried-near };
+  }
+
+  pub upright : Upright (l .carriers) (edgeStart l maps)
+  upright = record {
+    up = λ k h.
+        let o = owner holds maps k (omega arith) h in
+        subst (λ (s : Seg). UpV (s .up)) (sym (ap (carrierAt (l .carriers)) (o .is) ∙ holds .carriers-are (o .map) (o .number) (o .earlier) (o .below)))
+        (upward-up (layer (heldMaps l) (o .map) .graph) (keep (o .map) (omega (arith, o .earlier, held-count l)) .plane) (o .number) (o .below));
   }
 
   -- ── the overlay's vertices ──

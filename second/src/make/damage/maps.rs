@@ -13,7 +13,8 @@ pub fn beyond(random: &mut Random, map: &mut Map) {
     let vertices = map.vertices.len();
     for _ in 0..random.range(1, 2).min(vertices as i64) {
         let any = random.range(REACH + 1, 32_767) as i16;
-        let far = random.pick(&[2_001, -2_001, i16::MAX, i16::MIN, any, -any]);
+        let next = REACH as i16 + 1;
+        let far = random.pick(&[next, -next, i16::MAX, i16::MIN, any, -any]);
         let vertex = &mut map.vertices[random.below(vertices)];
         match random.below(2) {
             0 => vertex.0 = far,

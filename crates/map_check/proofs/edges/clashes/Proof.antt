@@ -4,9 +4,9 @@ use borrow.Author.Needs.{needs}
 use denote.Ref.{now}
 use Rattle.seq.specs.Seq.{true}
 use Rattle.paper.specs.Meeting.{meeting, clashBy}
+use Rattle.laws_plane.specs.Boxes.{boxesApart, boxes-apart, boxes-clear}
 use Rattle.laws_meet.specs.Uses.{clash-meeting}
 use Rattle.graph.specs.Flat.{carrierAt}
-use Rattle.map_check.specs.Heights.{parted, parted-clear}
 use Rattle.map_check.specs.Laws.Rows.{carried}
 use Rattle.map_check.proofs.edges.clashes.Statement.{statement}
 use Rattle.map_check.proofs.edges.clashes.Tie as tie
@@ -24,8 +24,9 @@ returns c =
     let a = start .args in
     let s = carrierAt (now (a .carriers)) (a .k) in
     let t = carrierAt (now (a .carriers)) (a .j) in
-    let e : parted s t ≡ true = (λ i. parted (sym (after-carrier-at .carrier-at .ensures .0) i) (sym (c .before .before .carrier-at2 .ensures .0) i)) ∙ sym (c .before .parted .ensures) ∙ c .if1 .taken in
-    sym (parted-clear s t e)
+    let up = start .pre .3 .up in
+    let e : boxesApart s t ≡ true = (λ i. boxesApart (sym (after-carrier-at .carrier-at .ensures .0) i) (sym (c .before .before .carrier-at2 .ensures .0) i)) ∙ sym (c .before .boxes-apart .ensures) ∙ c .if1 .taken in
+    sym (boxes-clear s t (up (a .k) (start .pre .1)) (up (a .j) (start .pre .2)) (boxes-apart s t e))
 
 returns-2 : tie.Need-returns-2
 returns-2 c =

@@ -20,7 +20,7 @@ crossings-requires c κs =
         long = omega (arith, r .kept .1 .1 .0);
         within = count-within vertexRows (s .args .out .now) (r .last .1 .1 .0) 0 (r .result) (pointsOf (s .args .corner-rows .now) (s .args .c)) (omega arith) (r .ensures);
       },
-      s .pre .1 .1,
+      (s .pre .1 .1 .0, s .pre .1 .1 .1),
     )
 
 returns : tie.Need-returns

@@ -1,8 +1,10 @@
 -- `overlay_cut::collecting::cross_map` meets its contract. Assumes nothing.
-use mathlib.Core.Path.{_∙_, ap}
+use mathlib.Core.Path.{sym, _∙_, ap, subst}
 use Prim.Native.Nat.{_+_, _-_}
 use Rattle.paper.specs.Plane.{Seg}
+use Rattle.laws_plane.specs.Cone.{UpV}
 use Rattle.graph.specs.Flat.{carrierAt}
+use Rattle.graph.specs.Upright.{upright-fewer}
 use Rattle.overlay_cut.specs.Rooms.{vertexRows}
 use Rattle.overlay_cut.specs.Points.{pointsOf}
 use Rattle.overlay_cut.specs.Crossed.{crossRow, carriers-fewer}
@@ -21,14 +23,26 @@ abbrev μ-loop : tie.MeasureT-loop
 carrier-at-requires : tie.Need-carrier-at-requires Inv-loop μ-loop
 carrier-at-requires c κs =
     let s = c .before .before in
-    record { row = omega (arith, s .pre .1 .long); near = s .pre .1 .near (s .args .from + c .before .loop .k) (omega arith) }
+    record { row = omega (arith, s .pre .1 .0 .long); near = s .pre .1 .0 .near (s .args .from + c .before .loop .k) (omega arith) }
 
 cross-row-requires : tie.Need-cross-row-requires Inv-loop μ-loop
 cross-row-requires c κs =
     let at-loop : tie.At-loop Inv-loop μ-loop = search needs in
     let l = at-loop .loop in
     let s : tie.Start Inv-loop μ-loop = search needs in
-    (record { long = omega (arith, l .inv .kept); within = l .inv .within }, (carriers-fewer (s .args .carriers .now) (s .args .from + s .args .e) (s .args .from) (omega arith) (s .pre .1), c .before .carrier-at .ensures .1))
+    let a = s .args in (
+      record { long = omega (arith, l .inv .kept); within = l .inv .within },
+      (
+        carriers-fewer (a .carriers .now) (a .from + a .e) (a .from) (omega arith) (s .pre .1 .0),
+        (
+          c .before .carrier-at .ensures .1,
+          (
+            upright-fewer (a .carriers .now) (a .from + a .e) (a .from) (omega arith) (s .pre .1 .1),
+            subst (λ (s : Seg). UpV (s .up)) (sym (c .before .carrier-at .ensures .0)) (s .pre .1 .1 .up (a .from + l .k) (omega arith)),
+          ),
+        ),
+      ),
+    )
 
 loop-again : tie.Need-loop-again Inv-loop μ-loop
 loop-again c =

@@ -1,9 +1,10 @@
 -- `overlay_cut::collecting::cross_row` meets its contract. Assumes nothing.
-use mathlib.Core.Path.{_∙_, ap}
+use mathlib.Core.Path.{sym, _∙_, ap, subst}
 use Prim.Native.Nat.{_-_}
 use Rattle.seq.specs.Seq.{optional}
 use Rattle.paper.specs.Plane.{Seg}
 use Rattle.paper.specs.Meeting.{meeting, pointOf}
+use Rattle.laws_plane.specs.Cone.{UpV}
 use Rattle.plane.specs.Values.{segOf}
 use Rattle.graph.specs.Flat.{carrierAt}
 use Rattle.overlay_cut.specs.Rooms.{vertexRows}
@@ -28,7 +29,7 @@ cross-pair-requires c κs =
     let at-loop : tie.At-loop Inv-loop μ-loop = search needs in
     let start : tie.Start Inv-loop μ-loop = search needs in
     let l = at-loop .loop in
-    (record { long = omega (arith, l .inv .kept); within = l .inv .within }, (c .before .carrier-at .ensures .1, start .pre .1 .1))
+    (record { long = omega (arith, l .inv .kept); within = l .inv .within }, ((c .before .carrier-at .ensures .1, start .pre .1 .1 .0), (subst (λ (s : Seg). UpV (s .up)) (sym (c .before .carrier-at .ensures .0)) (start .pre .1 .1 .1 .0 .up (l .j) (omega arith)), start .pre .1 .1 .1 .1)))
 
 loop-again : tie.Need-loop-again Inv-loop μ-loop
 loop-again c =

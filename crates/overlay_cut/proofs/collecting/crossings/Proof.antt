@@ -1,8 +1,9 @@
 -- `overlay_cut::collecting::crossings` meets its contract. Assumes nothing.
 use Prim.Native.Nat.{_-_}
 use Rattle.paper.specs.Limits.{maps}
+use Rattle.graph.specs.Upright.{upright-fewer}
 use Rattle.overlay_cut.specs.Rooms.{vertexRows}
-use Rattle.overlay_cut.specs.Cuts.{part-carried}
+use Rattle.overlay_cut.specs.Cuts.{part-within, part-carried}
 use Rattle.overlay_cut.specs.Crossed.{crossPart}
 use Rattle.overlay_cut.specs.Collecting.{Gathering, gather-starts, gather-turns, gather-ends}
 use borrow.Author.Needs.{needs}
@@ -20,14 +21,14 @@ sub-e : tie.Need-sub-e Inv-loop μ-loop
 sub-e c =
     let start : tie.Start Inv-loop μ-loop = search needs in
     let at-loop : tie.At-loop Inv-loop μ-loop = search needs in
-    omega (arith, start .pre .1 .rises (at-loop .loop .m) (omega arith))
+    omega (arith, start .pre .1 .0 .rises (at-loop .loop .m) (omega arith))
 
 cross-map-requires : tie.Need-cross-map-requires Inv-loop μ-loop
 cross-map-requires c κs =
     let at-loop : tie.At-loop Inv-loop μ-loop = search needs in
     let start : tie.Start Inv-loop μ-loop = search needs in
     let l = at-loop .loop in
-    (record { long = omega (arith, l .inv .kept); within = l .inv .within }, part-carried (start .pre .1) (l .m) (omega arith))
+    (record { long = omega (arith, l .inv .kept); within = l .inv .within }, (part-carried (start .pre .1 .0) (l .m) (omega arith), upright-fewer _ _ _ (part-within (start .pre .1 .0) (l .m) (omega arith)) (start .pre .1 .1)))
 
 loop-again : tie.Need-loop-again Inv-loop μ-loop
 loop-again c =

@@ -3,7 +3,7 @@ use native.Mathlib.Omega.{arith}
 use borrow.Author.Needs.{needs}
 use denote.Ref.{now}
 use Rattle.overlay_maps.specs.Layers.{Layers, layersBy}
-use Rattle.overlay_graph.specs.Laws.Standing.{corners-near, starts}
+use Rattle.overlay_graph.specs.Laws.Standing.{corners-near, starts, upright}
 use Rattle.overlay_graph.specs.Laws.CutLaws.{collected-once, collected-near, ordered-near, cut-is, cut-over}
 use Rattle.overlay_graph.proofs.cutting.cut_maps.Statement.{statement}
 use Rattle.overlay_graph.proofs.cutting.cut_maps.Tie as tie
@@ -15,7 +15,7 @@ l s = layersBy (s .args .vertices .now) (s .args .edges .now) (s .args .corners 
 collect-requires : tie.Need-collect-requires
 collect-requires c κs =
     let s = c .before .before .before .before .before .before .before in
-    (record { long = s .pre .1 .0; within = omega arith }, (corners-near (l s) (s .pre .0), starts (l s) (s .pre .0)))
+    (record { long = s .pre .1 .0; within = omega arith }, (corners-near (l s) (s .pre .0), (starts (l s) (s .pre .0), upright (l s) (s .pre .0))))
 
 returns : tie.Need-returns
 returns c =

@@ -6,7 +6,7 @@ use Rattle.seq.specs.Seq.{ℕ, _*_}
 use Rattle.paper.specs.Limits.{maps}
 use Rattle.paper.specs.Tables.{Counts}
 use Rattle.paper.specs.Reader.{countsIn, faceRead, tablesIn}
-use Rattle.ovfile.specs.Values.{layout}
+use Rattle.ovfile.specs.Values.{layoutFrom}
 use Rattle.seq.specs.Loops.Storing.{laid-wiped}
 use borrow.Author.Needs.{needs}
 use Rattle.ovfile_read.proofs.fill.fill_faces.Statement.{statement}
@@ -18,7 +18,7 @@ counted c = ap (λ (n : Counts). n .faces) (c .counts .ensures)
 wipe-from-u16-requires : tie.Need-wipe-from-u16-requires
 wipe-from-u16-requires c κs =
     let l : tie.After-lay-faces = search needs in
-    omega (arith, counted (c .before .before), l .lay-faces .kept .1 .0, l .before .before .before .before .pre)
+    omega (arith, counted (c .before .before), l .lay-faces .kept .1 .1 .0, l .before .before .before .before .pre .1)
 
 returns : tie.Need-returns
 unfolding tablesIn
@@ -27,7 +27,8 @@ returns c =
     let l = d .before .before .before .before .before .before in
     let a = l .before .before .before .before .args in
     let s = now (a .file) in
-    laid-wiped 0 4 (faceRead maps layout (now (a .file))) (λ k. refl) (countsIn s .faces) (now (a .faces)) (omega (arith, l .before .before .before .before .pre))
+    let lo = layoutFrom (a .layout) in
+    laid-wiped 0 4 (faceRead maps lo (now (a .file))) (λ k. refl) (countsIn s .faces) (now (a .faces)) (omega (arith, l .before .before .before .before .pre .1))
     (l .lay-faces .ensures) (d .wipe-from-u16 .ensures) (ap (λ (n : ℕ). 4 * n) (counted (d .before .before .before)))
 
 pub fill-faces-spec : {M : Type 1} → statement M

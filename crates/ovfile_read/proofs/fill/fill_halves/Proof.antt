@@ -5,7 +5,7 @@ use denote.Ref.{now}
 use Rattle.seq.specs.Seq.{_*_}
 use Rattle.paper.specs.Tables.{Counts}
 use Rattle.paper.specs.Reader.{countsIn, halfRead, tablesIn}
-use Rattle.ovfile.specs.Values.{layout}
+use Rattle.ovfile.specs.Values.{layoutFrom}
 use Rattle.ovfile_read.specs.Filled.{followersIn}
 use Rattle.seq.specs.Loops.Storing.{laid-wiped}
 use borrow.Author.Needs.{needs}
@@ -18,7 +18,7 @@ counted c = ap (λ (n : Counts). n .edges) (c .counts .ensures)
 wipe-from-u16-requires : tie.Need-wipe-from-u16-requires
 wipe-from-u16-requires c κs =
     let l : tie.After-lay-halves = search needs in
-    omega (arith, counted (c .before .before), l .lay-halves .kept .1 .1 .0, l .before .before .before .before .before .before .pre .1)
+    omega (arith, counted (c .before .before), l .lay-halves .kept .1 .1 .1 .0, l .before .before .before .before .before .before .pre .2)
 
 returns : tie.Need-returns
 unfolding tablesIn
@@ -27,8 +27,9 @@ returns c =
     let l = d .before .before .before .before .before .before in
     let start = l .before .before .before .before .before .before in
     let s = now (start .args .file) in
+    let lo = layoutFrom (start .args .layout) in
     let k : 10 * d .before .before .before .counts .result .edges ≡ 5 * (2 * countsIn s .edges) = omega (arith, counted (d .before .before .before)) in
-    laid-wiped 0 5 (halfRead layout s (followersIn s)) (λ k. refl) (2 * countsIn s .edges) (now (start .args .halves)) (start .pre .1)
+    laid-wiped 0 5 (halfRead lo s (followersIn lo s)) (λ k. refl) (2 * countsIn s .edges) (now (start .args .halves)) (start .pre .2)
     (l .lay-halves .ensures) (d .wipe-from-u16 .ensures) k
 
 pub fill-halves-spec : {M : Type 1} → statement M

@@ -6,7 +6,7 @@ use Rattle.seq.specs.Seq.{ℕ, _*_, table}
 use Rattle.paper.specs.Limits.{maps}
 use Rattle.paper.specs.Tables.{Counts}
 use Rattle.paper.specs.Reader.{countsIn, storedSource, tablesIn}
-use Rattle.ovfile.specs.Values.{layout}
+use Rattle.ovfile.specs.Values.{layoutFrom}
 use Rattle.seq.specs.Loops.Storing.{laid-wiped}
 use borrow.Author.Needs.{needs}
 use Rattle.ovfile_read.proofs.fill.fill_sources.Statement.{statement}
@@ -18,7 +18,7 @@ counted c = ap (λ (n : Counts). n .edges) (c .counts .ensures)
 wipe-from-u32-requires : tie.Need-wipe-from-u32-requires
 wipe-from-u32-requires c κs =
     let l : tie.After-lay-sources = search needs in
-    omega (arith, counted (c .before .before), l .lay-sources .kept .1 .0, l .before .before .before .before .pre)
+    omega (arith, counted (c .before .before), l .lay-sources .kept .1 .1 .0, l .before .before .before .before .pre .1)
 
 returns : tie.Need-returns
 unfolding tablesIn
@@ -27,7 +27,8 @@ returns c =
     let l = d .before .before .before .before .before .before in
     let a = l .before .before .before .before .args in
     let s = now (a .file) in
-    laid-wiped 0 2 (λ k. table (storedSource layout (now (a .file)) k) maps) (λ k. refl) (countsIn s .edges) (now (a .sources)) (omega (arith, l .before .before .before .before .pre))
+    let lo = layoutFrom (a .layout) in
+    laid-wiped 0 2 (λ k. table (storedSource lo (now (a .file)) k) maps) (λ k. refl) (countsIn s .edges) (now (a .sources)) (omega (arith, l .before .before .before .before .pre .1))
     (l .lay-sources .ensures) (d .wipe-from-u32 .ensures) (ap (λ (n : ℕ). 2 * n) (counted (d .before .before .before)))
 
 pub fill-sources-spec : {M : Type 1} → statement M

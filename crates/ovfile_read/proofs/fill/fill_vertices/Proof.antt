@@ -5,7 +5,7 @@ use denote.Ref.{now}
 use Rattle.seq.specs.Seq.{ℕ, pos, _*_, sets}
 use Rattle.paper.specs.Tables.{Counts}
 use Rattle.paper.specs.Reader.{countsIn, vertexRead, tablesIn}
-use Rattle.ovfile.specs.Values.{layout}
+use Rattle.ovfile.specs.Values.{layoutFrom}
 use Rattle.ovfile_read.specs.Filled.{startsIn}
 use Rattle.seq.specs.Loops.Storing.{laid-wiped}
 use Rattle.ovfile_read.proofs.FillLaws.{vertices-are}
@@ -19,7 +19,7 @@ counted c = ap (λ (n : Counts). n .vertices) (c .counts .ensures)
 wipe-from-i64-requires : tie.Need-wipe-from-i64-requires
 wipe-from-i64-requires c κs =
     let l : tie.After-lay-vertices = search needs in
-    omega (arith, counted (c .before .before), l .lay-vertices .kept .1 .1 .0, l .before .before .before .before .before .pre .1)
+    omega (arith, counted (c .before .before), l .lay-vertices .kept .1 .1 .1 .0, l .before .before .before .before .before .pre .2)
 
 returns : tie.Need-returns
 unfolding tablesIn
@@ -28,8 +28,9 @@ returns c =
     let l = d .before .before .before .before .before in
     let start = l .before .before .before .before .before in
     let s = now (start .args .file) in
-    laid-wiped (pos 0) 4 (vertexRead layout s (startsIn s)) (λ k. refl) (countsIn s .vertices) (now (start .args .vertices)) (start .pre .1)
-    (l .lay-vertices .ensures ∙ ap (sets (now (start .args .vertices)) 0) (vertices-are s (l .before .before .before .least-starts .ensures)))
+    let lo = layoutFrom (start .args .layout) in
+    laid-wiped (pos 0) 4 (vertexRead lo s (startsIn lo s)) (λ k. refl) (countsIn s .vertices) (now (start .args .vertices)) (start .pre .2)
+    (l .lay-vertices .ensures ∙ ap (sets (now (start .args .vertices)) 0) (vertices-are lo s (l .before .before .before .least-starts .ensures)))
     (d .wipe-from-i64 .ensures) (ap (λ (n : ℕ). 4 * n) (counted (d .before .before .before)))
 
 pub fill-vertices-spec : {M : Type 1} → statement M

@@ -3,6 +3,7 @@ use mathlib.Core.Path.{ap, _∙_}
 use native.Mathlib.Omega.{arith}
 use lib.ListN.{set}
 use Rattle.seq.specs.Seq.{ℕ, _-_}
+use Rattle.ovfile.specs.Values.{layoutFrom}
 use Rattle.ovfile_read.specs.Filled.{storedField}
 use Rattle.seq.specs.Loops.Placing.{Placing, place-starts, place-turns, place-ends}
 use borrow.Author.Needs.{needs}
@@ -10,10 +11,10 @@ use Rattle.ovfile_read.proofs.fill.first_stored.Statement.{statement}
 use Rattle.ovfile_read.proofs.fill.first_stored.Tie as tie
 
 abbrev Inv-loop : tie.InvT-loop
-Inv-loop file j n out₀ h₀ out h = Placing (storedField file j) n out₀ out h
+Inv-loop layout file j n out₀ h₀ out h = Placing (storedField (layoutFrom layout) file j) n out₀ out h
 
 abbrev μ-loop : tie.MeasureT-loop
-μ-loop file j n out₀ h₀ out h = h
+μ-loop layout file j n out₀ h₀ out h = h
 
 cast-store-2 : tie.Need-cast-store-2 Inv-loop μ-loop
 cast-store-2 c =

@@ -6,17 +6,17 @@ use Rattle.seq.specs.Seq.{[], _∷_, _-_}
 use Rattle.paper.specs.Limits.{maps}
 use Rattle.paper.specs.Tables.{Counts}
 use Rattle.paper.specs.Reader.{countsIn, faceRead}
-use Rattle.ovfile.specs.Values.{layout}
+use Rattle.ovfile.specs.Values.{layoutFrom}
 use Rattle.seq.specs.Loops.Storing.{Laying, lay-starts, lay-turns, store-ends}
 use borrow.Author.Needs.{needs}
 use Rattle.ovfile_read.proofs.fill.lay_faces.Statement.{statement}
 use Rattle.ovfile_read.proofs.fill.lay_faces.Tie as tie
 
 abbrev Inv-loop : tie.InvT-loop
-Inv-loop file faces₀ n f₀ faces f = Laying 4 (faceRead maps layout file) (countsIn file .faces) faces₀ faces f
+Inv-loop layout file faces₀ n f₀ faces f = Laying 4 (faceRead maps (layoutFrom layout) file) (countsIn file .faces) faces₀ faces f
 
 abbrev μ-loop : tie.MeasureT-loop
-μ-loop file faces₀ n f₀ faces f = n - f
+μ-loop layout file faces₀ n f₀ faces f = n - f
 
 counted : (c : tie.After-counts Inv-loop μ-loop) → c .counts .result .faces ≡ countsIn (now (c .before .before .before .args .file)) .faces
 counted c = ap (λ (n : Counts). n .faces) (c .counts .ensures)
@@ -25,18 +25,19 @@ store4-u16-requires : tie.Need-store4-u16-requires Inv-loop μ-loop
 store4-u16-requires c κs =
     let at : tie.At-loop Inv-loop μ-loop = search needs in
     let after-counts : tie.After-counts Inv-loop μ-loop = search needs in
-    omega (arith, at .loop .inv .room, at .loop .inv .kept, counted after-counts)
+    let in-loop : tie.In-loop Inv-loop μ-loop = search needs in
+    omega (arith, in-loop .loop-test .taken, at .loop .inv .room, at .loop .inv .kept, counted after-counts)
 
 loop-again : tie.Need-loop-again Inv-loop μ-loop
 loop-again c =
     let at : tie.At-loop Inv-loop μ-loop = search needs in
     let after-counts : tie.After-counts Inv-loop μ-loop = search needs in
+    let label : tie.After-label Inv-loop μ-loop = search needs in
+    let label2 : tie.After-label2 Inv-loop μ-loop = search needs in
     let face-field : tie.After-face-field Inv-loop μ-loop = search needs in
     let face-field2 : tie.After-face-field2 Inv-loop μ-loop = search needs in
-    let face-field3 : tie.After-face-field3 Inv-loop μ-loop = search needs in
-    let face-field4 : tie.After-face-field4 Inv-loop μ-loop = search needs in
     lay-turns (at .loop .inv) (λ k. refl) (omega (arith, counted after-counts)) (c .before .before .store4-u16 .ensures)
-    (λ i. face-field .face-field .ensures i ∷ face-field2 .face-field2 .ensures i ∷ face-field3 .face-field3 .ensures i ∷ face-field4 .face-field4 .ensures i ∷ [])
+    (λ i. label .label .ensures i ∷ label2 .label2 .ensures i ∷ face-field .face-field .ensures i ∷ face-field2 .face-field2 .ensures i ∷ [])
 
 returns : tie.Need-returns Inv-loop μ-loop
 returns c =
@@ -55,7 +56,10 @@ lay-faces-spec =
     (λ c. search needs)
     (λ c κs. search needs)
     (λ c κs. search needs)
+    (λ c. search needs)
     (λ c κs. search needs)
+    (λ c. search needs)
+    (λ c. search needs)
     (λ c κs. search needs)
     store4-u16-requires
     (λ c. search needs)

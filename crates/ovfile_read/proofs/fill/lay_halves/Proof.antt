@@ -7,7 +7,8 @@ use Rattle.seq.specs.Seq.{List, [], _∷_, ℕ, _*_, _-_}
 use Rattle.seq.specs.Table.{table-at}
 use Rattle.paper.specs.Tables.{Counts}
 use Rattle.paper.specs.Reader.{countsIn, storedFollower, halfRead}
-use Rattle.ovfile.specs.Values.{layout}
+use Rattle.paper.specs.Ovfile.{Layout}
+use Rattle.ovfile.specs.Values.{layoutFrom}
 use Rattle.ovfile_read.specs.Filled.{followersIn}
 use Rattle.seq.specs.Loops.Storing.{Laying, lay-starts, lay-turns, store-ends}
 use Rattle.ovfile.proofs.SoundLaws.{twin-le}
@@ -15,14 +16,14 @@ use borrow.Author.Needs.{needs}
 use Rattle.ovfile_read.proofs.fill.lay_halves.Statement.{statement}
 use Rattle.ovfile_read.proofs.fill.lay_halves.Tie as tie
 
-abbrev row : List ℕ → ℕ → List ℕ
-row s = halfRead layout s (followersIn s)
+abbrev row : Layout → List ℕ → ℕ → List ℕ
+row l s = halfRead l s (followersIn l s)
 
 abbrev Inv-loop : tie.InvT-loop
-Inv-loop file first halves₀ n h₀ halves h = Laying 5 (row file) (2 * countsIn file .edges) halves₀ halves h
+Inv-loop layout file first halves₀ n h₀ halves h = Laying 5 (row (layoutFrom layout) file) (2 * countsIn file .edges) halves₀ halves h
 
 abbrev μ-loop : tie.MeasureT-loop
-μ-loop file first halves₀ n h₀ halves h = n - h
+μ-loop layout file first halves₀ n h₀ halves h = n - h
 
 counted : (c : tie.After-counts Inv-loop μ-loop) → c .counts .result .edges ≡ countsIn (now (c .before .before .before .before .args .file)) .edges
 counted c = ap (λ (n : Counts). n .edges) (c .counts .ensures)
@@ -32,7 +33,7 @@ cast-store5-u16-2 c =
     let start : tie.Start Inv-loop μ-loop = search needs in
     let after-counts : tie.After-counts Inv-loop μ-loop = search needs in
     let at : tie.At-loop Inv-loop μ-loop = search needs in
-    omega (arith, c .twin .ensures, twin-le (at .loop .h), counted after-counts, start .pre .0 .edges)
+    omega (arith, c .twin .ensures, twin-le (at .loop .h), counted after-counts, start .pre .1 .edges)
 
 store5-u16-requires : tie.Need-store5-u16-requires Inv-loop μ-loop
 store5-u16-requires c κs =
@@ -55,8 +56,8 @@ loop-again c =
     lay-turns (at .loop .inv) (λ k. refl) below (c .before .before .store5-u16 .ensures)
     (λ i. origin .origin .ensures i
     ∷ twin .twin .ensures i
-    ∷ (follower .follower .ensures ∙ sym (table-at (storedFollower layout file) (2 * countsIn file .edges) (at .loop .h) 0 below)) i
-    ∷ (u16-at .u16-at .ensures ∙ start .pre .1 .at (at .loop .h) below) i
+    ∷ (follower .follower .ensures ∙ sym (table-at (storedFollower (layoutFrom (start .args .layout)) file) (2 * countsIn file .edges) (at .loop .h) 0 below)) i
+    ∷ (u16-at .u16-at .ensures ∙ start .pre .2 .at (at .loop .h) below) i
     ∷ face .face .ensures i
     ∷ [])
 

@@ -6,20 +6,21 @@ use Rattle.seq.specs.Seq.{List, [], _∷_, ℕ, _-_, table}
 use Rattle.paper.specs.Limits.{maps}
 use Rattle.paper.specs.Tables.{Counts}
 use Rattle.paper.specs.Reader.{countsIn, storedSource}
-use Rattle.ovfile.specs.Values.{layout}
+use Rattle.paper.specs.Ovfile.{Layout}
+use Rattle.ovfile.specs.Values.{layoutFrom}
 use Rattle.seq.specs.Loops.Storing.{Laying, lay-starts, lay-turns, store-ends}
 use borrow.Author.Needs.{needs}
 use Rattle.ovfile_read.proofs.fill.lay_sources.Statement.{statement}
 use Rattle.ovfile_read.proofs.fill.lay_sources.Tie as tie
 
-abbrev row : List ℕ → ℕ → List ℕ
-row s k = table (storedSource layout s k) maps
+abbrev row : Layout → List ℕ → ℕ → List ℕ
+row l s k = table (storedSource l s k) maps
 
 abbrev Inv-loop : tie.InvT-loop
-Inv-loop file sources₀ n k₀ sources k = Laying 2 (row file) (countsIn file .edges) sources₀ sources k
+Inv-loop layout file sources₀ n k₀ sources k = Laying 2 (row (layoutFrom layout) file) (countsIn file .edges) sources₀ sources k
 
 abbrev μ-loop : tie.MeasureT-loop
-μ-loop file sources₀ n k₀ sources k = n - k
+μ-loop layout file sources₀ n k₀ sources k = n - k
 
 counted : (c : tie.After-counts Inv-loop μ-loop) → c .counts .result .edges ≡ countsIn (now (c .before .before .before .args .file)) .edges
 counted c = ap (λ (n : Counts). n .edges) (c .counts .ensures)
@@ -34,10 +35,10 @@ loop-again : tie.Need-loop-again Inv-loop μ-loop
 loop-again c =
     let at : tie.At-loop Inv-loop μ-loop = search needs in
     let after-counts : tie.After-counts Inv-loop μ-loop = search needs in
-    let edge-field : tie.After-edge-field Inv-loop μ-loop = search needs in
-    let edge-field2 : tie.After-edge-field2 Inv-loop μ-loop = search needs in
+    let source : tie.After-source Inv-loop μ-loop = search needs in
+    let source2 : tie.After-source2 Inv-loop μ-loop = search needs in
     lay-turns (at .loop .inv) (λ k. refl) (omega (arith, counted after-counts)) (c .before .before .store2-u32 .ensures)
-    (λ i. edge-field .edge-field .ensures i ∷ edge-field2 .edge-field2 .ensures i ∷ [])
+    (λ i. source .source .ensures i ∷ source2 .source2 .ensures i ∷ [])
 
 returns : tie.Need-returns Inv-loop μ-loop
 returns c =

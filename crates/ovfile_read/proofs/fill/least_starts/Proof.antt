@@ -7,6 +7,7 @@ use Rattle.seq.specs.Seq.{ℕ, _*_}
 use Rattle.paper.specs.Limits.{absent}
 use Rattle.paper.specs.Tables.{Counts}
 use Rattle.paper.specs.Reader.{countsIn}
+use Rattle.ovfile.specs.Values.{layoutFrom}
 use Rattle.ovfile_read.proofs.FillLaws.{starts-by}
 use borrow.Author.Needs.{needs}
 use Rattle.ovfile_read.proofs.fill.least_starts.Statement.{statement}
@@ -18,15 +19,15 @@ counted c = ap (λ (n : Counts). n .edges) (c .counts .ensures)
 first-stored-requires : tie.Need-first-stored-requires
 first-stored-requires c κs =
     let start : tie.Start = search needs in
-    omega (arith, counted (c .before .before), start .pre .edges)
+    (start .pre .0, omega (arith, counted (c .before .before), start .pre .1 .edges))
 
 returns : tie.Need-returns
 returns c =
     let after-counts : tie.After-counts = search needs in
     let start : tie.Start = search needs in
     let e = ap (λ (k : ℕ). 2 * k) (counted after-counts) in
-    starts-by (now (start .args .file)) (c .before .first-stored .ensures) e (omega (arith, c .before .first-stored .kept .1 .1 .1 .0, start .pre .vertices))
-    (λ v l. getD-replicate 1000 v absent 0 (omega (arith, start .pre .vertices)))
+    starts-by (layoutFrom (start .args .layout)) (now (start .args .file)) (c .before .first-stored .ensures) e (omega (arith, c .before .first-stored .kept .1 .1 .1 .1 .0, start .pre .1 .vertices))
+    (λ v l. getD-replicate 1000 v absent 0 (omega (arith, start .pre .1 .vertices)))
 
 pub least-starts-spec : {M : Type 1} → statement M
 least-starts-spec =

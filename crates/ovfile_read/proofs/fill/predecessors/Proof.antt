@@ -6,6 +6,7 @@ use lib.ListN.{getD-replicate}
 use Rattle.seq.specs.Seq.{ℕ, _*_}
 use Rattle.paper.specs.Tables.{Counts}
 use Rattle.paper.specs.Reader.{countsIn}
+use Rattle.ovfile.specs.Values.{layoutFrom}
 use Rattle.ovfile_read.proofs.FillLaws.{predecessors-by}
 use borrow.Author.Needs.{needs}
 use Rattle.ovfile_read.proofs.fill.predecessors.Statement.{statement}
@@ -17,12 +18,13 @@ counted c = ap (λ (n : Counts). n .edges) (c .counts .ensures)
 cast-first : tie.Need-cast-first
 cast-first c =
     let start : tie.Start = search needs in
-    omega (arith, counted (c .before), start .pre .edges)
+    omega (arith, counted (c .before), start .pre .1 .edges)
 
 first-stored-requires : tie.Need-first-stored-requires
 first-stored-requires c κs =
     let start : tie.Start = search needs in
-    omega (arith, counted (c .before .before), start .pre .edges)
+    let after-counts : tie.After-counts = search needs in
+    (start .pre .0, omega (arith, counted after-counts, start .pre .1 .edges))
 
 returns : tie.Need-returns
 returns c =
@@ -30,8 +32,8 @@ returns c =
     let start : tie.Start = search needs in
     let n = after-counts .counts .result .edges in
     let e = ap (λ (k : ℕ). 2 * k) (counted after-counts) in
-    predecessors-by (now (start .args .file)) (c .before .first-stored .ensures) e (omega (arith, c .before .first-stored .kept .1 .1 .1 .0, start .pre .edges))
-    (λ h l. getD-replicate 4000 h (2 * n) 0 (omega (arith, e, start .pre .edges)))
+    predecessors-by (layoutFrom (start .args .layout)) (now (start .args .file)) (c .before .first-stored .ensures) e (omega (arith, c .before .first-stored .kept .1 .1 .1 .1 .0, start .pre .1 .edges))
+    (λ h l. getD-replicate 4000 h (2 * n) 0 (omega (arith, e, start .pre .1 .edges)))
 
 pub predecessors-spec : {M : Type 1} → statement M
 predecessors-spec =
@@ -41,6 +43,8 @@ predecessors-spec =
     (λ c. search needs)
     (λ c. search needs)
     cast-first
+    (λ c. search needs)
+    (λ c. search needs)
     (λ c. search needs)
     first-stored-requires
     returns)

@@ -6,7 +6,7 @@ use Rattle.paper.specs.Refusal.{given}
 use Rattle.paper.specs.Tables.{Counts}
 use Rattle.paper.specs.Reader.{countsIn}
 use Rattle.map_file.proofs.VerdictLaws.{last, before, at-least}
-use Rattle.ovfile.specs.Values.{layout}
+use Rattle.ovfile.specs.Values.{layoutFrom}
 use Rattle.ovfile_read.proofs.ReadLaws.{unsoundIn}
 use borrow.Author.Needs.{needs}
 use Rattle.ovfile_read.proofs.reader.body.Statement.{statement}
@@ -23,7 +23,7 @@ returns c =
     let s = now (a .file) in
     let counted = e .before .before .counts .ensures in
     let roomed = e .before .room-in .ensures in
-    let k = at-least 21 (unsoundIn layout s) (countsIn s .edges) _ _ _ (after-given .given .ensures) (e .unsound .ensures) (ap (λ (n : Counts). n .edges) counted) in
+    let k = at-least 21 (unsoundIn (layoutFrom (a .layout)) s) (countsIn s .edges) _ _ _ (after-given .given .ensures) (e .unsound .ensures) (ap (λ (n : Counts). n .edges) counted) in
     let place1 = after-given2 .given2 .ensures ∙ (λ i. given 11 1 (ltb (roomed i .vertices) (counted i .vertices))) in
     let place2 = after-given3 .given3 .ensures ∙ (λ i. given 11 2 (ltb (roomed i .edges) (counted i .edges))) in
     let place3 = after-given4 .given4 .ensures ∙ (λ i. given 11 3 (ltb (roomed i .faces) (counted i .faces))) in

@@ -9,7 +9,7 @@ use Rattle.map_file.specs.Verdict.{verdict}
 use Rattle.map_file.proofs.VerdictLaws.{before}
 use Rattle.laws_refusals.specs.Refusals.{first-none, first-some}
 use Rattle.tables.specs.Values.{lengthsBy}
-use Rattle.ovfile_read.proofs.ReadLaws.{layoutIn, bodyIn, right-layout, right-counts}
+use Rattle.ovfile_read.proofs.ReadLaws.{layoutIn, bodyIn, right-counts}
 use borrow.Author.Needs.{needs}
 use Rattle.ovfile_read.proofs.reader.judge.Statement.{statement}
 use Rattle.ovfile_read.proofs.reader.judge.Tie as tie
@@ -20,7 +20,7 @@ form-is-right c = sym (c .before .before .head .ensures) ∙ ap verdict (c .enum
 body-requires : tie.Need-body-requires
 body-requires c κs =
     let start : tie.Start = search needs in
-    right-counts (now (start .args .file)) (form-is-right c)
+    (c .layout-in .ensures .1, right-counts (now (start .args .file)) (form-is-right (c .before)))
 
 returns : tie.Need-returns
 returns c =
@@ -36,10 +36,11 @@ returns-2 c =
     let a = start .args in
     let s = now (a .file) in
     let ls = lengthsBy (a .vertices) (a .halves) (a .sources) (a .faces) in
-    let h = form-is-right (c .before) in
+    let h = form-is-right (c .before .before) in
     c .body .ensures
-    ∙ sym (first-none (headFaults (length layouts) (layoutIn s) s) (bodyIn (layoutIn s) s ls) h ∙ ap (λ (l : Layout). firstOf (bodyIn l s ls)) (right-layout s h))
+    ∙ ap (λ (l : Layout). firstOf (bodyIn l s ls)) (c .before .layout-in .ensures .0)
+    ∙ sym (first-none (headFaults (length layouts) (layoutIn s) s) (bodyIn (layoutIn s) s ls) h)
 
 pub judge-spec : {M : Type 1} → statement M
 judge-spec =
-    tie.close (tie.spec (λ c κs. search needs) (λ c. search needs) (λ c. search needs) body-requires returns returns-2)
+    tie.close (tie.spec (λ c κs. search needs) (λ c. search needs) (λ c. search needs) (λ c κs. search needs) body-requires returns returns-2)

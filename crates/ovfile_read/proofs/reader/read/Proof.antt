@@ -18,7 +18,7 @@ fill-requires c κs =
     let a = start .args in
     let s = now (a .file) in
     let e = sym (after-judge .judge .ensures) ∙ ap verdict (after-enum-told .enum-told .given .1) in
-    (right-counts s (form-right s (lengthsBy (length (now (a .vertices))) (length (now (a .halves))) (length (now (a .sources))) (length (now (a .faces)))) e), room-enough s _ e)
+    (c .before .before .before .before .layout-in .ensures .1, right-counts s (form-right s (lengthsBy (length (now (a .vertices))) (length (now (a .halves))) (length (now (a .sources))) (length (now (a .faces)))) e), room-enough s _ e)
 
 returns : tie.Need-returns
 returns c =
@@ -42,7 +42,7 @@ returns-2 c =
     let s = now (a .file) in
     let e = sym (after-judge .judge .ensures) ∙ ap verdict (after-enum-told .enum-told .given .1) in
     (λ i. record { answer = done (c .counts .ensures i); tables = after-fill .fill .ensures i })
-    ∙ read-done s _ e
+    ∙ read-done s _ _ (after-fill .before .before .before .before .before .layout-in .ensures .0) e
 
 pub read-spec : {M : Type 1} → statement M
 read-spec =
@@ -52,6 +52,7 @@ read-spec =
     (λ c. search needs)
     (λ c κs. search needs)
     (λ c. search needs)
+    (λ c κs. search needs)
     fill-requires
     (λ c κs. search needs)
     (λ c. search needs)

@@ -7,6 +7,7 @@ use Rattle.paper.specs.Tables.{Counts}
 use Rattle.paper.specs.Reader.{countsIn}
 use Rattle.map_file.proofs.VerdictLaws.{before}
 use Rattle.tables.specs.Values.{lengthsBy}
+use Rattle.ovfile.specs.Values.{layoutFrom}
 use Rattle.ovfile_read.proofs.ReadLaws.{least-padded}
 use borrow.Author.Needs.{needs}
 use Rattle.ovfile_read.proofs.reader.unsound_by.Statement.{statement}
@@ -18,7 +19,7 @@ counted c = ap (λ (n : Counts). n .edges) (c .counts .ensures)
 first-unsound-requires : tie.Need-first-unsound-requires
 first-unsound-requires c κs =
     let start : tie.Start = search needs in
-    omega (arith, counted (c .before .before), start .pre .0 .edges)
+    omega (arith, counted (c .before .before), start .pre .1 .edges)
 
 returns : tie.Need-returns
 returns c =
@@ -28,7 +29,7 @@ returns c =
     let after-counts : tie.After-counts = search needs in
     let a = start .args in
     c .first-unsound .ensures
-    ∙ least-padded (now (a .file)) _ _ _ (lengthsBy 0 (length (now (a .halves))) (length (now (a .sources))) 0)
+    ∙ least-padded (layoutFrom (a .layout)) (now (a .file)) _ _ _ (lengthsBy 0 (length (now (a .halves))) (length (now (a .sources))) 0)
     (after-fill-halves .fill-halves .ensures) (after-fill-sources .fill-sources .ensures) (after-counts .counts .ensures)
 
 pub unsound-by-spec : {M : Type 1} → statement M

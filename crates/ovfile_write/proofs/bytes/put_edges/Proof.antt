@@ -2,7 +2,8 @@
 use mathlib.Core.Path.{ap, _∙_}
 use denote.Ref.{now}
 use Rattle.seq.specs.Seq.{ℕ, _-_, sets, rows}
-use Rattle.ovfile.specs.Values.{edgeTables}
+use Rattle.paper.specs.Ovfile.{edgeSize}
+use Rattle.ovfile.specs.Values.{edgeTables, layout}
 use Rattle.seq.specs.Loops.Storing.{Storing, store-starts, store-turns, store-ends}
 use Rattle.ovfile_write.proofs.PutLaws.{edgeBytes, edge-long}
 use native.Mathlib.Omega.{arith}
@@ -11,7 +12,7 @@ use Rattle.ovfile_write.proofs.bytes.put_edges.Statement.{statement}
 use Rattle.ovfile_write.proofs.bytes.put_edges.Tie as tie
 
 abbrev Inv-loop : tie.InvT-loop
-Inv-loop halves sources buffer₀ n start k₀ buffer k = Storing 16 (edgeBytes (edgeTables halves sources)) start n buffer₀ buffer k
+Inv-loop halves sources buffer₀ n start k₀ buffer k = Storing (edgeSize layout) (edgeBytes (edgeTables halves sources)) start n buffer₀ buffer k
 
 abbrev μ-loop : tie.MeasureT-loop
 μ-loop halves sources buffer₀ n start k₀ buffer k = n - k

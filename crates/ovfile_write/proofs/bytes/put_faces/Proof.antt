@@ -2,7 +2,9 @@
 use mathlib.Core.Path.{ap, _∙_}
 use denote.Ref.{now}
 use Rattle.seq.specs.Seq.{[], ℕ, _-_, sets, rows}
+use Rattle.paper.specs.Ovfile.{faceSize}
 use Rattle.tables.specs.Values.{tablesBy}
+use Rattle.ovfile.specs.Values.{layout}
 use Rattle.seq.specs.Loops.Storing.{Storing, store-starts, store-turns, store-ends}
 use Rattle.ovfile_write.proofs.PutLaws.{faceBytes, face-long}
 use native.Mathlib.Omega.{arith}
@@ -11,7 +13,7 @@ use Rattle.ovfile_write.proofs.bytes.put_faces.Statement.{statement}
 use Rattle.ovfile_write.proofs.bytes.put_faces.Tie as tie
 
 abbrev Inv-loop : tie.InvT-loop
-Inv-loop faces buffer₀ n start f₀ buffer f = Storing 8 (faceBytes (tablesBy [] [] [] faces)) start n buffer₀ buffer f
+Inv-loop faces buffer₀ n start f₀ buffer f = Storing (faceSize layout) (faceBytes (tablesBy [] [] [] faces)) start n buffer₀ buffer f
 
 abbrev μ-loop : tie.MeasureT-loop
 μ-loop faces buffer₀ n start f₀ buffer f = n - f

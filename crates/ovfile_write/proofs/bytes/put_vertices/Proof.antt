@@ -2,7 +2,8 @@
 use mathlib.Core.Path.{ap, _∙_}
 use denote.Ref.{now}
 use Rattle.seq.specs.Seq.{[], List, ℕ, ℤ, _-_, sets}
-use Rattle.paper.specs.Ovfile.{vertexBytes}
+use Rattle.paper.specs.Limits.{overlayHead}
+use Rattle.paper.specs.Ovfile.{vertexSize, vertexBytes}
 use Rattle.tables.specs.Values.{tablesBy}
 use Rattle.ovfile.specs.Values.{layout}
 use Rattle.seq.specs.Loops.Storing.{Storing, store-starts, store-turns, store-ends}
@@ -16,7 +17,7 @@ abbrev bytes : List ℤ → ℕ → List ℕ
 bytes vs = vertexBytes layout (tablesBy vs [] [] [])
 
 abbrev Inv-loop : tie.InvT-loop
-Inv-loop n vertices buffer₀ v₀ buffer v = Storing 14 (bytes vertices) 11 n buffer₀ buffer v
+Inv-loop n vertices buffer₀ v₀ buffer v = Storing (vertexSize layout) (bytes vertices) overlayHead n buffer₀ buffer v
 
 abbrev μ-loop : tie.MeasureT-loop
 μ-loop n vertices buffer₀ v₀ buffer v = n - v

@@ -1,10 +1,10 @@
--- `map_check::edges::lesser` meets its contract. Assumes nothing.
+-- `plane::boxes::both_less` meets its contract. Assumes nothing.
 use mathlib.Core.Path.{_≡_, sym, _∙_}
 use mathlib.Core.Bool.{true, false, _&&_}
 use lib.Signed.{ltZ}
 use Rattle.exact.specs.Mach.{trbs, test}
-use Rattle.map_check.proofs.edges.lesser.Statement.{statement}
-use Rattle.map_check.proofs.edges.lesser.Tie as tie
+use Rattle.plane.proofs.boxes.both_less.Statement.{statement}
+use Rattle.plane.proofs.boxes.both_less.Tie as tie
 
 returns : tie.Need-returns
 returns c =
@@ -35,5 +35,5 @@ returns-4 c =
     let e : ltZ (a .a) (a .c) ≡ false = sym (test (search trbs depth 20) tt) ∙ c .if1 .left in
     λ i. (sym e i && ltZ (a .a) (a .d)) && (ltZ (a .b) (a .c) && ltZ (a .b) (a .d))
 
-pub lesser-spec : {M : Type 1} → statement M
-lesser-spec = tie.close (tie.spec returns returns-2 returns-3 returns-4)
+pub both-less-spec : {M : Type 1} → statement M
+both-less-spec = tie.close (tie.spec returns returns-2 returns-3 returns-4)
