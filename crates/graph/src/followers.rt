@@ -23,15 +23,15 @@ ghost use Rattle.graph.specs.Follow.{soonerOf, soonerAt, followerAt, Hea
 ghost use Rattle.graph.specs.Chains.{Chained};
 
 // The heading in row h.
-pub fn heading_at(headings: &[i64], h: usize) -> Vector
+pub fn heading_at(headings: &[i16], h: usize) -> Vector
     requires { ⌜ Headed (now headings) h ⌝ }
     ensures is { λ r. ⌜ vecOf r ≡ vecAt (now (headings .entry)) h ⌝ }
     ensures near { λ r. ⌜ Direction (vecOf r) ⌝ }
 {
     let at = HEADING_WIDTH * h;
     Vector {
-        x: headings[at],
-        y: headings[at + 1],
+        x: headings[at] as i64,
+        y: headings[at + 1] as i64,
     }
 }
 
@@ -54,7 +54,7 @@ fn sooner(t: Vector, h: Vector, r: Vector) -> bool
 }
 
 // With r the first so far of those that leave from where t does, t where there is none yet: x too.
-fn first(headings: &[i64], t: usize, x: usize, r: usize) -> usize
+fn first(headings: &[i16], t: usize, x: usize, r: usize) -> usize
     requires { ⌜ Headed (now headings) t × Headed (now headings) x × Headed (now headings) r ⌝ }
     ensures { λ s. ⌜ s ≡ cond (eqb x t) r (better (soonerAt (now (headings .entry)) t) t x r) ⌝ }
 {
@@ -78,7 +78,7 @@ fn first(headings: &[i64], t: usize, x: usize, r: usize) -> usize
 // The follower of half-edge h, of m half-edges: of those in the chain out of the vertex that it arrives at.
 fn follower(
     origins: &[u16],
-    headings: &[i64],
+    headings: &[i16],
     heads: &[u16],
     chain: &[u16],
     n: usize,
@@ -102,7 +102,7 @@ fn follower(
 // The follower of every half-edge of e edges, by the chains.
 fn followers(
     origins: &[u16],
-    headings: &[i64],
+    headings: &[i16],
     heads: &[u16],
     chain: &[u16],
     n: usize,
@@ -121,7 +121,7 @@ fn followers(
 }
 
 // The follower of every half-edge of e edges, of a graph of n vertices.
-pub fn follow(origins: &[u16], headings: &[i64], n: usize, e: usize, next: &mut [u16])
+pub fn follow(origins: &[u16], headings: &[i16], n: usize, e: usize, next: &mut [u16])
     requires { ⌜ Numbers (now origins) (2 * e) n ⌝ ∗ ⌜ n ≤ overlayVertices ⌝ ∗ ⌜ e ≤ overlayEdges ⌝ ∗ ⌜ Headings (now headings) (2 * e) ⌝ ∗ ⌜ 2 * e ≤ length (now next) ⌝ }
     ensures { λ _. ⌜ now (next .exit) ≡ filled (2 * e) (followerAt (now (origins .entry)) (now (headings .entry)) (2 * e)) (now (next .entry)) ⌝ }
 {

@@ -42,18 +42,34 @@ pub fn point_at(points: &[i64], v: usize) -> Point
 }
 
 // The carrier in row k.
-pub fn carrier_at(carriers: &[i64], k: usize) -> Seg
+pub fn carrier_at(carriers: &[i16], k: usize) -> Seg
     requires { ⌜ Carried (now carriers) k ⌝ }
     ensures is { λ r. ⌜ segOf r ≡ carrierAt (now (carriers .entry)) k ⌝ }
     ensures near { λ r. ⌜ Edge (segOf r) ⌝ }
 {
     let at = CARRIER_WIDTH * k;
     Seg {
-        x: carriers[at],
-        y: carriers[at + 1],
-        u: carriers[at + 2],
-        v: carriers[at + 3],
+        x: carriers[at] as i64,
+        y: carriers[at + 1] as i64,
+        u: carriers[at + 2] as i64,
+        v: carriers[at + 3] as i64,
     }
+}
+
+// Stores a carrier as row k.
+pub fn store_carrier(out: &mut [i16], k: usize, s: Seg)
+    requires { ⌜ 4 * k + 4 ≤ length (now out) ⌝ ∗ ⌜ Edge (segOf s) ⌝ }
+    ensures { λ _. ⌜ now (out .exit) ≡ rowStored 4 (now (out .entry)) k (s .x ∷ s .y ∷ s .u ∷ s .v ∷ []) ⌝ }
+{
+    let at = CARRIER_WIDTH * k;
+    let x = s.x as i16;
+    let y = s.y as i16;
+    let u = s.u as i16;
+    let v = s.v as i16;
+    out[at] = x;
+    out[at + 1] = y;
+    out[at + 2] = u;
+    out[at + 3] = v;
 }
 
 // The point where half-edge h starts.
@@ -82,9 +98,10 @@ fn opposite(u: Vector) -> Vector
 }
 
 // The direction in which half-edge h goes.
-pub fn heading(points: &[i64], origins: &[u16], carriers: &[i64], h: usize) -> Vector
+pub fn heading(points: &[i64], origins: &[u16], carriers: &[i16], h: usize) -> Vector
     requires { ⌜ (h ≤ absent) × Starts (now points) (now origins) h × Starts (now points) (now origins) (twin h) × Carried (now carriers) (h / 2) ⌝ }
-    ensures { λ r. ⌜ vecOf r ≡ headingAt (now (points .entry)) (now (origins .entry)) (now (carriers .entry)) h ⌝ }
+    ensures is { λ r. ⌜ vecOf r ≡ headingAt (now (points .entry)) (now (origins .entry)) (now (carriers .entry)) h ⌝ }
+    ensures near { λ r. ⌜ Direction (vecOf r) ⌝ }
 {
     let s = carrier_at(carriers, h / 2);
     let u = Vector { x: s.u, y: s.v };
@@ -96,13 +113,13 @@ pub fn heading(points: &[i64], origins: &[u16], carriers: &[i64], h: usize) -> V
 }
 
 // Stores a direction as row h.
-fn store(out: &mut [i64], h: usize, u: Vector)
-    requires { ⌜ 2 * h + 2 ≤ length (now out) ⌝ }
+fn store(out: &mut [i16], h: usize, u: Vector)
+    requires { ⌜ 2 * h + 2 ≤ length (now out) ⌝ ∗ ⌜ Direction (vecOf u) ⌝ }
     ensures { λ _. ⌜ now (out .exit) ≡ rowStored 2 (now (out .entry)) h (row (vecOf u)) ⌝ }
 {
     let at = HEADING_WIDTH * h;
-    let x = u.x;
-    let y = u.y;
+    let x = u.x as i16;
+    let y = u.y as i16;
     out[at] = x;
     out[at + 1] = y;
 }
@@ -111,10 +128,10 @@ fn store(out: &mut [i64], h: usize, u: Vector)
 pub fn headings(
     points: &[i64],
     origins: &[u16],
-    carriers: &[i64],
+    carriers: &[i16],
     n: usize,
     e: usize,
-    out: &mut [i64],
+    out: &mut [i16],
 )
     requires { ⌜ Flat (now points) (now origins) (now carriers) n e ⌝ ∗ ⌜ 2 * e ≤ absent ⌝ ∗ ⌜ 2 * (2 * e) ≤ length (now out) ⌝ }
     ensures { λ _. ⌜ now (out .exit) ≡ laid (2 * e) (λ h. row (heading (flatGraph (now (points .entry)) (now (origins .entry)) (now (carriers .entry)) n e) h)) (now (out .entry)) ⌝ }

@@ -11,6 +11,7 @@ pub use heading::carrier_at;
 pub use heading::headings;
 pub use heading::point_at;
 pub use heading::start;
+pub use heading::store_carrier;
 pub use heading::twin;
 pub use look::West;
 pub use look::east_side;

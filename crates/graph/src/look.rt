@@ -72,7 +72,7 @@ fn nearer(s: Seg, t: Seg, p: Point) -> bool
 fn candidate(
     points: &[i64],
     origins: &[u16],
-    carriers: &[i64],
+    carriers: &[i16],
     k: usize,
     p: Point,
     d: Vector,
@@ -88,7 +88,7 @@ fn candidate(
 }
 
 // With r the nearest candidate so far, `none` where there is none yet: k too.
-fn nearest(carriers: &[i64], none: usize, k: usize, r: usize, p: Point) -> usize
+fn nearest(carriers: &[i16], none: usize, k: usize, r: usize, p: Point) -> usize
     requires { ⌜ Carried (now carriers) k × (r < none → Carried (now carriers) r) × (r ≤ none) × Near (ptOf p) ⌝ }
     ensures { λ s. ⌜ s ≡ better (nearerAt (now (carriers .entry)) (ptOf p)) none k r ⌝ }
 {
@@ -106,7 +106,7 @@ fn nearest(carriers: &[i64], none: usize, k: usize, r: usize, p: Point) -> usize
 pub fn look(
     points: &[i64],
     origins: &[u16],
-    carriers: &[i64],
+    carriers: &[i16],
     n: usize,
     e: usize,
     p: Point,
@@ -146,7 +146,7 @@ pub fn east_side(points: &[i64], origins: &[u16], k: usize) -> usize
 pub fn seen_half(
     points: &[i64],
     origins: &[u16],
-    carriers: &[i64],
+    carriers: &[i16],
     n: usize,
     e: usize,
     p: Point,
@@ -166,7 +166,7 @@ pub fn seen_half(
 pub fn seen_label(
     points: &[i64],
     origins: &[u16],
-    carriers: &[i64],
+    carriers: &[i16],
     labels: &[u16],
     n: usize,
     e: usize,

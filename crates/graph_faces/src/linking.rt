@@ -25,7 +25,7 @@ ghost use Rattle.graph_faces.specs.Linked.{Linked, Led, Numbered};
 pub fn link(
     points: &[i64],
     origins: &[u16],
-    carriers: &[i64],
+    carriers: &[i16],
     n: usize,
     e: usize,
     next: &mut [u16],
@@ -36,7 +36,7 @@ pub fn link(
     ensures { λ _. ⌜ Linked (flatGraph (now (points .entry)) (now (origins .entry)) (now (carriers .entry)) n e) (now (next .entry)) (now (lead .entry)) (now (top .entry)) (now (next .exit)) (now (lead .exit)) (now (top .exit)) ⌝ }
 {
     let m = 2 * e;
-    let mut ways = [0i64; HEADING_CELLS];
+    let mut ways = [0i16; HEADING_CELLS];
     headings(points, origins, carriers, n, e, &mut ways);
     follow(origins, &ways, n, e, next);
     leads(next, m, lead);
@@ -52,7 +52,7 @@ pub fn link(
 pub fn enclose(
     points: &[i64],
     origins: &[u16],
-    carriers: &[i64],
+    carriers: &[i16],
     n: usize,
     e: usize,
     lead: &[u16],

@@ -81,7 +81,7 @@ pub fn outers(lead: &[u16], top: &[u16], m: usize, out: &mut [u16])
 }
 
 // What the hole walk with the least half-edge h sees: "look from its smallest vertex counting only edges strictly west". ABSENT where it is the outside.
-fn seen_from(points: &[i64], origins: &[u16], carriers: &[i64], n: usize, e: usize, t: usize) -> u16
+fn seen_from(points: &[i64], origins: &[u16], carriers: &[i16], n: usize, e: usize, t: usize) -> u16
     requires { ⌜ Flat (now points) (now origins) (now carriers) n e ⌝ ∗ ⌜ 2 * e ≤ absent ⌝ ∗ ⌜ t < 2 * e ⌝ }
     ensures { λ r. ⌜ r ≡ seenAt (now (points .entry)) (now (origins .entry)) (now (carriers .entry)) n e t ⌝ }
 {
@@ -97,7 +97,7 @@ fn seen_from(points: &[i64], origins: &[u16], carriers: &[i64], n: usize, e: usi
 fn seen_by(
     points: &[i64],
     origins: &[u16],
-    carriers: &[i64],
+    carriers: &[i16],
     n: usize,
     e: usize,
     lead: &[u16],
@@ -118,7 +118,7 @@ fn seen_by(
 pub fn sees(
     points: &[i64],
     origins: &[u16],
-    carriers: &[i64],
+    carriers: &[i16],
     n: usize,
     e: usize,
     lead: &[u16],

@@ -50,7 +50,7 @@ pub fn leads(next: &[u16], m: usize, lead: &mut [u16])
 }
 
 // With r the half-edge of greatest angle so far, ABSENT where there is none yet: h too.
-fn greater(headings: &[i64], h: usize, r: u16) -> u16
+fn greater(headings: &[i16], h: usize, r: u16) -> u16
     requires { ⌜ (h < absent) × Headed (now headings) h × ((r ≡ absent → ⊥) → Headed (now headings) r) ⌝ }
     ensures { λ s. ⌜ s ≡ better (greaterAt (now (headings .entry))) absent h r ⌝ }
 {
@@ -65,7 +65,7 @@ fn greater(headings: &[i64], h: usize, r: u16) -> u16
 }
 
 // "the half-edge of greatest angle out of" every vertex, of m half-edges and n vertices; ABSENT where none leaves it.
-pub fn greatest(origins: &[u16], headings: &[i64], m: usize, out: &mut [u16], n: usize)
+pub fn greatest(origins: &[u16], headings: &[i16], m: usize, out: &mut [u16], n: usize)
     requires { ⌜ Numbers (now origins) m n ⌝ ∗ ⌜ m ≤ absent ⌝ ∗ ⌜ Headings (now headings) m ⌝ ∗ ⌜ n ≤ length (now out) ⌝ }
     ensures { λ _. ⌜ now (out .exit) ≡ filled n (greatestAt (now (origins .entry)) (now (headings .entry)) m) (now (out .entry)) ⌝ }
 {

@@ -14,7 +14,7 @@ ghost use Rattle.map_check.specs.Later.{laterAt};
 
 // Whether edges k and j share a point that is not an end of both, by how they meet; edges go up. Nothing more is reckoned of two whose
 // boxes are apart.
-fn clashes(carriers: &[i64], e: usize, k: usize, j: usize) -> bool
+fn clashes(carriers: &[i16], e: usize, k: usize, j: usize) -> bool
     requires { ⌜ Carriers (now carriers) e × (k < e) × (j < e) × Upright (now carriers) e ⌝ }
     ensures { λ r. ⌜ r ≡ clash (carrierAt (now (carriers .entry)) k) (carrierAt (now (carriers .entry)) j) ⌝ }
 {
@@ -27,7 +27,7 @@ fn clashes(carriers: &[i64], e: usize, k: usize, j: usize) -> bool
 }
 
 // The least edge after k that edge k clashes with, or e.
-pub fn first_clash(carriers: &[i64], e: usize, k: usize) -> usize
+pub fn first_clash(carriers: &[i16], e: usize, k: usize) -> usize
     requires { ⌜ Carriers (now carriers) e × (k < e) × Upright (now carriers) e ⌝ }
     ensures { λ r. ⌜ r ≡ least (laterAt (now (carriers .entry)) k) e ⌝ }
 {
@@ -42,7 +42,7 @@ pub fn first_clash(carriers: &[i64], e: usize, k: usize) -> usize
 }
 
 // 8 "an edge shares with another any point that is not an end of both": the least such edge, or e. It clashes with a later one.
-pub fn first_clashing(carriers: &[i64], e: usize) -> usize
+pub fn first_clashing(carriers: &[i16], e: usize) -> usize
     requires { ⌜ Carriers (now carriers) e × Upright (now carriers) e ⌝ }
     ensures { λ r. ⌜ r ≡ least (clashingAt (now (carriers .entry)) e) e ⌝ }
 {

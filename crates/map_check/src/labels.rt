@@ -15,7 +15,7 @@ ghost use Rattle.graph.specs.Follow.{Headed, Headings};
 ghost use Rattle.map_check.specs.Labels.{greaterAt, earlierAt, smallestAt, makesHoleAt, seenWest, disagreesAt, Walked, Linked};
 
 // Whether half-edge x leaves from where h does, with a greater angle.
-fn greater(origins: &[u16], headings: &[i64], h: usize, x: usize) -> bool
+fn greater(origins: &[u16], headings: &[i16], h: usize, x: usize) -> bool
     requires { ⌜ (h < length (now origins)) × (x < length (now origins)) × Headed (now headings) h × Headed (now headings) x ⌝ }
     ensures { λ r. ⌜ r ≡ greaterAt (now (origins .entry)) (now (headings .entry)) h x ⌝ }
 {
@@ -26,7 +26,7 @@ fn greater(origins: &[u16], headings: &[i64], h: usize, x: usize) -> bool
 }
 
 // The least of m half-edges that leaves from where h does with a greater angle, or m.
-fn first_greater(origins: &[u16], headings: &[i64], m: usize, h: usize) -> usize
+fn first_greater(origins: &[u16], headings: &[i16], m: usize, h: usize) -> usize
     requires { ⌜ (m ≤ length (now origins)) × Headings (now headings) m × (h < m) ⌝ }
     ensures { λ r. ⌜ r ≡ least (greaterAt (now (origins .entry)) (now (headings .entry)) h) m ⌝ }
 {
@@ -72,7 +72,7 @@ fn is_smallest(points: &[i64], origins: &[u16], next: &[u16], m: usize, h: usize
 fn makes_hole(
     points: &[i64],
     origins: &[u16],
-    headings: &[i64],
+    headings: &[i16],
     next: &[u16],
     m: usize,
     h: usize,
@@ -90,7 +90,7 @@ fn makes_hole(
 fn seen_west(
     points: &[i64],
     origins: &[u16],
-    carriers: &[i64],
+    carriers: &[i16],
     labels: &[u16],
     n: usize,
     e: usize,
@@ -116,9 +116,9 @@ fn seen_west(
 fn disagrees(
     points: &[i64],
     origins: &[u16],
-    carriers: &[i64],
+    carriers: &[i16],
     labels: &[u16],
-    headings: &[i64],
+    headings: &[i16],
     next: &[u16],
     n: usize,
     e: usize,
@@ -143,9 +143,9 @@ fn disagrees(
 pub fn first_disagreeing(
     points: &[i64],
     origins: &[u16],
-    carriers: &[i64],
+    carriers: &[i16],
     labels: &[u16],
-    headings: &[i64],
+    headings: &[i16],
     next: &[u16],
     n: usize,
     e: usize,

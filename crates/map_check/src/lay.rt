@@ -30,7 +30,7 @@ fn read_fault(
     h: Header,
     points: &[i64],
     origins: &[u16],
-    carriers: &mut [i64],
+    carriers: &mut [i16],
     labels: &[u16],
 ) -> Check
     requires { ⌜ h ≡ headerOf (now file) ⌝ ∗ ⌜ firstOf (formFaults (now file)) ≡ none ⌝ ∗ ⌜ MapRead (now file) (now points) (now origins) (now labels) ⌝ ∗ ⌜ 4 * mapEdges ≤ length (now carriers) ⌝ }
@@ -66,7 +66,7 @@ pub fn lay_map(
     file: &[u8],
     corners: &mut [i64],
     origins: &mut [u16],
-    carriers: &mut [i64],
+    carriers: &mut [i16],
     labels: &mut [u16],
 ) -> Checked
     requires { ⌜ MapRoom (now corners) (now origins) (now carriers) (now labels) ⌝ }

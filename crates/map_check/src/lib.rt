@@ -24,7 +24,7 @@ pub fn check(file: &[u8]) -> Checked
 {
     let mut corners = [0i64; MAP_POINT_CELLS];
     let mut origins = [0u16; MAP_HALVES];
-    let mut carriers = [0i64; MAP_CARRIER_CELLS];
+    let mut carriers = [0i16; MAP_CARRIER_CELLS];
     let mut labels = [0u16; MAP_HALVES];
     lay_map(file, &mut corners, &mut origins, &mut carriers, &mut labels)
 }

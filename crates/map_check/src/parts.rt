@@ -1,6 +1,7 @@
 // Rules 5 to 7: the vertices and edges of a map in its tables, each rule a search for its least place. Then the carriers, which can be made where rules 5 and 7
 // find nothing.
 use exact::magnitude;
+use graph::store_carrier;
 use limits::POINT_WIDTH;
 use limits::REACH;
 use map_file::Check;
@@ -9,13 +10,13 @@ use map_file::given;
 use plane::Seg;
 use plane::Vector;
 use plane::between;
-use seq::store4_i64;
 ghost use mathlib.Core.Path.{_≡_};
 ghost use Prim.Native.Nat.{_+_, _*_, _≤_, _<_};
 ghost use lib.ListN.{length};
 ghost use Rattle.seq.specs.Seq.{least, laid};
 ghost use Rattle.paper.specs.Limits.{mapVertices, mapEdges};
 ghost use Rattle.paper.specs.Refusal.{firstOf};
+ghost use Rattle.plane.specs.Bounds.{Edge};
 ghost use Rattle.plane.specs.Values.{vecOf, segOf};
 ghost use Rattle.graph.specs.Flat.{Origins};
 ghost use Rattle.map_file.specs.Verdict.{verdict};
@@ -152,7 +153,8 @@ pub fn part_fault(points: &[i64], origins: &[u16], n: usize, e: usize) -> Check
 // Edge k from its lower end.
 fn carrier(points: &[i64], origins: &[u16], n: usize, e: usize, k: usize) -> Seg
     requires { ⌜ Corners (now points) n ⌝ ∗ ⌜ Origins (now origins) (2 * e) n ⌝ ∗ ⌜ k < e ⌝ }
-    ensures { λ r. ⌜ segOf r ≡ carrierBy (now (points .entry)) (now (origins .entry)) k ⌝ }
+    ensures is { λ r. ⌜ segOf r ≡ carrierBy (now (points .entry)) (now (origins .entry)) k ⌝ }
+    ensures near { λ r. ⌜ Edge (segOf r) ⌝ }
 {
     let a = corner(points, origins[2 * k] as usize);
     let b = corner(points, origins[2 * k + 1] as usize);
@@ -160,14 +162,13 @@ fn carrier(points: &[i64], origins: &[u16], n: usize, e: usize, k: usize) -> Seg
 }
 
 // The carrier of each edge: its lower end and the direction to its upper end.
-pub fn lay_carriers(points: &[i64], origins: &[u16], n: usize, e: usize, carriers: &mut [i64])
+pub fn lay_carriers(points: &[i64], origins: &[u16], n: usize, e: usize, carriers: &mut [i16])
     requires { ⌜ Corners (now points) n ⌝ ∗ ⌜ Origins (now origins) (2 * e) n ⌝ ∗ ⌜ 4 * e ≤ length (now carriers) ⌝ }
     ensures { λ _. ⌜ now (carriers .exit) ≡ laid e (carrierRowBy (now (points .entry)) (now (origins .entry))) (now (carriers .entry)) ⌝ }
 {
     let mut k = 0;
     while k < e {
-        let s = carrier(points, origins, n, e, k);
-        store4_i64(carriers, k, s.x, s.y, s.u, s.v);
+        store_carrier(carriers, k, carrier(points, origins, n, e, k));
         k += 1;
     }
 }

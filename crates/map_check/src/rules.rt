@@ -28,7 +28,7 @@ ghost use Rattle.map_check.specs.Net.{clashFaultAt};
 ghost use Rattle.map_check.specs.Held.{flatMap};
 
 // 8 "an edge shares with another any point that is not an end of both", and "the other edge's number": it comes after the place, and is searched only where there is one.
-fn edges_clash(carriers: &[i64], e: usize) -> Check
+fn edges_clash(carriers: &[i16], e: usize) -> Check
     requires { ⌜ Carriers (now carriers) e × (e ≤ mapEdges) × Upright (now carriers) e ⌝ }
     ensures { λ r. ⌜ verdict r ≡ clashFaultAt (now (carriers .entry)) e ⌝ }
 {
@@ -45,7 +45,7 @@ fn edges_clash(carriers: &[i64], e: usize) -> Check
 fn first_by_followers(
     points: &[i64],
     origins: &[u16],
-    carriers: &[i64],
+    carriers: &[i16],
     labels: &[u16],
     n: usize,
     e: usize,
@@ -53,7 +53,7 @@ fn first_by_followers(
     requires { ⌜ Flat (now points) (now origins) (now carriers) n e ⌝ ∗ ⌜ n ≤ mapVertices ⌝ ∗ ⌜ e ≤ mapEdges ⌝ ∗ ⌜ 2 * e ≤ length (now labels) ⌝ ∗ ⌜ Plane (flatGraph (now points) (now origins) (now carriers) n e) ⌝ }
     ensures { λ r. ⌜ r ≡ least (disagrees (flatMap (now (points .entry)) (now (origins .entry)) (now (carriers .entry)) (now (labels .entry)) n e) (followers (flatGraph (now (points .entry)) (now (origins .entry)) (now (carriers .entry)) n e))) (2 * e) ⌝ }
 {
-    let mut ways = [0i64; MAP_HEADING_CELLS];
+    let mut ways = [0i16; MAP_HEADING_CELLS];
     headings(points, origins, carriers, n, e, &mut ways);
     let mut next = [0u16; MAP_HALVES];
     follow(origins, &ways, n, e, &mut next);
@@ -64,7 +64,7 @@ fn first_by_followers(
 fn labels_disagree(
     points: &[i64],
     origins: &[u16],
-    carriers: &[i64],
+    carriers: &[i16],
     labels: &[u16],
     n: usize,
     e: usize,
@@ -81,7 +81,7 @@ fn labels_disagree(
 pub fn net_fault(
     points: &[i64],
     origins: &[u16],
-    carriers: &[i64],
+    carriers: &[i16],
     labels: &[u16],
     n: usize,
     e: usize,

@@ -32,7 +32,7 @@ pub fn overlay(
     let mut edge_starts = [0usize; LAYER_STARTS];
     let mut corners = [0i64; LAYER_POINT_CELLS];
     let mut origins = [0u16; LAYER_HALVES];
-    let mut carriers = [0i64; LAYER_CARRIER_CELLS];
+    let mut carriers = [0i16; LAYER_CARRIER_CELLS];
     let mut labels = [0u16; LAYER_HALVES];
     let c = lay_maps(
         zones,

@@ -46,7 +46,7 @@ fn from_cut(
     estarts: &[usize],
     corners: &[i64],
     origins: &[u16],
-    carriers: &[i64],
+    carriers: &[i16],
     labels: &[u16],
     n: usize,
     points: &[i64],
@@ -61,7 +61,7 @@ fn from_cut(
     ensures { λ a. ⌜ outcomeOf a (tablesBy (now (vertices .exit)) (now (halves .exit)) (now (sources .exit)) (now (faces .exit))) ≡ overlaid (heldMaps (layersBy (now (vstarts .entry)) (now (estarts .entry)) (now (corners .entry)) (now (origins .entry)) (now (carriers .entry)) (now (labels .entry)))) (lengthsOf (tablesBy (now (vertices .entry)) (now (halves .entry)) (now (sources .entry)) (now (faces .entry)))) ⌝ }
 {
     let mut ends = [0u16; HALVES];
-    let mut lines = [0i64; CARRIER_CELLS];
+    let mut lines = [0i16; CARRIER_CELLS];
     lay_net(
         vstarts,
         estarts,
@@ -133,7 +133,7 @@ pub fn from_layers(
     estarts: &[usize],
     corners: &[i64],
     origins: &[u16],
-    carriers: &[i64],
+    carriers: &[i16],
     labels: &[u16],
     vertices: &mut [i64],
     halves: &mut [u16],

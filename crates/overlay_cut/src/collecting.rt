@@ -93,7 +93,7 @@ fn cross_pair(s: Seg, t: Seg, points: &mut [i64], n: usize) -> usize
 }
 
 // Appends the points where t meets the first e edges.
-fn cross_row(carriers: &[i64], e: usize, t: Seg, points: &mut [i64], n: usize) -> usize
+fn cross_row(carriers: &[i16], e: usize, t: Seg, points: &mut [i64], n: usize) -> usize
     requires { ⌜ PointTable (now points) n ⌝ ∗ ⌜ Carriers (now carriers) e ⌝ ∗ ⌜ Edge (segOf t) ⌝ ∗ ⌜ Upright (now carriers) e ⌝ ∗ ⌜ UpV (segOf t .up) ⌝ }
     ensures { λ r. ⌜ pointsOf (now (points .exit)) r ≡ gathered vertexRows (pointsOf (now (points .entry)) n) (crossRow (now (carriers .entry)) e (segOf t)) ⌝ }
 {
@@ -108,7 +108,7 @@ fn cross_row(carriers: &[i64], e: usize, t: Seg, points: &mut [i64], n: usize) -
 }
 
 // Appends the points where the e edges from row `from` on, those of one map, meet the edges before them.
-fn cross_map(carriers: &[i64], from: usize, e: usize, points: &mut [i64], n: usize) -> usize
+fn cross_map(carriers: &[i16], from: usize, e: usize, points: &mut [i64], n: usize) -> usize
     requires { ⌜ PointTable (now points) n ⌝ ∗ ⌜ Carriers (now carriers) (from + e) ⌝ ∗ ⌜ Upright (now carriers) (from + e) ⌝ }
     ensures { λ r. ⌜ pointsOf (now (points .exit)) r ≡ gathered vertexRows (pointsOf (now (points .entry)) n) (crossMap (now (carriers .entry)) from e) ⌝ }
 {
@@ -138,7 +138,7 @@ fn corners(corners: &[i64], c: usize, points: &mut [i64], n: usize) -> usize
 }
 
 // Appends the points where edges of different maps meet.
-fn crossings(carriers: &[i64], starts: &[usize], points: &mut [i64], n: usize) -> usize
+fn crossings(carriers: &[i16], starts: &[usize], points: &mut [i64], n: usize) -> usize
     requires { ⌜ PointTable (now points) n ⌝ ∗ ⌜ Starts (now starts) (now carriers) ⌝ ∗ ⌜ Upright (now carriers) (startOf (now starts) maps) ⌝ }
     ensures { λ r. ⌜ pointsOf (now (points .exit)) r ≡ gathered vertexRows (pointsOf (now (points .entry)) n) (crossAll (now (carriers .entry)) (now (starts .entry))) ⌝ }
 {
@@ -157,7 +157,7 @@ fn crossings(carriers: &[i64], starts: &[usize], points: &mut [i64], n: usize) -
 pub fn collect(
     corner_rows: &[i64],
     c: usize,
-    carriers: &[i64],
+    carriers: &[i16],
     starts: &[usize],
     out: &mut [i64],
 ) -> usize

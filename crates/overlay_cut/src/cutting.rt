@@ -68,7 +68,7 @@ fn cut_edge(
 fn cut_map(
     points: &[i64],
     n: usize,
-    carriers: &[i64],
+    carriers: &[i16],
     from: usize,
     e: usize,
     m: usize,
@@ -92,7 +92,7 @@ fn cut_map(
 pub fn pieces(
     points: &[i64],
     n: usize,
-    carriers: &[i64],
+    carriers: &[i16],
     starts: &[usize],
     out: &mut [u16],
 ) -> usize

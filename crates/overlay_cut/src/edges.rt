@@ -1,10 +1,10 @@
 // The overlay's graph in tables, from the table of pieces.
 use graph::carrier_at;
+use graph::store_carrier;
 use limits::MAPS;
 use limits::PIECE_SOURCES;
 use limits::PIECE_WIDTH;
 use plane::Seg;
-use seq::store4_i64;
 ghost use mathlib.Core.Path.{_≡_};
 ghost use Prim.Native.Nat.{_+_, _*_, _^_, _≤_, _<_};
 ghost use lib.ListN.{length};
@@ -68,7 +68,7 @@ fn nothing() -> Seg
 }
 
 // Edge j of map m, where it has one.
-fn edge_in(starts: &[usize], carriers: &[i64], m: usize, j: usize) -> Seg
+fn edge_in(starts: &[usize], carriers: &[i16], m: usize, j: usize) -> Seg
     requires { ⌜ Starts (now starts) (now carriers) ⌝ ∗ ⌜ m < maps ⌝ ∗ ⌜ j < 2 ^ 16 ⌝ }
     ensures is { λ r. ⌜ segOf r ≡ edgeIn (now (carriers .entry)) (now (starts .entry)) m j ⌝ }
     ensures near { λ r. ⌜ Edge (segOf r) ⌝ }
@@ -82,7 +82,7 @@ fn edge_in(starts: &[usize], carriers: &[i64], m: usize, j: usize) -> Seg
 }
 
 // The input edge that the piece in row k lies along: of the first map that it comes from.
-fn carrier_of(pieces: &[u16], k: usize, starts: &[usize], carriers: &[i64]) -> Seg
+fn carrier_of(pieces: &[u16], k: usize, starts: &[usize], carriers: &[i16]) -> Seg
     requires { ⌜ pieceWidth * k + pieceWidth ≤ length (now pieces) ⌝ ∗ ⌜ Starts (now starts) (now carriers) ⌝ }
     ensures is { λ r. ⌜ segOf r ≡ carrierIn (now (pieces .entry)) (now (carriers .entry)) (now (starts .entry)) k ⌝ }
     ensures near { λ r. ⌜ Edge (segOf r) ⌝ }
@@ -95,14 +95,13 @@ fn carrier_of(pieces: &[u16], k: usize, starts: &[usize], carriers: &[i64]) -> S
 }
 
 // Of e edges the carriers.
-pub fn carriers(pieces: &[u16], e: usize, starts: &[usize], carriers: &[i64], out: &mut [i64])
+pub fn carriers(pieces: &[u16], e: usize, starts: &[usize], carriers: &[i16], out: &mut [i16])
     requires { ⌜ pieceWidth * e ≤ length (now pieces) ⌝ ∗ ⌜ Starts (now starts) (now carriers) ⌝ ∗ ⌜ 4 * e ≤ length (now out) ⌝ }
     ensures { λ _. ⌜ now (out .exit) ≡ laid e (λ k. segRow (carrierIn (now (pieces .entry)) (now (carriers .entry)) (now (starts .entry)) k)) (now (out .entry)) ⌝ }
 {
     let mut k = 0;
     while k < e {
-        let s = carrier_of(pieces, k, starts, carriers);
-        store4_i64(out, k, s.x, s.y, s.u, s.v);
+        store_carrier(out, k, carrier_of(pieces, k, starts, carriers));
         k += 1;
     }
 }

@@ -26,7 +26,7 @@ pub fn cut_maps(
     edges: &[usize],
     corners: &[i64],
     origins: &[u16],
-    carriers: &[i64],
+    carriers: &[i16],
     labels: &[u16],
     points: &mut [i64],
     rows: &mut [u16],

@@ -24,14 +24,14 @@ pub fn lay_net(
     edges: &[usize],
     corners: &[i64],
     origins: &[u16],
-    carriers: &[i64],
+    carriers: &[i16],
     labels: &[u16],
     n: usize,
     points: &[i64],
     e: usize,
     pieces: &[u16],
     ends: &mut [u16],
-    lines: &mut [i64],
+    lines: &mut [i16],
 )
     requires { ⌜ Held (layersBy (now vertices) (now edges) (now corners) (now origins) (now carriers) (now labels)) ⌝ ∗ ⌜ CutOf (heldMaps (layersBy (now vertices) (now edges) (now corners) (now origins) (now carriers) (now labels))) (cutBy n (now points) e (now pieces)) ⌝ ∗ ⌜ (n ≤ overlayVertices) × (e ≤ overlayEdges) ⌝ ∗ ⌜ (4 * n ≤ length (now points)) × (pieceWidth * e ≤ length (now pieces)) ⌝ ∗ ⌜ (2 * e ≤ length (now ends)) × (4 * e ≤ length (now lines)) ⌝ }
     ensures { λ _. ⌜ NetBy (overlayOf (heldMaps (layersBy (now (vertices .entry)) (now (edges .entry)) (now (corners .entry)) (now (origins .entry)) (now (carriers .entry)) (now (labels .entry))))) (cutBy n (now (points .entry)) e (now (pieces .entry))) (now (ends .exit)) (now (lines .exit)) ⌝ }
@@ -46,7 +46,7 @@ pub fn walk_net(
     points: &[i64],
     e: usize,
     ends: &[u16],
-    lines: &[i64],
+    lines: &[i16],
     next: &mut [u16],
     face: &mut [u16],
     outers: &mut [u16],

@@ -54,7 +54,7 @@ pub fn part_of(vertices: &[usize], edges: &[usize], m: usize) -> Part
 fn own_label(
     points: &[i64],
     origins: &[u16],
-    carriers: &[i64],
+    carriers: &[i16],
     labels: &[u16],
     n: usize,
     e: usize,
@@ -76,7 +76,7 @@ fn own_label(
 pub fn label_in(
     points: &[i64],
     origins: &[u16],
-    carriers: &[i64],
+    carriers: &[i16],
     labels: &[u16],
     n: usize,
     e: usize,
@@ -96,7 +96,7 @@ pub fn label_in(
 pub fn label_at(
     corners: &[i64],
     origins: &[u16],
-    carriers: &[i64],
+    carriers: &[i16],
     labels: &[u16],
     part: Part,
     at: Place,

@@ -45,7 +45,7 @@ fn lay_behind(
     e: usize,
     corners: &mut [i64],
     origins: &mut [u16],
-    carriers: &mut [i64],
+    carriers: &mut [i16],
     labels: &mut [u16],
 ) -> Check
     requires { ⌜ RoomFrom v e (now corners) (now origins) (now carriers) (now labels) ⌝ }
@@ -70,7 +70,7 @@ fn lay_tables(
     blocks: &[u8],
     corners: &mut [i64],
     origins: &mut [u16],
-    carriers: &mut [i64],
+    carriers: &mut [i16],
     labels: &mut [u16],
 ) -> Check
     requires { ⌜ StackRoom (now corners) (now origins) (now carriers) (now labels) ⌝ }
@@ -110,7 +110,7 @@ pub fn lay_maps(
     edges: &mut [usize],
     corners: &mut [i64],
     origins: &mut [u16],
-    carriers: &mut [i64],
+    carriers: &mut [i16],
     labels: &mut [u16],
 ) -> Check
     requires { ⌜ LayerRoom (layersBy (now vertices) (now edges) (now corners) (now origins) (now carriers) (now labels)) ⌝ }

@@ -17,7 +17,7 @@ ghost use Rattle.overlay_maps.specs.Standing.{Stands, standing};
 ghost use Rattle.overlay_pairs.specs.Labels.{faceLabel, Placed, PlaceIs, Labels};
 
 // The upward direction of edge k.
-fn upward(lines: &[i64], k: usize) -> Vector
+fn upward(lines: &[i16], k: usize) -> Vector
     requires { ⌜ Carried (now lines) k ⌝ }
     ensures is { λ r. ⌜ vecOf r ≡ carrierAt (now (lines .entry)) k .up ⌝ }
     ensures near { λ r. ⌜ Direction (vecOf r) ⌝ }
@@ -38,7 +38,7 @@ pub fn outer_of(outers: &[u16], f: usize) -> u16
 fn place_of(
     points: &[i64],
     ends: &[u16],
-    lines: &[i64],
+    lines: &[i16],
     pieces: &[u16],
     m: usize,
     h: usize,
@@ -63,12 +63,12 @@ fn place_of(
 pub fn face_labels(
     corners: &[i64],
     origins: &[u16],
-    carriers: &[i64],
+    carriers: &[i16],
     labels: &[u16],
     part: Part,
     points: &[i64],
     ends: &[u16],
-    lines: &[i64],
+    lines: &[i16],
     pieces: &[u16],
     outers: &[u16],
     n: usize,

@@ -38,7 +38,7 @@ loop-again c =
     let in-loop : tie.In-loop Inv-loop μ-loop = search needs in
     let s : tie.Start Inv-loop μ-loop = search needs in
     let l = at-loop .loop in
-    let e = stored (s .args .points .now) (s .args .origins .now) (s .args .carriers .now) (s .args .n) (s .args .e) (l .h) (s .pre .0) (in-loop .loop-test .taken) (c .before .before .heading .ensures) in
+    let e = stored (s .args .points .now) (s .args .origins .now) (s .args .carriers .now) (s .args .n) (s .args .e) (l .h) (s .pre .0) (in-loop .loop-test .taken) (c .before .before .heading .ensures .0) in
     lay-turns (l .inv) (λ k. refl) (in-loop .loop-test .taken) (c .before .store .ensures) e
 
 pub headings-spec : {M : Type 1} → statement M

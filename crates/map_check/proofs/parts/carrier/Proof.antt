@@ -40,7 +40,7 @@ between-requires c κs =
 returns : tie.Need-returns
 returns c =
     let one : tie.After-corner = search needs in
-    c .between .ensures .0 ∙ (λ i. between (one .corner .ensures i) (c .before .corner2 .ensures i))
+    (c .between .ensures .0 ∙ (λ i. between (one .corner .ensures i) (c .before .corner2 .ensures i)), c .between .ensures .1)
 
 pub carrier-spec : {M : Type 1} → statement M
 carrier-spec =

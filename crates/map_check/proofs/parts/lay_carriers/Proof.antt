@@ -1,9 +1,7 @@
 -- `map_check::parts::lay_carriers` meets its contract: below the counter the rows are the carriers, and the other cells as they were. Assumes nothing.
-use mathlib.Core.Path.{refl, ap, _∙_}
+use mathlib.Core.Path.{refl, ap}
 use native.Mathlib.Omega.{arith}
 use borrow.Author.Needs.{needs}
-use mir.Syntax.{w64}
-use mir.ValLaws.{toZ-ofZ}
 use Rattle.seq.specs.Loops.Storing.{Laying, lay-starts, lay-turns, lay-ends}
 use Rattle.seq.specs.Seq.{[], _∷_, _-_}
 use Rattle.paper.specs.Plane.{Seg}
@@ -21,14 +19,8 @@ loop-again : tie.Need-loop-again Inv-loop μ-loop
 loop-again c =
     let at : tie.At-loop Inv-loop μ-loop = search needs in
     let made : tie.After-carrier Inv-loop μ-loop = search needs in
-    let r = made .carrier .result in
-    let fit = c .before .before .struct-told4 .given in
-    let x = toZ-ofZ w64 (r .x) (record { sfits = fit .0 .1 }) in
-    let y = toZ-ofZ w64 (r .y) (record { sfits = fit .1 .0 .1 }) in
-    let u = toZ-ofZ w64 (r .u) (record { sfits = fit .1 .1 .0 .1 }) in
-    let v = toZ-ofZ w64 (r .v) (record { sfits = fit .1 .1 .1 .0 .1 }) in
-    lay-turns (at .loop .inv) (λ k. refl) (omega arith) (c .before .store4-i64 .ensures)
-    ((λ i. x i ∷ y i ∷ u i ∷ v i ∷ []) ∙ ap (λ (s : Seg). s .foot .x ∷ s .foot .y ∷ s .up .x ∷ s .up .y ∷ []) (made .carrier .ensures))
+    lay-turns (at .loop .inv) (λ k. refl) (omega arith) (c .before .store-carrier .ensures)
+    (ap (λ (s : Seg). s .foot .x ∷ s .foot .y ∷ s .up .x ∷ s .up .y ∷ []) (made .carrier .ensures .0))
 
 pub lay-carriers-spec : {M : Type 1} → statement M
 lay-carriers-spec =

@@ -1,7 +1,6 @@
 -- `overlay_cut::edges::carriers` meets its contract. Assumes nothing.
-use mathlib.Core.Path.{refl, _∙_, ap}
+use mathlib.Core.Path.{refl, ap}
 use Prim.Native.Nat.{_-_}
-use Rattle.plane.proofs.Machine.{seg-back}
 use Rattle.overlay_cut.specs.Net.{carrierIn, segRow}
 use borrow.Author.Needs.{needs}
 use native.Mathlib.Omega.{arith}
@@ -19,9 +18,7 @@ loop-again : tie.Need-loop-again Inv-loop μ-loop
 loop-again c =
     let at-loop : tie.At-loop Inv-loop μ-loop = search needs in
     let after-carrier-of : tie.After-carrier-of Inv-loop μ-loop = search needs in
-    let r = after-carrier-of .carrier-of in
-    let s = r .result in
-    lay-turns (at-loop .loop .inv) (λ j. refl) (omega arith) (c .before .store4-i64 .ensures) (ap segRow (seg-back (s .x) (s .y) (s .u) (s .v) (r .ensures .1) ∙ r .ensures .0))
+    lay-turns (at-loop .loop .inv) (λ j. refl) (omega arith) (c .before .store-carrier .ensures) (ap segRow (after-carrier-of .carrier-of .ensures .0))
 
 pub carriers-spec : {M : Type 1} → statement M
 carriers-spec =
