@@ -1,5 +1,5 @@
-/* edges FILE...: the edges of overlay files, a line each, or the line of what a file is refused for, by the proved library called from C. Then every function
- * is called with no table and no file, NULL and 0, and must refuse, or answer that there is no edge. */
+/* edges FILE...: the edges of overlay files, a line each, or the line of what a file is refused for, by the proved library called from C. Then the functions
+ * of overlays are called with no table and no file, NULL and 0, and must refuse, or answer that there is no edge. */
 #include <stdio.h>
 
 #include "bonnetewe.h"

@@ -2,3 +2,5 @@
 pub mod Means
 pub mod Sound
 pub mod Edges
+pub mod Meets
+pub mod Heights
