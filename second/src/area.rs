@@ -1,59 +1,115 @@
-//! Twice the area of walks, in numbers of three words: a whole part and 128 binary places.
+//! Twice the area of walks, exactly: a sum of fractions, one for each step of a walk.
 //!
-//! A walk's area is a sum of fractions, one for each step, with bottoms of up to
-//! 2,048,000,000 squared (2^61.9). Each is cut off after 128 places, so a walk of at most 4,000
-//! steps is wrong by less than 2^-116. Any polygon over overlay vertices can be cut into
-//! triangles over them; twice the area of each is at least 1 / 2,048,000,000^3, over 2^-93. So
-//! the sign is right, and so is the comparison of two areas where one polygon lies within the
-//! other: what differs by less than [`Area::SLACK`] is the same.
+//! Fractions with one bottom are added as they come, so that a step and its way back leave
+//! nothing. Two areas are compared by bringing all fractions of both to one bottom, in numbers of
+//! any size. Nothing is cut off and nothing is rounded.
 
+use crate::natural::Natural;
 use crate::point::Point;
+use std::cmp::Ordering;
+use std::collections::BTreeMap;
 use std::iter::Sum;
 use std::ops::{Add, Neg, Sub};
 
-/// `whole` + `places` / 2^128. Nothing wraps: a sum of 4,000 steps is below 2^41.
-#[derive(Clone, Copy, PartialEq, Eq, PartialOrd, Ord, Hash, Debug, Default)]
+/// The sum of `tops[bottom]` / `bottom` over all bottoms. No top is 0.
+///
+/// With coordinates up to 16,000 a bottom is at most 2,048,000,000 squared (2^61.9). The top of a
+/// step has 91 bits, and 2^36 steps would still fit 127; a sheet has at most a few thousand.
+#[derive(Clone, Debug, Default)]
 pub struct Area {
-    whole: i64,
-    places: u128,
+    tops: BTreeMap<u64, i128>,
+}
+
+/// Fractions over one bottom, those above 0 and those below 0 apart: `above` / `bottom` -
+/// `below` / `bottom`.
+struct Total {
+    above: Natural,
+    below: Natural,
+    bottom: Natural,
 }
 
 impl Area {
-    /// 2^-100, above every error and below every area.
-    pub const SLACK: Area = Area { whole: 0, places: 1 << 28 };
+    /// The fraction top / bottom, with bottom above 0.
+    pub fn fraction(top: i128, bottom: u64) -> Area {
+        let tops = if top == 0 { BTreeMap::new() } else { BTreeMap::from([(bottom, top)]) };
+        Area { tops }
+    }
 
-    /// Twice the area of the triangle from the origin over a to b, cut off towards 0: the way
-    /// back has the same with the other sign.
-    ///
-    /// With coordinates up to 16,000 the top has 91 bits, the bottom 62, the whole part 29; a
-    /// rest is below the bottom, so that 64 places at a time have 126 bits.
+    /// Twice the area of the triangle from the origin over a to b.
     pub fn step(a: &Point, b: &Point) -> Area {
         let top = a.x as i128 * b.y as i128 - b.x as i128 * a.y as i128;
-        let bottom = a.d as u128 * b.d as u128;
-        let whole = top.unsigned_abs() / bottom;
-        let first = (top.unsigned_abs() % bottom) << 64;
-        let second = (first % bottom) << 64;
-        let places = ((first / bottom) << 64) | (second / bottom);
-        let size = Area { whole: whole as i64, places };
-        if top < 0 {
-            -size
-        } else {
-            size
-        }
+        Area::fraction(top, a.d as u64 * b.d as u64)
     }
 
-    /// Is it 0 but for the places that were cut off?
-    pub fn is_nothing(self) -> bool {
-        -Area::SLACK < self && self < Area::SLACK
+    /// 1 above 0, 0 if it is 0, -1 below.
+    pub fn sign(&self) -> i32 {
+        let fractions: Vec<(u64, i128)> = self.tops.iter().map(|(&b, &t)| (b, t)).collect();
+        let total = total(&fractions);
+        total.above.cmp(&total.below) as i32
+    }
+
+    fn add_all(mut self, other: &Area, sign: i128) -> Area {
+        for (&bottom, &top) in &other.tops {
+            let here = self.tops.entry(bottom).or_insert(0);
+            *here += sign * top;
+            if *here == 0 {
+                self.tops.remove(&bottom);
+            }
+        }
+        self
     }
 }
+
+/// All fractions over the product of their bottoms: first one half, then the other, then both by
+/// multiplying across.
+fn total(fractions: &[(u64, i128)]) -> Total {
+    match fractions {
+        [] => Total { above: 0.into(), below: 0.into(), bottom: 1.into() },
+        [(bottom, top)] => {
+            let size = Natural::from(top.unsigned_abs());
+            let (above, below) =
+                if *top > 0 { (size, Natural::default()) } else { (Natural::default(), size) };
+            Total { above, below, bottom: (*bottom as u128).into() }
+        }
+        _ => {
+            let (first, second) = fractions.split_at(fractions.len() / 2);
+            let (a, b) = (total(first), total(second));
+            let across = |s: &Natural, t: &Natural| s.times(&b.bottom).plus(&t.times(&a.bottom));
+            Total {
+                above: across(&a.above, &b.above),
+                below: across(&a.below, &b.below),
+                bottom: a.bottom.times(&b.bottom),
+            }
+        }
+    }
+}
+
+impl Ord for Area {
+    fn cmp(&self, other: &Area) -> Ordering {
+        self.clone().add_all(other, -1).sign().cmp(&0)
+    }
+}
+
+impl PartialOrd for Area {
+    fn partial_cmp(&self, other: &Area) -> Option<Ordering> {
+        Some(self.cmp(other))
+    }
+}
+
+/// Equal in size, however it is written.
+impl PartialEq for Area {
+    fn eq(&self, other: &Area) -> bool {
+        self.cmp(other) == Ordering::Equal
+    }
+}
+
+impl Eq for Area {}
 
 impl Neg for Area {
     type Output = Area;
 
     fn neg(self) -> Area {
-        let carry = (self.places == 0) as i64;
-        Area { whole: !self.whole + carry, places: self.places.wrapping_neg() }
+        Area::default().add_all(&self, -1)
     }
 }
 
@@ -61,8 +117,7 @@ impl Add for Area {
     type Output = Area;
 
     fn add(self, other: Area) -> Area {
-        let (places, carry) = self.places.overflowing_add(other.places);
-        Area { whole: self.whole + other.whole + carry as i64, places }
+        self.add_all(&other, 1)
     }
 }
 
@@ -70,7 +125,7 @@ impl Sub for Area {
     type Output = Area;
 
     fn sub(self, other: Area) -> Area {
-        self + -other
+        self.add_all(&other, -1)
     }
 }
 

@@ -149,7 +149,7 @@ fn walks(followers: &[usize]) -> (Vec<Vec<usize>>, Vec<usize>) {
 pub fn faces(graph: &Graph, followers: &[usize]) -> Faces {
     let (walks, walk_of) = walks(followers);
     let areas: Vec<Area> = walks.iter().map(|walk| graph.area(walk)).collect();
-    let hole: Vec<bool> = areas.iter().map(|&area| area < Area::SLACK).collect();
+    let hole: Vec<bool> = areas.iter().map(|area| area.sign() <= 0).collect();
     let mut face = vec![0; walks.len()];
     let mut outer = vec![None];
     for w in (0..walks.len()).filter(|&w| !hole[w]) {
@@ -166,7 +166,7 @@ pub fn faces(graph: &Graph, followers: &[usize]) -> Faces {
             piece(round) != piece(w) && graph.winds(&walks[round], p) == 1
         };
         let inner = (1..outer.len()).filter(around);
-        face[w] = inner.min_by_key(|&f| areas[outer[f].unwrap_or(0)]).unwrap_or(0);
+        face[w] = inner.min_by_key(|&f| &areas[outer[f].unwrap_or(0)]).unwrap_or(0);
         holes[face[w]] += 1;
     }
     Faces { walks, walk_of, hole, face, outer, holes }

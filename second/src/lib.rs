@@ -13,6 +13,7 @@ pub mod make;
 pub mod map;
 pub mod meet;
 pub mod mend;
+pub mod natural;
 pub mod overlay;
 pub mod ovfile;
 pub mod pack;

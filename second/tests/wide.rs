@@ -136,9 +136,35 @@ fn a_step_and_its_way_back_are_nothing() {
     let a = Point::lowest(1, 2, 2_047_936_001);
     let b = Point::lowest(-3, 5, 2_047_936_003);
     let there = Area::step(&a, &b);
-    assert_eq!(there + Area::step(&b, &a), Area::default());
-    assert!(there > Area::default() && -there < Area::default());
-    assert_eq!(there - there, Area::default());
+    assert_eq!(there.clone() + Area::step(&b, &a), Area::default());
+    assert!(there > Area::default() && -there.clone() < Area::default());
+    assert_eq!(there.clone() - there, Area::default());
+}
+
+/// Three points with D of 30, 30 and 31 bits whose determinant is 1: twice the area of their triangle
+/// is 1 / (D1 D2 D3), some 2^-91, the least that there is with such D.
+#[test]
+fn the_least_triangle() {
+    let n = 1_024_000_000;
+    let corners = [(1, 0, n), (1, 1, 2 * n - 1), (0, 1, n)].map(|(x, y, d)| Point::lowest(x, y, d));
+    let round = |order: [usize; 3]| -> Area {
+        (0..3).map(|i| Area::step(&corners[order[i]], &corners[order[(i + 1) % 3]])).sum()
+    };
+    let area = round([0, 1, 2]);
+    assert_eq!((area.sign(), round([2, 1, 0]).sign()), (1, -1));
+    assert_eq!(area.clone() + round([1, 0, 2]), Area::default());
+    assert!(area < Area::fraction(1, u64::MAX));
+}
+
+/// Sums that are right only if nothing is cut off.
+#[test]
+fn areas_are_exact() {
+    let third = Area::fraction(1, 3);
+    assert_eq!(third.clone() + third.clone() + third, Area::fraction(1, 1));
+    // 1 / (n - 1) - 2 / n + 1 / (n + 1) = 2 / (n (n - 1) (n + 1)), some 2^-184.
+    let n = 2_048_000_000u64 * 2_047_999_999;
+    let twice = Area::fraction(1, n - 1) + Area::fraction(-2, n) + Area::fraction(1, n + 1);
+    assert_eq!((twice.sign(), (-twice).sign()), (1, -1));
 }
 
 /// The vertices of the overlays of some pairs of a kind.

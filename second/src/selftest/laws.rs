@@ -88,24 +88,24 @@ fn areas(maps: [&Map; 2], done: &Overlay) -> Found {
     let mut of_face = vec![Area::default(); t.faces.len()];
     for (h, row) in t.half_edges.iter().enumerate() {
         let sum = &mut of_face[row.face as usize];
-        *sum = *sum + graph.area(&[h]);
+        *sum = std::mem::take(sum) + graph.area(&[h]);
     }
-    let above = of_face[1..].iter().all(|&area| area > Area::SLACK);
+    let above = of_face[1..].iter().all(|area| area.sign() > 0);
     holds(above, || "a face without an area".into())?;
-    let whole: Area = of_face.iter().copied().sum();
-    holds(whole.is_nothing(), || "inside and outside differ in area".into())?;
+    let whole: Area = of_face.iter().cloned().sum();
+    holds(whole.sign() == 0, || "inside and outside differ in area".into())?;
     for (m, map) in maps.into_iter().enumerate() {
         let mut by_label: BTreeMap<u16, Area> = BTreeMap::new();
-        for (face, &area) in t.faces.iter().zip(&of_face) {
+        for (face, area) in t.faces.iter().zip(&of_face) {
             let sum = by_label.entry([face.first, face.second][m]).or_default();
-            *sum = *sum + area;
+            *sum = std::mem::take(sum) + area.clone();
         }
         let graph = graph_of(map);
         for h in 0..graph.half_edges() {
             let sum = by_label.entry(map.label(h)).or_default();
-            *sum = *sum - graph.area(&[h]);
+            *sum = std::mem::take(sum) - graph.area(&[h]);
         }
-        let even = by_label.values().all(|rest| rest.is_nothing());
+        let even = by_label.values().all(|rest| rest.sign() == 0);
         holds(even, || format!("areas by label differ in map {}", m + 1))?;
     }
     holds(distinct(done), || "an edge stands twice".into())

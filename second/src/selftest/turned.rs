@@ -101,11 +101,11 @@ fn faces(tables: &Tables) -> Vec<(u16, u16, u16, Area)> {
     let mut areas = vec![Area::default(); tables.faces.len()];
     for (h, row) in rows.iter().enumerate() {
         let sum = &mut areas[row.face as usize];
-        *sum = *sum + graph.area(&[h]);
+        *sum = std::mem::take(sum) + graph.area(&[h]);
     }
-    let face = |(f, &area): (&crate::tables::FaceRow, &Area)| (f.first, f.second, f.holes, area);
-    let mut faces: Vec<_> = tables.faces.iter().zip(&areas).map(face).collect();
-    faces.sort_unstable();
+    let face = |(f, area): (&crate::tables::FaceRow, Area)| (f.first, f.second, f.holes, area);
+    let mut faces: Vec<_> = tables.faces.iter().zip(areas).map(face).collect();
+    faces.sort();
     faces.push((tables.vertices.len() as u16, tables.edges() as u16, 0, Area::default()));
     faces
 }
