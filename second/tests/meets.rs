@@ -20,10 +20,10 @@ fn every_way_to_meet() {
 
 #[test]
 fn five_before_seven() {
-    assert_eq!(asked(&[1, 1, 1, 1, 2001, 0, 1, 1]), Err(Refusal::new(5, 1)));
-    assert_eq!(asked(&[-32768, 1, 1, 1, 2001, 0, 1, 1]), Err(Refusal::new(5, 0)));
-    assert_eq!(asked(&[1, 1, 1, 1, 2000, 0, 1, 1]), Err(Refusal::new(7, 0)));
-    assert_eq!(asked(&[1, 1, 1, 2, -2000, 0, -2000, 0]), Err(Refusal::new(7, 1)));
+    assert_eq!(asked(&[1, 1, 1, 1, 16001, 0, 1, 1]), Err(Refusal::new(5, 1)));
+    assert_eq!(asked(&[-32768, 1, 1, 1, 16001, 0, 1, 1]), Err(Refusal::new(5, 0)));
+    assert_eq!(asked(&[1, 1, 1, 1, 16000, 0, 1, 1]), Err(Refusal::new(7, 0)));
+    assert_eq!(asked(&[1, 1, 1, 2, -16000, 0, -16000, 0]), Err(Refusal::new(7, 1)));
 }
 
 #[test]
