@@ -8,8 +8,8 @@
 
 static int64_t vertices[4 * 1000];
 static uint16_t halves[5 * 4000];
-static uint32_t sources[2 * 2000];
-static uint16_t faces[4 * 1334];
+static uint32_t sources[SOURCE_WIDTH * 2000];
+static uint16_t faces[FACE_WIDTH * 1334];
 
 static uint64_t digest = 0xcbf29ce484222325;
 
@@ -32,9 +32,9 @@ static void print_digest(struct plain_answer a)
         add(vertices[i], 8);
     for (int i = 0; i < 10 * a.edges; i++)
         add(halves[i], 2);
-    for (int i = 0; i < 2 * a.edges; i++)
+    for (int i = 0; i < SOURCE_WIDTH * a.edges; i++)
         add(sources[i], 4);
-    for (int i = 0; i < 4 * a.faces; i++)
+    for (int i = 0; i < FACE_WIDTH * a.faces; i++)
         add(faces[i], 2);
     printf("done %d %d %d %016llx\n", a.vertices, a.edges, a.faces, (unsigned long long)digest);
 }
@@ -44,7 +44,7 @@ int main(int count, char **words)
     static struct file zones, blocks;
 
     for (int i = 1; i < count; i++) {
-        struct plain_tables tables = { vertices, halves, sources, faces, 4 * 1000, 5 * 4000, 2 * 2000, 4 * 1334 };
+        struct plain_tables tables = { vertices, halves, sources, faces, 4 * 1000, 5 * 4000, SOURCE_WIDTH * 2000, FACE_WIDTH * 1334 };
         char *name = strrchr(words[i], '/');
 
         load_sheet(words[i], &zones, &blocks);

@@ -33,4 +33,19 @@ static inline void load_sheet(const char *folder, struct file *zones, struct fil
     load_file(path, blocks);
 }
 
+/* FOLDER/bed.zmp, or the empty map where there is none. */
+static inline void load_bed(const char *folder, struct file *bed)
+{
+    static const uint8_t empty[9] = { 'Z', 'M', 'P', 1 };
+    char path[4096];
+
+    snprintf(path, sizeof path, "%s/bed.zmp", folder);
+    load_file(path, bed);
+    if (bed->length == 0) {
+        bed->length = sizeof empty;
+        for (size_t i = 0; i < sizeof empty; i++)
+            bed->bytes[i] = empty[i];
+    }
+}
+
 #endif

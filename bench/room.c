@@ -1,4 +1,4 @@
-/* room FOLDER...: for each sheet the bytes of stack that one overlay takes, and the bytes that it copies by `memcpy` and `memmove` and clears by `memset`. The
+/* room FOLDER...: for each sheet of two or three maps the bytes of stack that one overlay takes, and the bytes that it copies by `memcpy` and `memmove` and clears by `memset`. The
  * stack below is painted before the call; what is no longer painted after it was used. The compiler's calls to the three functions come here, so they are counted;
  * what it copies in registers is not. */
 #include <stdio.h>
@@ -13,7 +13,7 @@ static int64_t vertices[BONNETEWE_VERTEX_CELLS];
 static uint16_t halves[BONNETEWE_HALF_CELLS];
 static uint32_t sources[BONNETEWE_SOURCE_CELLS];
 static uint16_t faces[BONNETEWE_FACE_CELLS];
-static struct file zones, blocks;
+static struct file zones, blocks, bed;
 static unsigned long copied, copies, cleared;
 
 void *memcpy(void *restrict to, const void *restrict from, size_t n)
@@ -73,8 +73,9 @@ static __attribute__((noinline)) size_t used(void)
 
 static __attribute__((noinline)) bonnetewe_answer lay(void)
 {
-    return bonnetewe_overlay(zones.bytes, zones.length, blocks.bytes, blocks.length, vertices, BONNETEWE_VERTEX_CELLS, halves,
-                             BONNETEWE_HALF_CELLS, sources, BONNETEWE_SOURCE_CELLS, faces, BONNETEWE_FACE_CELLS);
+    return bonnetewe_overlay(zones.bytes, zones.length, blocks.bytes, blocks.length, bed.bytes, bed.length, vertices,
+                             BONNETEWE_VERTEX_CELLS, halves, BONNETEWE_HALF_CELLS, sources, BONNETEWE_SOURCE_CELLS, faces,
+                             BONNETEWE_FACE_CELLS);
 }
 
 int main(int count, char **words)
@@ -86,6 +87,7 @@ int main(int count, char **words)
         bonnetewe_answer a;
 
         load_sheet(words[i], &zones, &blocks);
+        load_bed(words[i], &bed);
         paint();
         copied = copies = cleared = 0;
         a = lay();

@@ -36,8 +36,20 @@ static void print_edge(size_t k)
     case 2:
         printf("second %u\n", bonnetewe_edge_second(from));
         break;
-    default:
+    case 3:
         printf("both %u %u\n", bonnetewe_edge_first(from), bonnetewe_edge_second(from));
+        break;
+    case 4:
+        printf("third %u\n", bonnetewe_edge_third(from));
+        break;
+    case 5:
+        printf("first %u third %u\n", bonnetewe_edge_first(from), bonnetewe_edge_third(from));
+        break;
+    case 6:
+        printf("second %u third %u\n", bonnetewe_edge_second(from), bonnetewe_edge_third(from));
+        break;
+    default:
+        printf("all %u %u %u\n", bonnetewe_edge_first(from), bonnetewe_edge_second(from), bonnetewe_edge_third(from));
     }
 }
 
@@ -66,7 +78,7 @@ static int list(const char *path)
 static int nothing(void)
 {
     return bonnetewe_number(bonnetewe_check(NULL, 0)) == 1 &&
-           bonnetewe_number(bonnetewe_overlay(NULL, 0, NULL, 0, NULL, 0, NULL, 0, NULL, 0, NULL, 0)) == 1 &&
+           bonnetewe_number(bonnetewe_overlay(NULL, 0, NULL, 0, NULL, 0, NULL, 0, NULL, 0, NULL, 0, NULL, 0)) == 1 &&
            bonnetewe_number(bonnetewe_read(NULL, 0, NULL, 0, NULL, 0, NULL, 0, NULL, 0)) == 1 &&
            bonnetewe_number(bonnetewe_write(1, 0, 0, NULL, 0, NULL, 0, NULL, 0, NULL, 0, NULL, 0)) == 3 &&
            bonnetewe_edge_ends(NULL, 0, NULL, 0, 0) == 0 && bonnetewe_edge_sources(NULL, 0, NULL, 0, 0) == 0;

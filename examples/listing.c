@@ -1,5 +1,5 @@
-/* listing FOLDER [OUT.zov]: the listing of FOLDER/zones.zmp and FOLDER/blocks.zmp, by the proved library called from C. The overlay is also written as an
- * overlay file, to OUT.zov where that is named, and read back into the same tables, and only then listed. */
+/* listing FOLDER [OUT.zov [BED.zmp]]: the listing of FOLDER/zones.zmp and FOLDER/blocks.zmp, with a third map where one is named, by the proved library called
+ * from C. The overlay is also written as an overlay file, to OUT.zov where that is named, and read back into the same tables, and only then listed. */
 #include <stdio.h>
 
 #include "../bench/files.h"
@@ -23,13 +23,13 @@ static void list(bonnetewe_answer a)
 
     printf("vertices %u edges %u faces %u\n", bonnetewe_vertices(a), bonnetewe_edges(a), bonnetewe_faces(a));
     for (unsigned f = 0; f < bonnetewe_faces(a); f++) {
-        uint16_t *row = faces + 4 * f;
+        uint16_t *row = faces + 5 * f;
 
         printf("face %u %u %u ", f, row[0], row[1]);
         if (f == 0)
-            printf("- %u\n", row[3]);
+            printf("- %u\n", row[4]);
         else
-            printf("%u %u\n", row[2], row[3]);
+            printf("%u %u\n", row[3], row[4]);
         gaps += f > 0 && row[0] == 0 && row[1] != 0;
     }
     printf("gaps %u\n", gaps);
@@ -49,12 +49,19 @@ static int save(const char *path, const uint8_t *bytes, size_t length)
 
 int main(int count, char **words)
 {
-    static struct file zones, blocks;
+    static struct file zones, blocks, third;
+    const uint8_t *bed = bonnetewe_empty;
+    size_t bed_length = sizeof bonnetewe_empty;
     bonnetewe_answer a, written;
 
     load_sheet(count > 1 ? words[1] : ".", &zones, &blocks);
-    a = bonnetewe_overlay(zones.bytes, zones.length, blocks.bytes, blocks.length, vertices, BONNETEWE_VERTEX_CELLS, halves,
-                          BONNETEWE_HALF_CELLS, sources, BONNETEWE_SOURCE_CELLS, faces, BONNETEWE_FACE_CELLS);
+    if (count > 3) {
+        load_file(words[3], &third);
+        bed = third.bytes;
+        bed_length = third.length;
+    }
+    a = bonnetewe_overlay(zones.bytes, zones.length, blocks.bytes, blocks.length, bed, bed_length, vertices, BONNETEWE_VERTEX_CELLS,
+                          halves, BONNETEWE_HALF_CELLS, sources, BONNETEWE_SOURCE_CELLS, faces, BONNETEWE_FACE_CELLS);
     if (!bonnetewe_done(a))
         return refused(a);
     written = bonnetewe_write(bonnetewe_vertices(a), bonnetewe_edges(a), bonnetewe_faces(a), vertices, BONNETEWE_VERTEX_CELLS,

@@ -1,4 +1,4 @@
-/* Bonnetewe: an exact, proved overlay of two maps, and heights of tide, for C.
+/* Bonnetewe: an exact, proved overlay of three maps, and heights of tide, for C. Two maps are three with an empty third.
  *
  * `rt staticlib bonnetewe` proves the library and writes target/staticlib/libbonnetewe.a, for x86-64 Linux. It allocates nothing and keeps nothing between
  * calls. Of the C library it needs memcpy, memmove and memset, which the compiler may call for it, and nothing else. Each function takes any bytes, any numbers and tables of any lengths; what it answers and what every lent table holds
@@ -11,8 +11,8 @@
  * The tables, one row behind the other:
  *   vertices   4 cells to a row   X, Y, D, the least outgoing half-edge; the point is X/D, Y/D in lowest terms
  *   halves     5 cells            origin, twin, follower, predecessor, face
- *   sources    2 cells            of each overlay edge its edge number + 1 in the first and in the second map, 0 for none
- *   faces      4 cells            label in the first and in the second map, least outer half-edge (65,535 for face 0), hole walks
+ *   sources    3 cells            of each overlay edge its edge number + 1 in the first, the second and the third map, 0 for none
+ *   faces      5 cells            label in the first, the second and the third map, least outer half-edge (65,535 for face 0), hole walks
  * Half-edges 2k and 2k + 1 are overlay edge k from its lower to its upper vertex, and back. Where a call is done, cells past the counts are 0; where it
  * is refused, all cells are 0.
  */
@@ -30,11 +30,14 @@ extern "C" {
  * every mended map. */
 #define BONNETEWE_VERTEX_CELLS (4 * 1000)
 #define BONNETEWE_HALF_CELLS (5 * 4000)
-#define BONNETEWE_SOURCE_CELLS (2 * 2000)
-#define BONNETEWE_FACE_CELLS (4 * 1334)
+#define BONNETEWE_SOURCE_CELLS (3 * 2000)
+#define BONNETEWE_FACE_CELLS (5 * 1334)
 #define BONNETEWE_MEND_BYTES (9 + 4 * 200 + 8 * 300)
 #define BONNETEWE_MEND_CELLS (2 * (200 + 300))
-#define BONNETEWE_FILE_BYTES (11 + 16 * 1000 + 16 * 2000 + 8 * 1334)
+#define BONNETEWE_FILE_BYTES (11 + 16 * 1000 + 18 * 2000 + 10 * 1334)
+
+/* The empty map's file, for a third map where there is none. */
+static const uint8_t bonnetewe_empty[9] = {'Z', 'M', 'P', 1, 0, 0, 0, 0, 0};
 
 /* An answer: four numbers of 16 bits, the lowest first. The first is 0 where the call is done, otherwise the number of the rule that is broken. */
 typedef uint64_t bonnetewe_answer;
@@ -77,7 +80,7 @@ static inline unsigned bonnetewe_entries(bonnetewe_answer a)
     return a >> 32 & 65535;
 }
 
-/* Refused: the rule's number, the map (1 or 2, 0 for neither) and the place. README.md says what each means. */
+/* Refused: the rule's number, the map (1, 2 or 3, 0 for none) and the place. README.md says what each means. */
 static inline unsigned bonnetewe_number(bonnetewe_answer a)
 {
     return a & 65535;
@@ -105,8 +108,8 @@ static inline unsigned bonnetewe_kind(bonnetewe_answer a)
     return a >> 16 & 65535;
 }
 
-/* An edge record, in two numbers of the same kind, each 0 where there is no such edge. Both begin with whether it came from the first map (1), the second (2)
- * or both (3). */
+/* An edge record, in two numbers of the same kind, each 0 where there is no such edge. Both begin with the maps that it came from, added up: 1 for the first, 2 for
+ * the second, 4 for the third. So 3 is both of the first two, and 7 all three. */
 typedef uint64_t bonnetewe_edge_record;
 
 static inline unsigned bonnetewe_edge_kind(bonnetewe_edge_record r)
@@ -125,7 +128,7 @@ static inline unsigned bonnetewe_edge_upper(bonnetewe_edge_record r)
     return r >> 32 & 65535;
 }
 
-/* From bonnetewe_edge_sources: the edge number in the first and in the second map, where the kind says that it has one there, and otherwise 0. */
+/* From bonnetewe_edge_sources: the edge number in the first, the second and the third map, where the kind says that it has one there, and otherwise 0. */
 static inline unsigned bonnetewe_edge_first(bonnetewe_edge_record r)
 {
     return r >> 16 & 65535;
@@ -134,6 +137,11 @@ static inline unsigned bonnetewe_edge_first(bonnetewe_edge_record r)
 static inline unsigned bonnetewe_edge_second(bonnetewe_edge_record r)
 {
     return r >> 32 & 65535;
+}
+
+static inline unsigned bonnetewe_edge_third(bonnetewe_edge_record r)
+{
+    return r >> 48 & 65535;
 }
 
 /* The height of tide: a zone's rule is of one of these kinds. A reading is a whole number of millimetres, or missing. */
@@ -163,17 +171,17 @@ bonnetewe_answer bonnetewe_meet(int16_t ax, int16_t ay, int16_t bx, int16_t by, 
 bonnetewe_answer bonnetewe_mend(const uint8_t *file, size_t file_length, uint8_t *out, size_t out_length,
                                 uint16_t *list, size_t list_cells);
 
-/* Lays the second map file over the first, into the tables. */
+/* Lays the second map file over the first and the third over both, into the tables. For two maps hand in bonnetewe_empty, sizeof bonnetewe_empty. */
 bonnetewe_answer bonnetewe_overlay(const uint8_t *zones, size_t zones_length, const uint8_t *blocks, size_t blocks_length,
-                                   int64_t *vertices, size_t vertex_cells, uint16_t *halves, size_t half_cells,
+                                   const uint8_t *bed, size_t bed_length, int64_t *vertices, size_t vertex_cells, uint16_t *halves, size_t half_cells,
                                    uint32_t *sources, size_t source_cells, uint16_t *faces, size_t face_cells);
 
-/* Reads an overlay file into the tables. */
+/* Reads an overlay file of version 1, 2 or 3 into the tables; where a version has no third source or label it is 0. */
 bonnetewe_answer bonnetewe_read(const uint8_t *file, size_t file_length, int64_t *vertices, size_t vertex_cells,
                                 uint16_t *halves, size_t half_cells, uint32_t *sources, size_t source_cells,
                                 uint16_t *faces, size_t face_cells);
 
-/* Writes the overlay file of counts and tables into the buffer; past the file the buffer is 0. */
+/* Writes the overlay file of counts and tables, of version 3, into the buffer; past the file the buffer is 0. */
 bonnetewe_answer bonnetewe_write(uint16_t vertex_count, uint16_t edge_count, uint16_t face_count,
                                  const int64_t *vertices, size_t vertex_cells, const uint16_t *halves, size_t half_cells,
                                  const uint32_t *sources, size_t source_cells, const uint16_t *faces, size_t face_cells,

@@ -109,17 +109,18 @@ static void store_halves(const struct net *n, struct faces *f, uint16_t *rows)
 static void store_sources(const struct net *n, const struct source *sources, uint32_t *rows)
 {
     for (int k = 0; k < n->edges; k++)
-        for (int m = 0; m < 2; m++)
-            rows[2 * k + m] = sources[k].in[m] + 1;
+        for (int m = 0; m < SOURCE_WIDTH; m++)
+            rows[SOURCE_WIDTH * k + m] = m < 2 ? sources[k].in[m] + 1 : 0;
 }
 
 static void store_faces(const struct faces *f, uint16_t *rows)
 {
     for (int i = 0; i < f->count; i++) {
-        rows[4 * i] = f->label[i][0];
-        rows[4 * i + 1] = f->label[i][1];
-        rows[4 * i + 2] = f->least[i];
-        rows[4 * i + 3] = f->holes[i];
+        rows[FACE_WIDTH * i] = f->label[i][0];
+        rows[FACE_WIDTH * i + 1] = f->label[i][1];
+        rows[FACE_WIDTH * i + 2] = 0;
+        rows[FACE_WIDTH * i + 3] = f->least[i];
+        rows[FACE_WIDTH * i + 4] = f->holes[i];
     }
 }
 
@@ -129,8 +130,8 @@ static struct plain_answer overlay_maps(const struct map *maps, struct plain_tab
     static struct source sources[EDGES];
     static struct faces faces;
     int vertex_room = smaller(VERTICES, t->vertex_cells / 4);
-    int edge_room = smaller(smaller(EDGES, t->half_cells / 10), t->source_cells / 2);
-    int face_room = smaller(FACES, t->face_cells / 4);
+    int edge_room = smaller(smaller(EDGES, t->half_cells / 10), t->source_cells / SOURCE_WIDTH);
+    int face_room = smaller(FACES, t->face_cells / FACE_WIDTH);
 
     int over = cut_maps(maps, vertex_room, edge_room, &net, sources);
     if (over != 0)

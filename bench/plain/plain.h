@@ -1,16 +1,18 @@
-/* The plain overlay: the same job as the proved one, in C as one would write it without proofs.
+/* The plain overlay: the same job as the proved one with an empty third map, in C as one would write it without proofs.
  *
  * The tables and their rows are those of the proved overlay. A table's length is given in numbers, not in rows:
  *   vertices   4 to a row: X, Y, D, least outgoing half-edge
  *   halves     5 to a row: origin, twin, follower, predecessor, face
- *   sources    2 to a row: edge number + 1 or 0, in the first and in the second map
- *   faces      4 to a row: two labels, least half-edge, hole walks
+ *   sources    3 to a row: edge number + 1 or 0, in the first and in the second map, and 0
+ *   faces      5 to a row: two labels, 0, least half-edge, hole walks
  */
 #ifndef PLAIN_H
 #define PLAIN_H
 
 #include <stddef.h>
 #include <stdint.h>
+
+enum { SOURCE_WIDTH = 3, FACE_WIDTH = 5 };
 
 struct plain_tables {
     int64_t *vertices;

@@ -18,6 +18,8 @@ pub const MAP_EDGES: usize = 300;
 /// A coordinate lies from -REACH to REACH.
 pub const REACH: i64 = 16_000;
 
+/// Maps of an overlay: zones, blocks, bed (02, Ask 13).
+pub const MAPS: usize = 3;
 /// Greatest denominator of an overlay vertex.
 pub const DENOMINATOR: i64 = 2_048_000_000;
 /// Most vertices of an overlay.
@@ -31,10 +33,6 @@ pub const FACES: usize = 1_334;
 pub const OVERLAY_MARK: &[u8; 3] = b"ZOV";
 /// Bytes of an overlay file before its first vertex.
 pub const OVERLAY_HEAD: usize = 11;
-/// Bytes of an edge in an overlay file.
-pub const OVERLAY_EDGE: usize = 16;
-/// Bytes of a face in an overlay file.
-pub const OVERLAY_FACE: usize = 8;
 
 /// Stands for "no half-edge" in the tables.
 pub const NO_HALF_EDGE: u16 = 65_535;

@@ -1,11 +1,13 @@
 //! The command line of the second program.
 
+use second::answer::Refusal;
 use second::check::check;
+use second::limits::MAPS;
 use second::make;
 use second::map::decode;
 use second::meet;
 use second::mend;
-use second::overlay::{overlay_files, Room};
+use second::overlay::{overlay_files, Overlay, Room};
 use second::ovfile::{file_as, file_of, read};
 use second::pack;
 use second::random::Random;
@@ -17,21 +19,24 @@ use std::process::ExitCode;
 const USAGE: &str = "\
 second list DIR                           list the overlay of DIR/zones.zmp and DIR/blocks.zmp
 second check FILE...                      check map files, a line for each
-second overlay ZONES BLOCKS OUT           write the overlay file
+second overlay [BED] ZONES BLOCKS OUT     write the overlay file
 second read FILE [ROOM]                   check and list an overlay file
 second edges FILE                         check an overlay file and list its edges
 second rewrite FILE OUT                   read an overlay file and write it again
 second as-version N FILE OUT              the same, as a file of version N
-second digest ZONES BLOCKS [ROOM]         counts and digest of the overlay's tables
-second kinds                              the kinds of maps and pairs
+second digest [BED] ZONES BLOCKS [ROOM]   counts and digest of the overlay's tables
+second kinds                              the kinds of maps, pairs and sheets
 second make KIND SEED OUT.zmp             make a map file
 second pair KIND SEED DIR                 make DIR/zones.zmp and DIR/blocks.zmp
+second sheet KIND SEED DIR                make them and DIR/bed.zmp
 second set SEED N DIR                     make N pairs of all kinds in turn, in folders of DIR
-second digests DIR                        the digest of the pair in each folder of DIR
-second pack SEED N FILE                   N pairs of all kinds and N/10 clashing ones in one file, with
+second digests DIR                        the digest of the maps in each folder of DIR
+second pack SEED N FILE                   N sheets of all kinds and N/10 clashing ones in one file, with
                                           tables to lend
-second answers FILE                       the answer and digest of each pair of a pack
-second unpack FILE I DIR                  make the maps of pair I of a pack in DIR, and say its ROOM
+second pack SEED N FILE --orders          behind them the same maps in other orders
+second answers FILE                       the answer and digest of each entry of a pack
+second orders FILE                        lay each entry in all six orders, and compare (02, Ask 11)
+second unpack FILE I DIR                  make the maps of entry I of a pack in DIR, and say its ROOM
 second mend IN OUT                        mend a map file, and list what was done
 second mend-pack SEED N FILE              N files to be mended in one file, with the room to lend
 second mend-answers FILE                  the answer for each file of such a pack, and a digest
@@ -44,10 +49,14 @@ second untext FILE.zmp                    the text of a map file
 second tides FILE                         the height of tide of each record
 second make-tides SEED N FILE             make N records of all kinds
 second trial SEED N                       N rounds of small inputs with their answers
-second selftest N SEED                    check the program itself on N pairs, N maps, 100 N tides
+second selftest N SEED                    check the program itself on N sheets, N maps, 100 N tides
 
+BED is `--bed BED`, the third map's file; without it the third map is empty.
 ROOM is `--room V E F` (vertices, edges, faces there is room for) or `--tables V H S F` (rows
 of the lent tables of vertices, half-edges, sources, faces).";
+
+/// The names of a sheet's maps.
+const NAMES: [&str; MAPS] = ["zones", "blocks", "bed"];
 
 /// What a command prints, or why it could not be done.
 type Outcome = Result<String, String>;
@@ -70,18 +79,26 @@ fn main() -> ExitCode {
 
 fn run(args: &[&str]) -> Outcome {
     match args {
-        ["list", dir] => Ok(list(&format!("{dir}/zones.zmp"), &format!("{dir}/blocks.zmp"))),
+        ["list", dir] => {
+            let files = ["zones", "blocks"].map(|name| bytes(&format!("{dir}/{name}.zmp")));
+            Ok(list(&files))
+        }
         ["check", files @ ..] if !files.is_empty() => {
             Ok(files.iter().map(|f| checked(f)).collect())
         }
-        ["overlay", zones, blocks, out] => overlay(zones, blocks, out),
+        ["overlay", "--bed", bed, zones, blocks, out] => overlay(&[zones, blocks, bed], out),
+        ["overlay", zones, blocks, "--bed", bed, out] => overlay(&[zones, blocks, bed], out),
+        ["overlay", zones, blocks, out] => overlay(&[zones, blocks], out),
         ["read", file, room @ ..] => read_file(file, &room_of(room)?),
         ["edges", file] => Ok(edges(file)),
         ["rewrite", file, out] => rewrite(Version::NEWEST, file, out),
         ["as-version", n, file, out] => {
             rewrite(Version::of(number(n)?).ok_or("no such version")?, file, out)
         }
-        ["digest", zones, blocks, room @ ..] => Ok(digest(zones, blocks, &room_of(room)?)),
+        ["digest", "--bed", bed, zones, blocks, room @ ..] => {
+            Ok(digest(&[zones, blocks, bed], &room_of(room)?))
+        }
+        ["digest", zones, blocks, room @ ..] => Ok(digest(&[zones, blocks], &room_of(room)?)),
         ["kinds"] => Ok(kinds()),
         ["make", kind, seed, out] => {
             let file = make::map_file(kind, number(seed)?).ok_or("no such kind of map")?;
@@ -90,9 +107,14 @@ fn run(args: &[&str]) -> Outcome {
         ["set", seed, n, dir] => set(number(seed)?, number(n)?, dir),
         ["digests", dir] => digests(dir),
         ["pack", seed, n, out] => {
-            let pairs = pack::make(number(seed)?, number(n)?);
-            save(out, &pack::bytes(&pairs)).map(|()| String::new())
+            let entries = pack::make(number(seed)?, number(n)?);
+            save(out, &pack::bytes(&entries)).map(|()| String::new())
         }
+        ["pack", seed, n, out, "--orders"] => {
+            let entries = pack::with_orders(pack::make(number(seed)?, number(n)?));
+            save(out, &pack::bytes(&entries)).map(|()| String::new())
+        }
+        ["orders", file] => pack::in_all_orders(&packed(file)?),
         ["answers", file] => answers(file),
         ["unpack", file, i, dir] => unpack(file, number(i)?, dir),
         ["mend", file, out] => mend_file(file, out),
@@ -117,6 +139,7 @@ fn run(args: &[&str]) -> Outcome {
         ["trial", seed, n] => Ok(second::trial::run(number(seed)?, number(n)?)),
         ["selftest", n, seed] => second::selftest::run(number(n)?, number(seed)?),
         ["pair", kind, seed, dir] => pair(kind, number(seed)?, dir),
+        ["sheet", kind, seed, dir] => sheet(kind, number(seed)?, dir),
         _ => Err(USAGE.to_string()),
     }
 }
@@ -146,8 +169,8 @@ fn room_of(args: &[&str]) -> Result<Room, String> {
     }
 }
 
-fn list(zones: &str, blocks: &str) -> String {
-    match overlay_files(&bytes(zones), &bytes(blocks), &Room::FULL) {
+fn list(files: &[Vec<u8>]) -> String {
+    match overlay_files(files, &Room::FULL) {
         Ok(overlay) => overlay.tables.listing(),
         Err(refusal) => format!("{refusal}\n"),
     }
@@ -171,10 +194,14 @@ fn clash(path: &str) -> Outcome {
     }
 }
 
-fn overlay(zones: &str, blocks: &str, out: &str) -> Outcome {
-    let file = overlay_files(&bytes(zones), &bytes(blocks), &Room::FULL)
-        .and_then(|overlay| file_of(&overlay.tables));
-    match file {
+/// The overlay of the maps in some files.
+fn laid(paths: &[&str], room: &Room) -> Result<Overlay, Refusal> {
+    let files: Vec<Vec<u8>> = paths.iter().map(|path| bytes(path)).collect();
+    overlay_files(&files, room)
+}
+
+fn overlay(paths: &[&str], out: &str) -> Outcome {
+    match laid(paths, &Room::FULL).and_then(|overlay| file_of(&overlay.tables)) {
         Ok(file) => save(out, &file).map(|()| format!("{} bytes\n", file.len())),
         Err(refusal) => Ok(format!("{refusal}\n")),
     }
@@ -195,14 +222,15 @@ fn edges(path: &str) -> String {
 }
 
 fn rewrite(version: Version, path: &str, out: &str) -> Outcome {
-    match read(&bytes(path), &Room::FULL).and_then(|tables| file_as(version, &tables)) {
+    let tables = read(&bytes(path), &Room::FULL).map_err(|refusal| refusal.to_string());
+    match tables.and_then(|tables| file_as(version, &tables)) {
         Ok(file) => save(out, &file).map(|()| format!("{} bytes\n", file.len())),
-        Err(refusal) => Ok(format!("{refusal}\n")),
+        Err(why) => Ok(format!("{why}\n")),
     }
 }
 
-fn digest(zones: &str, blocks: &str, room: &Room) -> String {
-    match overlay_files(&bytes(zones), &bytes(blocks), room) {
+fn digest(paths: &[&str], room: &Room) -> String {
+    match laid(paths, room) {
         Ok(overlay) => format!("done {}\n", overlay.tables.digest()),
         Err(refusal) => format!("{refusal}\n"),
     }
@@ -222,17 +250,28 @@ fn kinds() -> String {
     for k in make::pairs::KINDS.iter().chain([&make::pairs::CLASHING]) {
         out += &format!("  {:14} {}\n", k.name, k.about);
     }
-    out + "  any            any of these but the last\n"
+    out += "sheets of three maps:\n";
+    for k in make::triples::KINDS {
+        out += &format!("  {:14} {}\n", k.name, k.about);
+    }
+    out + "  any            any of these, and of the pairs but the last\n"
 }
 
 fn pair(kind: &str, seed: u64, dir: &str) -> Outcome {
-    save_pair(&make::pairs::pair_files(kind, seed).ok_or("no such kind of pair")?, dir)
+    save_maps(&make::pairs::pair_files(kind, seed).ok_or("no such kind of pair")?, dir)
 }
 
-fn save_pair([zones, blocks]: &[Vec<u8>; 2], dir: &str) -> Outcome {
+fn sheet(kind: &str, seed: u64, dir: &str) -> Outcome {
+    save_maps(&make::triples::sheet_files(kind, seed).ok_or("no such kind of sheet")?, dir)
+}
+
+/// Two or three maps in a folder.
+fn save_maps(files: &[Vec<u8>], dir: &str) -> Outcome {
     std::fs::create_dir_all(dir).map_err(|why| format!("{dir}: {why}"))?;
-    save(&format!("{dir}/zones.zmp"), zones)?;
-    save(&format!("{dir}/blocks.zmp"), blocks).map(|()| String::new())
+    for (file, name) in files.iter().zip(NAMES) {
+        save(&format!("{dir}/{name}.zmp"), file)?;
+    }
+    Ok(String::new())
 }
 
 /// Pair i is in the folder `NNNN-KIND` and has the seed SEED + i.
@@ -253,28 +292,32 @@ fn digests(dir: &str) -> Outcome {
     folders.retain(|entry| entry.path().is_dir());
     folders.sort_by_key(|entry| entry.file_name());
     let line = |entry: &std::fs::DirEntry| {
-        let file = |name: &str| entry.path().join(name).to_string_lossy().into_owned();
-        let answer = digest(&file("zones.zmp"), &file("blocks.zmp"), &Room::FULL);
+        let path = |name: &str| entry.path().join(format!("{name}.zmp"));
+        let there = NAMES.iter().filter(|&&name| name != "bed" || path(name).exists());
+        let paths: Vec<String> =
+            there.map(|name| path(name).to_string_lossy().into_owned()).collect();
+        let paths: Vec<&str> = paths.iter().map(String::as_str).collect();
+        let answer = digest(&paths, &Room::FULL);
         format!("{} {answer}", entry.file_name().to_string_lossy())
     };
     Ok(folders.iter().map(line).collect())
 }
 
-fn packed(file: &str) -> Result<Vec<pack::Pair>, String> {
-    pack::parse(&bytes(file)).ok_or(format!("{file}: not a pack of pairs"))
+fn packed(file: &str) -> Result<Vec<pack::Entry>, String> {
+    pack::parse(&bytes(file)).ok_or(format!("{file}: not a pack"))
 }
 
-/// `I ANSWER` for each pair of a pack.
+/// `I ANSWER` for each entry of a pack.
 fn answers(file: &str) -> Outcome {
-    let pairs = packed(file)?;
-    Ok(pairs.iter().enumerate().map(|(i, pair)| format!("{i} {}\n", pair.answer())).collect())
+    let entries = packed(file)?;
+    Ok(entries.iter().enumerate().map(|(i, e)| format!("{i} {}\n", e.answer())).collect())
 }
 
 fn unpack(file: &str, i: usize, dir: &str) -> Outcome {
-    let pairs = packed(file)?;
-    let pair = pairs.get(i).ok_or("no such pair")?;
-    let [v, h, s, f] = pair.rows;
-    save_pair(&pair.files, dir).map(|_| format!("--tables {v} {h} {s} {f}\n"))
+    let entries = packed(file)?;
+    let entry = entries.get(i).ok_or("no such entry")?;
+    let [v, h, s, f] = entry.rows;
+    save_maps(&entry.files, dir).map(|_| format!("--tables {v} {h} {s} {f}\n"))
 }
 
 /// The file is written where it is not refused.

@@ -16,10 +16,6 @@ impl Natural {
         Natural { digits }
     }
 
-    pub fn is_zero(&self) -> bool {
-        self.digits.is_empty()
-    }
-
     fn is_one(&self) -> bool {
         self.digits == [1]
     }

@@ -1,4 +1,4 @@
-//! The overlay of two maps: vertices, pieces, labels, faces, tables, room.
+//! The overlay of a list of maps: vertices, pieces, labels, faces, tables, room.
 
 use crate::answer::Refusal;
 use crate::check::check;
@@ -8,7 +8,7 @@ use crate::locate::{middle, Roofs};
 use crate::map::Map;
 use crate::point::Point;
 use crate::segment::{shared, Segment, Shared};
-use crate::tables::{FaceRow, HalfEdgeRow, Sources, Tables, VertexRow};
+use crate::tables::{FaceRow, HalfEdgeRow, Labels, Sources, Tables, VertexRow};
 use std::collections::{BTreeMap, HashMap};
 
 /// How many vertices, edges and faces there is room for.
@@ -33,58 +33,60 @@ impl Room {
     }
 }
 
-/// An overlay: its tables, and the pair of each half-edge.
+/// An overlay: its tables, and the labels of each half-edge.
 pub struct Overlay {
     pub tables: Tables,
-    pub pairs: Vec<(u16, u16)>,
+    pub labels: Vec<Labels>,
 }
 
-/// The overlay of two map files in the given room. Refusals of the maps come first.
-pub fn overlay_files(first: &[u8], second: &[u8], room: &Room) -> Result<Overlay, Refusal> {
-    let first = check(first).map_err(|r| r.in_map(1))?;
-    let second = check(second).map_err(|r| r.in_map(2))?;
-    overlay(&first, &second, room)
+/// The overlay of map files in the given room. Refusals of the maps come first, in their order.
+pub fn overlay_files<F: AsRef<[u8]>>(files: &[F], room: &Room) -> Result<Overlay, Refusal> {
+    let mut maps = Vec::new();
+    for (number, file) in (1..).zip(files) {
+        maps.push(check(file.as_ref()).map_err(|refusal| refusal.in_map(number))?);
+    }
+    overlay(&maps.iter().collect::<Vec<_>>(), room)
 }
 
-/// The overlay of two checked maps in the given room.
-pub fn overlay(first: &Map, second: &Map, room: &Room) -> Result<Overlay, Refusal> {
-    let cuts = cuts(first, second);
+/// The overlay of checked maps, at most [`MAPS`] of them, in the given room. A map that is not there
+/// leaves no source and the label 0.
+pub fn overlay(maps: &[&Map], room: &Room) -> Result<Overlay, Refusal> {
+    let cuts = cuts(maps);
     let mut points: Vec<Point> = cuts.iter().flatten().flatten().copied().collect();
     points.sort_unstable();
     points.dedup();
     if points.len() > room.vertices {
         return Err(Refusal::new(11, 1));
     }
-    let pieces = pieces([first, second], cuts, &points);
+    let pieces = pieces(maps, cuts, &points);
     if pieces.len() > room.edges {
         return Err(Refusal::new(11, 2));
     }
-    let done = finish([first, second], points, pieces);
+    let done = finish(maps, points, pieces);
     if done.tables.faces.len() > room.faces {
         return Err(Refusal::new(11, 3));
     }
     Ok(done)
 }
 
-/// For each edge of each map the points at which it is cut, its ends included. A vertex of the
-/// other map on it is the end of an edge there, so it is found as a meeting with that edge.
-fn cuts(first: &Map, second: &Map) -> [Vec<Vec<Point>>; 2] {
-    let (s, t) = (first.segments(), second.segments());
-    let ends = |all: &[Segment]| all.iter().map(|s| s.ends().to_vec()).collect::<Vec<_>>();
-    let mut cuts = [ends(&s), ends(&t)];
-    for i in 0..s.len() {
-        for j in 0..t.len() {
-            let mut cut = |p: Point| {
-                cuts[0][i].push(p);
-                cuts[1][j].push(p);
-            };
-            match shared(&s[i], &t[j]) {
-                Shared::Nothing => {}
-                Shared::At(p) => cut(p),
-                Shared::Stretch(p, q) => {
-                    cut(p);
-                    cut(q);
-                }
+/// For each edge of each map the points at which it is cut, its ends included: the ends of what it
+/// has in common with each edge of each other map. A vertex of another map on it is the end of an
+/// edge there. Where it has a stretch in common with another edge and a third edge meets both
+/// within it, that one cuts it too, being of another map or having an end there.
+fn cuts(maps: &[&Map]) -> Vec<Vec<Vec<Point>>> {
+    let segments: Vec<Vec<Segment>> = maps.iter().map(|map| map.segments()).collect();
+    let ends = |all: &Vec<Segment>| all.iter().map(|s| s.ends().to_vec()).collect();
+    let mut cuts: Vec<Vec<Vec<Point>>> = segments.iter().map(ends).collect();
+    for other in 1..maps.len() {
+        for (m, i) in (0..other).flat_map(|m| (0..segments[m].len()).map(move |i| (m, i))) {
+            for j in 0..segments[other].len() {
+                let points = match shared(&segments[m][i], &segments[other][j]) {
+                    Shared::Nothing => vec![],
+                    Shared::At(p) => vec![p],
+                    Shared::Stretch(p, q) => vec![p, q],
+                };
+                cuts[m][i].extend(&points);
+                cuts[other][j].extend(&points);
             }
         }
     }
@@ -100,8 +102,8 @@ struct Piece {
 
 /// The pieces of all edges by lower and upper vertex number, each once.
 fn pieces(
-    maps: [&Map; 2],
-    cuts: [Vec<Vec<Point>>; 2],
+    maps: &[&Map],
+    cuts: Vec<Vec<Vec<Point>>>,
     points: &[Point],
 ) -> BTreeMap<(usize, usize), Piece> {
     let number: HashMap<Point, usize> = points.iter().copied().zip(0..).collect();
@@ -115,12 +117,9 @@ fn pieces(
             let rises = y > 0 || (y == 0 && x > 0);
             let way = if rises { (x, y) } else { (-x, -y) };
             for pair in on.windows(2) {
-                let sources = (None, None);
+                let sources = [None; MAPS];
                 let piece = pieces.entry((pair[0], pair[1])).or_insert(Piece { sources, way });
-                match m {
-                    0 => piece.sources.0 = Some(k as u16),
-                    _ => piece.sources.1 = Some(k as u16),
-                }
+                piece.sources[m] = Some(k as u16);
             }
         }
     }
@@ -128,14 +127,14 @@ fn pieces(
 }
 
 /// The tables, once vertices and pieces are known.
-fn finish(maps: [&Map; 2], points: Vec<Point>, pieces: BTreeMap<(usize, usize), Piece>) -> Overlay {
+fn finish(maps: &[&Map], points: Vec<Point>, pieces: BTreeMap<(usize, usize), Piece>) -> Overlay {
     let sources: Vec<Sources> = pieces.values().map(|piece| piece.sources).collect();
     let graph = Graph {
         points,
         ends: pieces.keys().copied().collect(),
         ways: pieces.values().map(|piece| piece.way).collect(),
     };
-    let pairs = pairs(maps, &graph, &sources);
+    let labels = labels(maps, &graph, &sources);
     let followers = graph.followers(&graph.fans());
     let faces = faces(&graph, &followers);
     let mut half_edges: Vec<HalfEdgeRow> = (0..followers.len())
@@ -152,9 +151,9 @@ fn finish(maps: [&Map; 2], points: Vec<Point>, pieces: BTreeMap<(usize, usize), 
     }
     let face_row = |(outer, &holes): (&Option<usize>, &usize)| {
         let least = outer.map(|w| faces.walks[w][0]);
-        let (first, second) = least.map_or((0, 0), |h| pairs[h]);
+        let labels = least.map_or([0; MAPS], |h| labels[h]);
         let least = least.map_or(NO_HALF_EDGE, |h| h as u16);
-        FaceRow { first, second, least, holes: holes as u16 }
+        FaceRow { labels, least, holes: holes as u16 }
     };
     let vertex_row = |p: &Point| VertexRow { x: p.x, y: p.y, d: p.d, out: NO_HALF_EDGE };
     let mut tables = Tables {
@@ -164,28 +163,29 @@ fn finish(maps: [&Map; 2], points: Vec<Point>, pieces: BTreeMap<(usize, usize), 
         faces: faces.outer.iter().zip(&faces.holes).map(face_row).collect(),
     };
     tables.set_least_outgoing();
-    Overlay { tables, pairs }
+    Overlay { tables, labels }
 }
 
-/// The pair of each half-edge.
-fn pairs(maps: [&Map; 2], graph: &Graph, sources: &[Sources]) -> Vec<(u16, u16)> {
-    let roofs = maps.map(Roofs::new);
-    let mut pairs = Vec::with_capacity(2 * sources.len());
-    for (k, sources) in sources.iter().enumerate() {
-        let (lower, upper) = graph.ends[k];
-        let spot = middle(&graph.points[lower], &graph.points[upper]);
-        let both = |m: usize, source: Option<u16>| match source {
-            Some(edge) => upward_labels(maps[m], edge as usize),
-            None => {
-                let label = roofs[m].label(&spot);
-                (label, label)
-            }
-        };
-        let (first, second) = (both(0, sources.0), both(1, sources.1));
-        pairs.push((first.0, second.0));
-        pairs.push((first.1, second.1));
+/// The labels of each half-edge, map by map.
+fn labels(maps: &[&Map], graph: &Graph, sources: &[Sources]) -> Vec<Labels> {
+    let mut labels = vec![[0; MAPS]; 2 * sources.len()];
+    for (m, map) in maps.iter().enumerate() {
+        let roofs = Roofs::new(map);
+        for (k, sources) in sources.iter().enumerate() {
+            let (lower, upper) = graph.ends[k];
+            let (left, right) = match sources[m] {
+                Some(edge) => upward_labels(map, edge as usize),
+                None => {
+                    let spot = middle(&graph.points[lower], &graph.points[upper]);
+                    let label = roofs.label(&spot);
+                    (label, label)
+                }
+            };
+            labels[2 * k][m] = left;
+            labels[2 * k + 1][m] = right;
+        }
     }
-    pairs
+    labels
 }
 
 /// The labels left and right of a map's edge for one who goes from its lower end to its upper.

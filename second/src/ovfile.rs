@@ -31,16 +31,16 @@ impl Counts {
     pub fn length(&self, version: Version) -> usize {
         OVERLAY_HEAD
             + version.vertex() * self.vertices
-            + OVERLAY_EDGE * self.edges
-            + OVERLAY_FACE * self.faces
+            + 2 * version.edge_numbers() * self.edges
+            + 2 * version.face_numbers() * self.faces
     }
 }
 
-/// An edge record of a file, its fields as they stand.
+/// An edge record of a file, its fields as they stand; a source that the version has not is 0.
 #[derive(Clone, Copy, PartialEq, Eq, Debug)]
 struct Record {
     ends: [u16; 2],
-    sources: [u16; 2],
+    sources: [u16; MAPS],
     followers: [u16; 2],
     faces: [u16; 2],
 }
@@ -57,7 +57,7 @@ fn unsound(records: &[Record], counts: &Counts) -> Option<usize> {
         let [lower, upper] = record.ends;
         let mut sound = lower < upper
             && (upper as usize) < counts.vertices
-            && record.sources != [0, 0]
+            && record.sources != [0; MAPS]
             && record.faces.iter().all(|&f| (f as usize) < counts.faces);
         for (follower, end) in record.followers.into_iter().zip([upper, lower]) {
             let known = (follower as usize) < taken.len();
@@ -125,7 +125,7 @@ fn record((rows, sources): (&[HalfEdgeRow], &Sources)) -> Record {
     let stored = |source: Option<u16>| source.map_or(0, |k| k.wrapping_add(1));
     Record {
         ends: [rows[0].origin, rows[1].origin],
-        sources: [stored(sources.0), stored(sources.1)],
+        sources: sources.map(stored),
         followers: [rows[0].follower, rows[1].follower],
         faces: [rows[0].face, rows[1].face],
     }
@@ -138,8 +138,7 @@ fn rows_linked(half_edges: &[HalfEdgeRow], sources: &Sources, k: usize) -> bool 
         let before = half_edges.get(row.predecessor as usize);
         row.twin as usize == h ^ 1 && before.is_some_and(|b| b.follower as usize == h)
     };
-    let last = Some(u16::MAX);
-    sources.0 != last && sources.1 != last && linked(2 * k) && linked(2 * k + 1)
+    !sources.contains(&Some(u16::MAX)) && linked(2 * k) && linked(2 * k + 1)
 }
 
 /// The bytes of a file that is not refused.
@@ -155,12 +154,13 @@ fn file_bytes(version: Version, tables: &Tables, records: &[Record], counts: &Co
         out.extend_from_slice(&(row.d as u32).to_le_bytes());
     }
     for r in records {
-        for field in [r.ends, r.sources, r.followers, r.faces].concat() {
+        let sources = &r.sources[..version.maps];
+        for field in [&r.ends, sources, &r.followers, &r.faces].concat() {
             out.extend_from_slice(&field.to_le_bytes());
         }
     }
     for row in &tables.faces[..counts.faces] {
-        for field in [row.first, row.second, row.least, row.holes] {
+        for field in [&row.labels[..version.maps], &[row.least, row.holes]].concat() {
             out.extend_from_slice(&field.to_le_bytes());
         }
     }
@@ -169,13 +169,17 @@ fn file_bytes(version: Version, tables: &Tables, records: &[Record], counts: &Co
 
 /// The whole of the tables as a file.
 pub fn file_of(tables: &Tables) -> Result<Vec<u8>, Refusal> {
-    file_as(Version::NEWEST, tables)
+    let counts = Counts::of(tables);
+    write(tables, counts, counts.length(Version::NEWEST))
 }
 
-/// The whole of the tables as a file of any version, if it holds them.
-pub fn file_as(version: Version, tables: &Tables) -> Result<Vec<u8>, Refusal> {
+/// The whole of the tables as a file of any version, if it holds them: nothing of a map is left out.
+pub fn file_as(version: Version, tables: &Tables) -> Result<Vec<u8>, String> {
+    if !version.has_all_maps(tables) {
+        return Err(format!("version {} has {} maps only", version.number, version.maps));
+    }
     let counts = Counts::of(tables);
-    write_as(version, tables, counts, counts.length(version))
+    write_as(version, tables, counts, counts.length(version)).map_err(|refusal| refusal.to_string())
 }
 
 /// The refusal of the reader, or the tables.
@@ -194,8 +198,10 @@ pub fn read(bytes: &[u8], room: &Room) -> Result<Tables, Refusal> {
         return Err(Refusal::new(4, 0));
     }
     let (vertices, rest) = bytes[OVERLAY_HEAD..].split_at(version.vertex() * counts.vertices);
-    let (edges, faces) = rest.split_at(OVERLAY_EDGE * counts.edges);
-    let records: Vec<Record> = numbers(edges).chunks(8).map(stored_record).collect();
+    let (edges, faces) = rest.split_at(2 * version.edge_numbers() * counts.edges);
+    let edges = numbers(edges);
+    let records = edges.chunks(version.edge_numbers());
+    let records: Vec<Record> = records.map(|n| stored_record(version, n)).collect();
     if let Some(k) = unsound(&records, &counts) {
         return Err(Refusal::new(21, k));
     }
@@ -208,18 +214,27 @@ pub fn read(bytes: &[u8], room: &Room) -> Result<Tables, Refusal> {
         vertices: vertices.chunks(version.vertex()).map(|b| stored_vertex(version, b)).collect(),
         half_edges: half_edges(&records),
         sources: records.iter().map(stored_sources).collect(),
-        faces: numbers(faces).chunks(4).map(stored_face).collect(),
+        faces: numbers(faces)
+            .chunks(version.face_numbers())
+            .map(|n| stored_face(version, n))
+            .collect(),
     };
     tables.set_least_outgoing();
     Ok(tables)
 }
 
-fn stored_record(n: &[u16]) -> Record {
+/// A number for each map: those that are stored, then 0.
+fn of_each_map(stored: &[u16]) -> [u16; MAPS] {
+    std::array::from_fn(|m| stored.get(m).copied().unwrap_or(0))
+}
+
+fn stored_record(version: Version, n: &[u16]) -> Record {
+    let (sources, rest) = n[2..].split_at(version.maps);
     Record {
         ends: [n[0], n[1]],
-        sources: [n[2], n[3]],
-        followers: [n[4], n[5]],
-        faces: [n[6], n[7]],
+        sources: of_each_map(sources),
+        followers: [rest[0], rest[1]],
+        faces: [rest[2], rest[3]],
     }
 }
 
@@ -233,11 +248,12 @@ fn stored_vertex(version: Version, bytes: &[u8]) -> VertexRow {
 }
 
 fn stored_sources(record: &Record) -> Sources {
-    (record.sources[0].checked_sub(1), record.sources[1].checked_sub(1))
+    record.sources.map(|stored| stored.checked_sub(1))
 }
 
-fn stored_face(n: &[u16]) -> FaceRow {
-    FaceRow { first: n[0], second: n[1], least: n[2], holes: n[3] }
+fn stored_face(version: Version, n: &[u16]) -> FaceRow {
+    let (labels, rest) = n.split_at(version.maps);
+    FaceRow { labels: of_each_map(labels), least: rest[0], holes: rest[1] }
 }
 
 /// The half-edge rows of sound records.

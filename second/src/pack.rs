@@ -1,49 +1,89 @@
-//! Many pairs in one file, each with the tables that are lent for its overlay.
+//! Many sheets in one file, each with the tables that are lent for its overlay.
 //!
-//! A pack is a number of pairs, then the pairs. Each has six numbers, the rows of the lent tables of
-//! vertices, half-edges, sources and faces and the lengths of the two map files, and then the two
-//! files. All numbers have 16 bits, low byte first.
+//! A pack is a number of entries, then the entries. Each has seven numbers, the rows of the lent
+//! tables of vertices, half-edges, sources and faces and the lengths of the three map files, and
+//! then the three files. All numbers have 16 bits, low byte first.
 
-use crate::limits::{EDGES, FACES, VERTICES};
-use crate::make::pairs::{pair_files, CLASHING, KINDS};
+use crate::limits::{EDGES, FACES, MAPS, VERTICES};
+use crate::make::pairs::CLASHING;
+use crate::make::triples::{names, sheet_files, Sheet};
+use crate::map::Map;
 use crate::overlay::{overlay_files, Room};
 use crate::random::Random;
+use crate::selftest::orders::{self, Laid};
 
-/// A pair of a pack: the rows of the four lent tables, and the two files.
-pub struct Pair {
+/// An entry of a pack: the rows of the four lent tables, and the three files.
+#[derive(Clone)]
+pub struct Entry {
     pub rows: [u16; 4],
-    pub files: [Vec<u8>; 2],
+    pub files: Sheet,
 }
 
-impl Pair {
+impl Entry {
+    pub fn room(&self) -> Room {
+        let [v, h, s, f] = self.rows.map(usize::from);
+        Room::lent(v, h, s, f)
+    }
+
     /// `done V E F DIGEST` or the refusal with its other edge, of the overlay in the lent tables.
     pub fn answer(&self) -> String {
-        let [v, h, s, f] = self.rows.map(usize::from);
-        match overlay_files(&self.files[0], &self.files[1], &Room::lent(v, h, s, f)) {
+        match overlay_files(&self.files, &self.room()) {
             Ok(overlay) => format!("done {}", overlay.tables.digest()),
             Err(refusal) => refusal.whole(),
         }
     }
 }
 
-/// n pairs of all kinds in turn, and a tenth as many with several clashes; pair i has the seed
+/// n entries of all kinds in turn, and a tenth as many with several clashes; entry i has the seed
 /// `seed` + i. Every third is lent tables that just suffice or are too short.
-pub fn make(seed: u64, n: u16) -> Vec<Pair> {
-    let pair = |i: u16| {
+pub fn make(seed: u64, n: u16) -> Vec<Entry> {
+    let names = names();
+    let entry = |i: u16| {
         let seed = seed.wrapping_add(i as u64);
-        let kind = if i < n { KINDS[i as usize % KINDS.len()].name } else { CLASHING.name };
-        let files = pair_files(kind, seed).expect("a kind of pair");
+        let kind = if i < n { names[i as usize % names.len()] } else { CLASHING.name };
+        let files = sheet_files(kind, seed).expect("a kind");
         let full = [VERTICES, 2 * EDGES, EDGES, FACES].map(|rows| rows as u16);
-        let rows =
-            if i % 3 == 2 { near(&mut Random::new(seed, "pack"), &files, full) } else { full };
-        Pair { rows, files }
+        let little = Random::new(seed, "room").once_in(3);
+        let rows = if little { near(&mut Random::new(seed, "pack"), &files, full) } else { full };
+        Entry { rows, files }
     };
-    (0..n + n / 10).map(pair).collect()
+    (0..n + n / 10).map(entry).collect()
+}
+
+/// The entries, and behind them the same files in other orders with the same rows: the first two
+/// exchanged where the third map is empty, and all five other orders where it is not.
+pub fn with_orders(entries: Vec<Entry>) -> Vec<Entry> {
+    let empty = Map::default().bytes();
+    let others = |entry: &Entry| -> Vec<Entry> {
+        let two = entry.files[MAPS - 1] == empty;
+        let orders = orders::all().into_iter().skip(1);
+        let orders = orders.filter(|order| !two || order[MAPS - 1] == MAPS - 1);
+        orders
+            .map(|order| Entry { rows: entry.rows, files: order.map(|m| entry.files[m].clone()) })
+            .collect()
+    };
+    let behind: Vec<Entry> = entries.iter().flat_map(others).collect();
+    [entries, behind].concat()
+}
+
+/// Lays each entry in all six orders and holds the answers to each other (02, Ask 11): how many were
+/// done, refused for room and refused for a map.
+pub fn in_all_orders(entries: &[Entry]) -> Result<String, String> {
+    let (mut done, mut no_room, mut bad) = (0, 0, 0);
+    for (i, entry) in entries.iter().enumerate() {
+        match orders::six(&entry.files, &entry.room()).map_err(|what| format!("{i}: {what}"))? {
+            Laid::Done => done += 1,
+            Laid::NoRoom => no_room += 1,
+            Laid::Bad => bad += 1,
+        }
+    }
+    let counts = format!("{done} done, {no_room} without room, {bad} with a bad map");
+    Ok(format!("{} entries in six orders: {counts}; no fault found\n", entries.len()))
 }
 
 /// Rows at or next to what the overlay asks, in one of the tables or in all.
-fn near(random: &mut Random, files: &[Vec<u8>; 2], full: [u16; 4]) -> [u16; 4] {
-    let Ok(overlay) = overlay_files(&files[0], &files[1], &Room::FULL) else {
+fn near(random: &mut Random, files: &Sheet, full: [u16; 4]) -> [u16; 4] {
+    let Ok(overlay) = overlay_files(files, &Room::FULL) else {
         return full.map(|rows| random.below(rows as usize + 1) as u16);
     };
     let t = overlay.tables;
@@ -59,20 +99,20 @@ fn near(random: &mut Random, files: &[Vec<u8>; 2], full: [u16; 4]) -> [u16; 4] {
     rows
 }
 
-pub fn bytes(pairs: &[Pair]) -> Vec<u8> {
-    let mut out = (pairs.len() as u16).to_le_bytes().to_vec();
-    for pair in pairs {
-        let lengths = [pair.files[0].len() as u16, pair.files[1].len() as u16];
-        for number in pair.rows.into_iter().chain(lengths) {
+pub fn bytes(entries: &[Entry]) -> Vec<u8> {
+    let mut out = (entries.len() as u16).to_le_bytes().to_vec();
+    for entry in entries {
+        let lengths = entry.files.each_ref().map(|file| file.len() as u16);
+        for number in entry.rows.into_iter().chain(lengths) {
             out.extend(number.to_le_bytes());
         }
-        pair.files.iter().for_each(|file| out.extend(file));
+        entry.files.iter().for_each(|file| out.extend(file));
     }
     out
 }
 
-/// The pairs of a pack, or none where the bytes are no pack.
-pub fn parse(bytes: &[u8]) -> Option<Vec<Pair>> {
+/// The entries of a pack, or none where the bytes are no pack.
+pub fn parse(bytes: &[u8]) -> Option<Vec<Entry>> {
     let mut rest = bytes;
     let mut take = |n: usize| {
         let (part, more) = rest.split_at_checked(n)?;
@@ -81,13 +121,13 @@ pub fn parse(bytes: &[u8]) -> Option<Vec<Pair>> {
     };
     let number = |part: &[u8]| u16::from_le_bytes([part[0], part[1]]);
     let count = number(&take(2)?);
-    let mut pairs = Vec::new();
+    let mut entries = Vec::new();
     for _ in 0..count {
-        let head = take(12)?;
+        let head = take(2 * (4 + MAPS))?;
         let field = |i: usize| number(&head[2 * i..]);
-        let rows = [field(0), field(1), field(2), field(3)];
-        let files = [take(field(4) as usize)?, take(field(5) as usize)?];
-        pairs.push(Pair { rows, files });
+        let rows = [0, 1, 2, 3].map(field);
+        let files = [take(field(4) as usize)?, take(field(5) as usize)?, take(field(6) as usize)?];
+        entries.push(Entry { rows, files });
     }
-    rest.is_empty().then_some(pairs)
+    rest.is_empty().then_some(entries)
 }

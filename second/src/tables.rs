@@ -1,6 +1,6 @@
 //! The tables of an overlay, their listing and their digest.
 
-use crate::limits::NO_HALF_EDGE;
+use crate::limits::{MAPS, NO_HALF_EDGE};
 use std::fmt::Write;
 
 /// A vertex row: the point (x / d, y / d) and the least half-edge out of it.
@@ -22,14 +22,16 @@ pub struct HalfEdgeRow {
     pub face: u16,
 }
 
-/// The edge number in the first and in the second map.
-pub type Sources = (Option<u16>, Option<u16>);
+/// The edge number in each map.
+pub type Sources = [Option<u16>; MAPS];
 
-/// A face row: the pair, the least outer half-edge and the number of hole walks.
+/// The label in each map: a triple.
+pub type Labels = [u16; MAPS];
+
+/// A face row: the triple, the least outer half-edge and the number of hole walks.
 #[derive(Clone, Copy, PartialEq, Eq, Debug)]
 pub struct FaceRow {
-    pub first: u16,
-    pub second: u16,
+    pub labels: Labels,
     pub least: u16,
     pub holes: u16,
 }
@@ -50,9 +52,8 @@ impl Tables {
 
     /// The number of faces other than 0 that lie in a block and in no zone.
     pub fn gaps(&self) -> usize {
-        let blocks = self.faces.iter().skip(1).filter(|f| f.second > 0).count();
-        let zoned = self.faces.iter().skip(1).filter(|f| f.second > 0 && f.first > 0).count();
-        blocks - zoned
+        let blocks = self.faces.iter().skip(1).filter(|f| f.labels[1] > 0);
+        blocks.filter(|f| f.labels[0] == 0).count()
     }
 
     /// Works out each vertex's least outgoing half-edge from the origins; an origin that names
@@ -68,7 +69,7 @@ impl Tables {
         }
     }
 
-    /// The listing: the counts, a line for each face, the number of gaps.
+    /// The listing: the counts, a line for each face with its first two labels, the number of gaps.
     pub fn listing(&self) -> String {
         let mut out = format!("{}\n", self.counts());
         for (f, face) in self.faces.iter().enumerate() {
@@ -76,22 +77,27 @@ impl Tables {
                 0 => "-".to_string(),
                 _ => face.least.to_string(),
             };
-            let line = format!("face {f} {} {} {least} {}", face.first, face.second, face.holes);
+            let [first, second, ..] = face.labels;
+            let line = format!("face {f} {first} {second} {least} {}", face.holes);
             writeln!(out, "{line}").expect("a string takes all text");
         }
         out + &format!("gaps {}\n", self.gaps())
     }
 
-    /// A line for each edge: its number, its lower and its upper vertex, and its number in the
-    /// first map, the second or both. An edge of neither has none.
+    /// A line for each edge: its number, its lower and its upper vertex, and its number in each map
+    /// from which it comes. An edge of none has no line.
     pub fn edge_lines(&self) -> String {
         let line = |(k, sources): (usize, &Sources)| {
             let [lower, upper] = [2 * k, 2 * k + 1].map(|h| self.half_edges[h].origin);
             let from = match *sources {
-                (Some(a), Some(b)) => format!("both {a} {b}"),
-                (Some(a), None) => format!("first {a}"),
-                (None, Some(b)) => format!("second {b}"),
-                (None, None) => return String::new(),
+                [Some(a), Some(b), Some(c)] => format!("all {a} {b} {c}"),
+                [Some(a), Some(b), None] => format!("both {a} {b}"),
+                [None, None, None] => return String::new(),
+                _ => {
+                    let names = ["first", "second", "third"].iter().zip(sources);
+                    let word = |(name, k): (&&str, &Option<u16>)| k.map(|k| format!("{name} {k}"));
+                    names.filter_map(word).collect::<Vec<_>>().join(" ")
+                }
             };
             format!("edge {k} {lower} {upper} {from}\n")
         };
@@ -122,12 +128,12 @@ impl Tables {
             }
         }
         for sources in &self.sources {
-            for source in [sources.0, sources.1] {
+            for source in sources {
                 sum.add(&source.map_or(0, |k| k as u32 + 1).to_le_bytes());
             }
         }
         for row in &self.faces {
-            for field in [row.first, row.second, row.least, row.holes] {
+            for field in row.labels.into_iter().chain([row.least, row.holes]) {
                 sum.add(&field.to_le_bytes());
             }
         }

@@ -2,13 +2,15 @@
 //! definitions against them. README.md has the form of the lines.
 
 use crate::check::check;
-use crate::literal::slip::{OF_MAPS, OF_PAIRS};
+use crate::literal::slip::{OF_MAPS, OF_PAIRS, OF_TRIPLES};
 use crate::make::damage::{damage_map, KINDS};
-use crate::make::few::{diagonals, few, two_few};
+use crate::make::few::{diagonals, few, three_few, two_few};
 use crate::make::meets;
 use crate::make::overlay_damage;
 use crate::make::table_damage::{self, Order};
-use crate::make::telling::{telling_map, telling_pair};
+use crate::make::telling::{telling_map, telling_maps};
+use crate::make::triples::Sheet;
+use crate::map::Map;
 use crate::meet::{asked, parse, Ask, ASK};
 use crate::overlay::{overlay_files, Overlay, Room};
 use crate::ovfile::{file_of, read, write};
@@ -25,7 +27,7 @@ const MEETS: usize = 20;
 /// No file of a map line is longer.
 const LONGEST: usize = 260;
 
-/// The lines of n rounds: a pair, five maps, a room, a file read, a file written, and of all kinds
+/// The lines of n rounds: a pair, three maps at once, five maps, a room, a file read, a file written, and of all kinds
 /// of two edges how they meet.
 pub fn run(seed: u64, n: usize) -> String {
     let mut out = String::new();
@@ -33,8 +35,8 @@ pub fn run(seed: u64, n: usize) -> String {
         let mut random = Random::new(seed.wrapping_add(round as u64), "trial");
         let files = pair(&mut random, round);
         let mut line = |text: String| writeln!(out, "{text}").expect("a string takes all text");
-        let done = overlay_files(&files[0], &files[1], &Room::FULL);
-        line(pair_line(&files, done));
+        line(laid_line(&files));
+        line(laid_line(&three(&mut random, round)));
         for i in 0..MAPS {
             let file = map(&mut random, round * MAPS + i);
             line(map_line(&file));
@@ -63,12 +65,32 @@ fn pair(random: &mut Random, round: usize) -> [Vec<u8>; 2] {
     let [first, second] = match round % 4 {
         0 if round % 16 == 8 => diagonals(random),
         0 => two_few(random),
-        _ => telling_pair(random, OF_PAIRS[(round - round / 4 - 1) % OF_PAIRS.len()], two_few),
+        _ => telling_maps(random, OF_PAIRS[(round - round / 4 - 1) % OF_PAIRS.len()], two_few),
     };
     let mut files = [first.bytes(), second.bytes()];
     if round % 8 == 4 {
         let kind = random.below(KINDS.len());
         files[random.below(2)] = damaged(random, kind);
+    }
+    files
+}
+
+/// The three maps of a round, one of three made to show a slip that needs three; of four sheets one
+/// has a damaged file, of eight two.
+fn three(random: &mut Random, round: usize) -> Sheet {
+    let maps = match round % 3 {
+        0 => three_few(random),
+        _ => telling_maps(random, OF_TRIPLES[round / 3 % OF_TRIPLES.len()], three_few),
+    };
+    let mut files = maps.map(|map| map.bytes());
+    let bad: &[usize] = match round % 8 {
+        2 => &[2],
+        6 => random.pick(&[&[1, 2], &[0, 2], &[0, 1]]),
+        _ => &[],
+    };
+    for &m in bad {
+        let kind = random.below(KINDS.len());
+        files[m] = damaged(random, kind);
     }
     files
 }
@@ -96,12 +118,18 @@ fn damaged(random: &mut Random, kind: usize) -> Vec<u8> {
     }
 }
 
-fn pair_line(files: &[Vec<u8>; 2], done: Result<Overlay, crate::answer::Refusal>) -> String {
+/// The files, and their overlay with its file.
+fn laid_line(files: &[Vec<u8>]) -> String {
+    let done = overlay_files(files, &Room::FULL);
     let answer = match done.and_then(|o| file_of(&o.tables).map(|file| (o, file))) {
         Ok((overlay, file)) => format!("done {} {}", overlay.tables.digest(), hex(&file)),
         Err(refusal) => refusal.whole(),
     };
-    format!("pair {} {} {answer}", hex(&files[0]), hex(&files[1]))
+    format!("pair {} {answer}", all_hex(files))
+}
+
+fn all_hex(files: &[Vec<u8>]) -> String {
+    files.iter().map(|file| hex(file)).collect::<Vec<_>>().join(" ")
 }
 
 fn map_line(file: &[u8]) -> String {
@@ -127,8 +155,8 @@ fn rows(random: &mut Random, needs: [usize; 4]) -> [usize; 4] {
 }
 
 /// The rows that an overlay needs.
-fn needs(files: &[Vec<u8>; 2]) -> [usize; 4] {
-    match overlay_files(&files[0], &files[1], &Room::FULL) {
+fn needs(files: &Sheet) -> [usize; 4] {
+    match overlay_files(files, &Room::FULL) {
         Ok(Overlay { tables: t, .. }) => {
             [t.vertices.len(), t.half_edges.len(), t.edges(), t.faces.len()]
         }
@@ -141,21 +169,30 @@ fn words(rows: [usize; 4]) -> String {
 }
 
 fn room_line(random: &mut Random, round: usize) -> String {
-    let files = pair(random, round);
+    let files = match round % 2 {
+        0 => three(random, round),
+        _ => {
+            let [zones, blocks] = pair(random, round);
+            [zones, blocks, Map::default().bytes()]
+        }
+    };
     let rows = rows(random, needs(&files));
     let room = Room::lent(rows[0], rows[1], rows[2], rows[3]);
-    let answer = match overlay_files(&files[0], &files[1], &room) {
+    let answer = match overlay_files(&files, &room) {
         Ok(overlay) => format!("done {}", overlay.tables.digest()),
         Err(refusal) => refusal.whole(),
     };
-    format!("room {} {} {} {answer}", hex(&files[0]), hex(&files[1]), words(rows))
+    format!("room {} {} {answer}", all_hex(&files), words(rows))
 }
 
 /// The tables of a small overlay, and its file.
 fn small_overlay(random: &mut Random) -> (Tables, Vec<u8>) {
     loop {
-        let [first, second] = two_few(random).map(|map| map.bytes());
-        let done = overlay_files(&first, &second, &Room::FULL).map(|o| o.tables);
+        let files: Vec<Vec<u8>> = match random.once_in(2) {
+            true => two_few(random).iter().map(Map::bytes).collect(),
+            false => three_few(random).iter().map(Map::bytes).collect(),
+        };
+        let done = overlay_files(&files, &Room::FULL).map(|o| o.tables);
         if let Ok(both) = done.and_then(|t| file_of(&t).map(|file| (t, file))) {
             return both;
         }
@@ -172,7 +209,10 @@ fn read_line(random: &mut Random) -> String {
     let rows = if random.once_in(4) { rows(random, full) } else { full.map(|n| n + 1) };
     let room = Room::lent(rows[0], rows[1], rows[2], rows[3]);
     let answer = match read(&file, &room) {
-        Ok(tables) => format!("done {}", tables.digest()),
+        Ok(tables) => {
+            let newest = file_of(&tables).expect("what was read is written");
+            format!("done {} {}", tables.digest(), hex(&newest))
+        }
         Err(refusal) => refusal.whole(),
     };
     format!("read {} {} {answer}", hex(&file), words(rows))
@@ -199,8 +239,11 @@ fn write_line(random: &mut Random) -> String {
         [h.origin, h.twin, h.follower, h.predecessor, h.face].map(i64::from)
     });
     let stored = |source: Option<u16>| source.map_or(0, |k| k as i64 + 1);
-    let sources = text(&t.sources, |s| [stored(s.0), stored(s.1)]);
-    let faces = text(&t.faces, |f| [f.first, f.second, f.least, f.holes].map(i64::from));
+    let sources = text(&t.sources, |s| s.map(stored));
+    let faces = text(&t.faces, |f| {
+        let [a, b, c] = f.labels;
+        [a, b, c, f.least, f.holes].map(i64::from)
+    });
     let counts = words([c.vertices, c.edges, c.faces, length]);
     format!("write {counts} {vertices} {half_edges} {sources} {faces} {answer}")
 }

@@ -27,7 +27,7 @@ fn square(low: i16, high: i16, left: [u16; 4], right: u16) -> Map {
 }
 
 fn overlay(first: &Map, second: &Map) -> Overlay {
-    overlay_files(&first.bytes(), &second.bytes(), &Room::FULL).expect("the overlay is done")
+    overlay_files(&[first.bytes(), second.bytes()], &Room::FULL).expect("the overlay is done")
 }
 
 fn refusal(map: &Map) -> Refusal {
@@ -55,7 +55,7 @@ fn s2_an_end_on_an_edge() {
 #[test]
 fn s3_a_shared_stretch() {
     let done = overlay(&lone((0, 0), (4, 0)), &lone((2, 0), (6, 0)));
-    let sources = vec![(Some(0), None), (Some(0), Some(0)), (None, Some(0))];
+    let sources = vec![[Some(0), None, None], [Some(0), Some(0), None], [None, Some(0), None]];
     assert_eq!(done.tables.sources, sources);
 }
 
@@ -105,8 +105,8 @@ fn s10_a_label_outside() {
 fn s11_a_block_within_a_zone() {
     let done = overlay(&square(0, 10, [1; 4], 0), &square(4, 6, [7; 4], 0)).tables;
     assert_eq!((done.vertices.len(), done.edges()), (8, 8));
-    let pairs: Vec<_> = done.faces.iter().map(|f| (f.first, f.second)).collect();
-    assert_eq!(pairs, [(0, 0), (1, 0), (1, 7)]);
+    let labels: Vec<_> = done.faces.iter().map(|f| f.labels).collect();
+    assert_eq!(labels, [[0, 0, 0], [1, 0, 0], [1, 7, 0]]);
     assert_eq!(done.faces[1].holes, 1);
 }
 
@@ -123,9 +123,11 @@ fn s12_the_listing() {
     ];
     assert_eq!(done.listing(), lines.join("\n") + "\n");
     let file = file_of(&done).expect("the file is written");
-    assert_eq!(file.len(), 395);
-    let older = file_as(Version::FIRST, &done).expect("version 1 holds it");
-    assert_eq!(older.len(), 375);
-    assert_eq!(read(&older, &Room::FULL), read(&file, &Room::FULL));
+    assert_eq!(file.len(), 427);
+    for (version, length) in [(Version::FIRST, 375), (Version::SECOND, 395)] {
+        let older = file_as(version, &done).expect("an older version holds two maps");
+        assert_eq!(older.len(), length);
+        assert_eq!(read(&older, &Room::FULL), read(&file, &Room::FULL));
+    }
     assert_eq!(read(&file, &Room::FULL), Ok(done));
 }

@@ -44,10 +44,10 @@ fn square(low: i16, high: i16) -> Vec<[(i16, i16); 2]> {
 /// The tables of the overlay of two valid maps, which are those of 01's own ways.
 fn tables(first: &Map, second: &Map) -> Tables {
     assert_eq!([first, second].map(|map| check(&map.bytes()).err()), [None, None]);
-    let done = overlay(first, second, &Room::FULL).expect("the overlay is done");
-    let (tables, pairs) = literal::overlay::overlay(first, second, None);
+    let done = overlay(&[first, second], &Room::FULL).expect("the overlay is done");
+    let (tables, labels) = literal::overlay::overlay(&[first, second], None);
     assert_eq!(done.tables, tables);
-    assert_eq!(done.pairs, pairs);
+    assert_eq!(done.labels, labels);
     tables
 }
 
@@ -61,8 +61,8 @@ fn crossing(first: [(i16, i16); 2], second: [(i16, i16); 2]) -> VertexRow {
 #[test]
 fn the_whole_sheet_is_not_inside_out() {
     let done = tables(&map(&square(-FAR, FAR)), &Map::default());
-    let faces: Vec<_> = done.faces.iter().map(|f| (f.first, f.second, f.holes)).collect();
-    assert_eq!(faces, [(0, 0, 1), (1, 0, 0)]);
+    let faces: Vec<_> = done.faces.iter().map(|f| (f.labels, f.holes)).collect();
+    assert_eq!(faces, [([0, 0, 0], 1), ([1, 0, 0], 0)]);
     let inner: Vec<_> = (0..8).filter(|&h| done.half_edges[h].face == 1).collect();
     assert_eq!(inner, [0, 3, 4, 7]);
 }
@@ -170,8 +170,8 @@ fn areas_are_exact() {
 /// The vertices of the overlays of some pairs of a kind.
 fn made(kind: &str, pairs: u64) -> Vec<Vec<VertexRow>> {
     let vertices = |seed: u64| {
-        let [first, second] = pair_files(kind, seed).expect("a kind");
-        overlay_files(&first, &second, &Room::FULL).ok().map(|done| done.tables.vertices)
+        let files = pair_files(kind, seed).expect("a kind");
+        overlay_files(&files, &Room::FULL).ok().map(|done| done.tables.vertices)
     };
     (0..pairs).filter_map(vertices).collect()
 }

@@ -1,4 +1,4 @@
-// Many overlays: a line for each pair of map files in the pack `pairs` (second/README.md), the answer and a digest of all tables. Then many
+// Many overlays: a line for each three map files in the pack `pairs` (second/README.md), the answer and a digest of all tables. Then many
 // files mended. What is printed is held to the second program's answers.
 mod digest; // the digest of what is lent
 mod mends; // files mended
@@ -48,31 +48,35 @@ fn say_refused(r: Refusal) {
     say(b"\n");
 }
 
-// The answer for a pair of files, with these tables lent.
+// The answer for three files, with these tables lent.
 fn answer(
     zones: &[u8],
     blocks: &[u8],
+    bed: &[u8],
     vertices: &mut [i64],
     halves: &mut [u16],
     sources: &mut [u32],
     faces: &mut [u16],
 ) {
-    let r = overlay::overlay(zones, blocks, vertices, halves, sources, faces);
+    let r = overlay::overlay(zones, blocks, bed, vertices, halves, sources, faces);
     match r {
         Answer::Done(c) => say_done(c, digest::of(c, vertices, halves, sources, faces)),
         Answer::Refused(f) => say_refused(f),
     }
 }
 
-// The next pair: its lent tables' rows, its files.
+// The next three maps: their lent tables' rows, their files.
 fn next(fd: i32) {
     let rows = pack::lent(fd);
     let n = pack::number(fd);
     let m = pack::number(fd);
+    let k = pack::number(fd);
     let mut zones = io::large_buffer();
     let n = pack::fetch(fd, n, &mut zones);
     let mut blocks = io::large_buffer();
     let m = pack::fetch(fd, m, &mut blocks);
+    let mut bed = io::large_buffer();
+    let k = pack::fetch(fd, k, &mut bed);
     let mut vertices = [0i64; VERTEX_CELLS];
     let mut halves = [0u16; HALF_CELLS];
     let mut sources = [0u32; SOURCE_CELLS];
@@ -84,6 +88,7 @@ fn next(fd: i32) {
     answer(
         &zones[..n],
         &blocks[..m],
+        &bed[..k],
         &mut vertices[0..v],
         &mut halves[0..h],
         &mut sources[0..s],

@@ -7,7 +7,7 @@ use Rattle.paper.specs.Refusal.{Answer, done, refused, answer, Refusal}
 use Rattle.paper.specs.Tables.{Counts, Tables}
 use Rattle.paper.specs.Lent.{Outcome, lengthsOf}
 use Rattle.paper.specs.Mend.{Mending}
-use Rattle.paper.specs.Record.{Source, first, second, both, OverlayEdge}
+use Rattle.paper.specs.Record.{Source, first, second, both, third, firstThird, secondThird, all, OverlayEdge}
 use Rattle.paper.specs.Ovfile.{layouts, fileLength, layoutOf}
 use Rattle.paper.specs.Writer.{Written, writeFault, write}
 
@@ -29,31 +29,52 @@ abbrev pub toldLength : Answer ℕ → ℕ
 toldLength (done n) = 65536 * n
 toldLength (refused r) = four (r .number) (r .map) (r .place) (r .other)
 
--- "whether it came from the first map, the second or both": 1, 2 or 3
+-- "whether it came from the first map, the second or both": 1, 2 or 3; and 4 more where it came from the third (02, Ask 13)
 abbrev pub kind : Source → ℕ
 kind (first j) = 1
 kind (second k) = 2
 kind (both j k) = 3
+kind (third l) = 4
+kind (firstThird j l) = 5
+kind (secondThird k l) = 6
+kind (all j k l) = 7
 
--- the edge number in the first map and in the second, 0 where it has none there
+-- the edge number in the first map, in the second and in the third, 0 where it has none there
 abbrev pub inFirst : Source → ℕ
 inFirst (first j) = j
 inFirst (second k) = 0
 inFirst (both j k) = j
+inFirst (third l) = 0
+inFirst (firstThird j l) = j
+inFirst (secondThird k l) = 0
+inFirst (all j k l) = j
 
 abbrev pub inSecond : Source → ℕ
 inSecond (first j) = 0
 inSecond (second k) = k
 inSecond (both j k) = k
+inSecond (third l) = 0
+inSecond (firstThird j l) = 0
+inSecond (secondThird k l) = k
+inSecond (all j k l) = k
+
+abbrev pub inThird : Source → ℕ
+inThird (first j) = 0
+inThird (second k) = 0
+inThird (both j k) = 0
+inThird (third l) = l
+inThird (firstThird j l) = l
+inThird (secondThird k l) = l
+inThird (all j k l) = l
 
 -- of an edge record its kind, and its lower and upper vertex; or 0 where it is absent
 abbrev pub toldEnds : Option OverlayEdge → ℕ
 toldEnds (some e) = four (kind (e .source)) (e .lower) (e .upper) 0
 toldEnds none = 0
 
--- of the same its kind, and its edge numbers in both maps
+-- of the same its kind, and its edge numbers in the three maps
 abbrev pub toldSources : Option OverlayEdge → ℕ
-toldSources (some e) = four (kind (e .source)) (inFirst (e .source)) (inSecond (e .source)) 0
+toldSources (some e) = four (kind (e .source)) (inFirst (e .source)) (inSecond (e .source)) (inThird (e .source))
 toldSources none = 0
 
 -- a length of at most 32 bits

@@ -59,19 +59,20 @@ pub extern "C" fn bonnetewe_meet(
     of_met(answer)
 }
 
-// The overlay of two map files of any bytes in the lent tables.
+// The overlay of three map files of any bytes in the lent tables: zones, blocks, bed. Two maps are three with an empty third.
 #[no_mangle]
 pub extern "C" fn bonnetewe_overlay(
     zones: &[u8],
     blocks: &[u8],
+    bed: &[u8],
     vertices: &mut [i64],
     halves: &mut [u16],
     sources: &mut [u32],
     faces: &mut [u16],
 ) -> u64
-    ensures { λ r. ⌜ Told (overlay (lengthsOf (tablesBy (now (vertices .entry)) (now (halves .entry)) (now (sources .entry)) (now (faces .entry)))) (now (zones .entry)) (now (blocks .entry))) (tablesBy (now (vertices .exit)) (now (halves .exit)) (now (sources .exit)) (now (faces .exit))) r ⌝ }
+    ensures { λ r. ⌜ Told (overlay (lengthsOf (tablesBy (now (vertices .entry)) (now (halves .entry)) (now (sources .entry)) (now (faces .entry)))) (now (zones .entry)) (now (blocks .entry)) (now (bed .entry))) (tablesBy (now (vertices .exit)) (now (halves .exit)) (now (sources .exit)) (now (faces .exit))) r ⌝ }
 {
-    let answer = overlay::overlay(zones, blocks, vertices, halves, sources, faces);
+    let answer = overlay::overlay(zones, blocks, bed, vertices, halves, sources, faces);
     of_answer(answer)
 }
 

@@ -48,6 +48,7 @@ fn say_map(map: u16) {
     match map {
         1 => say(b"the first map"),
         2 => say(b"the second map"),
+        3 => say(b"the third map"),
         _ => say(b"the map"),
     }
 }

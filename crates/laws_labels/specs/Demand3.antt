@@ -1,19 +1,18 @@
--- The labels agree. Of two map files that pass rules 1 to 10, with room, the overlay is done, and in the lent tables (`demand-3`):
+-- The labels agree. Of three map files that pass rules 1 to 10, with room, the overlay is done, and in the lent tables (`demand-3`):
 --     (a)  each half-edge lies in exactly one closed walk
 --     (b)  predecessor and follower undo each other
---     (c)  any two half-edges of one walk have the same pair
---     (d)  any two half-edges with one face have the same pair
---     (e)  it is the pair stored for that face, and that of face 0 is (0, 0)
--- The pair of a half-edge is the defined one (`labelsOf` of `overlayOf`): for each map it is found alone, from the half-edge's own place, by the edge that it lies along or by
--- looking west, and from no other half-edge, walk or face. And which half-edges, followers and faces there are is the defined overlay's too. So this can't be met by
+--     (c)  any two half-edges of one walk have the same triple
+--     (d)  any two half-edges with one face have the same triple
+--     (e)  it is the triple stored for that face, and that of face 0 is (0, 0, 0)
+-- The labels of a half-edge, 01's pair and "pairs become triples" (02, Ask 13), are the defined ones (`labelsOf` of `overlayOf`): for each map the label is found alone, from the half-edge's own place, by the
+-- edge that it lies along or by looking west, and from no other half-edge, walk or face. And which half-edges, followers and faces there are is the defined overlay's too. So this can't be met by
 -- tables that are empty or made up. No file is left out: where one does not pass, or there is no room, the overlay is refused (`done-passes`, `done-fits` of Done).
--- In order: what is said (`Agrees`); tables that hold the overlay's rows; the theorem, for any number of maps. Assumes nothing.
+-- In order: what is said (`Agrees`), of any number of maps; tables that hold the overlay's rows; the theorem, for any number of files (`labels-agree`, `passes-agree`) and for three. Assumes nothing.
 use mathlib.Core.Path.{_≡_, refl, sym, _∙_, ap, subst}
 use Prim.Native.Nat.{_<_, _*_}
-use native.Mathlib.Nat.{not-suc-le-zero, le-of-suc-le-suc}
 use native.Mathlib.Omega.{arith}
 use lib.ListN.{length-map, length-replicate}
-use Rattle.seq.specs.Seq.{List, [], _∷_, none, ℕ, zero, suc, length, getD, table, replicate, leader, walk}
+use Rattle.seq.specs.Seq.{List, [], _∷_, none, ℕ, suc, length, getD, table, replicate, leader, walk}
 use Rattle.seq.specs.Terms.{Among, iter, orbit, step, turns}
 use Rattle.seq.specs.Table.{length-table, table-ext, table-of}
 use Rattle.paper.specs.Graph.{Graph, halfCount, followers, follower}
@@ -38,7 +37,7 @@ use Rattle.laws_overlay.specs.Cells.{faceLabels, label-cell}
 use Rattle.laws_overlay.specs.Parts.{face-count, made, follower-is, face-cell-is, half-count, half-there}
 use Rattle.laws_overlay.specs.Named.{half-named}
 use Rattle.laws_labels.specs.Agree.{held-labels, face-labels, walk-labels}
-use Rattle.laws_labels.specs.Done.{passes-done, done-passes, done-counts, done-tables}
+use Rattle.laws_labels.specs.Done.{three-pass, passes-done, done-passes, done-counts, done-tables}
 use Rattle.laws_refusals.specs.Room.{Fits}
 use Rattle.laws_overlay.specs.Files.{AllPass, mapsOf, files-keep}
 use Rattle.laws_overlay.specs.Padded.{padded-half, padded-face}
@@ -66,7 +65,7 @@ pub record OneWalk (nx : List ℕ) (h : ℕ) : Type 0 where
   pub closes : Closes nx least
   pub only : (m : ℕ) → m < length nx → leader nx m ≡ m → Among h (walk nx m) → m ≡ least
 
--- of n maps, tables t with counts c, in which the pair of half-edge h is `pair h`
+-- of n maps, tables t with counts c, in which the labels of half-edge h, one for each map, are `pair h`
 pub record Agrees (n : ℕ) (c : Counts) (t : Tables) (pair : ℕ → List ℕ) : Type 0 where
   pub one-walk : (h : ℕ) → h < 2 * c .edges → OneWalk (followersIn c t) h
   pub back : (h : ℕ) → h < 2 * c .edges → predecessorOf t (followerOf t h) ≡ h
@@ -171,24 +170,24 @@ labels-agree l files c d =
     (subst (λ (k : Counts). Agrees (length files) k t (labelsOf ms (overlayOf ms))) (sym (done-counts l files c d))
     (subst (λ (n : ℕ). Agrees n (countsOf (overlayOf ms)) t (labelsOf ms (overlayOf ms))) (length-map files mapOf) r))
 
--- of two: "Its pair is the two labels"
-abbrev pub both : List ℕ → List ℕ → List Map
-both a b = mapOf a ∷ mapOf b ∷ []
+-- with no premise but the checks and room
+pub passes-agree : (l : Lengths) (files : List (List ℕ)) → AllPass files → Fits (roomIn (length files) l) (countsOf (overlayOf (mapsOf files))) →
+    (lent l files .answer ≡ done (countsOf (overlayOf (mapsOf files)))) × Agrees (length files) (countsOf (overlayOf (mapsOf files))) (lent l files .tables) (labelsOf (mapsOf files) (overlayOf (mapsOf files)))
+passes-agree l files P F =
+    let d = passes-done l files P F in
+    (d, labels-agree l files (countsOf (overlayOf (mapsOf files))) d)
 
-abbrev pub pairOf : List ℕ → List ℕ → ℕ → List ℕ
-pairOf a b h = labelsOf (both a b) (overlayOf (both a b)) h
+-- of three: "Its pair is the two labels", and "pairs become triples" (02, Ask 13)
+abbrev pub three : List ℕ → List ℕ → List ℕ → List Map
+three a b c = mapOf a ∷ mapOf b ∷ mapOf c ∷ []
 
-abbrev pub counted : List ℕ → List ℕ → Counts
-counted a b = countsOf (overlayOf (both a b))
+abbrev pub tripleOf : List ℕ → List ℕ → List ℕ → ℕ → List ℕ
+tripleOf a b c h = labelsOf (three a b c) (overlayOf (three a b c)) h
 
--- with no premise but the two checks and room
-pub demand-3 : (l : Lengths) (a b : List ℕ) → fault a ≡ none → fault b ≡ none → Fits (roomIn maps l) (counted a b) →
-    (overlay l a b .answer ≡ done (counted a b)) × Agrees maps (counted a b) (overlay l a b .tables) (pairOf a b)
-demand-3 l a b pa pb F =
-    let d = passes-done l (a ∷ b ∷ []) pass F in
-    (d, labels-agree l (a ∷ b ∷ []) (counted a b) d)
-  where
-    pass : AllPass (a ∷ b ∷ [])
-    pass zero i = pa
-    pass (suc zero) i = pb
-    pass (suc (suc k)) i = absurd (not-suc-le-zero (le-of-suc-le-suc (le-of-suc-le-suc i)))
+abbrev pub counted : List ℕ → List ℕ → List ℕ → Counts
+counted a b c = countsOf (overlayOf (three a b c))
+
+-- with no premise but the three checks and room
+pub demand-3 : (l : Lengths) (a b c : List ℕ) → fault a ≡ none → fault b ≡ none → fault c ≡ none → Fits (roomIn maps l) (counted a b c) →
+    (overlay l a b c .answer ≡ done (counted a b c)) × Agrees maps (counted a b c) (overlay l a b c .tables) (tripleOf a b c)
+demand-3 l a b c pa pb pc F = passes-agree l (a ∷ b ∷ c ∷ []) (three-pass a b c pa pb pc) F

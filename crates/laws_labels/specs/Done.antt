@@ -1,8 +1,9 @@
 -- When the overlay of a list of map files is done: exactly where each file passes rules 1 to 10 and there is room (`done-passes`, `done-fits`, `passes-done`). Then the counts
--- are those of the defined overlay (`done-counts`), and the lent tables hold its tables, with zeros past them (`done-tables`). Assumes nothing.
+-- are those of the defined overlay (`done-counts`), and the lent tables hold its tables, with zeros past them (`done-tables`). Three files that pass are a list that passes (`three-pass`). Assumes nothing.
 use mathlib.Core.Path.{_≡_, sym, _∙_, ap}
 use mathlib.Core.Logic.{inl, inr, ⊎-elim}
-use Rattle.seq.specs.Seq.{List, [], _++_, Option, none, ℕ, suc, length, getD}
+use native.Mathlib.Omega.{arith}
+use Rattle.seq.specs.Seq.{List, [], _∷_, _++_, Option, none, ℕ, zero, suc, length, getD}
 use Rattle.seq.specs.Terms.{Among}
 use Rattle.seq.specs.Members.{among-++, ++-among, every-in, in-every}
 use Rattle.seq.specs.Table.{among-table, table-among}
@@ -15,6 +16,13 @@ use Rattle.paper.specs.Overlay.{mapFaults, lent}
 use Rattle.laws_refusals.specs.Refusals.{Nothing, nothing, is-nothing, of-none, done-none}
 use Rattle.laws_refusals.specs.Room.{Fits, room-none, none-room}
 use Rattle.laws_overlay.specs.Files.{AllPass, mapsOf}
+
+-- of three files
+pub three-pass : (a b c : List ℕ) → fault a ≡ none → fault b ≡ none → fault c ≡ none → AllPass (a ∷ b ∷ c ∷ [])
+three-pass a b c pa pb pc zero i = pa
+three-pass a b c pa pb pc (suc zero) i = pb
+three-pass a b c pa pb pc (suc (suc zero)) i = pc
+three-pass a b c pa pb pc (suc (suc (suc k))) i = absurd (omega arith)
 
 module _ (l : Lengths) (files : List (List ℕ)) where
   abbrev ms : List Map

@@ -4,9 +4,10 @@ use mathlib.Core.Path.{_≡_, refl}
 use Rattle.exact.specs.Exact.{gcdOf}
 use Rattle.seq.specs.Seq.{List, [], _∷_, false, none, ℕ, pos}
 use Rattle.seq.specs.Terms.{sum, upto}
+use Rattle.paper.specs.Limits.{maps}
 use Rattle.paper.specs.Plane.{Vec, vec, whole}
 use Rattle.paper.specs.Map.{fault, mapOf}
-use Rattle.paper.specs.Sample.{at, zone}
+use Rattle.paper.specs.Sample.{at, emptyFile, zone}
 use Rattle.paper.specs.Tables.{Counts}
 use Rattle.paper.specs.Faces.{overlayOf}
 use Rattle.paper.specs.Refusal.{done}
@@ -16,7 +17,7 @@ use Rattle.laws_labels.specs.Cut.{Φ}
 use Rattle.laws_labels.specs.Cuts.{above}
 use Rattle.laws_labels.specs.Pot.{pot}
 use Rattle.laws_labels.specs.Files.{file-seen}
-use Rattle.laws_labels.specs.Demand3.{Agrees, pairOf, labels-agree}
+use Rattle.laws_labels.specs.Demand3.{Agrees, tripleOf, labels-agree}
 
 abbrev file : List ℕ
 file = zone 0 0 4 7
@@ -53,5 +54,5 @@ is-done : run outer inner .answer ≡ done counts
 unfolding gcdOf fault overlayOf
 is-done = refl
 
-pub s11-agrees : Agrees 2 counts (run outer inner .tables) (pairOf outer inner)
-s11-agrees = labels-agree (ample 2) (outer ∷ inner ∷ []) counts is-done
+pub s11-agrees : Agrees maps counts (run outer inner .tables) (tripleOf outer inner emptyFile)
+s11-agrees = labels-agree (ample maps) (outer ∷ inner ∷ emptyFile ∷ []) counts is-done

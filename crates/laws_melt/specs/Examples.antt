@@ -1,5 +1,5 @@
--- Melting at a sheet, so that no premise is empty and a wrong definition shows. Two squares of side 2 side by side, both with label 1: over an empty map, the line between them separates nothing. The overlay has
--- 6 vertices, 7 edges and 3 faces; melted, 6, 6 and 2, and the pair stored for face 1 is (1, 0). Assumes nothing.
+-- Melting at a sheet, so that no premise is empty and a wrong definition shows. Two squares of side 2 side by side, both with label 1: over two empty maps, the line between them separates nothing. The overlay has
+-- 6 vertices, 7 edges and 3 faces; melted, 6, 6 and 2, and the triple stored for face 1 is (1, 0, 0). Assumes nothing.
 use mathlib.Core.Path.{_≡_, refl}
 use Rattle.exact.specs.Exact.{gcdOf}
 use Rattle.seq.specs.Seq.{List, _∷_, none, ℕ, table, []}
@@ -7,7 +7,7 @@ use Rattle.paper.specs.Limits.{maps}
 use Rattle.paper.specs.Map.{Map, mapOf, fault}
 use Rattle.paper.specs.Sample.{at, arc, mapFile, emptyFile}
 use Rattle.paper.specs.Faces.{overlayOf}
-use Rattle.paper.specs.Tables.{countsOf, tablesOf, faceCell}
+use Rattle.paper.specs.Tables.{faceWidth, countsOf, tablesOf, faceCell}
 use Rattle.laws_melt.specs.Melted.{meltedOf}
 
 abbrev file : List ℕ
@@ -19,7 +19,7 @@ unfolding fault
 passes = refl
 
 abbrev ms : List Map
-ms = mapOf file ∷ mapOf emptyFile ∷ []
+ms = mapOf file ∷ mapOf emptyFile ∷ mapOf emptyFile ∷ []
 
 pub before-melting : countsOf (overlayOf ms) ≡ record { vertices = 6; edges = 7; faces = 3 }
 unfolding overlayOf gcdOf
@@ -29,6 +29,6 @@ pub melted : countsOf (meltedOf ms) ≡ record { vertices = 6; edges = 6; faces 
 unfolding meltedOf overlayOf gcdOf
 melted = refl
 
-pub stored : table (faceCell maps (tablesOf ms (meltedOf ms)) 1) 4 ≡ 1 ∷ 0 ∷ 0 ∷ 0 ∷ []
+pub stored : table (faceCell maps (tablesOf ms (meltedOf ms)) 1) (faceWidth maps) ≡ 1 ∷ 0 ∷ 0 ∷ 0 ∷ 0 ∷ []
 unfolding tablesOf meltedOf overlayOf gcdOf
 stored = refl

@@ -1,4 +1,4 @@
--- Ask 12, over any list of maps that keep the rules. Of the melted tables:
+-- Ask 12, over any list of maps that keep the rules, so of three too: "Ask 12 compares triples, those of soundings found by the same look in each map" (02, Ask 13). Of the melted tables:
 --     melted-labels     a kept half-edge has the labels that it had in the overlay
 --     melted-face       they are the labels stored for its face
 --     melted-differ     no edge has the same labels on both sides

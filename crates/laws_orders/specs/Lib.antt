@@ -3,3 +3,5 @@ pub mod Exchanged
 pub mod Empty
 pub mod FromCheck
 pub mod Other
+pub mod LastRows
+pub mod TwoMaps

@@ -1,5 +1,5 @@
 -- Demand 2 in the customer's words: what the lent tables hold after an overlay that is done (`Defined`), said of the tables' cells, the maps, and points on edges; nothing of how it is found. Over any number
--- of maps. Reading the tables; then (a) vertices, (b) edges and their sources, (c) half-edges, (d) faces, (e) zeros. The edge record (`EdgeRecords`) is of two maps; with it and the overlay file: Delivered. The
+-- of maps. Reading the tables; then (a) vertices, (b) edges and their sources, (c) half-edges, (d) faces, (e) zeros. The edge record (`EdgeRecords`) is of three maps; with it and the overlay file: Delivered. The
 -- proof: Promised. Assumes nothing.
 use mathlib.Core.Path.{_≡_}
 use mathlib.Core.Logic.{_⊎_}
@@ -13,7 +13,7 @@ use Rattle.paper.specs.Map.{Map, label, mapOf, fault}
 use Rattle.paper.specs.Pieces.{layer, carrierOf}
 use Rattle.paper.specs.Tables.{Counts, Tables, vertexWidth, halfWidth, faceWidth, vertexCell, originOf, twinOf, followerOf, predecessorOf, faceOf, sourceCell, faceCell}
 use Rattle.paper.specs.Lent.{Lengths, lengthsOf, roomIn}
-use Rattle.paper.specs.Record.{Source, first, second, both, edgeRecord}
+use Rattle.paper.specs.Record.{Source, first, second, both, third, firstThird, secondThird, all, edgeRecord}
 use Rattle.laws_plane.specs.Points.{LowestP}
 use Rattle.laws_plane.specs.Bounds.{Bounded}
 use Rattle.laws_plane.specs.Edges.{On}
@@ -101,7 +101,7 @@ pub record EdgeRows (ms : List Map) (c : Counts) (t : Tables) : Type 0 where
   -- "Edges are the pieces of input edges between neighbouring overlay vertices on them"
   pub edge-is : (k : ℕ) → k < c .edges → (i : ℕ) × (j : ℕ) × Near ms c t i j (originOf t (2 * k)) (originOf t (2 * k + 1))
   pub edge-there : (i j u v : ℕ) → Near ms c t i j u v → (k : ℕ) × (k < c .edges) × (originOf t (2 * k) ≡ u) × (originOf t (2 * k + 1) ≡ v)
-  -- with exactly its sources: "whether it came from the first map, the second or both, with the edge number in each"
+  -- with exactly its sources: "whether it came from the first map, the second or both, with the edge number in each"; "a piece may come from any of the three" (02, Ask 13)
   pub source-is : (k i j : ℕ) → k < c .edges → i < length ms → sourceCell (length ms) t k i ≡ suc j → Near ms c t i j (originOf t (2 * k)) (originOf t (2 * k + 1))
   pub source-there : (k i j : ℕ) → k < c .edges → Near ms c t i j (originOf t (2 * k)) (originOf t (2 * k + 1)) → sourceCell (length ms) t k i ≡ suc j
   -- "sorted by lower, then upper vertex number", and so each once
@@ -177,7 +177,7 @@ abbrev pub Labelled : List Map → Counts → Tables → ℕ → ℕ → ℕ →
 Labelled ms c t i h x = LabelAlong ms c t i h x ⊎ LabelSeen ms c t i h x
 
 pub record FaceRows (ms : List Map) (c : Counts) (t : Tables) : Type 0 where
-  -- "Face 0 is the outside, pair (0, 0)", with 65,535
+  -- "Face 0 is the outside, pair (0, 0)", of three maps (0, 0, 0), with 65,535
   pub outside-there : 0 < c .faces
   pub outside-label : (i : ℕ) → i < length ms → faceCell (length ms) t 0 i ≡ 0
   pub outside-least : leastOf (length ms) t 0 ≡ absent
@@ -197,13 +197,26 @@ pub record FaceRows (ms : List Map) (c : Counts) (t : Tables) : Type 0 where
   -- "and its count of hole walks"
   pub holes : (f : ℕ) → f < c .faces → Holes ms c t f
 
--- ── of two maps: the edge record ──
+-- ── of three maps: the edge record ──
 
--- "whether it came from the first map, the second or both, with the edge number in each"
+-- the piece between u and v comes from edge j of map i; from no edge of map i
+abbrev pub From : List Map → Counts → Tables → ℕ → ℕ → ℕ → Option ℕ → Type 0
+From ms c t u v i (some j) = Near ms c t i j u v
+From ms c t u v i none = (j : ℕ) → Near ms c t i j u v → ⊥
+
+-- from these edges of the first map, the second and the third, and from no others
+abbrev pub Comes : List Map → Counts → Tables → ℕ → ℕ → Option ℕ → Option ℕ → Option ℕ → Type 0
+Comes ms c t u v x y z = From ms c t u v 0 x × From ms c t u v 1 y × From ms c t u v 2 z
+
+-- "whether it came from the first map, the second or both, with the edge number in each"; "a piece may come from any of the three" (02, Ask 13)
 abbrev pub Says : List Map → Counts → Tables → ℕ → ℕ → Source → Type 0
-Says ms c t u v (first j) = Near ms c t 0 j u v × ((k : ℕ) → Near ms c t 1 k u v → ⊥)
-Says ms c t u v (second k) = ((j : ℕ) → Near ms c t 0 j u v → ⊥) × Near ms c t 1 k u v
-Says ms c t u v (both j k) = Near ms c t 0 j u v × Near ms c t 1 k u v
+Says ms c t u v (first j) = Comes ms c t u v (some j) none none
+Says ms c t u v (second k) = Comes ms c t u v none (some k) none
+Says ms c t u v (both j k) = Comes ms c t u v (some j) (some k) none
+Says ms c t u v (third l) = Comes ms c t u v none none (some l)
+Says ms c t u v (firstThird j l) = Comes ms c t u v (some j) none (some l)
+Says ms c t u v (secondThird k l) = Comes ms c t u v none (some k) (some l)
+Says ms c t u v (all j k l) = Comes ms c t u v (some j) (some k) (some l)
 
 pub record EdgeRecords (ms : List Map) (c : Counts) (t : Tables) : Type 0 where
   -- "it is handed out by edge number"
@@ -233,7 +246,7 @@ pub record Defined (l : Lengths) (files : List (List ℕ)) (c : Counts) (t : Tab
   pub halves : HalfRows c t
   pub faces : FaceRows (map mapOf files) c t
   pub zeros : Zeros (length files) c t
-  -- "Its pair is the two labels": of each half-edge, one for each map
+  -- "Its pair is the two labels", and "pairs become triples" (02, Ask 13): of each half-edge, one for each map
   pub pair : ℕ → List ℕ
   pub pair-is : (h i : ℕ) → h < 2 * c .edges → i < length files → Labelled (map mapOf files) c t i h (getD (pair h) i 0)
   -- demand 3: the labels agree

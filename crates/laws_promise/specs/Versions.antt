@@ -1,4 +1,4 @@
--- The versions of the overlay file, over the operations' promises (02, Ask 7): "The reader takes both versions; the writer writes 2, so writing what was read gives the same bytes only for the newest version".
+-- The versions of the overlay file, over the operations' promises: "writing what was read gives the same bytes only for the newest version" (02, Ask 7); "The writer writes 3, the reader takes all three versions" (02, Ask 13).
 -- Whatever the reader gave back, answer and tables, of a file that it takes: of the newest version, writing it gives the same bytes (`newest-same`), and of no other version (`newest-only`); of any version it is written, and reading that gives
 -- the same answer and tables (`any-again`). The file is of bytes, as every `&[u8]` is. Assumes nothing.
 use mathlib.Core.Path.{_≡_, refl, sym, _∙_, ap}

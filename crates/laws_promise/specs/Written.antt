@@ -99,16 +99,16 @@ module _ (files : List (List ℕ)) (P : AllPass files) (B : (i : ℕ) → Bytes 
         ∙ written-is-read known version some is-known few (fileLength l c) c (paddedTables ls t) ls (fit l q wide ls R) (accepted l q wide ls R (fileLength l c) (le-refl (fileLength l c))) R
         ∙ ap (λ (x : Tables). record { answer = done c; tables = paddedTables ls x }) (padded-counted (l .maps) ls c t (lengths-are l q wide ls R) R)
 
--- ── the operations as they stand: two files in, the newest version out ──
+-- ── the operations as they stand: three files in, the newest version out ──
 
 abbrev pub newest : Layout
 newest = layoutOf layouts (length layouts)
 
-module _ (ls : Lengths) (a b : List ℕ) (A : Bytes a) (B : Bytes b) (r : code.Answer) (t : Tables) (promise : Promised ls (a ∷ b ∷ []) r t) (c : Counts) (e : answerOf r ≡ done c) where
+module _ (ls : Lengths) (a b z : List ℕ) (A : Bytes a) (B : Bytes b) (Z : Bytes z) (r : code.Answer) (t : Tables) (promise : Promised ls (a ∷ b ∷ z ∷ []) r t) (c : Counts) (e : answerOf r ≡ done c) where
   abbrev files : List (List ℕ)
-  files = a ∷ b ∷ []
+  files = a ∷ b ∷ z ∷ []
 
-  d : overlay ls a b .answer ≡ done c
+  d : overlay ls a b z .answer ≡ done c
   d = sym (ap (λ (o : Outcome). o .answer) promise) ∙ e
 
   passes : AllPass files
@@ -117,7 +117,8 @@ module _ (ls : Lengths) (a b : List ℕ) (A : Bytes a) (B : Bytes b) (r : code.A
   bytes : (i : ℕ) → Bytes (getD files i [])
   bytes zero = A
   bytes (suc zero) = B
-  bytes (suc (suc i)) = λ j. omega arith
+  bytes (suc (suc zero)) = Z
+  bytes (suc (suc (suc i))) = λ j. omega arith
 
   counts-are : c ≡ countsFor files
   counts-are = done-counts ls files c d

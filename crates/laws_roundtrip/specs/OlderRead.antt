@@ -1,4 +1,4 @@
--- "The reader takes both versions; the writer writes 2, so writing what was read gives the same bytes only for the newest version" (02, Ask 7). Of a file of any known version, an older one too: the tables
+-- "writing what was read gives the same bytes only for the newest version" (02, Ask 7); "The writer writes 3, the reader takes all three versions (a missing third source or label is 0)" (02, Ask 13). Of a file of any known version, an older one too: the tables
 -- that were read are written in the newest, and reading that file gives what was read. First over any list of known versions, the newest of which has no fewer bytes for a coordinate (`any-read`), then for
 -- the reader and the writer as they stand (`older-read`). Assumes nothing.
 use mathlib.Core.Path.{_≡_, sym, _∙_, ap, subst}
@@ -89,7 +89,8 @@ module _ (known : List Layout) (some : 0 < length known) (few : length known < 2
 some-of-each : (i : ℕ) → i < length layouts → (0 < layoutOf layouts (suc i) .coordinate) × (layoutOf layouts (suc i) .coordinate ≤ coordinateBytes)
 some-of-each zero h = (omega arith, omega arith)
 some-of-each (suc zero) h = (omega arith, omega arith)
-some-of-each (suc (suc i)) h = absurd (not-suc-le-zero (le-of-suc-le-suc (le-of-suc-le-suc h)))
+some-of-each (suc (suc zero)) h = (omega arith, omega arith)
+some-of-each (suc (suc (suc i))) h = absurd (not-suc-le-zero (le-of-suc-le-suc (le-of-suc-le-suc (le-of-suc-le-suc h))))
 
 module _ (ls : Lengths) (s : List ℕ) (B : Bytes s) (c : Counts) (d : read ls s .answer ≡ done c) where
   bytes : (0 < layoutOf layouts (u16 s 3) .coordinate) × (layoutOf layouts (u16 s 3) .coordinate ≤ coordinateBytes)

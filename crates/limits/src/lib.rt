@@ -3,8 +3,8 @@
 
 // Maps.
 
-// "Two map files go in"
-pub const MAPS: usize = 2;
+// "Two map files go in", and "Bed type comes as a third map" (02, Ask 13)
+pub const MAPS: usize = 3;
 // "the bytes before the first vertex": mark, version and the two counts
 pub const MAP_HEAD: usize = 9;
 // "Length is 9 + 4V + 8E": the bytes of one vertex and edge
@@ -33,8 +33,8 @@ pub const ABSENT: u16 = 65535;
 
 // The overlay file.
 
-// the newest version of the file: "The reader takes both versions; the writer writes 2" (02, Ask 7)
-pub const VERSION: u16 = 2;
+// the newest version of the file: "The writer writes 3, the reader takes all three versions" (02, Ask 13)
+pub const VERSION: u16 = 3;
 // mark, version and the three counts
 pub const OVERLAY_HEAD: usize = 11;
 // "X and Y in five bytes each (two's complement) and D in four (unsigned)"; "overlay files get version 2 with six bytes each" (02, Ask 7)

@@ -21,8 +21,8 @@ abbrev pub filed : ℕ → Outcome → Written
 filed n o = filedBy n (o .tables) (o .answer)
 
 -- an outcome that is that of an overlay
-pub overlay-answered : (l : Lengths) (x y : List ℕ) {a : Answer Counts} {t : Tables} → _≡_ {A = Outcome} (record { answer = a; tables = t }) (overlay l x y) → Roomy a
-overlay-answered l x y {a} {t} e = roomy-as (ap (λ (o : Outcome). o .answer) e) (overlay-roomy l x y)
+pub overlay-answered : (l : Lengths) (x y z : List ℕ) {a : Answer Counts} {t : Tables} → _≡_ {A = Outcome} (record { answer = a; tables = t }) (overlay l x y z) → Roomy a
+overlay-answered l x y z {a} {t} e = roomy-as (ap (λ (o : Outcome). o .answer) e) (overlay-roomy l x y z)
 
 -- what is filed of an answer that is known is filed of the outcome
 pub filed-by : (n : ℕ) (o : Outcome) {a b : Answer Counts} {t : Tables} {w : Written}

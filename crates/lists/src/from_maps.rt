@@ -1,4 +1,4 @@
-// Two map files laid over each other: the listing of their overlay, and its overlay file.
+// Three map files laid over each other: the listing of their overlay, and its overlay file.
 use crate::answer::Listed;
 use crate::answer::put;
 use limits::FACE_CELLS;
@@ -16,9 +16,9 @@ ghost use Rattle.lists.specs.Listed.{ListedOf, fullTables};
 ghost use Rattle.ovfile_write.specs.Answers.{writtenOf};
 ghost use Rattle.lists.specs.Filed.{filed};
 
-// The listing of the overlay of two map files of any bytes, or the line of what is refused.
-pub fn list(zones: &[u8], blocks: &[u8], out: &mut [u8; LISTING]) -> Listed
-    ensures { λ r. ⌜ ListedOf (overlay fullTables (now (zones .entry)) (now (blocks .entry))) (now (out .entry)) (now (out .exit)) r ⌝ }
+// The listing of the overlay of three map files of any bytes, or the line of what is refused.
+pub fn list(zones: &[u8], blocks: &[u8], bed: &[u8], out: &mut [u8; LISTING]) -> Listed
+    ensures { λ r. ⌜ ListedOf (overlay fullTables (now (zones .entry)) (now (blocks .entry)) (now (bed .entry))) (now (out .entry)) (now (out .exit)) r ⌝ }
 {
     let mut vertices = [0i64; VERTEX_CELLS];
     let mut halves = [0u16; HALF_CELLS];
@@ -27,6 +27,7 @@ pub fn list(zones: &[u8], blocks: &[u8], out: &mut [u8; LISTING]) -> Listed
     let answer = overlay::overlay(
         zones,
         blocks,
+        bed,
         &mut vertices,
         &mut halves,
         &mut sources,
@@ -36,9 +37,9 @@ pub fn list(zones: &[u8], blocks: &[u8], out: &mut [u8; LISTING]) -> Listed
     Listed { length, answer }
 }
 
-// The overlay file of the overlay of two map files of any bytes, into a buffer of any length: its length, or what is refused.
-pub fn file(zones: &[u8], blocks: &[u8], buffer: &mut [u8]) -> WriteAnswer
-    ensures { λ r. ⌜ writtenOf r (now (buffer .exit)) ≡ filed (length (now (buffer .entry))) (overlay fullTables (now (zones .entry)) (now (blocks .entry))) ⌝ }
+// The overlay file of the overlay of three map files of any bytes, into a buffer of any length: its length, or what is refused.
+pub fn file(zones: &[u8], blocks: &[u8], bed: &[u8], buffer: &mut [u8]) -> WriteAnswer
+    ensures { λ r. ⌜ writtenOf r (now (buffer .exit)) ≡ filed (length (now (buffer .entry))) (overlay fullTables (now (zones .entry)) (now (blocks .entry)) (now (bed .entry))) ⌝ }
 {
     let mut vertices = [0i64; VERTEX_CELLS];
     let mut halves = [0u16; HALF_CELLS];
@@ -47,6 +48,7 @@ pub fn file(zones: &[u8], blocks: &[u8], buffer: &mut [u8]) -> WriteAnswer
     let answer = overlay::overlay(
         zones,
         blocks,
+        bed,
         &mut vertices,
         &mut halves,
         &mut sources,

@@ -16,7 +16,7 @@ use Rattle.paper.specs.Pieces.{verticesOf, edgesOf, edgeOf}
 use Rattle.paper.specs.Faces.{Overlay, net, overlayOf}
 use Rattle.paper.specs.Tables.{Counts, countsOf, tablesOf}
 use Rattle.paper.specs.Lent.{Lengths, roomIn, roomFaults, outcome}
-use Rattle.paper.specs.Overlay.{mapFaults, overlay}
+use Rattle.paper.specs.Overlay.{mapFaults, lent}
 use Rattle.laws_refusals.specs.Refusals.{nothing, given-none, none-given, first-none, first-some, first-one}
 use Rattle.graph.specs.Flat.{pointAt}
 use Rattle.overlay_cut.specs.PieceRows.{pieceAt}
@@ -25,24 +25,24 @@ use Rattle.overlay.specs.Judged.{overlaid, doneWith, refusedWith, Within
 
 -- ── the maps ──
 
-module _ (a b : List ℕ) where
+module _ (files : List (List ℕ)) (l : Lengths) where
   abbrev found : Option Refusal
-  found = firstOf (mapFaults (a ∷ b ∷ []))
+  found = firstOf (mapFaults files)
 
   abbrev maps-in : List Map
-  maps-in = mapOf a ∷ mapOf b ∷ []
+  maps-in = map mapOf files
 
-  module _ (l : Lengths) where
-    abbrev counts : Counts
-    counts = countsOf (overlayOf maps-in)
+  abbrev counts : Counts
+  counts = countsOf (overlayOf maps-in)
 
-    pub maps-refused : (r : Refusal) → found ≡ some r → refusedWith l r ≡ overlay l a b
-    maps-refused r e =
-        sym (ap (outcome l counts (tablesOf maps-in (overlayOf maps-in))) (first-some (mapFaults (a ∷ b ∷ [])) (roomFaults (roomIn maps l) counts) e))
+  pub maps-refused : (r : Refusal) → found ≡ some r → refusedWith l r ≡ lent l files
+  maps-refused r e =
+      sym (ap (outcome l counts (tablesOf maps-in (overlayOf maps-in))) (first-some (mapFaults files) (roomFaults (roomIn (length files) l) counts) e))
 
-    pub maps-pass : found ≡ none → overlaid maps-in l ≡ overlay l a b
-    maps-pass e =
-        sym (ap (outcome l counts (tablesOf maps-in (overlayOf maps-in))) (first-none (mapFaults (a ∷ b ∷ [])) (roomFaults (roomIn maps l) counts) e))
+  pub maps-pass : length files ≡ maps → found ≡ none → overlaid maps-in l ≡ lent l files
+  maps-pass every e =
+      ap (λ (n : ℕ). outcome l counts (tablesOf maps-in (overlayOf maps-in)) (firstOf (roomFaults (roomIn n l) counts))) (sym every)
+      ∙ sym (ap (outcome l counts (tablesOf maps-in (overlayOf maps-in))) (first-none (mapFaults files) (roomFaults (roomIn (length files) l) counts) e))
 
 -- ── counts ──
 

@@ -2,10 +2,10 @@
 use mathlib.Core.Path.{_≡_, refl, sym, _∙_, ap}
 use Prim.Native.Nat.{_≤_, _<_}
 use native.Mathlib.Numerals.{add-one}
-use Rattle.seq.specs.Seq.{List, [], _∷_, map, ℕ, zero, suc, _+_, _*_, length, getD, pos, cell, padded, rows}
-use Rattle.seq.specs.Table.{table-at}
+use Rattle.seq.specs.Seq.{List, [], _∷_, map, ℕ, zero, suc, _+_, _*_, length, getD, pos, padded, rows}
+use Rattle.seq.specs.Table.{table-at, table-ext, table-map}
 use Rattle.seq.specs.Rows.{rows-ext}
-use Rattle.paper.specs.Limits.{overlayVertices, overlayEdges}
+use Rattle.paper.specs.Limits.{maps, overlayVertices, overlayEdges}
 use Rattle.paper.specs.Graph.{Graph, edgeCount, point, origin, twin}
 use Rattle.paper.specs.Map.{Map}
 use Rattle.paper.specs.Pieces.{Piece}
@@ -15,6 +15,7 @@ use Rattle.laws_file.specs.Agree.{padded-cell}
 use Rattle.graph.specs.Flat.{pointAt, flatGraph}
 use Rattle.graph.specs.Laws.Decode.{flat-points, flat-edges, flat-point, flat-origin}
 use Rattle.overlay_cut.specs.PieceRows.{minusOne, pieceAt, piecesIn}
+use Rattle.overlay_cut.specs.Net.{sourceIn}
 use Rattle.tables.specs.Rows.{vertexOf, halfOf, sourceOf, faceBy}
 use Rattle.overlay_graph.specs.Cut.{Cut, CutOf}
 use Rattle.overlay_graph.specs.Traced.{Traced, TracedOf}
@@ -38,8 +39,9 @@ module _ (ms : List Map) (c : Cut) (C : CutOf ms c) (few : c .vertices ≤ overl
   source-row k l =
       let at : getD (o .pieces) k (record { lo = 0; hi = 0; sources = [] }) ≡ pieceAt (c .pieces) k =
       ap (λ (ps : List Piece). getD ps k (record { lo = 0; hi = 0; sources = [] })) (sym pieces-are) ∙ table-at (pieceAt (c .pieces)) (c .edges) k (record { lo = 0; hi = 0; sources = [] }) l in
-      (λ i. sym (stored-source (cell 0 4 (c .pieces) k 2)) i ∷ sym (stored-source (cell 0 4 (c .pieces) k 3)) i ∷ [])
-      ∙ ap (λ (p : Piece). map plusOne (p .sources)) (sym at)
+      let in-map : ℕ → ℕ = λ m. sourceIn (c .pieces) k m in
+      table-ext in-map (λ m. plusOne (minusOne (in-map m))) maps (λ m h. sym (stored-source (in-map m)))
+      ∙ sym (table-map plusOne (λ m. minusOne (in-map m)) maps) ∙ ap (λ (p : Piece). map plusOne (p .sources)) (sym at)
 
   module _ (t : Traced) (T : TracedOf ms c t) where
     abbrev flat : Graph
@@ -75,14 +77,14 @@ module _ (ms : List Map) (c : Cut) (C : CutOf ms c) (few : c .vertices ≤ overl
 
     -- ── the tables ──
 
-    module _ (first second outer counts : List ℕ) (faces : rows (faceBy first second outer counts) (t .count + 1) ≡ rows (faceRow ms o) (t .count + 1)) where
+    module _ (labels outer counts : List ℕ) (faces : rows (faceBy labels outer counts) (t .count + 1) ≡ rows (faceRow ms o) (t .count + 1)) where
       faces-count : t .count + 1 ≡ suc (length (o .outers))
       faces-count = add-one (t .count) ∙ ap suc (T .faces-by .count-is)
 
       pub counts-are : storedCounts c (t .count + 1) ≡ countsOf o
       counts-are = λ i. record { vertices = vertices-count i; edges = edges-count i; faces = faces-count i }
 
-      pub stored-is : stored c t first second outer counts (t .count + 1) ≡ tablesOf ms o
+      pub stored-is : stored c t labels outer counts (t .count + 1) ≡ tablesOf ms o
       unfolding tablesOf
       stored-is =
           let vs = rows-ext (vertexOf (c .points) (t .least)) (vertexRow (net o)) (c .vertices) vertex-row ∙ ap (rows (vertexRow (net o))) vertices-count in

@@ -5,13 +5,13 @@ use Rattle.tables.specs.Rows.{vertexOf, halfOf, sourceOf, faceBy}
 use Rattle.overlay_graph.specs.Cut.{Cut}
 use Rattle.overlay_graph.specs.Traced.{Traced}
 
--- with n faces in four columns
-abbrev pub stored : Cut → Traced → List ℕ → List ℕ → List ℕ → List ℕ → ℕ → Tables
-stored c t first second outer counts n = record {
+-- with n faces: their labels, a cell for each map, and two columns
+abbrev pub stored : Cut → Traced → List ℕ → List ℕ → List ℕ → ℕ → Tables
+stored c t labels outer counts n = record {
   vertices = rows (vertexOf (c .points) (t .least)) (c .vertices);
   halves = rows (halfOf (t .origins) (t .next) (t .prev) (t .face)) (2 * c .edges);
   sources = rows (sourceOf (c .pieces)) (c .edges);
-  faces = rows (faceBy first second outer counts) n;
+  faces = rows (faceBy labels outer counts) n;
 }
 
 -- the three counts of what is stored

@@ -3,6 +3,7 @@ use graph::first_places;
 use limits::ABSENT;
 use limits::FACES;
 use limits::HALVES;
+use limits::MAPS;
 use limits::VERTICES;
 use overlay_pairs::rows_in;
 use tables::Answer;
@@ -26,9 +27,12 @@ ghost use Rattle.overlay_graph.specs.Cut.{cutBy, CutOf};
 ghost use Rattle.overlay_graph.specs.Traced.{NetBy, FacesBy};
 ghost use Rattle.overlay.specs.Judged.{doneWith, Within};
 
+// the labels of every face, a cell for each map
+const LABEL_CELLS: usize = MAPS * FACES;
+
 // What is within the room is stored: "Done: places past the counts are zero". Of the maps the tables that the layers hold; of the overlay the vertices and edges,
 // where its half-edges start and what they lie along, followers and faces, the outer walks and how many, and the hole walks of each face. Predecessors, least
-// outgoing half-edges and the columns of the faces are made here.
+// outgoing half-edges and the labels and columns of the faces are made here.
 pub fn fill(
     vstarts: &[usize],
     estarts: &[usize],
@@ -59,8 +63,7 @@ pub fn fill(
     first_places(next, 2 * ne, ABSENT, &mut prev, 2 * ne);
     let mut least = [0u16; VERTICES];
     first_places(ends, 2 * ne, ABSENT, &mut least, nv);
-    let mut first = [0u16; FACES];
-    let mut second = [0u16; FACES];
+    let mut triples = [0u16; LABEL_CELLS];
     let mut outer = [0u16; FACES];
     let mut counts = [0u16; FACES];
     rows_in(
@@ -79,8 +82,7 @@ pub fn fill(
         outers,
         holes,
         count,
-        &mut first,
-        &mut second,
+        &mut triples,
         &mut outer,
         &mut counts,
     );
@@ -90,7 +92,7 @@ pub fn fill(
     store_vertices(vertices, v, points, &least);
     store_halves(halves, e, ends, next, &prev, face);
     store_sources(sources, e, pieces);
-    store_faces(faces, f, &first, &second, &outer, &counts);
+    store_faces(faces, f, &triples, &outer, &counts);
     Answer::Done(Counts {
         vertices: v,
         edges: e,

@@ -1,4 +1,4 @@
-// The overlay of two map files: "Out come three tables (vertices, half-edges, faces)".
+// The overlay of three map files: "Two map files go in", and "Bed type comes as a third map" (02, Ask 13). "Out come three tables (vertices, half-edges, faces)".
 mod judge; // counts over the room
 mod fill; // the lent tables filled
 mod stages; // from layers to tables
@@ -17,16 +17,17 @@ ghost use Rattle.paper.specs.Lent.{lengthsOf};
 ghost use Rattle.tables.specs.Values.{tablesBy};
 ghost use Rattle.tables.specs.Promise.{Promised};
 
-// The overlay of two files of any bytes in the lent tables: the three counts, or a refusal.
+// The overlay of three files of any bytes in the lent tables: the three counts, or a refusal. "The two-map overlay is the one with an empty third map" (02, Ask 13).
 pub fn overlay(
     zones: &[u8],
     blocks: &[u8],
+    bed: &[u8],
     vertices: &mut [i64],
     halves: &mut [u16],
     sources: &mut [u32],
     faces: &mut [u16],
 ) -> Answer
-    ensures { λ r. ⌜ Promised (lengthsOf (tablesBy (now (vertices .entry)) (now (halves .entry)) (now (sources .entry)) (now (faces .entry)))) (now (zones .entry) ∷ now (blocks .entry) ∷ []) r (tablesBy (now (vertices .exit)) (now (halves .exit)) (now (sources .exit)) (now (faces .exit))) ⌝ }
+    ensures { λ r. ⌜ Promised (lengthsOf (tablesBy (now (vertices .entry)) (now (halves .entry)) (now (sources .entry)) (now (faces .entry)))) (now (zones .entry) ∷ now (blocks .entry) ∷ now (bed .entry) ∷ []) r (tablesBy (now (vertices .exit)) (now (halves .exit)) (now (sources .exit)) (now (faces .exit))) ⌝ }
 {
     let mut vertex_starts = [0usize; LAYER_STARTS];
     let mut edge_starts = [0usize; LAYER_STARTS];
@@ -37,6 +38,7 @@ pub fn overlay(
     let c = lay_maps(
         zones,
         blocks,
+        bed,
         &mut vertex_starts,
         &mut edge_starts,
         &mut corners,

@@ -1,4 +1,4 @@
-// From the layers of two maps that keep the rules to the lent tables. Each stage ends in a refusal or hands on to the next; "room comes last".
+// From the layers of maps that keep the rules to the lent tables. Each stage ends in a refusal or hands on to the next; "room comes last".
 use crate::fill::fill;
 use crate::judge::over_room;
 use limits::CARRIER_CELLS;

@@ -1,5 +1,4 @@
 -- The laws behind the proofs of this crate: nothing here is cited by a contract.
-pub mod RowInserted
 pub mod Ordered
 pub mod Compared
 pub mod PutTable

@@ -1,5 +1,3 @@
-pub mod Lifted
-pub mod Placed
 pub mod Points
 pub mod Capped
 pub mod PieceRows

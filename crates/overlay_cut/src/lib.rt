@@ -1,5 +1,4 @@
 // The overlay's vertices, collected and ordered, and the pieces of the input edges, from all maps' edges in one table.
-mod rows; // cells of a table moved
 mod collecting; // corners and crossings, each point once
 mod ordering; // points put in order, by halves
 mod put; // a piece put in order

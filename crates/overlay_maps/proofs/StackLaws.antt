@@ -1,13 +1,14 @@
 -- Maps that stand one after the other: none, and one more behind them (`stack-more`); the rows of one file's map are as many as it counts. Then which refusal is
--- given of two files. Assumes nothing.
+-- given of a file behind others. Assumes nothing.
 use mathlib.Core.Path.{_≡_, refl, sym, _∙_, ap}
 use mathlib.Core.List.{append-nil}
 use Prim.Native.Nat.{_≤_, _<_}
 use native.Mathlib.Nat.{zero-add, mul-zero, mul-add}
 use native.Mathlib.Omega.{arith}
-use lib.ListN.{length-append}
+use lib.ListN.{length-append, List·getD-append}
+use lib.Seq.{getD-at}
 use Rattle.seq.specs.Seq.{Option, none, some, List, [], _∷_, _++_, ℕ, suc, _+_, _*_, length, getD, sets, ℤ, table, gather, over}
-use Rattle.seq.specs.Table.{length-table, among-table}
+use Rattle.seq.specs.Table.{length-table, table-more, table-ext, among-table}
 use Rattle.seq.specs.Rows.{length-rows}
 use Rattle.seq.specs.Over.{over-none, stored-first, stored-behind}
 use Rattle.seq.specs.Members.{every-in, gather-++}
@@ -16,7 +17,7 @@ use Rattle.paper.specs.Refusal.{Refusal, firstOf, ofMap}
 use Rattle.paper.specs.Graph.{origin}
 use Rattle.paper.specs.Map.{mapOf, vertexCount, edgesIn, label, fault}
 use Rattle.paper.specs.Overlay.{mapFaults}
-use Rattle.laws_refusals.specs.Refusals.{nothing, first-one, of-none}
+use Rattle.laws_refusals.specs.Refusals.{nothing, first-one, first-none, first-some, of-none}
 use Rattle.map_file.specs.Rows.{pointRow, carrierRow}
 use Rattle.overlay_maps.specs.Layers.{cornersOf, originsOf, carriersOf, labelsOf, LaidFrom, Stacked}
 
@@ -79,13 +80,21 @@ all-pass files e i l =
     let f : ℕ → Option Refusal = λ i. ofMap (suc i) (fault (getD files i [])) in
     of-none (suc i) (fault (getD files i [])) (every-in (λ r. r ≡ none) (table f (length files)) (nothing (table f (length files)) e) (f i) (among-table f (length files) i l))
 
-module _ (a b : List ℕ) where
-  abbrev found : Option Refusal
-  found = firstOf (mapFaults (a ∷ b ∷ []))
+-- one more file behind others: refused where they are, and where nothing is found in them as the map after theirs
+module _ (files : List (List ℕ)) (s : List ℕ) where
+  abbrev last : Option Refusal
+  last = ofMap (suc (length files)) (fault s)
 
-  -- the first map, and where nothing is found in it the second
-  pub first-refused : {r : Refusal} → ofMap 1 (fault a) ≡ some r → found ≡ some r
-  first-refused e = ap (λ (x : Option Refusal). firstOf (x ∷ ofMap 2 (fault b) ∷ [])) e
+  faults-more : mapFaults (files ++ (s ∷ [])) ≡ mapFaults files ++ (last ∷ [])
+  faults-more =
+      let n = length files in
+      let f : ℕ → Option Refusal = λ i. ofMap (suc i) (fault (getD files i [])) in
+      let g : ℕ → Option Refusal = λ i. ofMap (suc i) (fault (getD (files ++ (s ∷ [])) i [])) in
+      ap (table g) (length-append files (s ∷ [])) ∙ table-more g n
+      ∙ (λ j. table-ext g f n (λ i l. ap (λ (t : List ℕ). ofMap (suc i) (fault t)) (List·getD-append files (s ∷ []) [] i l)) j ++ (ofMap (suc n) (fault (getD-at files s [] [] n refl j)) ∷ []))
 
-  pub first-passes : ofMap 1 (fault a) ≡ none → found ≡ ofMap 2 (fault b)
-  first-passes e = ap (λ (x : Option Refusal). firstOf (x ∷ ofMap 2 (fault b) ∷ [])) e ∙ first-one (ofMap 2 (fault b))
+  pub before-refused : {r : Refusal} → firstOf (mapFaults files) ≡ some r → firstOf (mapFaults (files ++ (s ∷ []))) ≡ some r
+  before-refused e = ap firstOf faults-more ∙ first-some (mapFaults files) (last ∷ []) e
+
+  pub before-passes : firstOf (mapFaults files) ≡ none → firstOf (mapFaults (files ++ (s ∷ []))) ≡ last
+  before-passes e = ap firstOf faults-more ∙ first-none (mapFaults files) (last ∷ []) e ∙ first-one last

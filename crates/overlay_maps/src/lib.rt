@@ -6,4 +6,6 @@ pub use label::Part;
 pub use label::Place;
 pub use label::label_at;
 pub use label::part_of;
+pub use stack::EMPTY;
+pub use stack::empty;
 pub use stack::lay_maps;

@@ -1,13 +1,9 @@
 -- The label in a map of a half-edge and of a face of the overlay, from the flat tables that the code has of the overlay; and the place of a half-edge, which is
 -- what the code looks up of it. Assumes nothing.
-use mathlib.Core.Path.{_≡_, refl, sym, _∙_, ap, subst}
+use mathlib.Core.Path.{_≡_, sym, ap, subst}
 use Prim.Native.Nat.{_≤_, _<_}
 use native.Mathlib.Omega.{arith}
-use lib.ListN.{set, length-set}
-use lib.Seq.{getD-set-other}
-use Rattle.seq.specs.Seq.{List, ℕ, zero, suc, _+_, _*_, _-_, _/_, length, getD, ℤ, filled}
-use Rattle.seq.specs.Filled.{length-filled, filled-at, filled-past, filled-is}
-use Rattle.seq.specs.Loops.Filling.{Filling, fill-starts, fill-turns, fill-ends}
+use Rattle.seq.specs.Seq.{List, ℕ, zero, suc, _+_, _*_, _-_, _/_, _%_, length, getD, ℤ}
 use Rattle.paper.specs.Limits.{maps, absent}
 use Rattle.paper.specs.Map.{Map}
 use Rattle.plane.specs.Values.{ptOf, vecOf}
@@ -16,8 +12,12 @@ use Rattle.graph.specs.Flat.{startAt, carrierAt, Starts, Carried}
 use Rattle.overlay_cut.specs.PieceRows.{pieceWidth}
 use Rattle.overlay_cut.specs.Net.{sourceIn}
 use Rattle.overlay_maps.specs.Label.{labelBy}
-use Rattle.overlay_maps.specs.Place.{labelAt}
+use Rattle.overlay_maps.specs.Place.{labelAt, partAt}
+use Rattle.overlay_maps.specs.Standing.{Stands, standing}
+use Rattle.overlay_maps.specs.Layers.{Layers}
+use Rattle.overlay_maps.specs.Held.{Held, heldMap, edgeStart}
 use Rattle.overlay_maps.specs.declared.label.Place.{Place}
+use Rattle.overlay_maps.specs.declared.label.Part.{Part}
 
 -- half-edge h, in map m that is number i: from the lower end of its edge, the upward direction, and the stored source
 abbrev pub halfLabel : Map → List ℤ → List ℕ → List ℤ → List ℕ → ℕ → ℕ → ℕ
@@ -27,6 +27,10 @@ halfLabel m ps os cs pieces i h = labelBy m h (startAt ps os (2 * (h / 2))) (car
 abbrev pub faceLabel : Map → List ℤ → List ℕ → List ℤ → List ℕ → ℕ → List ℕ → ℕ → ℕ
 faceLabel m ps os cs pieces i outers zero = 0
 faceLabel m ps os cs pieces i outers (suc f) = halfLabel m ps os cs pieces i (getD outers f 0)
+
+-- in a table with a row for each face and in it a cell for each map that the layers hold
+abbrev pub labelCell : Layers → List ℤ → List ℕ → List ℤ → List ℕ → List ℕ → ℕ → ℕ
+labelCell l ps os cs pieces outers j = faceLabel (heldMap l (j % maps)) ps os cs pieces (j % maps) outers (j / maps)
 
 -- "that number (65,535 for face 0)"
 abbrev pub outerOf : List ℕ → ℕ → ℕ
@@ -52,6 +56,10 @@ abbrev pub Labels : List ℤ → List ℕ → List ℤ → List ℕ → ℕ → 
 Labels ps os cs pieces i e outers zero = Unit
 Labels ps os cs pieces i e outers (suc f) = (f < length outers) × Labelled ps os cs pieces i e (getD outers f 0)
 
+-- in map i of those that the layers hold
+abbrev pub Readable : Layers → List ℤ → List ℕ → List ℤ → List ℕ → List ℕ → ℕ → ℕ → Type 0
+Readable l ps os cs pieces outers i f = Labels ps os cs pieces i (edgeStart l (i + 1) - edgeStart l i) outers f
+
 -- ── the place of a half-edge ──
 
 pub record PlaceIs (ps : List ℤ) (os : List ℕ) (cs : List ℤ) (pieces : List ℕ) (i h : ℕ) (p : Place) : Type 0 where
@@ -66,7 +74,23 @@ module _ (ps : List ℤ) (os : List ℕ) (cs : List ℤ) (pieces : List ℕ) (i 
   pub placed-label : (m : Map) (h : ℕ) → PlaceIs ps os cs pieces i h p → labelAt m p ≡ halfLabel m ps os cs pieces i h
   placed-label m h q = λ j. labelBy m (q .half-is j) (q .low-is j) (q .up-is j) (q .source-is j)
 
+-- ── the part that map i stands in ──
+
+module _ (l : Layers) (H : Held l) (i : ℕ) (b : i < maps) (p : Part) (e : p ≡ partAt (l .vertices) (l .edges) i) where
+  pub part-stands : Stands (l .corners) (l .origins) (l .carriers) (l .labels) (p .v) (p .w) (p .a) (p .b)
+  part-stands = subst (λ (x : Part). Stands (l .corners) (l .origins) (l .carriers) (l .labels) (x .v) (x .w) (x .a) (x .b)) (sym e) (H .stands i b)
+
+  pub part-map : standing (l .corners) (l .origins) (l .carriers) (l .labels) (p .v) (p .w) (p .a) (p .b) ≡ heldMap l i
+  part-map = ap (λ (x : Part). standing (l .corners) (l .origins) (l .carriers) (l .labels) (x .v) (x .w) (x .a) (x .b)) e
+
+  pub part-edges : p .b - p .a ≡ edgeStart l (i + 1) - edgeStart l i
+  part-edges = ap (λ (x : Part). x .b - x .a) e
+
 -- ── by whether it is face 0 ──
+
+module _ (ps : List ℤ) (os : List ℕ) (cs : List ℤ) (pieces : List ℕ) (i : ℕ) (outers : List ℕ) where
+  pub outside-label : (m : Map) (f : ℕ) → f ≡ 0 → 0 ≡ faceLabel m ps os cs pieces i outers f
+  outside-label m f q = ap (faceLabel m ps os cs pieces i outers) (sym q)
 
 module _ (ps : List ℤ) (os : List ℕ) (cs : List ℤ) (pieces : List ℕ) (i : ℕ) (outers : List ℕ) where
   pub inner-label : (m : Map) (f : ℕ) → (f ≡ 0 → ⊥) → halfLabel m ps os cs pieces i (getD outers (f - 1) 0) ≡ faceLabel m ps os cs pieces i outers f
@@ -80,24 +104,3 @@ outside-outer outers f q = ap (outerOf outers) (sym q)
 
 pub inner-outer : (outers : List ℕ) (f : ℕ) → (f ≡ 0 → ⊥) → getD outers (f - 1) 0 ≡ outerOf outers f
 inner-outer outers f q = let w : f ≡ suc (f - 1) = omega arith in ap (outerOf outers) (sym w)
-
--- ── a table whose first cell is stored before the loop ──
-
-module _ (f : ℕ → ℕ) (n : ℕ) (d : List ℕ) (room : n ≤ length d) where
-  -- a cell that is stored before does not show
-  stored-before : (k v : ℕ) → 0 < k → k ≤ n → filled k f (set d 0 v) ≡ filled k f d
-  stored-before k v p h =
-      filled-is f k d (filled k f (set d 0 v)) (omega arith) (length-filled f k (set d 0 v) (rw (length-set d 0 v) (omega arith)) ∙ length-set d 0 v) (λ x l. filled-at f k x (set d 0 v) 0 l)
-      (λ x l m. filled-past f k x (set d 0 v) 0 l ∙ getD-set-other d 0 x v 0 (λ e. omega arith))
-
-  module _ (v : ℕ) (p : 0 < n) where
-    pub first-stored : v ≡ f 0 → Filling f n (set d 0 v) (set d 0 v) 1
-    first-stored e = record {
-      room = rw (length-set d 0 v) room;
-      within = omega arith;
-      kept = refl;
-      is = fill-turns {f = f} (fill-starts room) p e .is ∙ sym (stored-before 1 v (omega arith) (omega arith));
-    }
-
-    pub rest-stored : {t : List ℕ} {i : ℕ} → Filling f n (set d 0 v) t i → n ≤ i → t ≡ filled n f d
-    rest-stored r l = fill-ends r l ∙ stored-before n v p (omega arith)

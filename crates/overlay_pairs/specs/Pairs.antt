@@ -1,12 +1,12 @@
 -- The labels that the code finds are the definition's: of the half-edges and faces of the overlay of the maps that the layers hold. Assumes nothing.
-use mathlib.Core.Path.{_≡_, refl, sym, _∙_, ap, subst}
+use mathlib.Core.Path.{_≡_, refl, sym, _∙_, ap}
 use Prim.Native.Nat.{_≤_, _<_}
 use native.Mathlib.Omega.{arith}
 use lib.ListN.{length-append}
-use Rattle.seq.specs.Seq.{List, [], _∷_, Option, none, some, ℕ, zero, suc, _+_, _*_, _-_, _/_, length, getD, replicate, ℤ, rows, table, select, filled, padded}
-use Rattle.seq.specs.Filled.{filled-at, filled-ext}
+use Rattle.seq.specs.Seq.{List, [], _∷_, _++_, Option, none, some, ℕ, zero, suc, _+_, _*_, _-_, _/_, _%_, length, getD, replicate, ℤ, rows, table, cell, select, filled, padded}
+use Rattle.seq.specs.Filled.{filled-at}
 use Rattle.seq.specs.Rows.{rows-ext}
-use Rattle.seq.specs.Table.{length-table, table-at}
+use Rattle.seq.specs.Table.{length-table, table-at, table-ext, table-const}
 use Rattle.seq.specs.Select.{select-from}
 use Rattle.seq.specs.Members.{at-among}
 use Rattle.seq.specs.Wiped.{padded-at}
@@ -31,15 +31,12 @@ use Rattle.overlay_cut.specs.PieceRows.{pieceWidth, minusOne, pieceAt, noPiece}
 use Rattle.overlay_cut.specs.Net.{sourceIn}
 use Rattle.tables.specs.Rows.{faceBy}
 use Rattle.overlay_maps.specs.Label.{labelBy, stored, label-by}
-use Rattle.overlay_maps.specs.Standing.{Stands, standing}
-use Rattle.overlay_maps.specs.Place.{partAt}
-use Rattle.overlay_maps.specs.declared.label.Part.{Part}
 use Rattle.overlay_maps.specs.Held.{Held, heldMap, heldMaps, edgeStart}
 use Rattle.overlay_maps.specs.Layers.{Layers}
-use Rattle.overlay_graph.specs.Laws.Standing.{layer-is, keep, held-edges}
+use Rattle.overlay_graph.specs.Laws.Standing.{layer-is, keep, held-edges, held-count}
 use Rattle.overlay_graph.specs.Cut.{Cut, CutOf}
 use Rattle.overlay_graph.specs.Traced.{NetBy}
-use Rattle.overlay_pairs.specs.Labels.{halfLabel, faceLabel, outerOf, Labels}
+use Rattle.overlay_pairs.specs.Labels.{halfLabel, faceLabel, labelCell, outerOf, Readable}
 
 -- the label of face f in map i: "Face 0 is the outside, pair (0, 0)", another has that of its least outer half-edge
 abbrev pub labelOf : List Map → Overlay → ℕ → ℕ → ℕ
@@ -154,10 +151,9 @@ module _ (l : Layers) (c : Cut) (os : List ℕ) (bs : List ℤ) (outers holes : 
       let counts = table (holesOf o) (suc count) in
       omega (arith, ap length (W .holes-is), length-append counts (replicate (suc halfRows - length counts) 0), length-table (holesOf o) (suc count))
 
-  readable : (i : ℕ) → i < maps → (f : ℕ) → f < count + 1
-      → Labels (c .points) os bs (c .pieces) i (edgeStart l (i + 1) - edgeStart l i) outers f
-  readable i b zero q = tt
-  readable i b (suc f) q =
+  pub readable : (i f : ℕ) → i < maps → f < count + 1 → Readable l (c .points) os bs (c .pieces) outers i f
+  readable i zero b q = tt
+  readable i (suc f) b q =
       let r : f < count = omega arith in
       let h = getD outers f 0 in
       let k : h / 2 < c .edges = omega (arith, outer-below f r) in
@@ -182,47 +178,38 @@ module _ (l : Layers) (c : Cut) (os : List ℕ) (bs : List ℤ) (outers holes : 
       let r : f < count = omega arith in
       label-is i (getD outers f 0) b (outer-below f r) ∙ ap (λ (h : ℕ). labelIn (layer ms i) (net o) h (getD (sourcesOf o (h / 2)) i none)) (outer-at f r)
 
-  -- of the part that map i stands in
-  module _ (i : ℕ) (b : i < maps) (p : Part) (e : p ≡ partAt (l .vertices) (l .edges) i) where
-    abbrev stood : Part → Map
-    stood x = standing (l .corners) (l .origins) (l .carriers) (l .labels) (x .v) (x .w) (x .a) (x .b)
-
-    pub part-stands : Stands (l .corners) (l .origins) (l .carriers) (l .labels) (p .v) (p .w) (p .a) (p .b)
-    part-stands = subst (λ (x : Part). Stands (l .corners) (l .origins) (l .carriers) (l .labels) (x .v) (x .w) (x .a) (x .b)) (sym e) (H .stands i b)
-
-    pub part-readable : (f : ℕ) → f < count + 1 → Labels (c .points) os bs (c .pieces) (p .map) (p .b - p .a) outers f
-    part-readable f q = subst (λ (x : Part). Labels (c .points) os bs (c .pieces) (x .map) (x .b - x .a) outers f) (sym e) (readable i b f q)
-
-    pub part-labels : (d : List ℕ) → filled (count + 1) (faceLabel (stood p) (c .points) os bs (c .pieces) (p .map) outers) d ≡ filled (count + 1) (labelOf ms o i) d
-    part-labels d =
-        ap (λ (x : Part). filled (count + 1) (faceLabel (stood x) (c .points) os bs (c .pieces) (x .map) outers) d) e
-        ∙ filled-ext (faceLabel (heldMap l i) (c .points) os bs (c .pieces) i outers) (labelOf ms o i) (count + 1) d (λ f q. label-at i f b q)
-
   holes-at : (f : ℕ) → f < count + 1 → getD holes f 0 ≡ holesOf o f
   holes-at f q =
       ap (λ (x : List ℕ). getD x f 0) (W .holes-is) ∙ padded-at 0 (suc halfRows) f (table (holesOf o) (suc count)) 0 (omega (arith, length-table (holesOf o) (suc count)))
       ∙ table-at (holesOf o) (suc count) f 0 (omega arith)
 
-  -- four columns filled face by face
-  module _ (first second outer counts d₁ d₂ d₃ d₄ : List ℕ) (first-is : first ≡ filled (count + 1) (labelOf ms o 0) d₁) (second-is : second ≡ filled (count + 1) (labelOf ms o 1) d₂)
-      (outer-is : outer ≡ filled (count + 1) (outerOf outers) d₃) (counts-are : counts ≡ filled (count + 1) (λ f. getD holes f 0) d₄) where
-    at : (x : List ℕ) (g : ℕ → ℕ) (d : List ℕ) → x ≡ filled (count + 1) g d → (f : ℕ) → f < count + 1 → getD x f 0 ≡ g f
-    at x g d e f q = ap (λ (y : List ℕ). getD y f 0) e ∙ filled-at g (count + 1) f d 0 q
+  -- labels, and two columns, filled face by face
+  module _ (labels outer counts d₁ d₂ d₃ : List ℕ) (labels-are : labels ≡ filled (maps * (count + 1)) (labelCell l (c .points) os bs (c .pieces) outers) d₁)
+      (outer-is : outer ≡ filled (count + 1) (outerOf outers) d₂) (counts-are : counts ≡ filled (count + 1) (λ f. getD holes f 0) d₃) where
+    at : (x : List ℕ) (g : ℕ → ℕ) (n : ℕ) (d : List ℕ) → x ≡ filled n g d → (f : ℕ) → f < n → getD x f 0 ≡ g f
+    at x g n d e f q = ap (λ (y : List ℕ). getD y f 0) e ∙ filled-at g n f d 0 q
 
     counted : (f : ℕ) → f < count + 1 → getD counts f 0 ≡ holesOf o f
-    counted f q = at counts (λ x. getD holes x 0) d₄ counts-are f q ∙ holes-at f q
+    counted f q = at counts (λ x. getD holes x 0) (count + 1) d₃ counts-are f q ∙ holes-at f q
 
-    row-is : (f : ℕ) → f < count + 1 → faceBy first second outer counts f ≡ faceRow ms o f
+    labelled : (f : ℕ) → f < count + 1 → (i : ℕ) → i < maps → cell 0 maps labels f i ≡ labelOf ms o i f
+    labelled f q i b =
+        let j : ℕ = maps * f + i in
+        let row : j / maps ≡ f = omega arith in
+        let place : j % maps ≡ i = omega arith in
+        at labels (labelCell l (c .points) os bs (c .pieces) outers) (maps * (count + 1)) d₁ labels-are j (omega arith)
+        ∙ (λ k. faceLabel (heldMap l (place k)) (c .points) os bs (c .pieces) (place k) outers (row k)) ∙ label-at i f b q
+
+    row-labels : (f : ℕ) → f < count + 1 → table (cell 0 maps labels f) maps ≡ table (λ i. labelOf ms o i f) maps
+    row-labels f q = table-ext (cell 0 maps labels f) (λ i. labelOf ms o i f) maps (labelled f q)
+
+    row-is : (f : ℕ) → f < count + 1 → faceBy labels outer counts f ≡ faceRow ms o f
     row-is zero q =
-        let a = at first (labelOf ms o 0) d₁ first-is 0 q in
-        let b = at second (labelOf ms o 1) d₂ second-is 0 q in
-        let e = at outer (outerOf outers) d₃ outer-is 0 q in
-        λ i. a i ∷ b i ∷ e i ∷ counted 0 q i ∷ []
+        let e = at outer (outerOf outers) (count + 1) d₂ outer-is 0 q in
+        λ i. (row-labels 0 q ∙ table-const 0 maps ∙ ap (λ (n : ℕ). replicate n 0) (sym (held-count l))) i ++ (e i ∷ counted 0 q i ∷ [])
     row-is (suc f) q =
-        let a = at first (labelOf ms o 0) d₁ first-is (suc f) q in
-        let b = at second (labelOf ms o 1) d₂ second-is (suc f) q in
-        let e = at outer (outerOf outers) d₃ outer-is (suc f) q ∙ outer-at f (omega arith) in
-        λ i. a i ∷ b i ∷ e i ∷ counted (suc f) q i ∷ []
+        let e = at outer (outerOf outers) (count + 1) d₂ outer-is (suc f) q ∙ outer-at f (omega arith) in
+        λ i. (row-labels (suc f) q ∙ ap (table (λ i. labelOf ms o i (suc f))) (sym (held-count l))) i ++ (e i ∷ counted (suc f) q i ∷ [])
 
-    pub rows-are : rows (faceBy first second outer counts) (count + 1) ≡ rows (faceRow ms o) (count + 1)
-    rows-are = rows-ext (faceBy first second outer counts) (faceRow ms o) (count + 1) row-is
+    pub rows-are : rows (faceBy labels outer counts) (count + 1) ≡ rows (faceRow ms o) (count + 1)
+    rows-are = rows-ext (faceBy labels outer counts) (faceRow ms o) (count + 1) row-is

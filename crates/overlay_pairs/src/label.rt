@@ -1,20 +1,23 @@
-// "A face holds the pair of its least outer half-edge": the labels of all faces in one map.
+// "A face holds the pair of its least outer half-edge", with three maps its triple (02, Ask 13): the labels of all faces in every map.
 use graph::carrier_at;
 use graph::start;
+use limits::MAPS;
 use overlay_cut::source_in;
-use overlay_maps::Part;
 use overlay_maps::Place;
 use overlay_maps::label_at;
+use overlay_maps::part_of;
 use plane::Vector;
 ghost use mathlib.Core.Path.{_≡_};
-ghost use Prim.Native.Nat.{ℕ, _-_, _≤_, _<_};
+ghost use Prim.Native.Nat.{ℕ, _*_, _-_, _≤_, _<_};
 ghost use lib.ListN.{length, getD};
 ghost use Rattle.seq.specs.Seq.{filled};
+ghost use Rattle.paper.specs.Limits.{maps};
 ghost use Rattle.plane.specs.Values.{vecOf};
 ghost use Rattle.plane.specs.Bounds.{Direction};
 ghost use Rattle.graph.specs.Flat.{carrierAt, Carried};
-ghost use Rattle.overlay_maps.specs.Standing.{Stands, standing};
-ghost use Rattle.overlay_pairs.specs.Labels.{faceLabel, Placed, PlaceIs, Labels};
+ghost use Rattle.overlay_maps.specs.Layers.{layersBy};
+ghost use Rattle.overlay_maps.specs.Held.{Held, heldMap};
+ghost use Rattle.overlay_pairs.specs.Labels.{faceLabel, labelCell, Placed, PlaceIs, Readable};
 
 // The upward direction of edge k.
 fn upward(lines: &[i16], k: usize) -> Vector
@@ -58,14 +61,42 @@ fn place_of(
     }
 }
 
-// The labels of the first n faces in the map that stands in a part of the maps' tables: "Face 0 is the outside, pair (0, 0)", and another has that of its
-// least outer half-edge.
-pub fn face_labels(
+// The label of face f in map m: "Face 0 is the outside, pair (0, 0)", and another has that of its least outer half-edge.
+fn face_label(
+    vstarts: &[usize],
+    estarts: &[usize],
     corners: &[i64],
     origins: &[u16],
     carriers: &[i16],
     labels: &[u16],
-    part: Part,
+    points: &[i64],
+    ends: &[u16],
+    lines: &[i16],
+    pieces: &[u16],
+    outers: &[u16],
+    f: usize,
+    m: usize,
+) -> u16
+    requires { ⌜ Held (layersBy (now vstarts) (now estarts) (now corners) (now origins) (now carriers) (now labels)) ⌝ ∗ ⌜ m < maps ⌝ ∗ ⌜ Readable (layersBy (now vstarts) (now estarts) (now corners) (now origins) (now carriers) (now labels)) (now points) (now ends) (now lines) (now pieces) (now outers) m f ⌝ }
+    ensures { λ r. ⌜ r ≡ faceLabel (heldMap (layersBy (now (vstarts .entry)) (now (estarts .entry)) (now (corners .entry)) (now (origins .entry)) (now (carriers .entry)) (now (labels .entry))) m) (now (points .entry)) (now (ends .entry)) (now (lines .entry)) (now (pieces .entry)) m (now (outers .entry)) f ⌝ }
+{
+    if f == 0 {
+        return 0;
+    }
+    let h = outer_of(outers, f) as usize;
+    let at = place_of(points, ends, lines, pieces, m, h);
+    let part = part_of(vstarts, estarts, m);
+    label_at(corners, origins, carriers, labels, part, at)
+}
+
+// The labels of the first n faces, a row for each face and in it a cell for each map.
+pub fn lay_labels(
+    vstarts: &[usize],
+    estarts: &[usize],
+    corners: &[i64],
+    origins: &[u16],
+    carriers: &[i16],
+    labels: &[u16],
     points: &[i64],
     ends: &[u16],
     lines: &[i16],
@@ -74,15 +105,27 @@ pub fn face_labels(
     n: usize,
     out: &mut [u16],
 )
-    requires { ⌜ Stands (now corners) (now origins) (now carriers) (now labels) (part .v) (part .w) (part .a) (part .b) ⌝ ∗ ⌜ ((f : ℕ) → f < n → Labels (now points) (now ends) (now lines) (now pieces) (part .map) (part .b - part .a) (now outers) f) ⌝ ∗ ⌜ (0 < n) × (n ≤ length (now out)) ⌝ }
-    ensures { λ _. ⌜ now (out .exit) ≡ filled n (faceLabel (standing (now (corners .entry)) (now (origins .entry)) (now (carriers .entry)) (now (labels .entry)) (part .v) (part .w) (part .a) (part .b)) (now (points .entry)) (now (ends .entry)) (now (lines .entry)) (now (pieces .entry)) (part .map) (now (outers .entry))) (now (out .entry)) ⌝ }
+    requires { ⌜ Held (layersBy (now vstarts) (now estarts) (now corners) (now origins) (now carriers) (now labels)) ⌝ ∗ ⌜ ((m f : ℕ) → m < maps → f < n → Readable (layersBy (now vstarts) (now estarts) (now corners) (now origins) (now carriers) (now labels)) (now points) (now ends) (now lines) (now pieces) (now outers) m f) ⌝ ∗ ⌜ maps * n ≤ length (now out) ⌝ }
+    ensures { λ _. ⌜ now (out .exit) ≡ filled (maps * n) (labelCell (layersBy (now (vstarts .entry)) (now (estarts .entry)) (now (corners .entry)) (now (origins .entry)) (now (carriers .entry)) (now (labels .entry))) (now (points .entry)) (now (ends .entry)) (now (lines .entry)) (now (pieces .entry)) (now (outers .entry))) (now (out .entry)) ⌝ }
 {
-    out[0] = 0;
-    let mut f = 1;
-    while f < n {
-        let h = outer_of(outers, f) as usize;
-        let at = place_of(points, ends, lines, pieces, part.map, h);
-        out[f] = label_at(corners, origins, carriers, labels, part, at);
-        f += 1;
+    let cells = MAPS * n;
+    let mut j = 0;
+    while j < cells {
+        out[j] = face_label(
+            vstarts,
+            estarts,
+            corners,
+            origins,
+            carriers,
+            labels,
+            points,
+            ends,
+            lines,
+            pieces,
+            outers,
+            j / MAPS,
+            j % MAPS,
+        );
+        j += 1;
     }
 }

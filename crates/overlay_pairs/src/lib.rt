@@ -1,5 +1,5 @@
-// The pair of each face: the labels of its least outer half-edge in both maps.
-mod label; // the labels of all faces in a map
+// The triple of each face: the labels of its least outer half-edge in every map.
+mod label; // the labels of all faces in every map
 mod rows; // the rows of all faces
 
 pub use rows::rows_in;

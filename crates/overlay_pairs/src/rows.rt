@@ -1,12 +1,13 @@
-// The rows of the faces: "A face holds the pair of its least outer half-edge, that number (65,535 for face 0), and its count of hole walks".
-use crate::label::face_labels;
+// The rows of the faces: "A face holds the pair of its least outer half-edge, that number (65,535 for face 0), and its count of hole walks"; "pairs
+// become triples" (02, Ask 13).
+use crate::label::lay_labels;
 use crate::label::outer_of;
 use limits::ABSENT;
-use overlay_maps::part_of;
 ghost use mathlib.Core.Path.{_≡_};
-ghost use Prim.Native.Nat.{_+_, _≤_};
+ghost use Prim.Native.Nat.{_+_, _*_, _≤_};
 ghost use lib.ListN.{length, getD};
 ghost use Rattle.seq.specs.Seq.{rows, filled};
+ghost use Rattle.paper.specs.Limits.{maps};
 ghost use Rattle.tables.specs.Rows.{faceBy};
 ghost use Rattle.overlay_maps.specs.Layers.{layersBy};
 ghost use Rattle.overlay_graph.specs.Cut.{cutBy};
@@ -48,7 +49,7 @@ fn lay_holes(holes: &[u16], n: usize, out: &mut [u16])
     }
 }
 
-// The row of every face of the overlay of the maps that the layers hold, in four columns.
+// The row of every face of the overlay of the maps that the layers hold: its labels, a cell for each map, and two columns.
 pub fn rows_in(
     vstarts: &[usize],
     estarts: &[usize],
@@ -65,44 +66,28 @@ pub fn rows_in(
     outers: &[u16],
     holes: &[u16],
     count: usize,
-    first: &mut [u16],
-    second: &mut [u16],
+    triples: &mut [u16],
     outer: &mut [u16],
     counts: &mut [u16],
 )
-    requires { ⌜ Whole (layersBy (now vstarts) (now estarts) (now corners) (now origins) (now carriers) (now labels)) (cutBy nv (now points) ne (now pieces)) (now ends) (now lines) (now outers) (now holes) count ⌝ ∗ ⌜ (count + 1 ≤ length (now first)) × (count + 1 ≤ length (now second)) × (count + 1 ≤ length (now outer)) × (count + 1 ≤ length (now counts)) ⌝ }
-    ensures { λ _. ⌜ rows (faceBy (now (first .exit)) (now (second .exit)) (now (outer .exit)) (now (counts .exit))) (count + 1) ≡ faceRows (layersBy (now (vstarts .entry)) (now (estarts .entry)) (now (corners .entry)) (now (origins .entry)) (now (carriers .entry)) (now (labels .entry))) (count + 1) ⌝ }
+    requires { ⌜ Whole (layersBy (now vstarts) (now estarts) (now corners) (now origins) (now carriers) (now labels)) (cutBy nv (now points) ne (now pieces)) (now ends) (now lines) (now outers) (now holes) count ⌝ ∗ ⌜ (maps * (count + 1) ≤ length (now triples)) × (count + 1 ≤ length (now outer)) × (count + 1 ≤ length (now counts)) ⌝ }
+    ensures { λ _. ⌜ rows (faceBy (now (triples .exit)) (now (outer .exit)) (now (counts .exit))) (count + 1) ≡ faceRows (layersBy (now (vstarts .entry)) (now (estarts .entry)) (now (corners .entry)) (now (origins .entry)) (now (carriers .entry)) (now (labels .entry))) (count + 1) ⌝ }
 {
     let n = count + 1;
-    let one = part_of(vstarts, estarts, 0);
-    face_labels(
+    lay_labels(
+        vstarts,
+        estarts,
         corners,
         origins,
         carriers,
         labels,
-        one,
         points,
         ends,
         lines,
         pieces,
         outers,
         n,
-        first,
-    );
-    let two = part_of(vstarts, estarts, 1);
-    face_labels(
-        corners,
-        origins,
-        carriers,
-        labels,
-        two,
-        points,
-        ends,
-        lines,
-        pieces,
-        outers,
-        n,
-        second,
+        triples,
     );
     lay_outers(outers, n, outer);
     lay_holes(holes, n, counts);

@@ -7,6 +7,7 @@ use borrow.Author.Tests.{ltb-true, lt-ltb, eq-eqb, ne-eqb}
 use Rattle.seq.specs.Seq.{Bool, true, false, cond, not, _&&_, _||_, List, ℕ, _+_, _-_, ltb, eqb, length, getD, least, someBelow}
 use Rattle.seq.specs.Least.{least-at-most, least-holds, least-min, some-has, no-some}
 use Rattle.seq.specs.Firsts.{length-firsts, firsts-all}
+use Rattle.paper.specs.Limits.{maps}
 use Rattle.paper.specs.Graph.{even, twin}
 use Rattle.ovfile.specs.Firsts.{column, firstFollowed, FirstPlaces, Followed}
 
@@ -57,12 +58,14 @@ twin-le h = by (even h)
     by true = omega arith
     by false = omega arith
 
--- ── two sources ──
+-- ── the sources of all maps ──
 
-pub some-two : (p : ℕ → Bool) → (p 0 || p 1) ≡ someBelow p 2
-some-two p = by (p 0) (p 1)
+pub some-source : (p : ℕ → Bool) → (p 0 || (p 1 || p 2)) ≡ someBelow p maps
+some-source p = by (p 0) (p 1) (p 2)
   where
-    by : (a b : Bool) → (a || b) ≡ ltb (cond (ltb (cond a 0 1) 1) (cond a 0 1) (cond b 1 2)) 2
-    by true b = refl
-    by false true = refl
-    by false false = refl
+    by : (a b c : Bool) → (a || (b || c))
+        ≡ (let r = cond (ltb (cond a 0 1) 1) (cond a 0 1) (cond b 1 2) in ltb (cond (ltb r 2) r (cond c 2 3)) 3)
+    by true b c = refl
+    by false true c = refl
+    by false false true = refl
+    by false false false = refl

@@ -4,13 +4,14 @@ use Prim.Native.Nat.{_≤_, _<_}
 use native.Mathlib.Nat.{mul-le-mul-right}
 use native.Mathlib.Omega.{arith}
 use Rattle.seq.specs.Seq.{ℕ, _+_, _*_, _^_}
+use Rattle.paper.specs.Limits as limits
 use Rattle.paper.specs.Limits.{overlayHead}
 use Rattle.paper.specs.Tables.{Counts}
 use Rattle.paper.specs.Ovfile.{Layout, vertexSize, edgeSize, faceSize, edgesAt, facesAt}
 
 pub record Known (l : Layout) : Type 0 where
   pub coordinate : l .coordinate < 8
-  pub maps : l .maps ≤ 3
+  pub maps : l .maps ≤ limits.maps
 
 -- no vertex, edge or face has more bytes
 abbrev pub largest : ℕ

@@ -6,7 +6,7 @@ use Rattle.paper.specs.Ovfile as paper
 use Rattle.tables.specs.Values.{tablesBy}
 use Rattle.ovfile.specs.declared.layout.Layout.{Layout}
 
--- "overlay files get version 2 with six bytes each" (02, Ask 7)
+-- "overlay files get version 2 with six bytes each" (02, Ask 7); "version 3: a third source after the second and a third label after the second" (02, Ask 13)
 abbrev pub layoutFrom : Layout → paper.Layout
 layoutFrom l = record { coordinate = l .coordinate; maps = l .maps }
 

@@ -1,4 +1,5 @@
-// Where vertices, edges and faces stand in a file of a layout: "length 11 + 16 per vertex + 16 per edge + 8 per face" (02, Ask 7), 14 per vertex in version 1.
+// Where vertices, edges and faces stand in a file of a layout: "length 11 + 16 per vertex + 18 per edge + 10 per face" (02, Ask 13) in version 3, 16 per edge and 8 per face
+// before it, and 14 per vertex in version 1.
 use crate::layout::Layout;
 use limits::DENOMINATOR_BYTES;
 use limits::OVERLAY_HEAD;

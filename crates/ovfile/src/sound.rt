@@ -62,7 +62,8 @@ fn sound_follower(edges: u16, halves: &[u16], first: &[u16], h: u32) -> bool
 fn has_source(sources: &[u32], k: u16) -> bool
     ensures { λ r. ⌜ r ≡ hasSource maps (edgeTables [] (now (sources .entry))) k ⌝ }
 {
-    (source_cell(sources, k, 0) != 0) | (source_cell(sources, k, 1) != 0)
+    (source_cell(sources, k, 0) != 0)
+        | ((source_cell(sources, k, 1) != 0) | (source_cell(sources, k, 2) != 0))
 }
 
 // Whether record k of the counted edges is sound.

@@ -3,9 +3,9 @@
 use mathlib.Core.Path.{_≡_}
 use Prim.Native.Nat.{_<_, _≤_}
 use Rattle.seq.specs.Seq.{List, [], _∷_, ℕ, _+_, _*_, _/_, _%_, eqb, length, getD, ℤ, pos, table, position}
-use Rattle.paper.specs.Limits.{overlayVertices, overlayEdges, overlayFaces, overlayHead, denominatorBytes}
+use Rattle.paper.specs.Limits.{overlayVertices, overlayEdges, overlayFaces, overlayHead, denominatorBytes, maps}
 use Rattle.paper.specs.Bytes.{number, signedAt}
-use Rattle.paper.specs.Tables.{leastHalf, Counts}
+use Rattle.paper.specs.Tables.{vertexWidth, halfWidth, faceWidth, leastHalf, Counts}
 use Rattle.paper.specs.Lent.{Lengths}
 use Rattle.paper.specs.Ovfile.{Layout, vertexSize}
 use Rattle.paper.specs.Reader.{countsIn, edgeField, storedOrigin, storedFollower}
@@ -34,10 +34,10 @@ pub record Within (c : Counts) : Type 0 where
 
 -- the tables have a row for each count
 pub record Roomy (c : Counts) (ls : Lengths) : Type 0 where
-  pub vertices : 4 * c .vertices ≤ ls .vertices
-  pub halves : 5 * (2 * c .edges) ≤ ls .halves
-  pub sources : 2 * c .edges ≤ ls .sources
-  pub faces : 4 * c .faces ≤ ls .faces
+  pub vertices : vertexWidth * c .vertices ≤ ls .vertices
+  pub halves : halfWidth * (2 * c .edges) ≤ ls .halves
+  pub sources : maps * c .edges ≤ ls .sources
+  pub faces : faceWidth maps * c .faces ≤ ls .faces
 
 -- t has in cell h the predecessor of h
 pub record Predecessors (l : Layout) (s t : List ℕ) : Type 0 where

@@ -25,9 +25,8 @@ use ovfile::store;
 use ovfile::twin;
 use ovfile::u16_at;
 use ovfile::vertex_place;
-use seq::store2_u32;
+use seq::store3_u32;
 use seq::store4_i64;
-use seq::store4_u16;
 use seq::store5_u16;
 use seq::wipe_from_i64;
 use seq::wipe_from_u16;
@@ -39,6 +38,7 @@ ghost use lib.ListN.{length};
 ghost use lib.Seq.{sets};
 ghost use Rattle.seq.specs.Seq.{rows, padded, table};
 ghost use Rattle.paper.specs.Limits.{maps};
+ghost use Rattle.paper.specs.Tables.{vertexWidth, halfWidth, faceWidth};
 ghost use Rattle.paper.specs.Reader.{countsIn, storedSource, halfRead, faceRead, tablesIn};
 ghost use Rattle.ovfile.specs.Values.{layoutFrom};
 ghost use Rattle.ovfile.specs.Known.{Known};
@@ -73,7 +73,7 @@ fn predecessors(layout: Layout, file: &[u8]) -> [u16; HALVES]
 }
 
 fn lay_halves(layout: Layout, file: &[u8], first: &[u16], halves: &mut [u16])
-    requires { ⌜ Known (layoutFrom layout) × Within (countsIn (now file)) × Predecessors (layoutFrom layout) (now file) (now first) × (5 * (2 * countsIn (now file) .edges) ≤ length (now halves)) ⌝ }
+    requires { ⌜ Known (layoutFrom layout) × Within (countsIn (now file)) × Predecessors (layoutFrom layout) (now file) (now first) × (halfWidth * (2 * countsIn (now file) .edges) ≤ length (now halves)) ⌝ }
     ensures { λ _. ⌜ now (halves .exit) ≡ sets (now (halves .entry)) 0 (rows (halfRead (layoutFrom layout) (now (file .entry)) (followersIn (layoutFrom layout) (now (file .entry)))) (2 * countsIn (now (file .entry)) .edges)) ⌝ }
 {
     let n = 2 * counts(file).edges as u32;
@@ -94,7 +94,7 @@ fn lay_halves(layout: Layout, file: &[u8], first: &[u16], halves: &mut [u16])
 
 // The half-edge table of a file.
 pub fn fill_halves(layout: Layout, file: &[u8], halves: &mut [u16])
-    requires { ⌜ Known (layoutFrom layout) × Within (countsIn (now file)) × (5 * (2 * countsIn (now file) .edges) ≤ length (now halves)) ⌝ }
+    requires { ⌜ Known (layoutFrom layout) × Within (countsIn (now file)) × (halfWidth * (2 * countsIn (now file) .edges) ≤ length (now halves)) ⌝ }
     ensures { λ _. ⌜ now (halves .exit) ≡ padded 0 (length (now (halves .entry))) (tablesIn maps (layoutFrom layout) (now (file .entry)) .halves) ⌝ }
 {
     let first = predecessors(layout, file);
@@ -114,7 +114,7 @@ fn least_starts(layout: Layout, file: &[u8]) -> [u16; VERTICES]
 }
 
 fn lay_vertices(layout: Layout, file: &[u8], least: &[u16], vertices: &mut [i64])
-    requires { ⌜ Known (layoutFrom layout) × (4 * countsIn (now file) .vertices ≤ length (now vertices)) ⌝ }
+    requires { ⌜ Known (layoutFrom layout) × (vertexWidth * countsIn (now file) .vertices ≤ length (now vertices)) ⌝ }
     ensures { λ _. ⌜ now (vertices .exit) ≡ sets (now (vertices .entry)) 0 (rows (vertexBy (layoutFrom layout) (now (file .entry)) (now (least .entry))) (countsIn (now (file .entry)) .vertices)) ⌝ }
 {
     let n = counts(file).vertices;
@@ -139,7 +139,7 @@ fn lay_vertices(layout: Layout, file: &[u8], least: &[u16], vertices: &mut [i64]
 
 // The vertex table of a file.
 pub fn fill_vertices(layout: Layout, file: &[u8], vertices: &mut [i64])
-    requires { ⌜ Known (layoutFrom layout) × Within (countsIn (now file)) × (4 * countsIn (now file) .vertices ≤ length (now vertices)) ⌝ }
+    requires { ⌜ Known (layoutFrom layout) × Within (countsIn (now file)) × (vertexWidth * countsIn (now file) .vertices ≤ length (now vertices)) ⌝ }
     ensures { λ _. ⌜ now (vertices .exit) ≡ padded (pos 0) (length (now (vertices .entry))) (tablesIn maps (layoutFrom layout) (now (file .entry)) .vertices) ⌝ }
 {
     let least = least_starts(layout, file);
@@ -149,17 +149,18 @@ pub fn fill_vertices(layout: Layout, file: &[u8], vertices: &mut [i64])
 }
 
 fn lay_sources(layout: Layout, file: &[u8], sources: &mut [u32])
-    requires { ⌜ Known (layoutFrom layout) × (2 * countsIn (now file) .edges ≤ length (now sources)) ⌝ }
+    requires { ⌜ Known (layoutFrom layout) × (maps * countsIn (now file) .edges ≤ length (now sources)) ⌝ }
     ensures { λ _. ⌜ now (sources .exit) ≡ sets (now (sources .entry)) 0 (rows (λ k. table (storedSource (layoutFrom layout) (now (file .entry)) k) maps) (countsIn (now (file .entry)) .edges)) ⌝ }
 {
     let n = counts(file).edges as u32;
     let mut k: u32 = 0;
     while k < n {
-        store2_u32(
+        store3_u32(
             sources,
             k as usize,
             source(layout, file, k, 0) as u32,
             source(layout, file, k, 1) as u32,
+            source(layout, file, k, 2) as u32,
         );
         k += 1;
     }
@@ -167,7 +168,7 @@ fn lay_sources(layout: Layout, file: &[u8], sources: &mut [u32])
 
 // The source table of a file.
 pub fn fill_sources(layout: Layout, file: &[u8], sources: &mut [u32])
-    requires { ⌜ Known (layoutFrom layout) × (2 * countsIn (now file) .edges ≤ length (now sources)) ⌝ }
+    requires { ⌜ Known (layoutFrom layout) × (maps * countsIn (now file) .edges ≤ length (now sources)) ⌝ }
     ensures { λ _. ⌜ now (sources .exit) ≡ padded 0 (length (now (sources .entry))) (tablesIn maps (layoutFrom layout) (now (file .entry)) .sources) ⌝ }
 {
     lay_sources(layout, file, sources);
@@ -176,17 +177,18 @@ pub fn fill_sources(layout: Layout, file: &[u8], sources: &mut [u32])
 }
 
 fn lay_faces(layout: Layout, file: &[u8], faces: &mut [u16])
-    requires { ⌜ Known (layoutFrom layout) × (4 * countsIn (now file) .faces ≤ length (now faces)) ⌝ }
+    requires { ⌜ Known (layoutFrom layout) × (faceWidth maps * countsIn (now file) .faces ≤ length (now faces)) ⌝ }
     ensures { λ _. ⌜ now (faces .exit) ≡ sets (now (faces .entry)) 0 (rows (faceRead maps (layoutFrom layout) (now (file .entry))) (countsIn (now (file .entry)) .faces)) ⌝ }
 {
     let n = counts(file).faces as u32;
     let mut f: u32 = 0;
     while f < n {
-        store4_u16(
+        store5_u16(
             faces,
             f as usize,
             label(layout, file, f, 0),
             label(layout, file, f, 1),
+            label(layout, file, f, 2),
             face_field(layout, file, f, layout.maps as u32),
             face_field(layout, file, f, 1 + layout.maps as u32),
         );
@@ -196,7 +198,7 @@ fn lay_faces(layout: Layout, file: &[u8], faces: &mut [u16])
 
 // The face table of a file.
 pub fn fill_faces(layout: Layout, file: &[u8], faces: &mut [u16])
-    requires { ⌜ Known (layoutFrom layout) × (4 * countsIn (now file) .faces ≤ length (now faces)) ⌝ }
+    requires { ⌜ Known (layoutFrom layout) × (faceWidth maps * countsIn (now file) .faces ≤ length (now faces)) ⌝ }
     ensures { λ _. ⌜ now (faces .exit) ≡ padded 0 (length (now (faces .entry))) (tablesIn maps (layoutFrom layout) (now (file .entry)) .faces) ⌝ }
 {
     lay_faces(layout, file, faces);

@@ -26,6 +26,7 @@ ghost use Rattle.seq.specs.Seq.{least};
 ghost use Rattle.paper.specs.Limits.{maps};
 ghost use Rattle.paper.specs.Bytes.{u16};
 ghost use Rattle.paper.specs.Refusal.{firstAt, firstOf};
+ghost use Rattle.paper.specs.Tables.{halfWidth};
 ghost use Rattle.paper.specs.Lent.{roomIn, roomFaults, paddedTables};
 ghost use Rattle.paper.specs.Ovfile.{layouts, soundEdge, layoutOf};
 ghost use Rattle.paper.specs.Reader.{countsIn, tablesIn, readFault, read};
@@ -37,7 +38,7 @@ ghost use Rattle.ovfile_read.specs.Filled.{Within, Roomy};
 
 // The least edge record that is not sound, or the number of edges, by tables that the file's edges are read into.
 fn unsound_by(layout: Layout, file: &[u8], halves: &mut [u16], sources: &mut [u32]) -> u16
-    requires { ⌜ Known (layoutFrom layout) × Within (countsIn (now file)) × (10 * countsIn (now file) .edges ≤ length (now halves)) × (2 * countsIn (now file) .edges ≤ length (now sources)) ⌝ }
+    requires { ⌜ Known (layoutFrom layout) × Within (countsIn (now file)) × (halfWidth * (2 * countsIn (now file) .edges) ≤ length (now halves)) × (maps * countsIn (now file) .edges ≤ length (now sources)) ⌝ }
     ensures { λ r. ⌜ r ≡ least (λ k. not (soundEdge maps (countsIn (now (file .entry))) (tablesIn maps (layoutFrom layout) (now (file .entry))) k)) (countsIn (now (file .entry)) .edges) ⌝ }
 {
     fill_halves(layout, file, halves);

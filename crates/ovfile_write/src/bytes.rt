@@ -76,7 +76,7 @@ pub fn put_vertices(n: u16, vertices: &[i64], buffer: &mut [u8])
     }
 }
 
-// "edges as eight 16-bit numbers"
+// "edges as eight 16-bit numbers", and "a third source after the second" (02, Ask 13)
 fn put_edge(halves: &[u16], sources: &[u32], k: u16, buffer: &mut [u8], at: usize)
     requires { ⌜ at + edgeSize layout ≤ length (now buffer) ⌝ }
     ensures { λ _. ⌜ now (buffer .exit) ≡ sets (now (buffer .entry)) at (gather (le 2) (edgeFields maps (edgeTables (now (halves .entry)) (now (sources .entry))) k)) ⌝ }
@@ -87,11 +87,22 @@ fn put_edge(halves: &[u16], sources: &[u32], k: u16, buffer: &mut [u8], at: usiz
     let upper = half_cell(halves, b, 0) as u32;
     let first = source_cell(sources, k, 0);
     let second = source_cell(sources, k, 1);
+    let third = source_cell(sources, k, 2);
     let onward = half_cell(halves, a, 2) as u32;
     let back = half_cell(halves, b, 2) as u32;
     let left = half_cell(halves, a, 4) as u32;
     let right = half_cell(halves, b, 4) as u32;
-    let fields = [lower, upper, first, second, onward, back, left, right];
+    let fields = [
+        lower,
+        upper,
+        first,
+        second,
+        third,
+        onward,
+        back,
+        left,
+        right,
+    ];
     put_fields(buffer, at, &fields);
 }
 
@@ -108,16 +119,17 @@ pub fn put_edges(c: Counts, halves: &[u16], sources: &[u32], buffer: &mut [u8])
     }
 }
 
-// "faces as four (labels, least half-edge, holes)"
+// "faces as four (labels, least half-edge, holes)", and "a third label after the second" (02, Ask 13)
 fn put_face(faces: &[u16], f: u16, buffer: &mut [u8], at: usize)
     requires { ⌜ at + faceSize layout ≤ length (now buffer) ⌝ }
     ensures { λ _. ⌜ now (buffer .exit) ≡ sets (now (buffer .entry)) at (gather (le 2) (faceFields maps (tablesBy [] [] [] (now (faces .entry))) f)) ⌝ }
 {
     let first = face_cell(faces, f, 0) as u32;
     let second = face_cell(faces, f, 1) as u32;
-    let outer = face_cell(faces, f, 2) as u32;
-    let holes = face_cell(faces, f, 3) as u32;
-    let fields = [first, second, outer, holes];
+    let third = face_cell(faces, f, 2) as u32;
+    let outer = face_cell(faces, f, 3) as u32;
+    let holes = face_cell(faces, f, 4) as u32;
+    let fields = [first, second, third, outer, holes];
     put_fields(buffer, at, &fields);
 }
 

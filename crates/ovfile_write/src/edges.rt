@@ -35,7 +35,8 @@ fn bad_half(edges: u16, halves: &[u16], h: u32) -> bool
 fn wide_source(sources: &[u32], k: u16) -> bool
     ensures { λ r. ⌜ r ≡ wideSource maps (edgeTables [] (now (sources .entry))) k ⌝ }
 {
-    (TWO_BYTES <= source_cell(sources, k, 0)) | (TWO_BYTES <= source_cell(sources, k, 1))
+    (TWO_BYTES <= source_cell(sources, k, 0))
+        | ((TWO_BYTES <= source_cell(sources, k, 1)) | (TWO_BYTES <= source_cell(sources, k, 2)))
 }
 
 // Whether edge k is refused, by a table of the first half-edges with each follower.

@@ -1,4 +1,4 @@
-// Where vertices, edges and faces stand in a file of the newest version: "length 11 + 16 per vertex + 16 per edge + 8 per face" (02, Ask 7).
+// Where vertices, edges and faces stand in a file of the newest version: "length 11 + 16 per vertex + 18 per edge + 10 per face" (02, Ask 13).
 use limits::EDGE_SIZE;
 use limits::FACE_SIZE;
 use limits::OVERLAY_HEAD;

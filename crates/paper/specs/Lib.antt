@@ -21,6 +21,7 @@ pub mod Sample
 pub mod SampleFile
 pub mod Sheets
 pub mod Touching
+pub mod Three
 pub mod Meetings
 pub mod MendSample
 pub mod Tide

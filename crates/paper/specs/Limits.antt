@@ -42,9 +42,9 @@ coordinateBytes = 6
 abbrev pub denominatorBytes : ℕ
 denominatorBytes = 4
 
--- "Two map files go in"
+-- "Two map files go in", and "Bed type comes as a third map" (02, Ask 13)
 abbrev pub maps : ℕ
-maps = 2
+maps = 3
 
 -- "65,535 for face 0", "65,535 if none": no half-edge
 abbrev pub absent : ℕ

@@ -6,7 +6,7 @@ use Rattle.paper.specs.Faces.{overlayOf}
 use Rattle.paper.specs.Tables.{countsOf, tablesOf}
 use Rattle.paper.specs.Lent.{Lengths, Outcome, outcome, roomIn, roomFaults}
 
--- "The first map is checked wholly, then the second"; "The map is 1 for the first, 2 for the second"
+-- "The first map is checked wholly, then the second"; "The map is 1 for the first, 2 for the second"; "the third map is checked last of the maps, before room" (02, Ask 13)
 abbrev pub mapFaults : List (List ℕ) → List (Option Refusal)
 mapFaults files = table (λ i. ofMap (suc i) (fault (getD files i []))) (length files)
 
@@ -18,6 +18,6 @@ lent l files =
     let c = countsOf o in
     outcome l c (tablesOf ms o) (firstOf (mapFaults files ++ roomFaults (roomIn (length files) l) c))
 
--- "Two map files go in"
-abbrev pub overlay : Lengths → List ℕ → List ℕ → Outcome
-overlay l a b = lent l (a ∷ b ∷ [])
+-- "Two map files go in", and "Bed type comes as a third map" (02, Ask 13): zones, blocks, bed
+abbrev pub overlay : Lengths → List ℕ → List ℕ → List ℕ → Outcome
+overlay l a b c = lent l (a ∷ b ∷ c ∷ [])

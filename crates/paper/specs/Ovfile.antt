@@ -10,9 +10,14 @@ pub record Layout : Type 0 where
   pub coordinate : ℕ
   pub maps : ℕ
 
--- the layouts of version 1, 2, ..; "The reader takes both versions; the writer writes 2" (02, Ask 7), the last
+-- the layouts of version 1, 2, 3: "overlay files get version 2 with six bytes each" (02, Ask 7); "version 3: a third source after the second and a third label after the second" (02, Ask 13).
+-- "The writer writes 3, the reader takes all three versions": the last is written
 abbrev pub layouts : List Layout
-layouts = record { coordinate = firstCoordinateBytes; maps = 2 } ∷ record { coordinate = coordinateBytes; maps = maps } ∷ []
+layouts =
+    record { coordinate = firstCoordinateBytes; maps = 2 }
+    ∷ record { coordinate = coordinateBytes; maps = 2 }
+    ∷ record { coordinate = coordinateBytes; maps = maps }
+    ∷ []
 
 -- the bytes of one vertex, edge and face
 abbrev pub vertexSize : Layout → ℕ
@@ -24,7 +29,7 @@ edgeSize l = 12 + 2 * l .maps
 abbrev pub faceSize : Layout → ℕ
 faceSize l = 4 + 2 * l .maps
 
--- "Length is 11 + 14 per vertex + 16 per edge + 8 per face" in version 1, "11 + 16 per vertex + 16 per edge + 8 per face" in version 2: where edges and faces start, and the whole
+-- "Length is 11 + 14 per vertex + 16 per edge + 8 per face" in version 1, "11 + 16 per vertex + 16 per edge + 8 per face" in version 2, "11 + 16 per vertex + 18 per edge + 10 per face" in version 3: where edges and faces start, and the whole
 abbrev pub edgesAt : Layout → Counts → ℕ
 edgesAt l c = overlayHead + vertexSize l * c .vertices
 
@@ -66,13 +71,13 @@ vertexBytes l t v =
     leSigned (l .coordinate) (vertexCell t v 0) ++ leSigned (l .coordinate) (vertexCell t v 1)
     ++ leSigned denominatorBytes (vertexCell t v 2)
 
--- "lower and upper, .. first source + 1 or 0, second source + 1 or 0, follower of 2k, of 2k+1, face of 2k, of 2k+1"
+-- "lower and upper, .. first source + 1 or 0, second source + 1 or 0, .. follower of 2k, of 2k+1, face of 2k, of 2k+1"
 abbrev pub edgeFields : ℕ → Tables → ℕ → List ℕ
 edgeFields n t k = let a = 2 * k in let b = 2 * k + 1 in
     originOf t a ∷ originOf t b
     ∷ (table (sourceCell n t k) n ++ (followerOf t a ∷ followerOf t b ∷ faceOf t a ∷ faceOf t b ∷ []))
 
--- "faces as four (labels, least half-edge, holes)"
+-- "faces as four (labels, least half-edge, holes)", of three maps as five
 abbrev pub faceFields : ℕ → Tables → ℕ → List ℕ
 faceFields n t f = table (faceCell n t f) (faceWidth n)
 

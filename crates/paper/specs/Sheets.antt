@@ -28,8 +28,9 @@ ample n = record {
   faces = faceWidth n * overlayFaces;
 }
 
+-- "The two-map overlay is the one with an empty third map" (02, Ask 13)
 abbrev pub run : List ℕ → List ℕ → Outcome
-run a b = overlay (ample maps) a b
+run a b = overlay (ample maps) a b emptyFile
 
 abbrev pub counted : ℕ → ℕ → ℕ → Answer Counts
 counted v e f = done (record { vertices = v; edges = e; faces = f })
@@ -92,7 +93,7 @@ sheets =
     -- S5
     sheet (run emptyFile emptyFile .answer) (counted 0 0 1) ∷
     -- S6: the counts, and the one face with its hole
-    sheet {A = Answer Counts × List ℕ} (s6 .answer, faceNumbers s6 0) (counted 2 1 1, 0 ∷ 0 ∷ 65535 ∷ 1 ∷ []) ∷
+    sheet {A = Answer Counts × List ℕ} (s6 .answer, faceNumbers s6 0) (counted 2 1 1, 0 ∷ 0 ∷ 0 ∷ 65535 ∷ 1 ∷ []) ∷
     -- S7
     sheet {A = Answer (ℕ × ℕ) × Answer (ℕ × ℕ)} (check (reaching (negsuc 15999)), check (reaching (negsuc 16000))) (done (2, 1), refusedWith 5 0 0) ∷
     -- S8
@@ -103,10 +104,10 @@ sheets =
     sheet (run (square 0 0 4 1 1 1 1 5) emptyFile .answer) (refusedWith 10 1 7) ∷
     -- S11: the counts, and of each face its labels, least half-edge and holes
     sheet {A = Answer Counts × List (List ℕ)} (s11 .answer, table (faceNumbers s11) 3)
-    (counted 8 8 3, (0 ∷ 0 ∷ 65535 ∷ 1 ∷ []) ∷ (1 ∷ 0 ∷ 0 ∷ 1 ∷ []) ∷ (1 ∷ 7 ∷ 6 ∷ 0 ∷ []) ∷ []) ∷
-    -- S12: the listing, and the overlay file with its 395 bytes
-    sheet {A = List ℕ × Written} (listing maps s12, writtenOf 395 (s12 .tables) (s12 .answer))
-    (ascii "vertices 10 edges 12 faces 4\nface 0 0 0 - 1\nface 1 1 0 0 0\nface 2 1 7 6 0\nface 3 0 7 10 0\ngaps 1\n", record { answer = done 395; buffer = s12File }) ∷
+    (counted 8 8 3, (0 ∷ 0 ∷ 0 ∷ 65535 ∷ 1 ∷ []) ∷ (1 ∷ 0 ∷ 0 ∷ 0 ∷ 1 ∷ []) ∷ (1 ∷ 7 ∷ 0 ∷ 6 ∷ 0 ∷ []) ∷ []) ∷
+    -- S12: the listing, and the overlay file with its 427 bytes
+    sheet {A = List ℕ × Written} (listing maps s12, writtenOf 427 (s12 .tables) (s12 .answer))
+    (ascii "vertices 10 edges 12 faces 4\nface 0 0 0 - 1\nface 1 1 0 0 0\nface 2 1 7 6 0\nface 3 0 7 10 0\ngaps 1\n", record { answer = done 427; buffer = s12File }) ∷
     []
 
 -- every sheet of a list is answered as it should be

@@ -25,6 +25,6 @@ touched = run touching emptyFile
 
 -- the outside with one hole walk round both, and two faces
 pub touching-answered : _≡_ {A = Answer Counts × List (List ℕ)} (touched .answer, table (λ f. table (faceCell maps (touched .tables) f) (faceWidth maps)) 3)
-    (counted 5 6 3, (0 ∷ 0 ∷ 65535 ∷ 1 ∷ []) ∷ (1 ∷ 0 ∷ 1 ∷ 0 ∷ []) ∷ (2 ∷ 0 ∷ 5 ∷ 0 ∷ []) ∷ [])
+    (counted 5 6 3, (0 ∷ 0 ∷ 0 ∷ 65535 ∷ 1 ∷ []) ∷ (1 ∷ 0 ∷ 0 ∷ 1 ∷ 0 ∷ []) ∷ (2 ∷ 0 ∷ 0 ∷ 5 ∷ 0 ∷ []) ∷ [])
 unfolding gcdOf fault overlayOf tablesOf
 touching-answered = refl

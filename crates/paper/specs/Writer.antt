@@ -1,4 +1,4 @@
--- The overlay file's writer (01, "Overlay file"): "It refuses with 3 .., 5 .., 21 or 11 (place 4), in that order, and then zeroes its buffer". "the writer writes 2" (02, Ask 7), the newest version. Assumes nothing.
+-- The overlay file's writer (01, "Overlay file"): "It refuses with 3 .., 5 .., 21 or 11 (place 4), in that order, and then zeroes its buffer". "The writer writes 3" (02, Ask 13), the newest version. Assumes nothing.
 use Rattle.seq.specs.Seq.{Bool, _&&_, List, [], _∷_, Option, ℕ, _+_, _*_, _^_, leb, ltb, length, pos, padded, not, _||_, eqb, _-ℤ_, someBelow, _-_}
 use Rattle.paper.specs.Limits.{maps, denominatorBytes}
 use Rattle.paper.specs.Refusal.{given, firstOf, answer, unlessRefused, Refusal, Answer, firstAt}

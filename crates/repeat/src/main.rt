@@ -9,6 +9,7 @@ use limits::FACE_CELLS;
 use limits::HALF_CELLS;
 use limits::SOURCE_CELLS;
 use limits::VERTEX_CELLS;
+use overlay_maps::EMPTY;
 use tables::Answer;
 ghost use Prim.Native.Nat.{_≤_};
 
@@ -27,15 +28,17 @@ fn say_answer(answer: Answer) {
     }
 }
 
-// One run, in tables of its own.
+// One run, in tables of its own; the third map is empty.
 fn run(zones: &[u8], blocks: &[u8]) -> Answer {
     let mut vertices = [0i64; VERTEX_CELLS];
     let mut halves = [0u16; HALF_CELLS];
     let mut sources = [0u32; SOURCE_CELLS];
     let mut faces = [0u16; FACE_CELLS];
+    let bed = EMPTY;
     overlay::overlay(
         zones,
         blocks,
+        &bed,
         &mut vertices,
         &mut halves,
         &mut sources,

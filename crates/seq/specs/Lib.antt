@@ -56,3 +56,6 @@ pub mod HowMany
 pub mod Total
 pub mod PairOrder
 pub mod Loops
+pub mod Lifted
+pub mod Placed
+pub mod RowInserted

@@ -1,9 +1,10 @@
-// Tables of u16: wiped from a cell on or whole, and rows stored in them. Row r of a table of rows of w cells is the cells from w * r on.
+// Tables of u16: wiped from a cell on or whole, cells moved up, and rows stored in them. Row r of a table of rows of w cells is the cells from w * r on.
 ghost use mathlib.Core.Path.{_≡_};
 ghost use mathlib.Core.List.{[], _∷_};
 ghost use Prim.Native.Nat.{_+_, _*_, _≤_};
 ghost use lib.ListN.{length, replicate};
 ghost use Rattle.seq.specs.Seq.{rowStored, wiped};
+ghost use Rattle.seq.specs.Loops.Lifting.{lifted};
 
 // Sets every cell from cell n on to 0.
 pub fn wipe_from_u16(t: &mut [u16], n: usize)
@@ -24,16 +25,26 @@ pub fn wipe_u16(t: &mut [u16])
     wipe_from_u16(t, 0);
 }
 
-// Stores a row of four.
-pub fn store4_u16(t: &mut [u16], r: usize, a: u16, b: u16, c: u16, d: u16)
-    requires { ⌜ 4 * r + 4 ≤ length (now t) ⌝ }
-    ensures { λ _. ⌜ now (t .exit) ≡ rowStored 4 (now (t .entry)) r (a ∷ b ∷ c ∷ d ∷ []) ⌝ }
+// Moves the cells from `from` to `to` up by `by` cells, the last first.
+pub fn lift_u16(t: &mut [u16], from: usize, to: usize, by: usize)
+    requires { ⌜ from ≤ to ⌝ ∗ ⌜ to + by ≤ length (now t) ⌝ }
+    ensures { λ _. ⌜ now (t .exit) ≡ lifted from to by (now (t .entry)) ⌝ }
 {
-    let at = 4 * r;
+    let mut i = to;
+    while from < i {
+        i -= 1;
+        t[i + by] = t[i];
+    }
+}
+
+// Stores a row of two.
+pub fn store2_u16(t: &mut [u16], r: usize, a: u16, b: u16)
+    requires { ⌜ 2 * r + 2 ≤ length (now t) ⌝ }
+    ensures { λ _. ⌜ now (t .exit) ≡ rowStored 2 (now (t .entry)) r (a ∷ b ∷ []) ⌝ }
+{
+    let at = 2 * r;
     t[at] = a;
     t[at + 1] = b;
-    t[at + 2] = c;
-    t[at + 3] = d;
 }
 
 // Stores a row of five.

@@ -9,7 +9,7 @@ use Rattle.paper.specs.Record as lent
 use Rattle.tables.specs.declared.answer.Answer.{Answer}
 use Rattle.tables.specs.declared.answer.Answer.the-variants.{Done, Refused}
 use Rattle.tables.specs.declared.edge_record.Source.{Source}
-use Rattle.tables.specs.declared.edge_record.Source.the-variants.{First, Second, Both}
+use Rattle.tables.specs.declared.edge_record.Source.the-variants.{First, Second, Both, Third, FirstThird, SecondThird, All}
 use Rattle.tables.specs.declared.edge_record.Found.{Found}
 use Rattle.tables.specs.declared.edge_record.Found.the-variants.{Edge, Absent}
 use Rattle.tables.specs.Values.{answerOf, tablesBy}
@@ -34,11 +34,19 @@ abbrev sourceBack : lent.Source → Source
 sourceBack (lent.first j) = First j
 sourceBack (lent.second k) = Second k
 sourceBack (lent.both j k) = Both j k
+sourceBack (lent.third l) = Third l
+sourceBack (lent.firstThird j l) = FirstThird j l
+sourceBack (lent.secondThird k l) = SecondThird k l
+sourceBack (lent.all j k l) = All j k l
 
 source-there : (s : Source) → sourceBack (sourceFrom s) ≡ s
 source-there (First j) = refl
 source-there (Second k) = refl
 source-there (Both j k) = refl
+source-there (Third l) = refl
+source-there (FirstThird j l) = refl
+source-there (SecondThird k l) = refl
+source-there (All j k l) = refl
 
 abbrev foundBack : Option lent.OverlayEdge → Found
 foundBack none = Absent

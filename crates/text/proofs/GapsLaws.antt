@@ -5,12 +5,14 @@ use native.Mathlib.Omega.{arith}
 use native.Mathlib.Nat.{add-zero}
 use borrow.Author.Tests.{eq-eqb, ne-eqb}
 use Rattle.seq.specs.Seq.{List, Bool, true, false, not, _&&_, ℕ, suc, _+_, _*_, _-_, cond, eqb, getD}
+use Rattle.paper.specs.Limits.{maps}
+use Rattle.paper.specs.Tables.{faceWidth}
 use Rattle.paper.specs.Listing.{isGap}
 use Rattle.seq.specs.Loops.Selecting.{Counting, count-turns}
 
 -- face f is a gap, by its row
 abbrev pub gapAt : List ℕ → ℕ → Bool
-gapAt fs f = isGap (getD fs (4 * f + 0) 0) (getD fs (4 * f + 1) 0)
+gapAt fs f = isGap (getD fs (faceWidth maps * f + 0) 0) (getD fs (faceWidth maps * f + 1) 0)
 
 -- the faces from 1 on
 abbrev pub gapBehind : List ℕ → ℕ → Bool

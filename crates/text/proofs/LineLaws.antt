@@ -11,7 +11,8 @@ use Rattle.seq.specs.Seq.{Bool, cond, List, [], _++_, ℕ, _+_, _*_, eqb, lengt
 use Rattle.seq.specs.Over.{stored-behind}
 use Rattle.seq.specs.Rows.{rows-more}
 use Rattle.paper.specs.Bytes.{ascii}
-use Rattle.paper.specs.Tables.{Counts}
+use Rattle.paper.specs.Limits.{maps}
+use Rattle.paper.specs.Tables.{Counts, faceWidth}
 use Rattle.paper.specs.Listing.{decimal, countsLine}
 use Rattle.text.specs.Line.{Put}
 use Rattle.text.specs.Lines.{Line, leastText, labelsText, faceText, gapsIn, gapsText, listingText}
@@ -57,12 +58,12 @@ abbrev faceFields : ℕ → ℕ → ℕ → ℕ → ℕ → List ℕ
 faceFields f a b h o = labelsText f a b ++ ascii " " ++ cond (eqb f 0) (ascii "-") (decimal h) ++ ascii " " ++ decimal o ++ ascii "\n"
 
 pub face-fields : (fs : List ℕ) (f : ℕ) {a b h o : ℕ}
-    → a ≡ getD fs (4 * f + 0) 0 → b ≡ getD fs (4 * f + 1) 0 → h ≡ getD fs (4 * f + 2) 0 → o ≡ getD fs (4 * f + 3) 0
+    → a ≡ getD fs (faceWidth maps * f + 0) 0 → b ≡ getD fs (faceWidth maps * f + 1) 0 → h ≡ getD fs (faceWidth maps * f + maps) 0 → o ≡ getD fs (faceWidth maps * f + (maps + 1)) 0
     → faceFields f a b h o ≡ faceText fs f
 face-fields fs f {a} {b} {h} {o} ea eb eh eo =
-    ap (λ (x : ℕ). faceFields f x b h o) ea ∙ ap (λ (x : ℕ). faceFields f (getD fs (4 * f + 0) 0) x h o) eb
-    ∙ ap (λ (x : ℕ). faceFields f (getD fs (4 * f + 0) 0) (getD fs (4 * f + 1) 0) x o) eh
-    ∙ ap (faceFields f (getD fs (4 * f + 0) 0) (getD fs (4 * f + 1) 0) (getD fs (4 * f + 2) 0)) eo
+    let at : ℕ → ℕ = λ j. getD fs (faceWidth maps * f + j) 0 in
+    ap (λ (x : ℕ). faceFields f x b h o) ea ∙ ap (λ (x : ℕ). faceFields f (at 0) x h o) eb
+    ∙ ap (λ (x : ℕ). faceFields f (at 0) (at 1) x o) eh ∙ ap (faceFields f (at 0) (at 1) (at maps)) eo
 
 -- ── lines one behind the other ──
 

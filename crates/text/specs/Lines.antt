@@ -7,7 +7,7 @@ use Rattle.paper.specs.Bytes.{ascii}
 use Rattle.paper.specs.Limits.{maps}
 use Rattle.paper.specs.Refusal.{done}
 use Rattle.paper.specs.Tables.{Counts, Tables}
-use Rattle.paper.specs.Record.{Source, first, second, both, OverlayEdge}
+use Rattle.paper.specs.Record.{Source, first, second, both, third, firstThird, secondThird, all, OverlayEdge}
 use Rattle.paper.specs.Listing.{decimal, faceLine, gaps, listingBy}
 
 -- tables of which only the faces are looked at
@@ -33,11 +33,15 @@ gapsText n = ascii "gaps " ++ decimal n ++ ascii "\n"
 abbrev pub endsText : ℕ → ℕ → ℕ → List ℕ
 endsText k lower upper = ascii "edge " ++ decimal k ++ ascii " " ++ decimal lower ++ ascii " " ++ decimal upper
 
--- "whether it came from the first map, the second or both, with the edge number in each"
+-- "whether it came from the first map, the second or both, with the edge number in each"; of a piece that comes from the third map too (02, Ask 13), each map by its name, or all
 abbrev pub sourceText : Source → List ℕ
 sourceText (first j) = ascii " first " ++ decimal j
 sourceText (second k) = ascii " second " ++ decimal k
 sourceText (both j k) = ascii " both " ++ decimal j ++ ascii " " ++ decimal k
+sourceText (third l) = ascii " third " ++ decimal l
+sourceText (firstThird j l) = ascii " first " ++ decimal j ++ ascii " third " ++ decimal l
+sourceText (secondThird k l) = ascii " second " ++ decimal k ++ ascii " third " ++ decimal l
+sourceText (all j k l) = ascii " all " ++ decimal j ++ ascii " " ++ decimal k ++ ascii " " ++ decimal l
 
 -- the line of edge k
 abbrev pub edgeText : ℕ → OverlayEdge → List ℕ

@@ -2,15 +2,17 @@
 use limits::FACE_WIDTH;
 ghost use mathlib.Core.Path.{_≡_};
 ghost use mathlib.Core.Bool.{cond};
-ghost use Prim.Native.Nat.{_+_, _*_, _≤_, _<_};
+ghost use Prim.Native.Nat.{_+_, _*_, _<_};
 ghost use lib.ListN.{getD};
+ghost use Rattle.paper.specs.Limits.{maps};
+ghost use Rattle.paper.specs.Tables.{faceWidth};
 ghost use Rattle.paper.specs.Listing.{isGap};
 ghost use Rattle.text.specs.Lines.{gapsIn};
 
 // The cell j of a face's row; 0 past the table's end.
 pub fn cell(faces: &[u16], face: u16, j: usize) -> u16
-    requires { ⌜ j ≤ 3 ⌝ }
-    ensures { λ r. ⌜ r ≡ getD (now (faces .entry)) (4 * face + j) 0 ⌝ }
+    requires { ⌜ j < faceWidth maps ⌝ }
+    ensures { λ r. ⌜ r ≡ getD (now (faces .entry)) (faceWidth maps * face + j) 0 ⌝ }
 {
     let at = FACE_WIDTH * face as usize + j;
     if faces.len() <= at {

@@ -3,11 +3,17 @@ use crate::cells::cell;
 use crate::line::field;
 use crate::line::words;
 use limits::LINE;
+use limits::MAPS;
 ghost use Prim.Native.Nat.{_+_, _≤_};
 ghost use lib.ListN.{length};
 ghost use Rattle.paper.specs.Listing.{countsLine, refusedLine};
 ghost use Rattle.text.specs.Line.{Put};
 ghost use Rattle.text.specs.Lines.{Line, leastText, labelsText, faceText, gapsText};
+
+// Where a face's row has its least outer half-edge, and its count of hole walks: behind the labels.
+const OUTER: usize = MAPS;
+
+const HOLES: usize = MAPS + 1;
 
 // "The first line gives the counts"
 pub fn counts_line(vertices: u16, edges: u16, faces: u16, line: &mut [u8; LINE]) -> usize
@@ -55,8 +61,8 @@ pub fn face_line(face: u16, faces: &[u16], line: &mut [u8; LINE]) -> usize
     ensures { λ r. ⌜ Line 64 (faceText (now (faces .entry)) face) (now (line .entry)) (now (line .exit)) r ⌝ }
 {
     let at = labels_field(line, face, cell(faces, face, 0), cell(faces, face, 1));
-    let at = least_field(line, at, face, cell(faces, face, 2));
-    let at = field(line, at, b" ", cell(faces, face, 3));
+    let at = least_field(line, at, face, cell(faces, face, OUTER));
+    let at = field(line, at, b" ", cell(faces, face, HOLES));
     words(line, at, b"\n")
 }
 

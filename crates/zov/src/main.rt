@@ -1,8 +1,9 @@
 // zov, the overlay for daily use:
-//   zov ZONES BLOCKS [OUT]    lists the overlay of two map files, and writes its overlay file to OUT
-//   zov --list FILE           lists an overlay file
-//   zov --edges FILE          lists its edges
-//   zov --check FILE...       checks map files, a line for each; of several, how many are good
+//   zov ZONES BLOCKS [OUT]             lists the overlay of two map files, and writes its overlay file to OUT
+//   zov --bed BED ZONES BLOCKS [OUT]   the same with a third map
+//   zov --list FILE                    lists an overlay file
+//   zov --edges FILE                   lists its edges
+//   zov --check FILE...                checks map files, a line for each; of several, how many are good
 // A refusal is the line of 01, and then a sentence; of a map that is checked in one line, behind its name.
 mod words; // the program's arguments
 mod maps; // map files
@@ -15,6 +16,7 @@ fn usage() {
     console::say(
         b"zov ZONES BLOCKS [OUT.zov]   list the overlay of two map files; write its overlay file\n",
     );
+    console::say(b"zov --bed BED ZONES BLOCKS [OUT.zov]   the same with a third map\n");
     console::say(b"zov --list FILE.zov          list an overlay file\n");
     console::say(
         b"zov --edges FILE.zov         list its edges: number, lower and upper vertex, sources\n",
@@ -36,10 +38,6 @@ fn main() {
         Task::List => overlays::list_arg(2),
         Task::Edges => overlays::edges_arg(2),
         Task::Check => maps::check_args(2, n),
-        Task::Overlay => overlays::lay(),
-        Task::Write => {
-            overlays::lay();
-            overlays::save();
-        }
+        Task::Overlay(maps) => overlays::lay(maps),
     }
 }

@@ -1,9 +1,11 @@
 // Overlays, listed and written.
 use crate::maps::say_name;
+use crate::words::Maps;
 use console::load_arg;
 use console::say;
 use limits::LISTING;
 use map_file::Refusal;
+use overlay_maps::EMPTY;
 use ovfile_write::WriteAnswer;
 use tables::Answer;
 
@@ -15,23 +17,33 @@ fn explain(answer: Answer) {
     }
 }
 
-// Refusal 8 of one of the two maps: its name, and how the two edges of that file meet.
-fn explain_clash(r: Refusal, zones: &[u8], blocks: &[u8]) {
-    say_name(r.map as usize);
-    if r.map == 1 {
-        console::say_clash(zones, r.place, r.other);
-    } else {
-        console::say_clash(blocks, r.place, r.other);
+// The word that names a map.
+fn word_of(maps: Maps, map: u16) -> usize {
+    match map {
+        1 => maps.zones,
+        2 => maps.blocks,
+        _ => maps.bed,
     }
 }
 
-// A refusal of two maps in a sentence, under its line.
-fn explain_maps(answer: Answer, zones: &[u8], blocks: &[u8]) {
+// Refusal 8 of one of the maps: its name, and how the two edges of that file meet.
+fn explain_clash(r: Refusal, maps: Maps, zones: &[u8], blocks: &[u8], bed: &[u8]) {
+    say_name(word_of(maps, r.map));
+    let map = r.map;
+    match map {
+        1 => console::say_clash(zones, r.place, r.other),
+        2 => console::say_clash(blocks, r.place, r.other),
+        _ => console::say_clash(bed, r.place, r.other),
+    }
+}
+
+// A refusal of the maps in a sentence, under its line.
+fn explain_maps(answer: Answer, maps: Maps, zones: &[u8], blocks: &[u8], bed: &[u8]) {
     match answer {
         Answer::Done(_) => {}
         Answer::Refused(r) => {
             if r.number == 8 {
-                explain_clash(r, zones, blocks);
+                explain_clash(r, maps, zones, blocks, bed);
             } else {
                 console::say_sentence(r.number, r.map, r.place);
             }
@@ -59,33 +71,49 @@ pub fn edges_arg(i: usize) {
     explain(answer);
 }
 
-// The overlay of the two map files that the first two arguments name.
-pub fn lay() {
-    let mut zones = io::buffer();
-    let n = load_arg(1, &mut zones);
-    let mut blocks = io::buffer();
-    let m = load_arg(2, &mut blocks);
+// The overlay of three map files, listed.
+fn list_maps(maps: Maps, zones: &[u8], blocks: &[u8], bed: &[u8]) {
     let mut out = [0u8; LISTING];
-    let listed = lists::from_maps::list(&zones[..n], &blocks[..m], &mut out);
+    let listed = lists::from_maps::list(zones, blocks, bed, &mut out);
     let length = listed.length;
     say(&out[..length]);
     let answer = listed.answer;
-    explain_maps(answer, &zones[..n], &blocks[..m]);
+    explain_maps(answer, maps, zones, blocks, bed);
 }
 
-// Its overlay file, to the file that the third argument names; nothing is written where the overlay is refused.
-pub fn save() {
-    let mut zones = io::buffer();
-    let n = load_arg(1, &mut zones);
-    let mut blocks = io::buffer();
-    let m = load_arg(2, &mut blocks);
+// Its overlay file, to the file that a word names; nothing is written where the overlay is refused.
+fn save_maps(out: usize, zones: &[u8], blocks: &[u8], bed: &[u8]) {
     let mut file = io::large_buffer();
-    let answer = lists::from_maps::file(&zones[..n], &blocks[..m], &mut file);
+    let answer = lists::from_maps::file(zones, blocks, bed, &mut file);
     match answer {
         WriteAnswer::Done(length) => {
             let k = console::within(length, &file);
-            console::save_arg(3, &file[..k]);
+            console::save_arg(out, &file[..k]);
         }
         WriteAnswer::Refused(_) => {}
+    }
+}
+
+// The overlay of three map files listed, and written where that is asked for.
+fn lay_files(maps: Maps, zones: &[u8], blocks: &[u8], bed: &[u8]) {
+    list_maps(maps, zones, blocks, bed);
+    if maps.out != 0 {
+        save_maps(maps.out, zones, blocks, bed);
+    }
+}
+
+// The map files that the words name; "The two-map overlay is the one with an empty third map".
+pub fn lay(maps: Maps) {
+    let mut zones = io::buffer();
+    let n = load_arg(maps.zones, &mut zones);
+    let mut blocks = io::buffer();
+    let m = load_arg(maps.blocks, &mut blocks);
+    if maps.bed == 0 {
+        let bed = EMPTY;
+        lay_files(maps, &zones[..n], &blocks[..m], &bed);
+    } else {
+        let mut bed = io::buffer();
+        let k = load_arg(maps.bed, &mut bed);
+        lay_files(maps, &zones[..n], &blocks[..m], &bed[..k]);
     }
 }

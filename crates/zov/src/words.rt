@@ -1,6 +1,15 @@
 // What the program's arguments ask for.
 use console::is_arg;
 use console::same_args;
+ghost use Prim.Native.Nat.{_≤_};
+
+// The words that name the maps and OUT; `bed` is 0 where there is no third map, and `out` where nothing is to be written.
+pub struct Maps {
+    pub zones: usize,
+    pub blocks: usize,
+    pub bed: usize,
+    pub out: usize,
+}
 
 pub enum Task {
     Usage,
@@ -9,8 +18,7 @@ pub enum Task {
     List,
     Edges,
     Check,
-    Overlay,
-    Write,
+    Overlay(Maps),
 }
 
 // Whether an argument begins like an option. A file of such a name is given as `./--name`.
@@ -23,9 +31,71 @@ fn is_option(i: usize) -> bool {
     word[1] == b'-'
 }
 
+// Whether one of the three words from `first` on is an option; one that is not there is none.
+fn any_option(first: usize) -> bool
+    requires { ⌜ first ≤ 3 ⌝ }
+{
+    if is_option(first) {
+        return true;
+    }
+    if is_option(first + 1) {
+        return true;
+    }
+    is_option(first + 2)
+}
+
+// Whether OUT is one of the maps by name.
+fn same_name(maps: Maps) -> bool {
+    if same_args(maps.zones, maps.out) {
+        return true;
+    }
+    if same_args(maps.blocks, maps.out) {
+        return true;
+    }
+    if maps.bed == 0 {
+        return false;
+    }
+    same_args(maps.bed, maps.out)
+}
+
+// The overlay written, unless its file is one of the maps.
+fn write_task(maps: Maps) -> Task {
+    if same_name(maps) {
+        return Task::SameName;
+    }
+    Task::Overlay(maps)
+}
+
 // One file, of an option.
 fn one_file(n: usize, task: Task) -> Task {
     if n == 3 { task } else { Task::OneFile }
+}
+
+// Of n words: zones and blocks from word `first` on, and where to write their overlay.
+fn overlay_task(n: usize, first: usize, bed: usize) -> Task
+    requires { ⌜ first ≤ 3 ⌝ }
+{
+    let blocks = first + 1;
+    if any_option(first) {
+        return Task::Usage;
+    }
+    if n == first + 2 {
+        return Task::Overlay(Maps {
+            zones: first,
+            blocks,
+            bed,
+            out: 0,
+        });
+    }
+    if n == first + 3 {
+        return write_task(Maps {
+            zones: first,
+            blocks,
+            bed,
+            out: first + 2,
+        });
+    }
+    Task::Usage
 }
 
 // What the option that is the first argument asks for.
@@ -39,35 +109,18 @@ fn option_task(n: usize) -> Task {
     if is_arg(1, b"--edges") {
         return one_file(n, Task::Edges);
     }
+    if is_arg(1, b"--bed") {
+        return bed_task(n);
+    }
     Task::Usage
 }
 
-// The overlay written, unless its file is one of the two maps by name.
-fn write_task() -> Task {
-    if is_option(3) {
-        return Task::Usage;
-    }
-    if same_args(1, 3) {
-        return Task::SameName;
-    }
-    if same_args(2, 3) {
-        return Task::SameName;
-    }
-    Task::Write
-}
-
-// Two map files, and where to write their overlay.
-fn overlay_task(n: usize) -> Task {
+// Three map files, the third first.
+fn bed_task(n: usize) -> Task {
     if is_option(2) {
         return Task::Usage;
     }
-    if n == 3 {
-        return Task::Overlay;
-    }
-    if n == 4 {
-        return write_task();
-    }
-    Task::Usage
+    overlay_task(n, 3, 2)
 }
 
 // The task of n words, the program's own name among them.
@@ -78,5 +131,5 @@ pub fn asked(n: usize) -> Task {
     if is_option(1) {
         return option_task(n);
     }
-    overlay_task(n)
+    overlay_task(n, 1, 0)
 }

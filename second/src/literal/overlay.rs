@@ -2,11 +2,11 @@
 
 use super::net::Net;
 use super::slip::Slip;
-use crate::limits::NO_HALF_EDGE;
+use crate::limits::{MAPS, NO_HALF_EDGE};
 use crate::map::Map;
 use crate::point::{side, Point};
 use crate::segment::Segment;
-use crate::tables::{FaceRow, HalfEdgeRow, Sources, Tables, VertexRow};
+use crate::tables::{FaceRow, HalfEdgeRow, Labels, Sources, Tables, VertexRow};
 
 /// The crossing of two edges that are not parallel: "exactly when both parameters lie from 0
 /// to 1, ends included".
@@ -31,12 +31,17 @@ fn crossing(s: &Segment, t: &Segment, slip: Option<Slip>) -> Option<Point> {
     })
 }
 
-/// The overlay vertices: all input vertices and crossings, in point order, each once.
-fn vertices(maps: [&Map; 2], slip: Option<Slip>) -> Vec<Point> {
+/// "Vertices are those of any map and the meeting points of edges of any two" (02, Ask 13), in point
+/// order, each once.
+fn vertices(maps: &[&Map], slip: Option<Slip>) -> Vec<Point> {
     let whole = |&(x, y): &(i16, i16)| Point::whole(x as i64, y as i64);
     let mut points: Vec<Point> = maps.iter().flat_map(|m| m.vertices.iter().map(whole)).collect();
-    for s in maps[0].segments() {
-        points.extend(maps[1].segments().iter().filter_map(|t| crossing(&s, t, slip)));
+    let firsts = if slip == Some(Slip::FirstMapOnly) { 1 } else { maps.len() };
+    for (i, one) in maps.iter().enumerate().take(firsts) {
+        for s in one.segments() {
+            let others = maps[i + 1..].iter().flat_map(|other| other.segments());
+            points.extend(others.filter_map(|t| crossing(&s, &t, slip)));
+        }
     }
     points.sort();
     points.dedup();
@@ -47,8 +52,9 @@ fn vertices(maps: [&Map; 2], slip: Option<Slip>) -> Vec<Point> {
 type Piece = ((usize, usize), Sources);
 
 /// "Edges are the pieces of input edges between neighbouring overlay vertices on them; a piece
-/// that comes from both maps stands once. They are sorted by lower, then upper vertex number."
-fn pieces(maps: [&Map; 2], points: &[Point], slip: Option<Slip>) -> Vec<Piece> {
+/// that comes from both maps stands once. They are sorted by lower, then upper vertex number." "A
+/// piece may come from any of the three."
+fn pieces(maps: &[&Map], points: &[Point], slip: Option<Slip>) -> Vec<Piece> {
     let mut pieces: Vec<Piece> = Vec::new();
     for (m, map) in maps.iter().enumerate() {
         for (k, s) in map.segments().iter().enumerate() {
@@ -65,9 +71,15 @@ fn pieces(maps: [&Map; 2], points: &[Point], slip: Option<Slip>) -> Vec<Piece> {
                 let source = Some(k as u16);
                 let known = pieces.iter_mut().find(|(ends, _)| *ends == (pair[0], pair[1]));
                 match known {
-                    Some((_, sources)) if slip != Some(Slip::SharedTwice) => sources.1 = source,
+                    Some((_, sources)) if slip != Some(Slip::SharedTwice) => {
+                        let two = sources.iter().flatten().count() == 2;
+                        if !(two && slip == Some(Slip::TwoSources)) {
+                            sources[m] = source;
+                        }
+                    }
                     _ => {
-                        let sources = if m == 0 { (source, None) } else { (None, source) };
+                        let mut sources = [None; MAPS];
+                        sources[m] = source;
                         pieces.push(((pair[0], pair[1]), sources));
                     }
                 }
@@ -79,11 +91,11 @@ fn pieces(maps: [&Map; 2], points: &[Point], slip: Option<Slip>) -> Vec<Piece> {
 }
 
 /// The vertices and edges of the overlay; an edge's line is that of its first source.
-fn net(maps: [&Map; 2], points: Vec<Point>, pieces: &[Piece], slip: Option<Slip>) -> Net {
-    let carrier = |sources: &Sources| match *sources {
-        (Some(k), _) => maps[0].segment(k as usize),
-        (None, Some(k)) => maps[1].segment(k as usize),
-        (None, None) => unreachable!("a piece comes from a map"),
+fn net(maps: &[&Map], points: Vec<Point>, pieces: &[Piece], slip: Option<Slip>) -> Net {
+    let carrier = |sources: &Sources| {
+        let mut known = maps.iter().zip(sources).filter_map(|(map, k)| k.map(|k| (map, k)));
+        let (map, k) = known.next().expect("a piece comes from a map");
+        map.segment(k as usize)
     };
     let upward = |s: Segment| {
         let (x, y) = s.way();
@@ -164,20 +176,25 @@ fn sort_walks(net: &Net, followers: &[usize]) -> Sorted {
     Sorted { face_of: walk_of.iter().map(|&w| faces[w]).collect(), least, holes }
 }
 
-/// The tables of the overlay and the pair of each half-edge, with no regard to the room.
-pub fn overlay(first: &Map, second: &Map, slip: Option<Slip>) -> (Tables, Vec<(u16, u16)>) {
-    let maps = [first, second];
+/// The tables of the overlay and the labels of each half-edge, with no regard to the room.
+pub fn overlay(maps: &[&Map], slip: Option<Slip>) -> (Tables, Vec<Labels>) {
     let points = vertices(maps, slip);
     let pieces = pieces(maps, &points, slip);
     let net = net(maps, points, &pieces, slip);
-    let of_maps = maps.map(|map| Net::of(map, slip));
+    let of_maps: Vec<Net> = maps.iter().map(|map| Net::of(map, slip)).collect();
     let outgoing = net.outgoing();
     let followers: Vec<usize> = (0..net.half_edges()).map(|h| net.follower(&outgoing, h)).collect();
-    let pair = |h: usize| {
-        let (a, b) = pieces[h / 2].1;
-        (label(first, &of_maps[0], &net, a, h), label(second, &of_maps[1], &net, b, h))
+    let labels = |h: usize| {
+        let mut labels = [0; MAPS];
+        for (m, map) in maps.iter().enumerate() {
+            labels[m] = label(map, &of_maps[m], &net, pieces[h / 2].1[m], h);
+        }
+        if slip == Some(Slip::ThirdAsSecond) {
+            labels[2] = labels[1];
+        }
+        labels
     };
-    let pairs: Vec<(u16, u16)> = (0..net.half_edges()).map(pair).collect();
+    let labels: Vec<Labels> = (0..net.half_edges()).map(labels).collect();
     let sorted = sort_walks(&net, &followers);
     let number = |h: Option<usize>| h.map_or(NO_HALF_EDGE, |h| h as u16);
     let half_edge = |h: usize| HalfEdgeRow {
@@ -191,11 +208,11 @@ pub fn overlay(first: &Map, second: &Map, slip: Option<Slip>) -> (Tables, Vec<(u
         let Point { x, y, d } = net.points[v];
         VertexRow { x, y, d, out: number(outgoing[v].first().copied()) }
     };
-    let outside =
-        FaceRow { first: 0, second: 0, least: NO_HALF_EDGE, holes: sorted.holes[0] as u16 };
-    let inner = sorted.least.iter().zip(&sorted.holes[1..]).map(|(&h, &holes)| {
-        let (first, second) = pairs[h];
-        FaceRow { first, second, least: h as u16, holes: holes as u16 }
+    let outside = FaceRow { labels: [0; MAPS], least: NO_HALF_EDGE, holes: sorted.holes[0] as u16 };
+    let inner = sorted.least.iter().zip(&sorted.holes[1..]).map(|(&h, &holes)| FaceRow {
+        labels: labels[h],
+        least: h as u16,
+        holes: holes as u16,
     });
     let tables = Tables {
         vertices: (0..net.points.len()).map(vertex).collect(),
@@ -203,5 +220,5 @@ pub fn overlay(first: &Map, second: &Map, slip: Option<Slip>) -> (Tables, Vec<(u
         sources: pieces.iter().map(|(_, sources)| *sources).collect(),
         faces: std::iter::once(outside).chain(inner).collect(),
     };
-    (tables, pairs)
+    (tables, labels)
 }

@@ -10,20 +10,22 @@ pub fn fault(file: &[u8], room: [usize; 3]) -> Option<Refusal> {
     if file.len() < 11 || file[0] != b'Z' || file[1] != b'O' || file[2] != b'V' {
         return refuse(1, 0);
     }
-    let vertex = match number(3) {
-        1 => 14,
-        2 => 16,
+    let (vertex, edge, face) = match number(3) {
+        1 => (14, 16, 8),
+        2 => (16, 16, 8),
+        3 => (16, 18, 10),
         _ => return refuse(2, 0),
     };
     let (v, e, f) = (number(5), number(7), number(9));
     if v > VERTICES || e > EDGES || f > FACES {
         return refuse(3, 0);
     }
-    if file.len() != 11 + vertex * v + 16 * e + 8 * f {
+    if file.len() != 11 + vertex * v + edge * e + face * f {
         return refuse(4, 0);
     }
-    let field = |k: usize, i: usize| number(11 + vertex * v + 16 * k + 2 * i);
-    if let Some(k) = (0..e).find(|&k| !sound(&field, k, v, e, f)) {
+    let field = |k: usize, i: usize| number(11 + vertex * v + edge * k + 2 * i);
+    let maps = if edge == 18 { 3 } else { 2 };
+    if let Some(k) = (0..e).find(|&k| !sound(&field, maps, k, [v, e, f])) {
         return refuse(21, k);
     }
     let over = [v, e, f].iter().zip(room).position(|(&count, room)| count > room);
@@ -34,10 +36,15 @@ pub fn fault(file: &[u8], room: [usize; 3]) -> Option<Refusal> {
 /// vertex count, a source is not 0, both faces are below the face count, and each follower is
 /// a half-edge of the file, starts where its half-edge ends, and follows no half-edge of lower
 /// number."
-fn sound(field: &dyn Fn(usize, usize) -> usize, k: usize, v: usize, e: usize, f: usize) -> bool {
+fn sound(
+    field: &dyn Fn(usize, usize) -> usize,
+    maps: usize,
+    k: usize,
+    [v, e, f]: [usize; 3],
+) -> bool {
     let (lower, upper) = (field(k, 0), field(k, 1));
     let origin = |h: usize| field(h / 2, h % 2);
-    let follower = |h: usize| field(h / 2, 4 + h % 2);
+    let follower = |h: usize| field(h / 2, 2 + maps + h % 2);
     let good = |h: usize| {
         let next = follower(h);
         next < 2 * e && origin(next) == origin(h ^ 1) && (0..h).all(|g| follower(g) != next)
@@ -45,9 +52,9 @@ fn sound(field: &dyn Fn(usize, usize) -> usize, k: usize, v: usize, e: usize, f:
     lower < upper
         && lower < v
         && upper < v
-        && !(field(k, 2) == 0 && field(k, 3) == 0)
-        && field(k, 6) < f
-        && field(k, 7) < f
+        && (2..2 + maps).any(|i| field(k, i) != 0)
+        && field(k, 4 + maps) < f
+        && field(k, 5 + maps) < f
         && good(2 * k)
         && good(2 * k + 1)
 }

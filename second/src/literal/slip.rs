@@ -35,6 +35,12 @@ pub enum Slip {
     OwnAngles,
     /// A hole walk that sees another hole walk belongs to face 0.
     OneStep,
+    /// Edges of the second and the third map are not cut where they meet.
+    FirstMapOnly,
+    /// A piece of all three maps keeps two sources.
+    TwoSources,
+    /// The third label is the second's.
+    ThirdAsSecond,
     /// Rule 8 names the later of two edges.
     LaterEdge,
     /// Rule 10 compares a hole walk with 0, whatever is seen.
@@ -76,12 +82,15 @@ pub const OF_PAIRS: &[Slip] = &[
     Slip::OneStep,
 ];
 
+/// Slips that show only in the overlay of three maps.
+pub const OF_TRIPLES: &[Slip] = &[Slip::FirstMapOnly, Slip::TwoSources, Slip::ThirdAsSecond];
+
 /// Does the check of a map show the slip?
 pub fn map_tells(slip: Slip, map: &Map) -> bool {
     check::fault(map, None) != check::fault(map, Some(slip))
 }
 
-/// Does the overlay of two valid maps show the slip?
-pub fn pair_tells(slip: Slip, first: &Map, second: &Map) -> bool {
-    overlay::overlay(first, second, None) != overlay::overlay(first, second, Some(slip))
+/// Does the overlay of valid maps show the slip?
+pub fn maps_tell(slip: Slip, maps: &[&Map]) -> bool {
+    overlay::overlay(maps, None) != overlay::overlay(maps, Some(slip))
 }

@@ -19,7 +19,7 @@ pub fn fault(tables: &Tables, counts: Counts, length: usize) -> Option<Refusal> 
     if let Some(k) = (0..e).find(|&k| !edge_good(t, v, e, f, k)) {
         return Some(Refusal::new(21, k));
     }
-    (length < 11 + 16 * v + 16 * e + 8 * f).then_some(Refusal::new(11, 4))
+    (length < 11 + 16 * v + 18 * e + 10 * f).then_some(Refusal::new(11, 4))
 }
 
 /// X and Y fit six bytes in two's complement, D fits four without a sign, and the outgoing entry
@@ -49,10 +49,10 @@ fn edge_good(t: &Tables, v: usize, e: usize, f: usize, k: usize) -> bool {
             && before < 2 * e
             && follower(before) == h
     };
-    let sources = [t.sources[k].0, t.sources[k].1];
+    let sources = t.sources[k];
     lower < upper
         && upper < v
-        && sources != [None, None]
+        && sources != [None, None, None]
         && !sources.contains(&Some(65_535))
         && half_edge_good(2 * k)
         && half_edge_good(2 * k + 1)

@@ -10,9 +10,10 @@ use crate::random::Random;
 
 pub const KINDS: &[Kind] = &[Kind::new("few", "two to twelve edges", few)];
 
-/// Least and most edges.
+/// Least and most edges; most of each of three maps.
 const LEAST: usize = 2;
 const MOST: usize = 12;
+const MOST_OF_THREE: usize = 7;
 
 /// A form: draws into a drawing with the help of some places, all within a reach.
 type Form = fn(&mut Drawing, &mut Random, &[Place], i64);
@@ -106,9 +107,9 @@ fn long_edges(drawing: &mut Drawing, random: &mut Random, _: &[Place], reach: i6
     }
 }
 
-/// One drawing in some form.
-fn draw(random: &mut Random, places: &[Place], reach: i64) -> Drawing {
-    let most = random.range(LEAST as i64, MOST as i64) as usize;
+/// One drawing in some form, with two to so many edges.
+fn draw(random: &mut Random, places: &[Place], reach: i64, most: usize) -> Drawing {
+    let most = random.range(LEAST as i64, most as i64) as usize;
     let mut drawing = Drawing::of_most(most);
     random.pick(FORMS)(&mut drawing, random, places, reach);
     while drawing.edges() < LEAST {
@@ -126,7 +127,7 @@ pub fn few(random: &mut Random) -> Map {
     let reach = some_reach(random);
     let some = random.range(3, 9) as usize;
     let places = places(random, some, reach);
-    draw(random, &places, reach).any_map(random)
+    draw(random, &places, reach, MOST).any_map(random)
 }
 
 /// Edges near one diagonal of the whole range over edges near the other: denominators up to the
@@ -150,14 +151,23 @@ pub fn two_few(random: &mut Random) -> [Map; 2] {
     if random.once_in(20) {
         return diagonals(random);
     }
+    some_few(random, MOST)
+}
+
+/// Three maps that mostly have places in common; now and then one is empty.
+pub fn three_few(random: &mut Random) -> [Map; 3] {
+    some_few(random, MOST_OF_THREE)
+}
+
+fn some_few<const N: usize>(random: &mut Random, most: usize) -> [Map; N] {
     let reach = some_reach(random);
     let some = random.range(3, 9) as usize;
     let mut common = places(random, some, reach);
-    [0, 1].map(|_| {
+    [(); N].map(|()| {
         if random.once_in(40) {
             return Map::default();
         }
-        let map = draw(random, &common, reach).any_map(random);
+        let map = draw(random, &common, reach, most).any_map(random);
         if random.once_in(3) {
             common = places(random, some, reach);
         }

@@ -1,4 +1,4 @@
-//! Seeded inputs: drawings of many kinds, pairs that go together, damaged files.
+//! Seeded inputs: drawings of many kinds, pairs and threes that go together, damaged files.
 
 pub mod close;
 pub mod damage;
@@ -9,10 +9,13 @@ pub mod mends;
 pub mod overlay_damage;
 pub mod pairs;
 pub mod plain;
+pub mod room;
 pub mod sizes;
 pub mod table_damage;
 pub mod telling;
 pub mod tides;
+pub mod touching;
+pub mod triples;
 pub mod wild;
 
 use crate::map::Map;

@@ -41,7 +41,8 @@ pub const KINDS: &[(u16, Damage)] = &[
 /// The file as any version that holds it; one that is refused, as it stands.
 pub fn any_version(random: &mut Random, file: &[u8]) -> Vec<u8> {
     let version = random.pick(Version::ALL);
-    let other = read(file, &Room::FULL).and_then(|tables| file_as(version, &tables));
+    let tables = read(file, &Room::FULL).ok();
+    let other = tables.and_then(|tables| file_as(version, &tables).ok());
     other.unwrap_or(file.to_vec())
 }
 
@@ -78,21 +79,28 @@ fn set_head(bytes: &mut [u8], at: usize, number: usize) {
 fn version(random: &mut Random, bytes: &mut Vec<u8>) {
     let next = Version::NEWEST.number as usize + 1;
     let any = random.range(next as i64, 65_535) as usize;
-    let version = random.pick(&[0, next, 257, 258, any]);
+    let version = random.pick(&[0, next, 257, 258, 259, any]);
     set_head(bytes, VERSION, version);
 }
 
-/// Another known version in the head alone; a file without a vertex has the same length in both.
-fn other_version(_: &mut Random, bytes: &mut Vec<u8>) {
+/// Another known version in the head alone; a file without a vertex has the same length in the first
+/// two.
+fn other_version(random: &mut Random, bytes: &mut Vec<u8>) {
     let here = Version::in_head(bytes);
-    let other = Version::ALL.iter().find(|&&version| Some(version) != here);
-    let number = other.map_or(0, |version| version.number);
+    let others: Vec<u16> =
+        Version::ALL.iter().filter(|&&v| Some(v) != here).map(|v| v.number).collect();
+    let number = random.pick(&others);
     set_head(bytes, VERSION, number as usize);
+}
+
+/// The version of the file.
+fn version_of(bytes: &[u8]) -> Version {
+    Version::in_head(bytes).unwrap_or(Version::NEWEST)
 }
 
 /// Bytes of a vertex of the file.
 fn vertex(bytes: &[u8]) -> usize {
-    Version::in_head(bytes).unwrap_or(Version::NEWEST).vertex()
+    version_of(bytes).vertex()
 }
 
 fn many(random: &mut Random, bytes: &mut Vec<u8>) {
@@ -109,7 +117,8 @@ fn cut(random: &mut Random, bytes: &mut Vec<u8>) {
 }
 
 fn long(random: &mut Random, bytes: &mut Vec<u8>) {
-    let more = random.pick(&[1, 2, OVERLAY_FACE, OVERLAY_EDGE]);
+    let version = version_of(bytes);
+    let more = random.pick(&[1, 2, 2 * version.face_numbers(), 2 * version.edge_numbers()]);
     bytes.resize(bytes.len() + more, random.bits() as u8);
 }
 
@@ -119,12 +128,13 @@ fn miscount(random: &mut Random, bytes: &mut Vec<u8>) {
     set_head(bytes, at, count);
 }
 
-/// Where a field of an edge record stands: 0 and 1 the ends, 2 and 3 the sources, 4 and 5 the
-/// followers, 6 and 7 the faces. None if the file has no edge.
+/// Where a field of an edge record stands: the ends, the sources, the followers, the faces. None if
+/// the file has no edge.
 fn field(random: &mut Random, bytes: &[u8], field: usize) -> Option<usize> {
     let (vertices, edges) = (head(bytes, COUNTS[0]), head(bytes, COUNTS[1]));
     let start = OVERLAY_HEAD + vertex(bytes) * vertices;
-    (edges > 0).then(|| start + OVERLAY_EDGE * random.below(edges) + 2 * field)
+    let edge = 2 * version_of(bytes).edge_numbers();
+    (edges > 0).then(|| start + edge * random.below(edges) + 2 * field)
 }
 
 /// Puts a number into one of some fields of any edge.
@@ -142,51 +152,67 @@ fn bad_ends(random: &mut Random, bytes: &mut Vec<u8>) {
     set_field(random, bytes, &[0, 1], end);
 }
 
+/// No source, or only the last one that the version has.
 fn no_source(random: &mut Random, bytes: &mut Vec<u8>) {
+    let maps = version_of(bytes).maps;
     if let Some(at) = field(random, bytes, 2) {
-        set(bytes, at, 0);
-        set(bytes, at + 2, 0);
+        let last = random.pick(&[0, 0, 1]);
+        (0..maps).for_each(|m| set(bytes, at + 2 * m, if m + 1 == maps { last } else { 0 }));
     }
+}
+
+/// The fields of the followers, and of the faces.
+fn followers_at(bytes: &[u8]) -> [usize; 2] {
+    [2, 3].map(|i| version_of(bytes).maps + i)
+}
+
+fn faces_at(bytes: &[u8]) -> [usize; 2] {
+    followers_at(bytes).map(|i| i + 2)
 }
 
 fn bad_face(random: &mut Random, bytes: &mut Vec<u8>) {
     let faces = head(bytes, COUNTS[2]);
     let face = random.pick(&[faces, faces + 1, 65_535]);
-    set_field(random, bytes, &[6, 7], face);
+    let faces = faces_at(bytes);
+    set_field(random, bytes, &faces, face);
 }
 
 fn bad_follower(random: &mut Random, bytes: &mut Vec<u8>) {
     let half_edges = 2 * head(bytes, COUNTS[1]);
     let follower = random.pick(&[half_edges, half_edges + 1, 65_535]);
-    set_field(random, bytes, &[4, 5], follower);
+    let followers = followers_at(bytes);
+    set_field(random, bytes, &followers, follower);
 }
 
 fn follower_elsewhere(random: &mut Random, bytes: &mut Vec<u8>) {
     let half_edges = 2 * head(bytes, COUNTS[1]);
     let follower = random.below(half_edges.max(1));
-    set_field(random, bytes, &[4, 5], follower);
+    let followers = followers_at(bytes);
+    set_field(random, bytes, &followers, follower);
 }
 
 /// A follower of one half-edge given to another as well.
 fn follower_doubled(random: &mut Random, bytes: &mut Vec<u8>) {
-    let chosen = random.pick(&[4, 5]);
+    let followers = followers_at(bytes);
+    let chosen = random.pick(&followers);
     if let Some(at) = field(random, bytes, chosen) {
         let follower = u16::from_le_bytes([bytes[at], bytes[at + 1]]);
-        set_field(random, bytes, &[4, 5], follower as usize);
+        set_field(random, bytes, &followers, follower as usize);
     }
 }
 
 fn any_field(random: &mut Random, bytes: &mut Vec<u8>) {
     for _ in 0..random.range(1, 3) {
         let number = random.below(2 * head(bytes, COUNTS[1]) + 2);
-        set_field(random, bytes, &[0, 1, 2, 3, 4, 5, 6, 7], number);
+        let fields: Vec<usize> = (0..version_of(bytes).edge_numbers()).collect();
+        set_field(random, bytes, &fields, number);
     }
 }
 
 /// Changes what the reader gives back as it stands: a byte of a vertex or of a face row.
 fn harmless(random: &mut Random, bytes: &mut Vec<u8>) {
     let vertices = vertex(bytes) * head(bytes, COUNTS[0]);
-    let faces = OVERLAY_FACE * head(bytes, COUNTS[2]);
+    let faces = 2 * version_of(bytes).face_numbers() * head(bytes, COUNTS[2]);
     for _ in 0..random.range(1, 6) {
         let at = random.below((vertices + faces).max(1));
         let at = if at < vertices { OVERLAY_HEAD + at } else { bytes.len() - 1 - (at - vertices) };

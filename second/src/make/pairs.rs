@@ -6,14 +6,15 @@ use super::damage;
 use super::drawing::{Drawing, Place};
 use super::few::two_few;
 use super::plain::{cells, place};
-use super::sizes::{comb, filler, scale, thick};
-use super::telling::telling_pair;
+use super::room::{edges_2000, over_edges, over_vertices, thousand};
+use super::sizes::{comb, scale};
+use super::telling::telling_maps;
+use super::touching::{corners, shared};
 use super::wild::{far_within, places, scribble};
 use super::{kinds, map_file, valid_map};
-use crate::limits::{EDGES, MAP_EDGES, REACH, VERTICES};
+use crate::limits::REACH;
 use crate::literal::slip::OF_PAIRS;
 use crate::map::{Edge, Map};
-use crate::overlay::{overlay, Room};
 use crate::random::Random;
 
 /// A kind of pair: its name, what it is, how it is made.
@@ -80,11 +81,11 @@ pub fn pair_files(kind: &str, seed: u64) -> Option<[Vec<u8>; 2]> {
     Some(files)
 }
 
-fn files(first: Map, second: Map) -> [Vec<u8>; 2] {
+pub fn files(first: Map, second: Map) -> [Vec<u8>; 2] {
     [first.bytes(), second.bytes()]
 }
 
-fn two(random: &mut Random, first: &Drawing, second: &Drawing) -> [Vec<u8>; 2] {
+pub fn two(random: &mut Random, first: &Drawing, second: &Drawing) -> [Vec<u8>; 2] {
     files(first.any_map(random), second.any_map(random))
 }
 
@@ -100,8 +101,8 @@ fn some_few(random: &mut Random) -> [Vec<u8>; 2] {
 fn telling(random: &mut Random) -> [Vec<u8>; 2] {
     let slip = random.pick(OF_PAIRS);
     let [first, second] = match random.below(3) {
-        0 => telling_pair(random, slip, |random| [valid_map(random), valid_map(random)]),
-        _ => telling_pair(random, slip, two_few),
+        0 => telling_maps(random, slip, |random| [valid_map(random), valid_map(random)]),
+        _ => telling_maps(random, slip, two_few),
     };
     files(first, second)
 }
@@ -129,7 +130,7 @@ pub fn drawing_of(map: &Map) -> Drawing {
 }
 
 /// A drawing of a valid map with its places moved; edges that no longer fit are left out.
-fn moved(map: &Map, to: impl Fn(Place) -> Place) -> Drawing {
+pub fn moved(map: &Map, to: impl Fn(Place) -> Place) -> Drawing {
     let mut drawing = Drawing::new();
     for &Edge { from, to: end, .. } in &map.edges {
         drawing.join(to(map.place(from)), to(map.place(end)));
@@ -144,49 +145,6 @@ fn shift(random: &mut Random) -> [Vec<u8>; 2] {
     let second =
         moved(&map, |(x, y)| if half { (x / 2 + dx, y / 2 + dy) } else { (x + dx, y + dy) });
     two(random, &drawing_of(&map), &second)
-}
-
-/// The whole places on the edges of a drawing, its vertices included.
-fn places_on(drawing: &Drawing) -> Vec<Place> {
-    let mut on = Vec::new();
-    for s in drawing.segments() {
-        let (dx, dy) = s.way();
-        let steps = crate::point::common(dx, dy);
-        on.extend((0..=steps.min(40)).map(|i| (s.ax + dx / steps * i, s.ay + dy / steps * i)));
-    }
-    on
-}
-
-fn shared(random: &mut Random) -> [Vec<u8>; 2] {
-    let first = drawing_of(&valid_map(random));
-    let mut second = Drawing::new();
-    for s in first.segments() {
-        let (dx, dy) = s.way();
-        let steps = crate::point::common(dx, dy);
-        let (ux, uy) = (dx / steps, dy / steps);
-        let (i, j) = (random.range(-2, steps), random.range(0, steps + 2));
-        if random.below(3) > 0 {
-            second.join((s.ax + i * ux, s.ay + i * uy), (s.ax + j * ux, s.ay + j * uy));
-        }
-    }
-    let on = places_on(&first);
-    if !on.is_empty() {
-        let most = second.edges() + random.range(0, 20) as usize;
-        scribble(&mut second, random, &on, most, 60);
-    }
-    two(random, &first, &second)
-}
-
-fn corners(random: &mut Random) -> [Vec<u8>; 2] {
-    let first = drawing_of(&valid_map(random));
-    let mut second = Drawing::new();
-    let mut on = places_on(&first);
-    for _ in 0..=on.len() / 4 {
-        on.push(place(random, 30));
-    }
-    let most = random.range(3, 80) as usize;
-    scribble(&mut second, random, &on, most, 400);
-    two(random, &first, &second)
 }
 
 fn pencil(random: &mut Random) -> [Vec<u8>; 2] {
@@ -319,68 +277,6 @@ fn empty_second(random: &mut Random) -> [Vec<u8>; 2] {
 
 fn empties(_: &mut Random) -> [Vec<u8>; 2] {
     files(Map::default(), Map::default())
-}
-
-/// Vertices and edges of the overlay of two drawings, with no regard to the room.
-fn size(first: &Drawing, second: &Drawing) -> (usize, usize) {
-    let mut random = Random::new(0, "size");
-    let maps = [first, second].map(|d| d.any_map(&mut random));
-    let room = Room { vertices: usize::MAX, edges: usize::MAX, faces: usize::MAX };
-    let done = overlay(&maps[0], &maps[1], &room).expect("there is room for everything");
-    (done.tables.vertices.len(), done.tables.edges())
-}
-
-/// Two combs, and a path that fills up to the wanted number of vertices.
-fn thousand(random: &mut Random) -> [Vec<u8>; 2] {
-    let scale = scale(random);
-    let (first, mut second) = loop {
-        let (m, n) = (random.range(26, 36) as usize, random.range(26, 36) as usize);
-        let (first, second) = (comb(random, m, true, scale), comb(random, n, false, scale));
-        if (850..990).contains(&size(&first, &second).0) {
-            break (first, second);
-        }
-    };
-    let wanted = VERTICES + random.below(5) - 2;
-    let missing = wanted - size(&first, &second).0;
-    filler(&mut second, random, missing, scale);
-    two(random, &first, &second)
-}
-
-/// Two triangulations, and a path that fills up to the wanted number of edges.
-fn edges_2000(random: &mut Random) -> [Vec<u8>; 2] {
-    let wanted = EDGES + random.below(5) - 2;
-    let scale = scale(random);
-    let (first, mut second) = loop {
-        let n = random.range(97, 99) as usize;
-        let (first, second) = (thick(random, n, scale), thick(random, n, scale));
-        let (vertices, edges) = size(&first, &second);
-        let spare = (MAP_EDGES - second.edges()).min(VERTICES.saturating_sub(vertices + 1));
-        if edges < wanted && wanted - edges <= spare {
-            break (first, second);
-        }
-    };
-    let missing = wanted - size(&first, &second).1;
-    filler(&mut second, random, missing + 1, scale);
-    two(random, &first, &second)
-}
-
-fn over_vertices(random: &mut Random) -> [Vec<u8>; 2] {
-    let (m, n) = (random.range(33, 199) as usize, random.range(33, 199) as usize);
-    let scale = scale(random);
-    let (first, second) = (comb(random, m, true, scale), comb(random, n, false, scale));
-    two(random, &first, &second)
-}
-
-fn over_edges(random: &mut Random) -> [Vec<u8>; 2] {
-    let scale = scale(random);
-    loop {
-        let n = random.range(99, 106) as usize;
-        let (first, second) = (thick(random, n, scale), thick(random, n, scale));
-        let (vertices, edges) = size(&first, &second);
-        if vertices <= VERTICES && edges > EDGES {
-            return two(random, &first, &second);
-        }
-    }
 }
 
 fn bad_first(random: &mut Random) -> [Vec<u8>; 2] {

@@ -1,5 +1,6 @@
 //! Tables, counts and buffer lengths for the writer of overlay files, for every refusal it has.
 
+use crate::limits::MAPS;
 use crate::ovfile::Counts;
 use crate::random::Random;
 use crate::tables::Tables;
@@ -73,7 +74,7 @@ fn harmless(random: &mut Random, order: &mut Order) {
         vertex.d = random.pick(&[0, (1 << 32) - 1]);
     }
     if let Some(face) = row(random, &mut order.tables.faces) {
-        face.first = random.bits() as u16;
+        face.labels[random.below(MAPS)] = random.bits() as u16;
         face.least = random.bits() as u16;
     }
 }
@@ -130,7 +131,10 @@ fn links(random: &mut Random, order: &mut Order) {
 fn source(random: &mut Random, order: &mut Order) {
     if let Some(sources) = row(random, &mut order.tables.sources) {
         let number = Some(random.pick(&[65_535, 65_535, 65_534]));
-        *sources = random.pick(&[(number, None), (None, number), (Some(1), number)]);
+        let mut only = [None; MAPS];
+        only[random.below(MAPS)] = number;
+        let others = sources.map(|known| known.or(number));
+        *sources = random.pick(&[only, only, others]);
     }
 }
 

@@ -3,7 +3,7 @@
 use super::few::few;
 use super::{damage, Kind};
 use crate::check::fault;
-use crate::literal::slip::{map_tells, pair_tells, Slip, OF_MAPS};
+use crate::literal::slip::{map_tells, maps_tell, Slip, OF_MAPS};
 use crate::map::{decode, Map};
 use crate::random::Random;
 
@@ -43,13 +43,13 @@ pub fn telling_map(random: &mut Random, slip: Slip, make: fn(&mut Random) -> Map
     search(random, any, |map| map_tells(slip, map))
 }
 
-/// Two valid maps on which the slip shows in the overlay.
-pub fn telling_pair(
+/// Valid maps on which the slip shows in the overlay.
+pub fn telling_maps<const N: usize>(
     random: &mut Random,
     slip: Slip,
-    make: fn(&mut Random) -> [Map; 2],
-) -> [Map; 2] {
-    search(random, make, |[first, second]| pair_tells(slip, first, second))
+    make: fn(&mut Random) -> [Map; N],
+) -> [Map; N] {
+    search(random, make, |maps| maps_tell(slip, &maps.each_ref()))
 }
 
 fn valid(random: &mut Random) -> Map {

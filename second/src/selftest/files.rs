@@ -48,10 +48,9 @@ fn reader(file: &[u8], random: &mut Random) -> Found {
     match found {
         Ok(tables) => {
             let here = Version::in_head(file).ok_or("a file of no version is read")?;
-            let why = |refusal| format!("the writer: {refusal}");
-            let twice = file_as(here, &tables).map_err(why)?;
+            let twice = file_as(here, &tables)?;
             holds(twice == file, || "writing what was read gives other bytes".into())?;
-            let newest = file_of(&tables).map_err(why)?;
+            let newest = file_of(&tables).map_err(|refusal| format!("the writer: {refusal}"))?;
             let same = read(&newest, &Room::FULL) == Ok(tables);
             holds(same, || "the newest version of what was read is read otherwise".into())
         }

@@ -1,4 +1,4 @@
-//! Laws of one overlay: Euler's formula, one pair in each face, areas, vertices in order.
+//! Laws of one overlay: Euler's formula, one triple in each face, areas, vertices in order.
 
 use super::{holds, Found};
 use crate::area::Area;
@@ -10,10 +10,10 @@ use crate::overlay::Overlay;
 use crate::point::{common, Point};
 use std::collections::{BTreeMap, HashSet};
 
-pub fn all(maps: [&Map; 2], done: &Overlay) -> Found {
+pub fn all(maps: &[&Map], done: &Overlay) -> Found {
     vertices(done)?;
     euler(done)?;
-    one_pair(done)?;
+    one_triple(done)?;
     room_for_faces(done)?;
     areas(maps, done)
 }
@@ -57,12 +57,12 @@ fn euler(done: &Overlay) -> Found {
     holds(v + f == e + 1 + pieces, || format!("{v} - {e} + {f} for {pieces} pieces"))
 }
 
-/// All half-edges of a face have the face's pair.
-fn one_pair(done: &Overlay) -> Found {
+/// All half-edges of a face have the face's labels.
+fn one_triple(done: &Overlay) -> Found {
     for (h, row) in done.tables.half_edges.iter().enumerate() {
         let face = &done.tables.faces[row.face as usize];
-        let same = done.pairs[h] == (face.first, face.second);
-        holds(same, || format!("half-edge {h} has not the pair of face {}", row.face))?;
+        let same = done.labels[h] == face.labels;
+        holds(same, || format!("half-edge {h} has not the labels of face {}", row.face))?;
     }
     Ok(())
 }
@@ -77,7 +77,7 @@ fn room_for_faces(done: &Overlay) -> Found {
 
 /// The faces with a label have together the area that the label has in its map, and every
 /// face has an area above 0.
-fn areas(maps: [&Map; 2], done: &Overlay) -> Found {
+fn areas(maps: &[&Map], done: &Overlay) -> Found {
     let t = &done.tables;
     let point = |v: &crate::tables::VertexRow| Point { x: v.x, y: v.y, d: v.d };
     let graph = Graph {
@@ -94,10 +94,10 @@ fn areas(maps: [&Map; 2], done: &Overlay) -> Found {
     holds(above, || "a face without an area".into())?;
     let whole: Area = of_face.iter().cloned().sum();
     holds(whole.sign() == 0, || "inside and outside differ in area".into())?;
-    for (m, map) in maps.into_iter().enumerate() {
+    for (m, map) in maps.iter().enumerate() {
         let mut by_label: BTreeMap<u16, Area> = BTreeMap::new();
         for (face, area) in t.faces.iter().zip(&of_face) {
-            let sum = by_label.entry([face.first, face.second][m]).or_default();
+            let sum = by_label.entry(face.labels[m]).or_default();
             *sum = std::mem::take(sum) + area.clone();
         }
         let graph = graph_of(map);

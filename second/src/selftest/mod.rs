@@ -3,12 +3,15 @@
 
 mod files;
 mod laws;
+pub mod orders;
 mod tides;
 mod turned;
 
 use crate::check::{check, fault};
+use crate::limits::MAPS;
 use crate::literal;
-use crate::make::{self, map_file, pairs::pair_files};
+use crate::make::triples::{sheet_files, Sheet};
+use crate::make::{self, map_file};
 use crate::map::{decode, Map};
 use crate::meet;
 use crate::overlay::{overlay, Overlay, Room};
@@ -27,7 +30,7 @@ fn holds(it: bool, what: impl Fn() -> String) -> Found {
     }
 }
 
-/// Runs n pairs, n single maps of any kinds and n hundred heights of tide; says how many of each
+/// Runs n sheets, n single maps of any kinds and n hundred heights of tide; says how many of each
 /// answer there were, or what is wrong with which input.
 pub fn run(n: u64, seed: u64) -> Result<String, String> {
     let (mut done, mut refused, mut valid) = (0, 0, 0);
@@ -37,11 +40,11 @@ pub fn run(n: u64, seed: u64) -> Result<String, String> {
         let one = single(&file).map_err(|what| format!("make any {seed}: {what}"))?;
         valid += one as u64;
         meets(seed).map_err(|what| format!("make-meets {seed} 20: {what}"))?;
-        let clashing = pair_files("clashing", seed).expect("a kind");
+        let clashing = sheet_files("clashing", seed).expect("a kind");
         clashing.iter().try_for_each(|file| single(file).map(|_| ()))?;
-        let files = pair_files("any", seed).expect("any is a kind");
+        let files = sheet_files("any", seed).expect("any is a kind");
         tides::hundred(seed).map_err(|what| format!("tides {seed}: {what}"))?;
-        match pair(&files).map_err(|what| format!("pair any {seed}: {what}"))? {
+        match sheet(&files).map_err(|what| format!("sheet any {seed}: {what}"))? {
             true => done += 1,
             false => refused += 1,
         }
@@ -75,30 +78,32 @@ fn meets(seed: u64) -> Found {
     Ok(())
 }
 
-/// Checks of a pair; says whether there is an overlay.
-fn pair(files: &[Vec<u8>; 2]) -> Result<bool, String> {
+/// Checks of three maps; says whether there is an overlay.
+fn sheet(files: &Sheet) -> Result<bool, String> {
     for file in files {
         single(file)?;
     }
+    orders::six(files, &Room::FULL)?;
     let maps: Vec<Map> = files.iter().filter_map(|file| check(file).ok()).collect();
-    let [first, second] = &maps[..] else { return Ok(false) };
-    let done = match overlay(first, second, &Room::FULL) {
+    let Ok(maps) = <[Map; MAPS]>::try_from(maps) else { return Ok(false) };
+    let done = match overlay(&maps.each_ref(), &Room::FULL) {
         Ok(done) => done,
         Err(_) => return Ok(false),
     };
-    by_01(first, second, &done)?;
-    laws::all([first, second], &done)?;
+    by_01(&maps.each_ref(), &done)?;
+    laws::all(&maps.each_ref(), &done)?;
     files::all(&done)?;
-    turned::overlays(first, second, &done)?;
+    turned::overlays(&maps, &done)?;
+    orders::with_empty(&maps)?;
     Ok(true)
 }
 
-/// The tables and pairs are those of document 01's own ways.
-fn by_01(first: &Map, second: &Map, done: &Overlay) -> Found {
-    let (tables, pairs) = literal::overlay::overlay(first, second, None);
+/// The tables and labels are those of document 01's own ways.
+fn by_01(maps: &[&Map], done: &Overlay) -> Found {
+    let (tables, labels) = literal::overlay::overlay(maps, None);
     holds(tables.vertices == done.tables.vertices, || "vertices differ from 01's".into())?;
     holds(tables.sources == done.tables.sources, || "sources differ from 01's".into())?;
     holds(tables.half_edges == done.tables.half_edges, || "half-edges differ from 01's".into())?;
     holds(tables.faces == done.tables.faces, || "faces differ from 01's".into())?;
-    holds(pairs == done.pairs, || "pairs differ from 01's".into())
+    holds(labels == done.labels, || "labels differ from 01's".into())
 }

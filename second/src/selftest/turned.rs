@@ -1,15 +1,16 @@
-//! What must not change when a map is numbered anew, turned or mirrored, or the two are exchanged.
+//! What must not change when a map is numbered anew, turned or mirrored.
 
 use super::{holds, Found};
 use crate::answer::Refusal;
 use crate::area::Area;
 use crate::check::fault;
 use crate::graph::Graph;
+use crate::limits::MAPS;
 use crate::map::{Edge, Map};
 use crate::overlay::{overlay, Overlay, Room};
 use crate::point::Point;
 use crate::random::Random;
-use crate::tables::Tables;
+use crate::tables::{FaceRow, Labels, Tables};
 
 /// A map with its plane moved; a mirror exchanges left and right.
 fn moved(map: &Map, to: impl Fn(i16, i16) -> (i16, i16), mirror: bool) -> Map {
@@ -43,32 +44,30 @@ pub fn checks(map: &Map, found: Option<Refusal>) -> Found {
     Ok(())
 }
 
-pub fn overlays(first: &Map, second: &Map, done: &Overlay) -> Found {
-    let again = |a: &Map, b: &Map| {
-        overlay(a, b, &Room::FULL).map(|o| o.tables).map_err(|r| format!("moved: {r}"))
+pub fn overlays(maps: &[Map; MAPS], done: &Overlay) -> Found {
+    let again = |maps: &[Map; MAPS]| {
+        let laid = overlay(&maps.each_ref(), &Room::FULL).map(|o| o.tables);
+        laid.map_err(|refusal| format!("moved: {refusal}"))
     };
-    let swapped = again(second, first)?;
-    holds(exchanged(&swapped) == done.tables, || "exchanging the maps changes more".into())?;
-    let (map, edges) = renumbered(first);
-    let mut tables = again(&map, second)?;
+    let mut anew = maps.clone();
+    let edges = anew.each_mut().map(|map| {
+        let (map_anew, edges) = renumbered(map);
+        *map = map_anew;
+        edges
+    });
+    let mut tables = again(&anew)?;
     for sources in &mut tables.sources {
-        sources.0 = sources.0.map(|k| edges[k as usize]);
+        for (source, edges) in sources.iter_mut().zip(&edges) {
+            *source = source.map(|k| edges[k as usize]);
+        }
     }
     holds(tables == done.tables, || "numbering anew changes more than sources".into())?;
     let faces = faces(&done.tables);
     for turn in [quarter, mirrored] {
-        let other = again(&turn(first), &turn(second))?;
+        let other = again(&maps.each_ref().map(turn))?;
         holds(self::faces(&other) == faces, || "a turned or mirrored overlay differs".into())?;
     }
     Ok(())
-}
-
-/// The tables with first and second exchanged.
-fn exchanged(tables: &Tables) -> Tables {
-    let mut tables = tables.clone();
-    tables.sources.iter_mut().for_each(|s| *s = (s.1, s.0));
-    tables.faces.iter_mut().for_each(|f| std::mem::swap(&mut f.first, &mut f.second));
-    tables
 }
 
 /// The map with vertices and edges in another order and edges turned, and the old number of
@@ -90,8 +89,9 @@ fn renumbered(map: &Map) -> (Map, Vec<u16>) {
     (new, edges.iter().map(|&k| k as u16).collect())
 }
 
-/// The faces by pair, holes and twice the area, and the three counts, in an order of their own.
-fn faces(tables: &Tables) -> Vec<(u16, u16, u16, Area)> {
+/// The faces by labels, holes and twice the area, in an order of their own, and the counts of vertices
+/// and edges.
+fn faces(tables: &Tables) -> (Vec<(Labels, u16, Area)>, usize, usize) {
     let rows = &tables.half_edges;
     let graph = Graph {
         points: tables.vertices.iter().map(|v| Point { x: v.x, y: v.y, d: v.d }).collect(),
@@ -103,9 +103,8 @@ fn faces(tables: &Tables) -> Vec<(u16, u16, u16, Area)> {
         let sum = &mut areas[row.face as usize];
         *sum = std::mem::take(sum) + graph.area(&[h]);
     }
-    let face = |(f, area): (&crate::tables::FaceRow, Area)| (f.first, f.second, f.holes, area);
+    let face = |(f, area): (&FaceRow, Area)| (f.labels, f.holes, area);
     let mut faces: Vec<_> = tables.faces.iter().zip(areas).map(face).collect();
     faces.sort();
-    faces.push((tables.vertices.len() as u16, tables.edges() as u16, 0, Area::default()));
-    faces
+    (faces, tables.vertices.len(), tables.edges())
 }

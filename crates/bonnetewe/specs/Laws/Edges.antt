@@ -4,15 +4,16 @@ use mathlib.Core.Path.{_≡_, refl, sym, _∙_, ap}
 use Prim.Native.Nat.{_<_, _≤_}
 use native.Mathlib.Omega.{arith}
 use borrow.Author.Tests.{leb-true}
-use Rattle.seq.specs.Seq.{Bool, true, false, cond, _&&_, List, [], _∷_, Option, none, some, Option·map, ℕ, zero, suc, _+_, _*_, _^_, ltb, leb, getD}
+use Rattle.seq.specs.Seq.{Bool, true, false, cond, _&&_, List, [], _∷_, Option, none, some, Option·map, ℕ, zero, suc, _+_, _*_, _^_, ltb, leb, eqb, allBelow, getD}
 use Rattle.seq.specs.Tests.{and-parts}
+use Rattle.seq.specs.Least.{all-is}
 use Rattle.seq.specs.Terms.{Every}
 use Rattle.paper.specs.Limits.{maps}
 use Rattle.paper.specs.Tables.{Tables, originOf, sourceCell}
 use Rattle.paper.specs.Lent.{lengthsOf, edgeRoom}
-use Rattle.paper.specs.Record.{Source, first, second, both, sourceBy, OverlayEdge, hasEdge, edgeRecord}
+use Rattle.paper.specs.Record.{Source, first, second, both, third, firstThird, secondThird, all, sourceBy, OverlayEdge, hasEdge, edgeRecord}
 use Rattle.tables.specs.Values.{tablesBy}
-use Rattle.bonnetewe.specs.Told.{four, kind, inFirst, inSecond, toldEnds, toldSources}
+use Rattle.bonnetewe.specs.Told.{four, kind, inFirst, inSecond, inThird, toldEnds, toldSources}
 use Rattle.bonnetewe.specs.Laws.Means.{four-apart}
 
 -- ── records of numbers of 16 bits ──
@@ -25,18 +26,32 @@ kinds : (s : Source) → (0 < kind s) × (kind s < 65536)
 kinds (first j) = (omega arith, omega arith)
 kinds (second k) = (omega arith, omega arith)
 kinds (both j k) = (omega arith, omega arith)
+kinds (third l) = (omega arith, omega arith)
+kinds (firstThird j l) = (omega arith, omega arith)
+kinds (secondThird k l) = (omega arith, omega arith)
+kinds (all j k l) = (omega arith, omega arith)
 
 -- a source by its kind and its edge numbers
-source-by : (s z : Source) → kind s ≡ kind z → inFirst s ≡ inFirst z → inSecond s ≡ inSecond z → s ≡ z
-source-by (first j) (first i) e f g = ap first f
-source-by (second k) (second l) e f g = ap second g
-source-by (both j k) (both i l) e f g = λ x. both (f x) (g x)
-source-by (first j) (second l) e f g = absurd (omega (arith, e))
-source-by (first j) (both i l) e f g = absurd (omega (arith, e))
-source-by (second k) (first i) e f g = absurd (omega (arith, e))
-source-by (second k) (both i l) e f g = absurd (omega (arith, e))
-source-by (both j k) (first i) e f g = absurd (omega (arith, e))
-source-by (both j k) (second l) e f g = absurd (omega (arith, e))
+abbrev sourceFor : ℕ → ℕ → ℕ → ℕ → Source
+sourceFor n j k l =
+    cond (eqb n 1) (first j)
+    (cond (eqb n 2) (second k)
+    (cond (eqb n 3) (both j k)
+    (cond (eqb n 4) (third l)
+    (cond (eqb n 5) (firstThird j l)
+    (cond (eqb n 6) (secondThird k l) (all j k l))))))
+
+source-back : (s : Source) → sourceFor (kind s) (inFirst s) (inSecond s) (inThird s) ≡ s
+source-back (first j) = refl
+source-back (second k) = refl
+source-back (both j k) = refl
+source-back (third l) = refl
+source-back (firstThird j l) = refl
+source-back (secondThird k l) = refl
+source-back (all j k l) = refl
+
+source-by : (s z : Source) → kind s ≡ kind z → inFirst s ≡ inFirst z → inSecond s ≡ inSecond z → inThird s ≡ inThird z → s ≡ z
+source-by s z e f g h = sym (source-back s) ∙ (λ i. sourceFor (e i) (f i) (g i) (h i)) ∙ source-back z
 
 pub told-edge-means : (a b : Option OverlayEdge) → EdgeFits a → EdgeFits b → toldEnds a ≡ toldEnds b → toldSources a ≡ toldSources b → a ≡ b
 told-edge-means none none h l e f = refl
@@ -46,8 +61,8 @@ told-edge-means (some x) (some y) (xl, xu, xf, xs) (yl, yu, yf, ys) e f =
     let k = kinds (x .source) in
     let z = kinds (y .source) in
     let ends = four-apart (kind (x .source)) (x .lower) (x .upper) 0 (kind (y .source)) (y .lower) (y .upper) 0 (k .1) xl xu (z .1) yl yu e in
-    let from = four-apart (kind (x .source)) (inFirst (x .source)) (inSecond (x .source)) 0 (kind (y .source)) (inFirst (y .source)) (inSecond (y .source)) 0 (k .1) xf xs (z .1) yf ys f in
-    let s = source-by (x .source) (y .source) (ends .0) (from .1) (from .2) in
+    let from = four-apart (kind (x .source)) (inFirst (x .source)) (inSecond (x .source)) (inThird (x .source)) (kind (y .source)) (inFirst (y .source)) (inSecond (y .source)) (inThird (y .source)) (k .1) xf xs (z .1) yf ys f in
+    let s = source-by (x .source) (y .source) (ends .0) (from .1) (from .2) (from .3) in
     λ i. some (record { lower = ends .1 i; upper = ends .2 i; source = s i })
 
 -- ── the records of C's tables ──
@@ -71,25 +86,35 @@ module _ (hs ss : List ℕ) (k : ℕ) (narrow : Narrow hs) where
   abbrev b : ℕ
   b = sourceCell maps t k 1
 
-  -- "edge numbers of 16 bits" where the tables have the edge
+  -- a source is "edge numbers of 16 bits"
+  abbrev narrowSource : ℕ → Bool
+  narrowSource i = leb (sourceCell maps t k i) (256 ^ 2)
+
+  -- where the tables have the edge
   sources-fit : hasEdge t k ≡ true → (a ≤ 65536) × (b ≤ 65536)
   sources-fit e =
-      let p = and-parts (ltb k (edgeRoom maps (lengthsOf t))) (leb a (256 ^ 2) && leb b (256 ^ 2)) e .1 in
-      let q = and-parts (leb a (256 ^ 2)) (leb b (256 ^ 2)) p in
-      (leb-true a (256 ^ 2) (q .0), leb-true b (256 ^ 2) (q .1))
+      let q = all-is narrowSource maps (and-parts (ltb k (edgeRoom maps (lengthsOf t))) (allBelow narrowSource maps) e .1) in
+      (leb-true a (256 ^ 2) (q 0 (omega arith)), leb-true b (256 ^ 2) (q 1 (omega arith)))
 
-  abbrev made : Bool → ℕ → ℕ → Option OverlayEdge
-  made h x y = cond h (Option·map (λ s. record { lower = originOf t (2 * k); upper = originOf t (2 * k + 1); source = s }) (sourceBy x y)) none
+  abbrev made : Bool → ℕ → ℕ → ℕ → Option OverlayEdge
+  made h x y z = cond h (Option·map (λ s. record { lower = originOf t (2 * k); upper = originOf t (2 * k + 1); source = s }) (sourceBy x y z)) none
 
-  fits-by : (h : Bool) (x y : ℕ) → (h ≡ true → (x ≤ 65536) × (y ≤ 65536)) → EdgeFits (made h x y)
-  fits-by false x y f = tt
-  fits-by true zero zero f = tt
-  fits-by true zero (suc y) f = (narrow-at hs _ narrow, narrow-at hs _ narrow, omega arith, omega (arith, f refl .1))
-  fits-by true (suc x) zero f = (narrow-at hs _ narrow, narrow-at hs _ narrow, omega (arith, f refl .0), omega arith)
-  fits-by true (suc x) (suc y) f = (narrow-at hs _ narrow, narrow-at hs _ narrow, omega (arith, f refl .0), omega (arith, f refl .1))
+  abbrev Fits : ℕ → ℕ → Type 0
+  Fits x y = (x ≤ 65536) × (y ≤ 65536)
+
+  fits-by : (h : Bool) (x y z : ℕ) → (h ≡ true → Fits x y) → EdgeFits (made h x y z)
+  fits-by false x y z f = tt
+  fits-by true zero zero zero f = tt
+  fits-by true zero zero (suc z) f = (narrow-at hs _ narrow, narrow-at hs _ narrow, omega arith, omega arith)
+  fits-by true zero (suc y) zero f = (narrow-at hs _ narrow, narrow-at hs _ narrow, omega arith, omega (arith, f refl .1))
+  fits-by true zero (suc y) (suc z) f = (narrow-at hs _ narrow, narrow-at hs _ narrow, omega arith, omega (arith, f refl .1))
+  fits-by true (suc x) zero zero f = (narrow-at hs _ narrow, narrow-at hs _ narrow, omega (arith, f refl .0), omega arith)
+  fits-by true (suc x) zero (suc z) f = (narrow-at hs _ narrow, narrow-at hs _ narrow, omega (arith, f refl .0), omega arith)
+  fits-by true (suc x) (suc y) zero f = (narrow-at hs _ narrow, narrow-at hs _ narrow, omega (arith, f refl .0), omega (arith, f refl .1))
+  fits-by true (suc x) (suc y) (suc z) f = (narrow-at hs _ narrow, narrow-at hs _ narrow, omega (arith, f refl .0), omega (arith, f refl .1))
 
   pub edge-fits : EdgeFits (edgeRecord (tablesBy [] hs ss []) k)
-  edge-fits = fits-by (hasEdge t k) a b sources-fit
+  edge-fits = fits-by (hasEdge t k) a b (sourceCell maps t k 2) sources-fit
 
 -- the record that is told is that of the whole tables: it looks at half-edges and sources alone
 pub edge-alone : (t : Tables) (k : ℕ) → edgeRecord (tablesBy [] (t .halves) (t .sources) []) k ≡ edgeRecord t k

@@ -168,19 +168,19 @@ room-fits room c = (
 fits-small : (l : Lengths) (c : Counts) → Fits (roomIn maps l) c → CountsFit c
 fits-small l c F = (omega (arith, F .vertices), omega (arith, F .edges), omega (arith, F .faces))
 
-module _ (l : Lengths) (a b : List ℕ) where
+module _ (l : Lengths) (a b c : List ℕ) where
   abbrev counted : Counts
-  counted = countsOf (overlayOf (mapOf a ∷ mapOf b ∷ []))
+  counted = countsOf (overlayOf (mapOf a ∷ mapOf b ∷ mapOf c ∷ []))
 
   abbrev of-maps : List (Option Refusal)
-  of-maps = mapFaults (a ∷ b ∷ [])
+  of-maps = mapFaults (a ∷ b ∷ c ∷ [])
 
-  pub overlay-sound : Sound CountsFit (overlay l a b .answer)
+  pub overlay-sound : Sound CountsFit (overlay l a b c .answer)
   overlay-sound =
       let room = roomIn maps l in
       let rs = of-maps ++ roomFaults room counted in
       sound-by CountsFit counted (firstOf rs)
-      (then-fits of-maps (roomFaults room counted) (of-fits 1 (fault a) (omega arith) (fault-fits a), (of-fits 2 (fault b) (omega arith) (fault-fits b), tt)) (λ n. room-fits room counted))
+      (then-fits of-maps (roomFaults room counted) (of-fits 1 (fault a) (omega arith) (fault-fits a), (of-fits 2 (fault b) (omega arith) (fault-fits b), (of-fits 3 (fault c) (omega arith) (fault-fits c), tt))) (λ n. room-fits room counted))
       (λ e. fits-small l counted (room-none room counted (behind of-maps (roomFaults room counted) (nothing rs e))))
 
 module _ (l : Lengths) (s : List ℕ) where
@@ -294,8 +294,8 @@ pub check-means : (s z : List ℕ) {r : ℕ} → r ≡ toldMap (check s) → r �
 check-means s z e f = told-map-means (check s) (check z) (check-sound s) (check-sound z) (sym e ∙ f)
 
 -- of bonnetewe_overlay: whatever the files, the lent tables' lengths and what is in them
-pub overlay-means : (l k : Lengths) (a b x y : List ℕ) {t u : Tables} {r : ℕ} → Told (overlay l a b) t r → Told (overlay k x y) u r → overlay l a b .answer ≡ overlay k x y .answer
-overlay-means l k a b x y p q = told-means _ _ (overlay-sound l a b) (overlay-sound k x y) (sym (p .answer) ∙ q .answer)
+pub overlay-means : (l k : Lengths) (a b c x y z : List ℕ) {t u : Tables} {r : ℕ} → Told (overlay l a b c) t r → Told (overlay k x y z) u r → overlay l a b c .answer ≡ overlay k x y z .answer
+overlay-means l k a b c x y z p q = told-means _ _ (overlay-sound l a b c) (overlay-sound k x y z) (sym (p .answer) ∙ q .answer)
 
 -- of bonnetewe_read
 pub read-means : (l k : Lengths) (s z : List ℕ) {t u : Tables} {r : ℕ} → Told (read l s) t r → Told (read k z) u r → read l s .answer ≡ read k z .answer

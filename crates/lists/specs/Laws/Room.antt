@@ -73,8 +73,8 @@ read-roomy l s =
     let c = countsIn s in
     roomy (headFaults (length layouts) at s ++ (firstAt 21 (λ k. not (soundEdge maps c (tablesIn maps at s) k)) (c .edges) ∷ [])) l c
 
-pub overlay-roomy : (l : Lengths) (a b : List ℕ) → Roomy (overlay l a b .answer)
-overlay-roomy l a b = roomy (mapFaults (a ∷ b ∷ [])) l (countsOf (overlayOf (mapOf a ∷ mapOf b ∷ [])))
+pub overlay-roomy : (l : Lengths) (a b c : List ℕ) → Roomy (overlay l a b c .answer)
+overlay-roomy l a b c = roomy (mapFaults (a ∷ b ∷ c ∷ [])) l (countsOf (overlayOf (mapOf a ∷ mapOf b ∷ mapOf c ∷ [])))
 
 -- what an outcome that is a read one answers
 pub read-answered : (l : Lengths) (s : List ℕ) {a : Answer Counts} {t : Tables} → _≡_ {A = Outcome} (record { answer = a; tables = t }) (read l s) → Roomy a

@@ -169,7 +169,7 @@ module _ (l : Layers) (H : Held l) where
 
   pub corners-near : Points (l .corners) (vertexStart l maps)
   corners-near =
-      points-by (l .corners) (vertexStart l maps) (H .stands 1 (omega arith) .points-in)
+      points-by (l .corners) (vertexStart l maps) (H .stands (maps - 1) (omega arith) .points-in)
       (λ p j. let r = corner-of p j in held-near (r .0) (r .1) p (r .2))
 
   carried-near : (k : ℕ) → k < edgeStart l maps → Bounds.Edge (carrierAt (l .carriers) k)
@@ -184,7 +184,7 @@ module _ (l : Layers) (H : Held l) where
     long = H .edges-long;
     rises = λ m h. H .stands m h .climbing;
     few = λ m h. omega (arith, H .stands m h .few);
-    carried = record { long = H .stands 1 (omega arith) .carriers-in; near = carried-near };
+    carried = record { long = H .stands (maps - 1) (omega arith) .carriers-in; near = carried-near };
   }
 
   pub upright : Upright (l .carriers) (edgeStart l maps)

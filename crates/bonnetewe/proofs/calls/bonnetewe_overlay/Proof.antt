@@ -11,9 +11,10 @@ use Rattle.bonnetewe.proofs.calls.bonnetewe_overlay.Tie as tie
 returns : tie.Need-returns
 returns c =
     let o : tie.After-overlay = search needs in
-    let a = o .before .before .before .before .before .before .before .before .before .before .args in
+    let start : tie.Start = search needs in
+    let a = start .args in
     told-by
-    (overlay (lengthsOf (tablesBy (now (a .vertices)) (now (a .halves)) (now (a .sources)) (now (a .faces)))) (now (a .zones)) (now (a .blocks)))
+    (overlay (lengthsOf (tablesBy (now (a .vertices)) (now (a .halves)) (now (a .sources)) (now (a .faces)))) (now (a .zones)) (now (a .blocks)) (now (a .bed)))
     (o .overlay .ensures)
     (c .of-answer .ensures)
 

@@ -13,8 +13,9 @@ returns c =
     let after-kind : tie.After-kind = search needs in
     let after-first : tie.After-in-first = search needs in
     let after-second : tie.After-in-second = search needs in
+    let after-third : tie.After-in-third = search needs in
     c .join .ensures
-    ∙ (λ i. four (after-kind .kind .ensures i) (after-first .in-first .ensures i) (after-second .in-second .ensures i) 0)
+    ∙ (λ i. four (after-kind .kind .ensures i) (after-first .in-first .ensures i) (after-second .in-second .ensures i) (after-third .in-third .ensures i))
     ∙ sym (ap (λ (f : Found). toldSources (foundOf f)) (match .found .given .1))
 
 pub sources-of-spec : {M : Type 1} → statement M
@@ -22,6 +23,7 @@ sources-of-spec =
     tie.close
     (tie.spec
     (λ c. search needs)
+    (λ c κs. search needs)
     (λ c κs. search needs)
     (λ c κs. search needs)
     (λ c κs. search needs)

@@ -17,10 +17,11 @@ returns : tie.Need-returns
 returns c =
     let after-answer : tie.After-answer = search needs in
     let o : tie.After-overlay = search needs in
-    let a = o .before .before .before .before .before .before .before .before .args in
+    let start : tie.Start = search needs in
+    let a = start .args in
     filed-by
     (length (now (a .buffer)))
-    (overlay fullTables (now (a .zones)) (now (a .blocks)))
+    (overlay fullTables (now (a .zones)) (now (a .blocks)) (now (a .bed)))
     (o .overlay .ensures)
     (ap answerOf (after-answer .answer .given .1))
     (c .before .before .write .ensures)
@@ -29,12 +30,13 @@ returns-2 : tie.Need-returns-2
 returns-2 c =
     let after-answer2 : tie.After-answer2 = search needs in
     let o : tie.After-overlay = search needs in
-    let a = o .before .before .before .before .before .before .before .before .args in
+    let start : tie.Start = search needs in
+    let a = start .args in
     let n = length (now (a .buffer)) in
     let told = after-answer2 .answer2 .given in
     filed-by
     n
-    (overlay fullTables (now (a .zones)) (now (a .blocks)))
+    (overlay fullTables (now (a .zones)) (now (a .blocks)) (now (a .bed)))
     (o .overlay .ensures)
     (ap answerOf (told .1))
     (λ i. record { answer = refused (refusalOf (told .0 .0)); buffer = (c .before .before .wipe-u8 .ensures ∙ sym (padded-none 0 n)) i })

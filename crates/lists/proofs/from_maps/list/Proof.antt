@@ -11,14 +11,16 @@ use Rattle.lists.proofs.from_maps.list.Tie as tie
 put-requires : tie.Need-put-requires
 put-requires c κs =
     let o : tie.After-overlay = search needs in
-    let a = o .before .before .before .before .before .before .before .args in
-    overlay-answered fullTables (now (a .zones)) (now (a .blocks)) (o .overlay .ensures)
+    let start : tie.Start = search needs in
+    let a = start .args in
+    overlay-answered fullTables (now (a .zones)) (now (a .blocks)) (now (a .bed)) (o .overlay .ensures)
 
 returns : tie.Need-returns
 returns c =
     let o : tie.After-overlay = search needs in
-    let a = o .before .before .before .before .before .before .before .args in
-    listed-of (overlay fullTables (now (a .zones)) (now (a .blocks))) (o .overlay .result) (o .overlay .ensures) (c .put .ensures)
+    let start : tie.Start = search needs in
+    let a = start .args in
+    listed-of (overlay fullTables (now (a .zones)) (now (a .blocks)) (now (a .bed))) (o .overlay .result) (o .overlay .ensures) (c .put .ensures)
 
 pub list-spec : {M : Type 1} → statement M
 list-spec =

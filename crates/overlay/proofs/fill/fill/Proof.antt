@@ -77,35 +77,35 @@ first-places-requires-2 c κs = let s = begun (c .before .before .before .before
 
 rows-in-requires : tie.Need-rows-in-requires
 rows-in-requires c κs =
-    let s = begun (c .before .before .before .before .before .before .before .before .before .before) in
+    let s = begun (c .before .before .before .before .before .before .before .before .before) in
     let r = s .pre .1 .1 .1 .1 in
-    (whole s, (omega (arith, r), omega (arith, r), omega (arith, r), omega (arith, r)))
+    (whole s, (omega (arith, r), omega (arith, r), omega (arith, r)))
 
 cast-v : tie.Need-cast-v
-cast-v c = omega (arith, few (begun (c .before .before .before .before .before .before .before .before .before .before .before .before .before .before .before)))
+cast-v c = omega (arith, few (begun (c .before .before .before .before .before .before .before .before .before .before .before .before .before)))
 
 cast-e : tie.Need-cast-e
-cast-e c = omega (arith, short (begun (c .before .before .before .before .before .before .before .before .before .before .before .before .before .before .before)))
+cast-e c = omega (arith, short (begun (c .before .before .before .before .before .before .before .before .before .before .before .before .before)))
 
 add-f : tie.Need-add-f
-add-f c = omega (arith, begun (c .before .before .before .before .before .before .before .before .before .before .before .before .before .before .before) .pre .1 .1 .1 .1)
+add-f c = omega (arith, begun (c .before .before .before .before .before .before .before .before .before .before .before .before .before) .pre .1 .1 .1 .1)
 
 cast-f : tie.Need-cast-f
-cast-f c = omega (arith, begun (c .before .before .before .before .before .before .before .before .before .before .before .before .before .before .before) .pre .1 .1 .1 .1)
+cast-f c = omega (arith, begun (c .before .before .before .before .before .before .before .before .before .before .before .before .before) .pre .1 .1 .1 .1)
 
 store-vertices-requires : tie.Need-store-vertices-requires
 store-vertices-requires c κs =
-    let s = begun (c .before .before .before .before .before .before .before .before .before .before .before .before .before .before .before .before .before) in
-    (omega (arith, s .pre .1 .1 .0 .0 .vertices), s .pre .1 .1 .1 .0 .0 .flat .points .long, omega (arith, few s, c .before .before .before .before .before .before .before .before .before .before .before .before .first-places2 .kept .1 .1 .1 .0))
+    let s = begun (c .before .before .before .before .before .before .before .before .before .before .before .before .before .before .before) in
+    (omega (arith, s .pre .1 .1 .0 .0 .vertices), s .pre .1 .1 .1 .0 .0 .flat .points .long, omega (arith, few s, c .before .before .before .before .before .before .before .before .before .before .first-places2 .kept .1 .1 .1 .0))
 
 store-halves-requires : tie.Need-store-halves-requires
 store-halves-requires c κs =
-    let s = begun (c .before .before .before .before .before .before .before .before .before .before .before .before .before .before .before .before .before .before .before .before .before) in
+    let s = begun (c .before .before .before .before .before .before .before .before .before .before .before .before .before .before .before .before .before .before .before) in
     let a = s .args in
     let N = s .pre .1 .1 .1 .0 .0 in
     let F = s .pre .1 .1 .1 .0 .1 in
     let n = next-named (L s) (s .pre .0) (C s) (short s) (now (a .ends)) (now (a .lines)) N (now (a .next)) (now (a .face)) (now (a .outers)) (now (a .holes)) (a .count) F .long in
-    let q = c .before .before .before .before .before .before .before .before .before .before .before .before .before .before .before .before .before .before .before .first-places .kept .1 .1 .1 .0 in (
+    let q = c .before .before .before .before .before .before .before .before .before .before .before .before .before .before .before .before .before .first-places .kept .1 .1 .1 .0 in (
       short s,
       omega (arith, s .pre .1 .1 .0 .0 .edges),
       N .flat .origins .long,
@@ -115,22 +115,22 @@ store-halves-requires c κs =
     )
 
 store-sources-requires : tie.Need-store-sources-requires
-store-sources-requires c κs = let s = begun (c .before .before .before .before .before .before .before .before .before .before .before .before .before .before .before .before .before .before .before .before .before .before .before .before .before) in (omega (arith, s .pre .1 .1 .0 .0 .edges), s .pre .1 .1 .0 .1)
+store-sources-requires c κs = let s = begun (c .before .before .before .before .before .before .before .before .before .before .before .before .before .before .before .before .before .before .before .before .before .before .before) in (omega (arith, s .pre .1 .1 .0 .0 .edges), s .pre .1 .1 .0 .1)
 
 store-faces-requires : tie.Need-store-faces-requires
 store-faces-requires c κs =
-    let r = begun (c .before .before .before .before .before .before .before .before .before .before .before .before .before .before .before .before .before .before .before .before .before .before .before .before .before .before .before .before .before .before .before .before .before) .pre .1 .1 .1 .1 in
-    let kept = c .before .before .before .before .before .before .before .before .before .before .before .before .before .before .before .before .before .before .before .before .before .before .rows-in .kept in
-    (omega (arith, r), omega (arith, r, kept .1 .1 .1 .1 .1 .1 .1 .1 .1 .1 .1 .1 .1 .1 .1 .0), omega (arith, r, kept .1 .1 .1 .1 .1 .1 .1 .1 .1 .1 .1 .1 .1 .1 .1 .1 .0), omega (arith, r, kept .1 .1 .1 .1 .1 .1 .1 .1 .1 .1 .1 .1 .1 .1 .1 .1 .1 .0), omega (arith, r, kept .1 .1 .1 .1 .1 .1 .1 .1 .1 .1 .1 .1 .1 .1 .1 .1 .1 .1 .0))
+    let r = begun (c .before .before .before .before .before .before .before .before .before .before .before .before .before .before .before .before .before .before .before .before .before .before .before .before .before .before .before .before .before .before) .pre .1 .1 .1 .1 in
+    let kept = c .before .before .before .before .before .before .before .before .before .before .before .before .before .before .before .before .before .before .before .before .rows-in .kept in
+    (omega (arith, r), omega (arith, r, kept .1 .1 .1 .1 .1 .1 .1 .1 .1 .1 .1 .1 .1 .1 .1 .0), omega (arith, r, kept .1 .1 .1 .1 .1 .1 .1 .1 .1 .1 .1 .1 .1 .1 .1 .1 .0), omega (arith, r, kept .1 .1 .1 .1 .1 .1 .1 .1 .1 .1 .1 .1 .1 .1 .1 .1 .1 .0))
 
 same-length : tie.Need-same-length
-same-length c = c .before .before .before .before .before .before .before .before .before .before .before .before .before .before .before .before .before .before .store-vertices .kept .0
+same-length c = c .before .before .before .before .before .before .before .before .before .before .before .before .before .before .before .before .before .store-vertices .kept .0
 
 same-length-2 : tie.Need-same-length-2
-same-length-2 c = c .before .before .before .before .before .before .before .before .before .before .before .before .before .before .store-halves .kept .0
+same-length-2 c = c .before .before .before .before .before .before .before .before .before .before .before .before .before .store-halves .kept .0
 
 same-length-3 : tie.Need-same-length-3
-same-length-3 c = c .before .before .before .before .before .before .before .before .before .before .store-sources .kept .0
+same-length-3 c = c .before .before .before .before .before .before .before .before .before .store-sources .kept .0
 
 same-length-4 : tie.Need-same-length-4
 same-length-4 c = c .before .before .store-faces .kept .0
@@ -139,12 +139,12 @@ same-length-4 c = c .before .before .store-faces .kept .0
 
 module _ (c : tie.After-rows-in) where
   abbrev s : tie.Start
-  s = begun (c .before .before .before .before .before .before .before .before .before .before .before)
+  s = begun (c .before .before .before .before .before .before .before .before .before .before)
 
   abbrev T : Traced
   T =
       let a = s .args in
-      tracedBy (now (a .ends)) (now (a .lines)) (now (a .next)) (c .before .before .before .before .before .before .before .before .before .first-places .last .1 .1 .1 .0) (c .before .before .before .before .before .before .first-places2 .last .1 .1 .1 .0) (now (a .face)) (now (a .outers)) (now (a .holes)) (a .count)
+      tracedBy (now (a .ends)) (now (a .lines)) (now (a .next)) (c .before .before .before .before .before .before .before .before .first-places .last .1 .1 .1 .0) (c .before .before .before .before .before .first-places2 .last .1 .1 .1 .0) (now (a .face)) (now (a .outers)) (now (a .holes)) (a .count)
 
   traced : TracedOf (heldMaps (L s)) (C s) T
   traced =
@@ -154,21 +154,21 @@ module _ (c : tie.After-rows-in) where
       record {
         net-by = N;
         faces-by = F;
-        prev-is = prev-by (L s) (s .pre .0) (C s) (short s) (now (a .ends)) (now (a .lines)) N (now (a .next)) (now (a .face)) (now (a .outers)) (now (a .holes)) (a .count) F _ _ (c .before .before .before .before .before .before .before .before .before .first-places .ensures);
-        least-is = least-by (L s) (s .pre .0) (C s) (short s) (now (a .ends)) (now (a .lines)) N _ _ (c .before .before .before .before .before .before .first-places2 .ensures);
+        prev-is = prev-by (L s) (s .pre .0) (C s) (short s) (now (a .ends)) (now (a .lines)) N (now (a .next)) (now (a .face)) (now (a .outers)) (now (a .holes)) (a .count) F _ _ (c .before .before .before .before .before .before .before .before .first-places .ensures);
+        least-is = least-by (L s) (s .pre .0) (C s) (short s) (now (a .ends)) (now (a .lines)) N _ _ (c .before .before .before .before .before .first-places2 .ensures);
       }
 
 returns : tie.Need-returns
 returns c =
-    let r : tie.After-rows-in = c .before .before .before .before .before .before .before .before .before .before .before .before .before .before .before .before .before .before .before .before .before .before .before .before .before in
+    let r : tie.After-rows-in = c .before .before .before .before .before .before .before .before .before .before .before .before .before .before .before .before .before .before .before .before .before .before .before in
     let k = s r in
     let x = r .rows-in .last in
     let ms = heldMaps (L k) in
-    let counted = counts-are ms (C k) (k .pre .1 .0) (few k) (short k) (T r) (traced r) (x .1 .1 .1 .1 .1 .1 .1 .1 .1 .1 .1 .1 .1 .1 .1 .0) (x .1 .1 .1 .1 .1 .1 .1 .1 .1 .1 .1 .1 .1 .1 .1 .1 .0) (x .1 .1 .1 .1 .1 .1 .1 .1 .1 .1 .1 .1 .1 .1 .1 .1 .1 .0) (x .1 .1 .1 .1 .1 .1 .1 .1 .1 .1 .1 .1 .1 .1 .1 .1 .1 .1 .0) (r .rows-in .ensures) in
-    let stored = stored-is ms (C k) (k .pre .1 .0) (few k) (short k) (T r) (traced r) (x .1 .1 .1 .1 .1 .1 .1 .1 .1 .1 .1 .1 .1 .1 .1 .0) (x .1 .1 .1 .1 .1 .1 .1 .1 .1 .1 .1 .1 .1 .1 .1 .1 .0) (x .1 .1 .1 .1 .1 .1 .1 .1 .1 .1 .1 .1 .1 .1 .1 .1 .1 .0) (x .1 .1 .1 .1 .1 .1 .1 .1 .1 .1 .1 .1 .1 .1 .1 .1 .1 .1 .0) (r .rows-in .ensures) in
+    let counted = counts-are ms (C k) (k .pre .1 .0) (few k) (short k) (T r) (traced r) (x .1 .1 .1 .1 .1 .1 .1 .1 .1 .1 .1 .1 .1 .1 .1 .0) (x .1 .1 .1 .1 .1 .1 .1 .1 .1 .1 .1 .1 .1 .1 .1 .1 .0) (x .1 .1 .1 .1 .1 .1 .1 .1 .1 .1 .1 .1 .1 .1 .1 .1 .1 .0) (r .rows-in .ensures) in
+    let stored = stored-is ms (C k) (k .pre .1 .0) (few k) (short k) (T r) (traced r) (x .1 .1 .1 .1 .1 .1 .1 .1 .1 .1 .1 .1 .1 .1 .1 .0) (x .1 .1 .1 .1 .1 .1 .1 .1 .1 .1 .1 .1 .1 .1 .1 .1 .0) (x .1 .1 .1 .1 .1 .1 .1 .1 .1 .1 .1 .1 .1 .1 .1 .1 .1 .0) (r .rows-in .ensures) in
     λ i. record {
       answer = done (counted i);
-      tables = ((λ j. tablesBy (c .before .before .before .before .before .before .before .before .before .before .before .before .before .before .before .before .before .before .store-vertices .ensures j) (c .before .before .before .before .before .before .before .before .before .before .before .before .before .before .store-halves .ensures j) (c .before .before .before .before .before .before .before .before .before .before .store-sources .ensures j) (c .before .before .store-faces .ensures j)) ∙ ap (paddedTables (lent k)) stored) i;
+      tables = ((λ j. tablesBy (c .before .before .before .before .before .before .before .before .before .before .before .before .before .before .before .before .before .store-vertices .ensures j) (c .before .before .before .before .before .before .before .before .before .before .before .before .before .store-halves .ensures j) (c .before .before .before .before .before .before .before .before .before .store-sources .ensures j) (c .before .before .store-faces .ensures j)) ∙ ap (paddedTables (lent k)) stored) i;
     }
 
 pub fill-spec : {M : Type 1} → statement M
@@ -185,7 +185,6 @@ fill-spec =
     (λ c. search needs)
     (λ c. search needs)
     (λ c. search needs)
-    (λ c. search needs)
     rows-in-requires
     cast-v
     cast-e
@@ -196,7 +195,6 @@ fill-spec =
     (λ c. search needs)
     store-halves-requires
     store-sources-requires
-    (λ c. search needs)
     (λ c. search needs)
     (λ c. search needs)
     (λ c. search needs)

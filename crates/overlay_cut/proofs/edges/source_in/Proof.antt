@@ -4,13 +4,14 @@ use Prim.Native.Nat.{ℕ, _+_, _*_}
 use lib.ListN.{getD}
 use native.Mathlib.Omega.{arith}
 use borrow.Author.Needs.{needs}
+use Rattle.overlay_cut.specs.PieceRows.{pieceWidth}
 use Rattle.overlay_cut.proofs.edges.source_in.Statement.{statement}
 use Rattle.overlay_cut.proofs.edges.source_in.Tie as tie
 
 returns : tie.Need-returns
 returns c =
     let a = c .before .args in
-    let e : 4 * a .k + 2 + a .m ≡ 4 * a .k + (2 + a .m) = omega arith in
+    let e : pieceWidth * a .k + 2 + a .m ≡ pieceWidth * a .k + (2 + a .m) = omega arith in
     ap (λ (i : ℕ). getD (a .pieces .now) i 0) e
 
 pub source-in-spec : {M : Type 1} → statement M

@@ -12,12 +12,12 @@ pub lay-maps-spec : {M : Type 1} → statement M
 lay-maps-spec =
     tie.close
     (tie.spec
-    (λ c κs. let room = c .before .before .before .before .before .before .before .before .pre in (room .vertices, room .edges))
-    (λ c κs. c .before .before .before .before .before .before .before .before .before .before .before .before .before .before .before .before .before .pre .tables)
-    (λ c. c .before .before .before .before .before .before .before .before .before .before .before .before .before .before .before .lay-starts .kept .1 .1 .0)
+    (λ c κs. let room = c .before .before .before .before .before .before .before .before .before .pre in (room .vertices, room .edges))
+    (λ c κs. c .before .before .before .before .before .before .before .before .before .before .before .before .before .before .before .before .before .before .pre .tables)
     (λ c. c .before .before .before .before .before .before .before .before .before .before .before .before .before .before .before .lay-starts .kept .1 .1 .1 .0)
-    (λ c. c .before .before .before .before .before .before .lay-tables .kept .1 .1 .0)
+    (λ c. c .before .before .before .before .before .before .before .before .before .before .before .before .before .before .before .lay-starts .kept .1 .1 .1 .1 .0)
     (λ c. c .before .before .before .before .before .before .lay-tables .kept .1 .1 .1 .0)
     (λ c. c .before .before .before .before .before .before .lay-tables .kept .1 .1 .1 .1 .0)
     (λ c. c .before .before .before .before .before .before .lay-tables .kept .1 .1 .1 .1 .1 .0)
+    (λ c. c .before .before .before .before .before .before .lay-tables .kept .1 .1 .1 .1 .1 .1 .0)
     returns)

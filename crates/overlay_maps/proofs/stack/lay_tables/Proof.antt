@@ -1,81 +1,87 @@
--- `overlay_maps::stack::lay_tables` meets its contract: the second map follows where the first gives nothing, behind it. Assumes nothing.
+-- `overlay_maps::stack::lay_tables` meets its contract: the third map follows where the first two give nothing, behind them. Assumes nothing.
 use mathlib.Core.Path.{sym, ap, _∙_}
 use mathlib.Core.List.{[], _∷_}
 use native.Mathlib.Omega.{arith}
 use borrow.Author.Needs.{needs}
-use Rattle.paper.specs.Map.{fault}
-use Rattle.laws_refusals.specs.Refusals.{no-refusal, of-none}
+use Rattle.laws_refusals.specs.Refusals.{no-refusal}
 use Rattle.map_file.specs.Verdict.{verdict}
-use Rattle.overlay_maps.proofs.StackLaws.{stack-none, stack-more, first-refused, first-passes, all-pass}
+use Rattle.overlay_maps.proofs.StackLaws.{stack-more, before-refused, before-passes, all-pass}
 use Rattle.overlay_maps.proofs.HeldLaws.{passes-kept}
 use Rattle.overlay_maps.proofs.stack.lay_tables.Statement.{statement}
 use Rattle.overlay_maps.proofs.stack.lay_tables.Tie as tie
 
+lay-pair-requires : tie.Need-lay-pair-requires
+lay-pair-requires c κs = c .before .before .before .before .before .before .before .before .before .pre
+
 lay-behind-requires : tie.Need-lay-behind-requires
 lay-behind-requires c κs =
-    let room = c .before .before .before .before .before .before .before .before .pre in
-    record { corners = omega (arith, room .corners); origins = omega (arith, room .origins); carriers = omega (arith, room .carriers); labels = omega (arith, room .labels) }
-
-lay-behind-requires-2 : tie.Need-lay-behind-requires-2
-lay-behind-requires-2 c κs =
-    let start = c .before .before .before .before .before .before .before .before .before .before .before .before .before .before .before .before .before .before .before .before .before .before .before in
+    let start = c .before .before .before .before .before .before .before .before .before .before .before .before .before .before .before .before .before .before .before .before .before .before .before .before .before .before in
     let room = start .pre in
-    let first = c .before .before .before .before .before .before .before .before .before .before .before .before .before .before .lay-behind in
-    let a = start .args .zones .now in
-    let v = c .before .before .before .before .before .vertex-count .ensures in
-    let e = c .before .before .before .before .edge-count .ensures in
-    let k = passes-kept a (of-none 1 (fault a) (sym (first .ensures .0) ∙ ap verdict (c .before .before .before .before .before .before .enum-told2 .given .1))) in
-    let kept = first .kept in
+    let pair = c .before .before .before .before .before .before .before .before .before .before .before .before .before .before .before .before .lay-pair in
+    let files = start .args .zones .now ∷ start .args .blocks .now ∷ [] in
+    let none = sym (pair .ensures .0) ∙ ap verdict (c .before .before .before .before .before .before .before .before .enum-told2 .given .1) in
+    let v = c .before .before .before .before .before .before .before .vertex-count .ensures in
+    let w = c .before .before .before .before .before .before .vertex-count2 .ensures in
+    let e = c .before .before .before .before .before .edge-count .ensures in
+    let f = c .before .before .before .before .edge-count2 .ensures in
+    let ka = passes-kept (start .args .zones .now) (all-pass files none 0 (omega arith)) in
+    let kb = passes-kept (start .args .blocks .now) (all-pass files none 1 (omega arith)) in
+    let kept = pair .kept in
     record {
-      corners = omega (arith, room .corners, v, k .few-vertices, kept .1 .1 .1 .1 .0);
-      origins = omega (arith, room .origins, e, k .few-edges, kept .1 .1 .1 .1 .1 .0);
-      carriers = omega (arith, room .carriers, e, k .few-edges, kept .1 .1 .1 .1 .1 .1 .0);
-      labels = omega (arith, room .labels, e, k .few-edges, kept .1 .1 .1 .1 .1 .1 .1 .0);
+      corners = omega (arith, room .corners, v, w, ka .few-vertices, kb .few-vertices, kept .1 .1 .0);
+      origins = omega (arith, room .origins, e, f, ka .few-edges, kb .few-edges, kept .1 .1 .1 .0);
+      carriers = omega (arith, room .carriers, e, f, ka .few-edges, kb .few-edges, kept .1 .1 .1 .1 .0);
+      labels = omega (arith, room .labels, e, f, ka .few-edges, kb .few-edges, kept .1 .1 .1 .1 .1 .0);
     }
 
 returns : tie.Need-returns
 returns c =
-    let a = c .before .before .before .before .before .before .before .before .before .before .before .before .before .before .before .before .before .args in
+    let a = c .before .before .before .before .before .before .before .before .before .before .before .before .before .before .before .before .before .before .args in
     let told = ap verdict (c .enum-told .given .1) in
-    let refused = first-refused (a .zones .now) (a .blocks .now) (sym (c .before .before .before .before .before .before .before .before .lay-behind .ensures .0) ∙ told) in
+    let refused = before-refused (a .zones .now ∷ a .blocks .now ∷ []) (a .bed .now) (sym (c .before .before .before .before .before .before .before .before .lay-pair .ensures .0) ∙ told) in
     (told ∙ sym refused, λ q. absurd (no-refusal (sym refused ∙ q)))
 
 returns-2 : tie.Need-returns-2
 returns-2 c =
-    let start = c .before .before .before .before .before .before .before .before .before .before .before .before .before .before .before .before .before .before .before .before .before .before .before .before .before .before .before .before .before .before in
+    let start = c .before .before .before .before .before .before .before .before .before .before .before .before .before .before .before .before .before .before .before .before .before .before .before .before .before .before .before .before .before .before .before .before .before in
     let room = start .pre in
-    let a = start .args .zones .now in
-    let b = start .args .blocks .now in
-    let first = c .before .before .before .before .before .before .before .before .before .before .before .before .before .before .before .before .before .before .before .before .before .lay-behind .ensures in
-    let second = c .before .before .before .before .before .before .lay-behind2 .ensures in
-    let none = sym (first .0) ∙ ap verdict (c .before .before .before .before .before .before .before .before .before .before .before .before .before .enum-told2 .given .1) in
-    let v = c .before .before .before .before .before .before .before .before .before .before .before .before .vertex-count .ensures in
-    let e = c .before .before .before .before .before .before .before .before .before .before .before .edge-count .ensures in (
-      second .0 ∙ sym (first-passes a b none),
+    let files = start .args .zones .now ∷ start .args .blocks .now ∷ [] in
+    let s = start .args .bed .now in
+    let pair = c .before .before .before .before .before .before .before .before .before .before .before .before .before .before .before .before .before .before .before .before .before .before .before .lay-pair .ensures in
+    let last = c .before .before .before .before .before .before .lay-behind .ensures in
+    let none = sym (pair .0) ∙ ap verdict (c .before .before .before .before .before .before .before .before .before .before .before .before .before .before .before .enum-told2 .given .1) in
+    let v = c .before .before .before .before .before .before .before .before .before .before .before .before .before .before .vertex-count .ensures in
+    let w = c .before .before .before .before .before .before .before .before .before .before .before .before .before .vertex-count2 .ensures in
+    let e = c .before .before .before .before .before .before .before .before .before .before .before .before .edge-count .ensures in
+    let f = c .before .before .before .before .before .before .before .before .before .before .before .edge-count2 .ensures in
+    let ka = passes-kept (start .args .zones .now) (all-pass files none 0 (omega arith)) in
+    let kb = passes-kept (start .args .blocks .now) (all-pass files none 1 (omega arith)) in (
+      last .0 ∙ sym (before-passes files s none),
       λ q.
-          let pa = all-pass (a ∷ b ∷ []) q 0 (omega arith) in
-          let pb = all-pass (a ∷ b ∷ []) q 1 (omega arith) in
-          let ka = passes-kept a pa in
-          let kb = passes-kept b pb in
-          let one =
-          stack-more [] a 0 0 (omega arith) (omega arith) (omega (arith, room .corners, ka .few-vertices)) (omega (arith, room .origins, ka .few-edges)) (omega (arith, room .carriers, ka .few-edges)) (omega (arith, room .labels, ka .few-edges))
-          (stack-none _ _ _ _) (first .1 pa) in
-          stack-more (a ∷ []) b _ _ (omega (arith, v)) (omega (arith, e)) (omega (arith, room .corners, v, ka .few-vertices, kb .few-vertices)) (omega (arith, room .origins, e, ka .few-edges, kb .few-edges)) (omega (arith, room .carriers, e, ka .few-edges, kb .few-edges)) (omega (arith, room .labels, e, ka .few-edges, kb .few-edges))
-          one (second .1 pb),
+          let pass = all-pass (start .args .zones .now ∷ start .args .blocks .now ∷ s ∷ []) q 2 (omega arith) in
+          let kc = passes-kept s pass in
+          stack-more files s _ _ (omega (arith, v, w)) (omega (arith, e, f)) (omega (arith, room .corners, v, w, ka .few-vertices, kb .few-vertices, kc .few-vertices)) (omega (arith, room .origins, e, f, ka .few-edges, kb .few-edges, kc .few-edges)) (omega (arith, room .carriers, e, f, ka .few-edges, kb .few-edges, kc .few-edges)) (omega (arith, room .labels, e, f, ka .few-edges, kb .few-edges, kc .few-edges))
+          (pair .1 none) (last .1 pass),
     )
 
 pub lay-tables-spec : {M : Type 1} → statement M
 lay-tables-spec =
     tie.close
     (tie.spec
+    lay-pair-requires
+    (λ c. search needs)
+    (λ c. search needs)
+    (λ c κs. search needs)
+    (λ c. search needs)
+    (λ c κs. search needs)
+    (λ c. search needs)
+    (λ c. search needs)
+    (λ c κs. search needs)
+    (λ c. search needs)
+    (λ c κs. search needs)
+    (λ c. search needs)
+    (λ c. search needs)
     lay-behind-requires
-    (λ c. search needs)
-    (λ c. search needs)
-    (λ c κs. search needs)
-    (λ c. search needs)
-    (λ c κs. search needs)
-    (λ c. search needs)
-    lay-behind-requires-2
     (λ c. search needs)
     (λ c. search needs)
     (λ c. search needs)

@@ -1,5 +1,6 @@
 -- `overlay_pairs::label::place_of` meets its contract. Assumes nothing.
 use mathlib.Core.Path.{refl}
+use native.Mathlib.Omega.{arith}
 use borrow.Author.Needs.{needs}
 use Rattle.overlay_pairs.proofs.label.place_of.Statement.{statement}
 use Rattle.overlay_pairs.proofs.label.place_of.Tie as tie
@@ -17,7 +18,7 @@ upward-requires c κs =
 source-in-requires : tie.Need-source-in-requires
 source-in-requires c κs =
     let start : tie.Start = search needs in
-    (start .pre .row, start .pre .of-maps)
+    (start .pre .row, omega (arith, start .pre .of-maps))
 
 returns : tie.Need-returns
 returns c =

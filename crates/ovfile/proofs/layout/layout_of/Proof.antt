@@ -26,8 +26,15 @@ returns-2 c =
 returns-3 : tie.Need-returns-3
 returns-3 c =
     let start : tie.Start = search needs in
+    let e : 2 ≡ start .args .version - 1 = omega (arith, c .if3 .taken) in
+    (ap at e, record { coordinate = omega arith; maps = omega arith })
+
+returns-4 : tie.Need-returns-4
+returns-4 c =
+    let start : tie.Start = search needs in
     let else1 : tie.Else1 = search needs in
-    (sym (List·getD-eq-default layouts (record { coordinate = 0; maps = 0 }) {n = start .args .version - 1} (omega (arith, else1 .if1 .left, c .if2 .left))), record { coordinate = omega arith; maps = omega arith })
+    let else2 : tie.Else2 = search needs in
+    (sym (List·getD-eq-default layouts (record { coordinate = 0; maps = 0 }) {n = start .args .version - 1} (omega (arith, else1 .if1 .left, else2 .if2 .left, c .if3 .left))), record { coordinate = omega arith; maps = omega arith })
 
 pub layout-of-spec : {M : Type 1} → statement M
-layout-of-spec = tie.close (tie.spec returns returns-2 returns-3)
+layout-of-spec = tie.close (tie.spec returns returns-2 returns-3 returns-4)

@@ -4,7 +4,7 @@ use native.Mathlib.Omega.{arith}
 use denote.Ref.{now}
 use Rattle.seq.specs.Seq.{ℕ, _*_}
 use Rattle.paper.specs.Limits.{maps}
-use Rattle.paper.specs.Tables.{Counts}
+use Rattle.paper.specs.Tables.{faceWidth, Counts}
 use Rattle.paper.specs.Reader.{countsIn, faceRead, tablesIn}
 use Rattle.ovfile.specs.Values.{layoutFrom}
 use Rattle.seq.specs.Loops.Storing.{laid-wiped}
@@ -28,8 +28,8 @@ returns c =
     let a = l .before .before .before .before .args in
     let s = now (a .file) in
     let lo = layoutFrom (a .layout) in
-    laid-wiped 0 4 (faceRead maps lo (now (a .file))) (λ k. refl) (countsIn s .faces) (now (a .faces)) (omega (arith, l .before .before .before .before .pre .1))
-    (l .lay-faces .ensures) (d .wipe-from-u16 .ensures) (ap (λ (n : ℕ). 4 * n) (counted (d .before .before .before)))
+    laid-wiped 0 (faceWidth maps) (faceRead maps lo (now (a .file))) (λ k. refl) (countsIn s .faces) (now (a .faces)) (omega (arith, l .before .before .before .before .pre .1))
+    (l .lay-faces .ensures) (d .wipe-from-u16 .ensures) (ap (λ (n : ℕ). faceWidth maps * n) (counted (d .before .before .before)))
 
 pub fill-faces-spec : {M : Type 1} → statement M
 fill-faces-spec =

@@ -28,8 +28,8 @@ returns c =
     let a = l .before .before .before .before .args in
     let s = now (a .file) in
     let lo = layoutFrom (a .layout) in
-    laid-wiped 0 2 (λ k. table (storedSource lo (now (a .file)) k) maps) (λ k. refl) (countsIn s .edges) (now (a .sources)) (omega (arith, l .before .before .before .before .pre .1))
-    (l .lay-sources .ensures) (d .wipe-from-u32 .ensures) (ap (λ (n : ℕ). 2 * n) (counted (d .before .before .before)))
+    laid-wiped 0 maps (λ k. table (storedSource lo (now (a .file)) k) maps) (λ k. refl) (countsIn s .edges) (now (a .sources)) (omega (arith, l .before .before .before .before .pre .1))
+    (l .lay-sources .ensures) (d .wipe-from-u32 .ensures) (ap (λ (n : ℕ). maps * n) (counted (d .before .before .before)))
 
 pub fill-sources-spec : {M : Type 1} → statement M
 fill-sources-spec =

@@ -4,7 +4,7 @@ use native.Mathlib.Omega.{arith}
 use denote.Ref.{now}
 use Rattle.seq.specs.Seq.{[], _∷_, _-_}
 use Rattle.paper.specs.Limits.{maps}
-use Rattle.paper.specs.Tables.{Counts}
+use Rattle.paper.specs.Tables.{faceWidth, Counts}
 use Rattle.paper.specs.Reader.{countsIn, faceRead}
 use Rattle.ovfile.specs.Values.{layoutFrom}
 use Rattle.seq.specs.Loops.Storing.{Laying, lay-starts, lay-turns, store-ends}
@@ -13,7 +13,7 @@ use Rattle.ovfile_read.proofs.fill.lay_faces.Statement.{statement}
 use Rattle.ovfile_read.proofs.fill.lay_faces.Tie as tie
 
 abbrev Inv-loop : tie.InvT-loop
-Inv-loop layout file faces₀ n f₀ faces f = Laying 4 (faceRead maps (layoutFrom layout) file) (countsIn file .faces) faces₀ faces f
+Inv-loop layout file faces₀ n f₀ faces f = Laying (faceWidth maps) (faceRead maps (layoutFrom layout) file) (countsIn file .faces) faces₀ faces f
 
 abbrev μ-loop : tie.MeasureT-loop
 μ-loop layout file faces₀ n f₀ faces f = n - f
@@ -21,8 +21,8 @@ abbrev μ-loop : tie.MeasureT-loop
 counted : (c : tie.After-counts Inv-loop μ-loop) → c .counts .result .faces ≡ countsIn (now (c .before .before .before .args .file)) .faces
 counted c = ap (λ (n : Counts). n .faces) (c .counts .ensures)
 
-store4-u16-requires : tie.Need-store4-u16-requires Inv-loop μ-loop
-store4-u16-requires c κs =
+store5-u16-requires : tie.Need-store5-u16-requires Inv-loop μ-loop
+store5-u16-requires c κs =
     let at : tie.At-loop Inv-loop μ-loop = search needs in
     let after-counts : tie.After-counts Inv-loop μ-loop = search needs in
     let in-loop : tie.In-loop Inv-loop μ-loop = search needs in
@@ -30,14 +30,12 @@ store4-u16-requires c κs =
 
 loop-again : tie.Need-loop-again Inv-loop μ-loop
 loop-again c =
-    let at : tie.At-loop Inv-loop μ-loop = search needs in
-    let after-counts : tie.After-counts Inv-loop μ-loop = search needs in
-    let label : tie.After-label Inv-loop μ-loop = search needs in
-    let label2 : tie.After-label2 Inv-loop μ-loop = search needs in
-    let face-field : tie.After-face-field Inv-loop μ-loop = search needs in
-    let face-field2 : tie.After-face-field2 Inv-loop μ-loop = search needs in
-    lay-turns (at .loop .inv) (λ k. refl) (omega (arith, counted after-counts)) (c .before .before .store4-u16 .ensures)
-    (λ i. label .label .ensures i ∷ label2 .label2 .ensures i ∷ face-field .face-field .ensures i ∷ face-field2 .face-field2 .ensures i ∷ [])
+    let d = c .before .before .before in
+    let l : tie.After-label3 Inv-loop μ-loop = d .before .before .before .before in
+    let at : tie.At-loop Inv-loop μ-loop = l .before .before .before .before .before in
+    let after-counts : tie.After-counts Inv-loop μ-loop = at .before .before in
+    lay-turns (at .loop .inv) (λ k. refl) (omega (arith, counted after-counts)) (c .before .before .store5-u16 .ensures)
+    (λ i. l .before .before .label .ensures i ∷ l .before .label2 .ensures i ∷ l .label3 .ensures i ∷ d .before .before .face-field .ensures i ∷ d .face-field2 .ensures i ∷ [])
 
 returns : tie.Need-returns Inv-loop μ-loop
 returns c =
@@ -56,12 +54,13 @@ lay-faces-spec =
     (λ c. search needs)
     (λ c κs. search needs)
     (λ c κs. search needs)
+    (λ c κs. search needs)
     (λ c. search needs)
     (λ c κs. search needs)
     (λ c. search needs)
     (λ c. search needs)
     (λ c κs. search needs)
-    store4-u16-requires
+    store5-u16-requires
     (λ c. search needs)
     (λ c. search needs)
     loop-again

@@ -17,7 +17,7 @@ abbrev row : Layout → List ℕ → ℕ → List ℕ
 row l s k = table (storedSource l s k) maps
 
 abbrev Inv-loop : tie.InvT-loop
-Inv-loop layout file sources₀ n k₀ sources k = Laying 2 (row (layoutFrom layout) file) (countsIn file .edges) sources₀ sources k
+Inv-loop layout file sources₀ n k₀ sources k = Laying maps (row (layoutFrom layout) file) (countsIn file .edges) sources₀ sources k
 
 abbrev μ-loop : tie.MeasureT-loop
 μ-loop layout file sources₀ n k₀ sources k = n - k
@@ -25,8 +25,8 @@ abbrev μ-loop : tie.MeasureT-loop
 counted : (c : tie.After-counts Inv-loop μ-loop) → c .counts .result .edges ≡ countsIn (now (c .before .before .before .args .file)) .edges
 counted c = ap (λ (n : Counts). n .edges) (c .counts .ensures)
 
-store2-u32-requires : tie.Need-store2-u32-requires Inv-loop μ-loop
-store2-u32-requires c κs =
+store3-u32-requires : tie.Need-store3-u32-requires Inv-loop μ-loop
+store3-u32-requires c κs =
     let at : tie.At-loop Inv-loop μ-loop = search needs in
     let after-counts : tie.After-counts Inv-loop μ-loop = search needs in
     omega (arith, at .loop .inv .room, at .loop .inv .kept, counted after-counts)
@@ -37,8 +37,9 @@ loop-again c =
     let after-counts : tie.After-counts Inv-loop μ-loop = search needs in
     let source : tie.After-source Inv-loop μ-loop = search needs in
     let source2 : tie.After-source2 Inv-loop μ-loop = search needs in
-    lay-turns (at .loop .inv) (λ k. refl) (omega (arith, counted after-counts)) (c .before .before .store2-u32 .ensures)
-    (λ i. source .source .ensures i ∷ source2 .source2 .ensures i ∷ [])
+    let source3 : tie.After-source3 Inv-loop μ-loop = search needs in
+    lay-turns (at .loop .inv) (λ k. refl) (omega (arith, counted after-counts)) (c .before .before .store3-u32 .ensures)
+    (λ i. source .source .ensures i ∷ source2 .source2 .ensures i ∷ source3 .source3 .ensures i ∷ [])
 
 returns : tie.Need-returns Inv-loop μ-loop
 returns c =
@@ -59,7 +60,9 @@ lay-sources-spec =
     (λ c. search needs)
     (λ c κs. search needs)
     (λ c. search needs)
-    store2-u32-requires
+    (λ c κs. search needs)
+    (λ c. search needs)
+    store3-u32-requires
     (λ c. search needs)
     (λ c. search needs)
     loop-again

@@ -14,10 +14,11 @@ returns c =
     let a = start .args in
     c .before .before .put-fields .ensures
     ∙ (λ i. sets (now (a .buffer)) (a .at) (gather (le 2)
-    (d .before .before .before .before .before .before .before .half-cell .ensures i
-    ∷ d .before .before .before .before .before .before .half-cell2 .ensures i
-    ∷ d .before .before .before .before .before .source-cell .ensures i
-    ∷ d .before .before .before .before .source-cell2 .ensures i
+    (d .before .before .before .before .before .before .before .before .half-cell .ensures i
+    ∷ d .before .before .before .before .before .before .before .half-cell2 .ensures i
+    ∷ d .before .before .before .before .before .before .source-cell .ensures i
+    ∷ d .before .before .before .before .before .source-cell2 .ensures i
+    ∷ d .before .before .before .before .source-cell3 .ensures i
     ∷ d .before .before .before .half-cell3 .ensures i
     ∷ d .before .before .half-cell4 .ensures i
     ∷ d .before .half-cell5 .ensures i
@@ -34,6 +35,7 @@ put-edge-spec =
     (λ c. search needs)
     (λ c κs. search needs)
     (λ c. search needs)
+    (λ c κs. search needs)
     (λ c κs. search needs)
     (λ c κs. search needs)
     (λ c κs. search needs)

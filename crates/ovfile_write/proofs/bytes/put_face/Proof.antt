@@ -10,20 +10,23 @@ use Rattle.ovfile_write.proofs.bytes.put_face.Tie as tie
 returns : tie.Need-returns
 returns c =
     let start : tie.Start = search needs in
-    let d : tie.After-face-cell4 = search needs in
+    let d : tie.After-face-cell5 = search needs in
     let a = start .args in
     c .before .before .put-fields .ensures
     ∙ (λ i. sets (now (a .buffer)) (a .at) (gather (le 2)
-    (d .before .before .before .face-cell .ensures i
-    ∷ d .before .before .face-cell2 .ensures i
-    ∷ d .before .face-cell3 .ensures i
-    ∷ d .face-cell4 .ensures i
+    (d .before .before .before .before .face-cell .ensures i
+    ∷ d .before .before .before .face-cell2 .ensures i
+    ∷ d .before .before .face-cell3 .ensures i
+    ∷ d .before .face-cell4 .ensures i
+    ∷ d .face-cell5 .ensures i
     ∷ [])))
 
 pub put-face-spec : {M : Type 1} → statement M
 put-face-spec =
     tie.close
     (tie.spec
+    (λ c κs. search needs)
+    (λ c. search needs)
     (λ c κs. search needs)
     (λ c. search needs)
     (λ c κs. search needs)

@@ -28,8 +28,32 @@ returns-2 c =
 returns-3 : tie.Need-returns-3
 returns-3 c =
     let match : tie.After-source3 = search needs in
-    let put : tie.After-both-field = search needs in
-    put-as (put .both-field .ensures) (sym (ap textOf (match .source3 .given .1))) (omega arith)
+    let put : tie.After-two-field = search needs in
+    put-as (put .two-field .ensures) (sym (ap textOf (match .source3 .given .1))) (omega arith)
+
+returns-4 : tie.Need-returns-4
+returns-4 c =
+    let match : tie.After-source4 = search needs in
+    let put : tie.After-field3 = search needs in
+    put-as (put .field3 .ensures) (sym (ap textOf (match .source4 .given .1))) (omega arith)
+
+returns-5 : tie.Need-returns-5
+returns-5 c =
+    let match : tie.After-source5 = search needs in
+    let put : tie.After-two-field2 = search needs in
+    put-as (put .two-field2 .ensures) (sym (ap textOf (match .source5 .given .1))) (omega arith)
+
+returns-6 : tie.Need-returns-6
+returns-6 c =
+    let match : tie.After-source6 = search needs in
+    let put : tie.After-two-field3 = search needs in
+    put-as (put .two-field3 .ensures) (sym (ap textOf (match .source6 .given .1))) (omega arith)
+
+returns-7 : tie.Need-returns-7
+returns-7 c =
+    let match : tie.After-source7 = search needs in
+    let put : tie.After-all-field = search needs in
+    put-as (put .all-field .ensures) (sym (ap textOf (match .source7 .given .1))) (omega arith)
 
 pub source-field-spec : {M : Type 1} → statement M
 source-field-spec =
@@ -42,10 +66,33 @@ source-field-spec =
     (λ c. search needs)
     (λ c κs. search needs)
     (λ c. search needs)
+    (λ c. search needs)
+    (λ c. search needs)
+    (λ c κs. search needs)
+    (λ c. search needs)
+    (λ c. search needs)
+    (λ c κs. search needs)
+    (λ c. search needs)
+    (λ c. search needs)
+    (λ c. search needs)
+    (λ c κs. search needs)
+    (λ c. search needs)
+    (λ c. search needs)
+    (λ c. search needs)
+    (λ c κs. search needs)
+    (λ c. search needs)
     (λ c κs. search needs)
     (λ c. search needs)
     returns
     (λ c. search needs)
     returns-2
     (λ c. search needs)
-    returns-3)
+    returns-3
+    (λ c. search needs)
+    returns-4
+    (λ c. search needs)
+    returns-5
+    (λ c. search needs)
+    returns-6
+    (λ c. search needs)
+    returns-7)
