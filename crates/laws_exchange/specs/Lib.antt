@@ -1,1 +1,4 @@
 pub mod EmptyThird
+pub mod AnyOrder
+pub mod SixOrders
+pub mod OverEmpty

@@ -47,7 +47,7 @@ narrower n l = record { vertices = l .vertices; halves = l .halves; sources = (l
 abbrev pub withLast : List (List ℕ) → List (List ℕ)
 withLast fs = fs ++ (emptyFile ∷ [])
 
-empty-passes : fault emptyFile ≡ none
+pub empty-passes : fault emptyFile ≡ none
 unfolding fault
 empty-passes = refl
 
