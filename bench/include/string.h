@@ -4,6 +4,7 @@
 #include <stddef.h>
 int memcmp(const void *, const void *, size_t);
 void *memcpy(void *, const void *, size_t);
+void *memmove(void *, const void *, size_t);
 void *memset(void *, int, size_t);
 int strcmp(const char *, const char *);
 char *strrchr(const char *, int);

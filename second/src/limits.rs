@@ -39,3 +39,15 @@ pub const NO_HALF_EDGE: u16 = 65_535;
 
 /// A reading lies from -GAUGE_REACH to GAUGE_REACH (02, Ask 5).
 pub const GAUGE_REACH: i32 = 20_000;
+
+/// Bytes of a sounding (02, Ask 3).
+pub const SOUNDING: usize = 4;
+/// Most soundings of a list.
+pub const SOUNDINGS: usize = 65_535;
+/// Most different pairs of a list of soundings.
+pub const CELLS: usize = 1_334;
+
+/// Most overlay files of a year (02, Ask 14).
+pub const YEAR_FILES: usize = 400;
+/// Most pairs of a year.
+pub const YEAR_PAIRS: usize = 500;

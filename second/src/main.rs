@@ -2,6 +2,7 @@
 
 use second::answer::Refusal;
 use second::check::check;
+use second::counting;
 use second::limits::MAPS;
 use second::make;
 use second::map::decode;
@@ -140,7 +141,7 @@ fn run(args: &[&str]) -> Outcome {
         ["selftest", n, seed] => second::selftest::run(number(n)?, number(seed)?),
         ["pair", kind, seed, dir] => pair(kind, number(seed)?, dir),
         ["sheet", kind, seed, dir] => sheet(kind, number(seed)?, dir),
-        _ => Err(USAGE.to_string()),
+        _ => counting::run(args).unwrap_or_else(|| Err(format!("{USAGE}{}", counting::USAGE))),
     }
 }
 

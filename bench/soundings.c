@@ -1,0 +1,127 @@
+/* soundings FOLDER...: for each sheet the seconds that 65,535 soundings anywhere in the box round its maps take by the plain C and, built with -DPROVED, by the proved
+ * library, and their ratio. Both check the maps, look from each sounding and fill the same tables. The two take turns, five times; the least time of each counts. */
+#include <stdio.h>
+#include <stdlib.h>
+#include <string.h>
+#include <time.h>
+
+#include "files.h"
+#include "plain/soundings.h"
+
+enum { SOUNDINGS = 65535, ENTRIES = 1334 };
+
+static struct file zones, blocks;
+static uint8_t list[4 * SOUNDINGS];
+static uint16_t labels[2 * ENTRIES], others[2 * ENTRIES];
+static uint32_t counts[ENTRIES], other_counts[ENTRIES];
+static struct plain_cells cells;
+
+static double now(void)
+{
+    struct timespec t;
+
+    clock_gettime(CLOCK_MONOTONIC, &t);
+    return t.tv_sec + t.tv_nsec * 1e-9;
+}
+
+static void plain(void)
+{
+    cells = plain_soundings(zones.bytes, zones.length, blocks.bytes, blocks.length, list, sizeof list, labels, 2 * ENTRIES, counts, ENTRIES);
+}
+
+#ifdef PROVED
+uint64_t bonnetewe_soundings(const uint8_t *zones, size_t n, const uint8_t *blocks, size_t m, const uint8_t *list, size_t k, uint16_t *labels, size_t a, uint32_t *counts,
+                             size_t b);
+
+static void proved(void)
+{
+    bonnetewe_soundings(zones.bytes, zones.length, blocks.bytes, blocks.length, list, sizeof list, others, 2 * ENTRIES, other_counts, ENTRIES);
+}
+#endif
+
+/* The seconds of one run. */
+static double once(void (*run)(void))
+{
+    double start = now(), end;
+    long runs = 0;
+
+    do {
+        run();
+        runs++;
+        end = now();
+    } while (end - start < 0.1);
+    return (end - start) / runs;
+}
+
+/* Widens a box by the corners of a map file that is sound. */
+static void widen(const struct file *file, int box[4])
+{
+    int vertices = file->bytes[5] | file->bytes[6] << 8;
+
+    for (int v = 0; v < vertices; v++)
+        for (int c = 0; c < 2; c++) {
+            const uint8_t *at = &file->bytes[9 + 4 * v + 2 * c];
+            int n = (int16_t)(at[0] | at[1] << 8);
+
+            box[2 * c] = n < box[2 * c] ? n : box[2 * c];
+            box[2 * c + 1] = n > box[2 * c + 1] ? n : box[2 * c + 1];
+        }
+}
+
+/* The next of a row of numbers that look random, always the same ones. */
+static uint32_t next(void)
+{
+    static uint64_t state = 1;
+
+    state = state * 6364136223846793005u + 1442695040888963407u;
+    return state >> 33;
+}
+
+/* Soundings anywhere in the box round both maps. */
+static void sound(void)
+{
+    int box[4] = { 32767, -32768, 32767, -32768 };
+
+    widen(&zones, box);
+    widen(&blocks, box);
+    for (int i = 0; i < SOUNDINGS; i++)
+        for (int c = 0; c < 2; c++) {
+            int n = box[2 * c] + (int)(next() % (uint32_t)(box[2 * c + 1] - box[2 * c] + 1));
+
+            list[4 * i + 2 * c] = n & 255;
+            list[4 * i + 2 * c + 1] = n >> 8 & 255;
+        }
+}
+
+int main(int count, char **words)
+{
+    printf("%-12s %8s %10s %14s %14s %7s\n", "sheet", "pairs", "read", "plain C", "proved", "ratio");
+    for (int i = 1; i < count; i++) {
+        double a = 1e9, b = 1e9;
+        char *name = strrchr(words[i], '/');
+
+        load_sheet(words[i], &zones, &blocks);
+        if (zones.length < 13 || blocks.length < 13)
+            return 2;
+        sound();
+        for (int turn = 0; turn < 5; turn++) {
+            double p = once(plain);
+            a = p < a ? p : a;
+#ifdef PROVED
+            double q = once(proved);
+            b = q < b ? q : b;
+#endif
+        }
+        printf("%-12s %8d %10u %12.9f s", name ? name + 1 : words[i], cells.entries, cells.read, a);
+        if (b < 1e9) {
+            printf(" %12.9f s %7.2f\n", b, b / a);
+            if (memcmp(labels, others, sizeof labels) != 0 || memcmp(counts, other_counts, sizeof counts) != 0) {
+                printf("the two differ\n");
+                return 1;
+            }
+        } else {
+            printf(" %14s\n", "not built");
+        }
+    }
+    return 0;
+}
