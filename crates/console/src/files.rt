@@ -24,6 +24,13 @@ pub fn load_arg(i: usize, buf: &mut [u8]) -> usize
     load(&path[..n], buf)
 }
 
+// The file that an argument of the program names, opened for reading; negative where it cannot be.
+pub fn open_arg(i: usize) -> i32 {
+    let mut path = io::buffer();
+    let n = os::arg(i, &mut path);
+    os::open_read(&path[..n])
+}
+
 // A number of a buffer's bytes: n, or all of them where n is more.
 pub fn within(n: usize, buf: &[u8]) -> usize
     ensures { λ r. ⌜ Counts r (now (buf .entry)) ⌝ }

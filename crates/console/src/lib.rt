@@ -11,6 +11,7 @@ pub use clash::say_clash;
 pub use edges::say_edges;
 pub use files::load;
 pub use files::load_arg;
+pub use files::open_arg;
 pub use files::save_arg;
 pub use files::within;
 pub use lines::say;

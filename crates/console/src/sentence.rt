@@ -9,6 +9,7 @@ fn say_room(place: u16) {
         2 => say(b"the overlay has more edges than there is room for"),
         3 => say(b"the overlay has more faces than there is room for"),
         4 => say(b"the room for the file is too short"),
+        6 => say(b"there are more different pairs than there is room for"),
         _ => say(b"the room for the list is too short"),
     }
 }
@@ -26,6 +27,8 @@ fn say_cause(number: u16, place: u16) {
         9 => say(b"a vertex has no edge"),
         10 => say(b"the labels disagree"),
         11 => say_room(place),
+        12 => say(b"the list ends inside a sounding, or holds more than 65,535"),
+        13 => say(b"a sounding lies beyond the maps' limit"),
         14 => say(b"the zone has no tide rule"),
         15 => say(b"a ratio or weight is out of its range, or not a number"),
         16 => say(b"a reading that the rule uses is missing or out of its range"),
@@ -39,6 +42,7 @@ fn say_thing(number: u16) -> bool {
         5 | 6 | 9 => say(b": vertex "),
         7 | 21 => say(b": edge "),
         10 => say(b": half-edge "),
+        13 => say(b": sounding "),
         _ => return false,
     }
     true

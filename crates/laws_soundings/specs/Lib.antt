@@ -1,4 +1,4 @@
 pub mod Sounding
 pub mod Tally
 pub mod Soundings
-pub mod Examples
+pub mod Told

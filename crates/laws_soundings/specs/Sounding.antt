@@ -1,24 +1,16 @@
 -- Ask 3's look: the look of 01 along east. "look west with edges through p counted as west": along east a candidate is an edge at the height of p that has p on its right or on it
--- (`east-candidate`); "nearest by greatest x, then smallest upward angle" is `nearer` as it stands. The pair of a sounding is what is seen along east in each map (`cellOf`). Assumes nothing.
+-- (`east-candidate`); "nearest by greatest x, then smallest upward angle" is `nearer` as it stands. Assumes nothing.
 use mathlib.Core.Path.{_≡_, refl, _∙_, ap}
 use Prim.Native.Nat.{_<_}
 use lib.Signed.{_<ℤ_}
 use Rattle.exact.specs.Sign.{Sign, neg, zer, plus, sgn, isPlus, negS, pick, sgn-negℤ, sgn-plus}
 use Rattle.exact.specs.Solve.{ring, reify}
-use Rattle.seq.specs.Seq.{Bool, true, false, not, _&&_, _∷_, List, ℕ, ℤ, pos, _-ℤ_, _*ℤ_, []}
-use Rattle.paper.specs.Plane.{Pt, Vec, vec, whole, cross}
+use Rattle.seq.specs.Seq.{Bool, true, false, not, _&&_, _∷_, ℕ, ℤ, pos, _-ℤ_, _*ℤ_, []}
+use Rattle.paper.specs.Plane.{Pt, Vec, cross}
 use Rattle.paper.specs.Graph.{Graph, edgeCount, upward, atHeight, leftOf, westward}
-use Rattle.paper.specs.Map.{Map}
+use Rattle.paper.specs.Soundings.{east}
 use Rattle.laws_graph.specs.Plane.{Plane}
 use Rattle.laws_graph.specs.West.{candidate, height-steep}
-use Rattle.laws_labels.specs.Drawn.{seenInMaps}
-
-abbrev pub east : Vec
-east = vec (pos 1) (pos 0)
-
--- the labels of a sounding at the corner c, one for each map
-abbrev pub cellOf : List Map → Vec → List ℕ
-cellOf ms c = seenInMaps ms (whole c) east
 
 turn-east : (u : Vec) → cross east u ≡ u .y
 turn-east u = law (u .x) (u .y)

@@ -1,77 +1,18 @@
--- The operation of Ask 3 on bytes: what is answered for a list of map files and a list of soundings, refusals in their order, and the table of counts (`soundings`). Then batches: cutting the list after a
--- whole number of soundings cuts the soundings (`cells-++`), so that counts go on from batch to batch (`counts-go-on`), as do the number of soundings and the first one that lies too far
--- (`least-on`, `far-past`); and the counts add up (`counts-add-up`). Over any number of maps. The definitions are to stand in `paper`. Assumes nothing.
+-- Lists of soundings end to end (02, Ask 3): cutting the list after a whole number of soundings cuts the soundings (`cells-++`), so that counts go on from batch to batch (`counts-go-on`), as do
+-- the soundings that lie too far (`far-before`, `far-past`); and the counts add up (`counts-add-up`). Over any number of maps. Assumes nothing.
 use mathlib.Core.Path.{_≡_, sym, _∙_, ap}
 use Prim.Native.Nat.{_<_}
 use native.Mathlib.Omega.{arith}
 use lib.ListN.{length-append, List·getD-append}
 use lib.Seq.{getD-append-add}
-use Rattle.seq.specs.Seq.{Bool, cond, not, _||_, List, _∷_, _++_, map, Option, ℕ, suc, _+_, _*_, _-_, _/_, _%_, _^_, min, ltb, eqb, length, natAbs, ℤ, pos, negsuc, table, padded, []}
+use Rattle.seq.specs.Seq.{cond, _||_, List, _++_, ℕ, suc, _+_, _*_, _-_, _/_, _^_, ltb, length, natAbs, ℤ, pos, negsuc, table, []}
 use Rattle.seq.specs.Table.{length-table, table-+, table-ext}
-use Rattle.paper.specs.Limits.{reach, overlayFaces}
+use Rattle.paper.specs.Limits.{reach}
 use Rattle.paper.specs.Plane.{Vec, vec}
 use Rattle.paper.specs.Bytes.{byteAt, signedAt}
-use Rattle.paper.specs.Refusal.{Refusal, Answer, given, firstAt, firstOf, answer, unlessRefused}
-use Rattle.paper.specs.Map.{Map, mapOf}
-use Rattle.paper.specs.Overlay.{mapFaults}
-use Rattle.laws_soundings.specs.Sounding.{cellOf}
-use Rattle.laws_soundings.specs.Tally.{Entry, tally, tallyFrom, total, tally-++, tally-total}
-
--- ── definitions ──
-
--- "x and y as signed 16-bit, low byte first"
-abbrev pub soundingsIn : List ℕ → ℕ
-soundingsIn s = length s / 4
-
-abbrev pub soundingAt : List ℕ → ℕ → Vec
-soundingAt s i = vec (signedAt 2 s (4 * i)) (signedAt 2 s (4 * i + 2))
-
--- "at most .. 65,535 soundings"
-abbrev pub mostSoundings : ℕ
-mostSoundings = 65535
-
--- 13 "a coordinate beyond the maps' limit"
-abbrev pub far : List ℕ → ℕ → Bool
-far s i = let c = soundingAt s i in ltb reach (natAbs (c .x)) || ltb reach (natAbs (c .y))
-
-abbrev pub cells : List Map → List ℕ → List (List ℕ)
-cells ms s = table (λ i. cellOf ms (soundingAt s i)) (soundingsIn s)
-
--- 12 "a list whose length is not a multiple of 4 or that holds more than 65,535 soundings (place 0)", 13 "(place: least such sounding)"
-abbrev pub listFaults : List ℕ → List (Option Refusal)
-listFaults s =
-    given 12 0 (not (eqb (length s % 4) 0) || ltb mostSoundings (soundingsIn s))
-    ∷ firstAt 13 (far s) (soundingsIn s)
-    ∷ []
-
--- the lengths of the lent tables: labels, in rows of one for each map; counts
-pub record CountRoom : Type 0 where
-  pub labels : ℕ
-  pub counts : ℕ
-
-pub record Counted : Type 0 where
-  pub answer : Answer ℕ
-  pub labels : List ℕ
-  pub counts : List ℕ
-
-abbrev labelRows : List Entry → List ℕ
-labelRows [] = []
-labelRows (e ∷ es) = e .labels ++ labelRows es
-
--- 11 place 6, "more than 1,334 different pairs"; room is the smaller of the lent tables and that number
-abbrev pub entryRoom : ℕ → CountRoom → ℕ
-entryRoom n l = min overlayFaces (min (l .labels / n) (l .counts))
-
--- "after the map rules", 12, 13, 11: the number of entries, and the tables
-abbrev pub soundings : CountRoom → List (List ℕ) → List ℕ → Counted
-soundings l files s =
-    let t = tally (cells (map mapOf files) s) in
-    let r = firstOf (mapFaults files ++ (listFaults s ++ (given 11 6 (ltb (entryRoom (length files) l) (length t)) ∷ []))) in
-    record {
-      answer = answer (length t) r;
-      labels = unlessRefused (padded 0 (l .labels) (labelRows t)) (padded 0 (l .labels) []) r;
-      counts = unlessRefused (padded 0 (l .counts) (map (λ e. e .times) t)) (padded 0 (l .counts) []) r;
-    }
+use Rattle.paper.specs.Map.{Map}
+use Rattle.paper.specs.Soundings.{soundingsIn, soundingAt, cellOf, cells, far, tally, tallyFrom}
+use Rattle.laws_soundings.specs.Tally.{total, tally-++, tally-total}
 
 -- ── bytes of two lists end to end ──
 

@@ -12,36 +12,9 @@ use Rattle.seq.specs.Terms.{Every, Ordered, Joins}
 use Rattle.seq.specs.Sorted.{insert-ordered}
 use Rattle.seq.specs.Tests.{clash, or-false}
 use Rattle.seq.specs.Inserted.{insert-grows}
+use Rattle.paper.specs.Soundings.{Entry, lessList, lesser, added, once, tallyFrom, tally}
 
--- ── definitions: to stand in `paper` ──
-
-pub record Entry : Type 0 where
-  pub labels : List ℕ
-  pub times : ℕ
-
--- "sorted by pair": the first label, then the second, and so on
-abbrev pub lessList : List ℕ → List ℕ → Bool
-lessList [] ys = false
-lessList (x ∷ xs) [] = false
-lessList (x ∷ xs) (y ∷ ys) = ltb x y || (eqb x y && lessList xs ys)
-
-abbrev pub lesser : Entry → Entry → Bool
-lesser a b = lessList (a .labels) (b .labels)
-
--- one with the same labels: its count grows
-abbrev pub added : Entry → Entry → Entry
-added a b = record { labels = b .labels; times = a .times + b .times }
-
-abbrev pub once : List ℕ → Entry
-once c = record { labels = c; times = 1 }
-
--- the counts t with those of the soundings cs, each given by its labels
-abbrev pub tallyFrom : List Entry → List (List ℕ) → List Entry
-tallyFrom t [] = t
-tallyFrom t (c ∷ cs) = tallyFrom (insertBy lesser added (once c) t) cs
-
-abbrev pub tally : List (List ℕ) → List Entry
-tally cs = tallyFrom [] cs
+-- ── what is said of counts ──
 
 -- batches, one after the other
 abbrev pub tallyBatches : List Entry → List (List (List ℕ)) → List Entry
@@ -90,11 +63,11 @@ total-step p q qs r true d ih = refl
 total-step p q qs r false true ih = omega arith
 total-step p q qs r false false ih = omega arith
 
-insert-total : (p : Entry) (qs : List Entry) → total (insertBy lesser added p qs) ≡ p .times + total qs
+pub insert-total : (p : Entry) (qs : List Entry) → total (insertBy lesser added p qs) ≡ p .times + total qs
 insert-total p [] = refl
 insert-total p (q ∷ qs) = total-step p q qs (insertBy lesser added p qs) (lesser p q) (lesser q p) (insert-total p qs)
 
-from-total : (t : List Entry) (cs : List (List ℕ)) → total (tallyFrom t cs) ≡ total t + length cs
+pub from-total : (t : List Entry) (cs : List (List ℕ)) → total (tallyFrom t cs) ≡ total t + length cs
 from-total t [] = sym (add-zero (total t))
 from-total t (c ∷ cs) = from-total (insertBy lesser added (once c) t) cs ∙ omega (arith, insert-total (once c) t)
 
@@ -141,7 +114,8 @@ neither-list-less (x ∷ xs) (y ∷ ys) l a b =
     second : (a b : Bool) → a ≡ true → (a && b) ≡ false → b ≡ false
     second a b e f = sym (ap (λ (c : Bool). c && b) e) ∙ f
 
-abbrev Long : ℕ → Entry → Type 0
+-- an entry with n labels
+abbrev pub Long : ℕ → Entry → Type 0
 Long n e = length (e .labels) ≡ n
 
 module _ (n : ℕ) where
@@ -153,6 +127,11 @@ module _ (n : ℕ) where
   insert-long : (p : Entry) (qs : List Entry) → Long n p → Every (Long n) qs → Every (Long n) (insertBy lesser added p qs)
   insert-long p [] a h = (a, tt)
   insert-long p (q ∷ qs) a h = long-step p q qs (insertBy lesser added p qs) (lesser p q) (lesser q p) a (h .0) (h .1) (insert-long p qs a (h .1))
+
+  -- the entries of soundings with n labels each have n labels
+  pub from-long : (t : List Entry) (cs : List (List ℕ)) → Every (Long n) t → Every (λ x. length x ≡ n) cs → Every (Long n) (tallyFrom t cs)
+  from-long t [] h k = h
+  from-long t (x ∷ xs) h k = from-long (insertBy lesser added (once x) t) xs (insert-long (once x) t (k .0) h) (k .1)
 
   module _ (c : List ℕ) where
     abbrev share : Entry → ℕ
@@ -175,7 +154,7 @@ module _ (n : ℕ) where
     insert-times p [] a h = refl
     insert-times p (q ∷ qs) a h = times-step p q qs (insertBy lesser added p qs) (lesser p q) (lesser q p) refl refl a (h .0) (insert-times p qs a (h .1))
 
-    from-times : (t : List Entry) (cs : List (List ℕ)) → Every (Long n) t → Every (λ x. length x ≡ n) cs → timesOf c (tallyFrom t cs) ≡ timesOf c t + occurs c cs
+    pub from-times : (t : List Entry) (cs : List (List ℕ)) → Every (Long n) t → Every (λ x. length x ≡ n) cs → timesOf c (tallyFrom t cs) ≡ timesOf c t + occurs c cs
     from-times t [] h k = sym (add-zero (timesOf c t))
     from-times t (x ∷ xs) h k =
         let a = insert-times (once x) t (k .0) h in

@@ -131,6 +131,21 @@ pub const LAYER_POINT_CELLS: usize = MAPS * MAP_POINT_CELLS;
 
 pub const LAYER_CARRIER_CELLS: usize = MAPS * MAP_CARRIER_CELLS;
 
+// Soundings by cell.
+
+// "more than 65,535 soundings", "in batches of at most 4,096" (02, Ask 3)
+pub const LIST_SOUNDINGS: usize = 65535;
+
+pub const BATCH_SOUNDINGS: usize = 4096;
+// x and y, two bytes each
+pub const SOUNDING_SIZE: usize = 4;
+
+pub const BATCH_BYTES: usize = SOUNDING_SIZE * BATCH_SOUNDINGS;
+// "pair": the maps that the soundings are looked up in, so the labels of a row; rows in all
+pub const PAIR_WIDTH: usize = 2;
+
+pub const PAIR_CELLS: usize = PAIR_WIDTH * FACES;
+
 // The height of tide.
 
 // "whole millimetres from −20,000 to 20,000" (02, Ask 5)

@@ -10,6 +10,7 @@ mod form; // rules 1 to 4
 mod load; // the map read into flat tables
 
 pub use bytes::byte_at;
+pub use bytes::i16_at;
 pub use bytes::u16_at;
 pub use fields::edge_count;
 pub use fields::vertex_count;

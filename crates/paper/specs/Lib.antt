@@ -26,3 +26,5 @@ pub mod Meetings
 pub mod MendSample
 pub mod Tide
 pub mod TideSample
+pub mod Soundings
+pub mod SoundingsSample

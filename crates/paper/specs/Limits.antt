@@ -53,3 +53,7 @@ absent = 65535
 -- "whole millimetres from −20,000 to 20,000" (02, Ask 5)
 abbrev pub gaugeReach : ℕ
 gaugeReach = 20000
+
+-- "more than 65,535 soundings" (02, Ask 3)
+abbrev pub listSoundings : ℕ
+listSoundings = 65535

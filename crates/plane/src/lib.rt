@@ -25,4 +25,5 @@ pub use order::below;
 pub use point::Point;
 pub use point::Seg;
 pub use point::Vector;
+pub use point::whole;
 pub use side::left_by;

@@ -1,0 +1,129 @@
+-- A batch of soundings counted up to the first that is too far: a sounding that is counted, and the loop over them. Where there come to be more pairs than room, the tables are not spoken of any more,
+-- and as entries only come that stays so. Assumes nothing.
+use mathlib.Core.Path.{_≡_, refl, sym, _∙_, ap, subst}
+use Prim.Native.Nat.{_≤_, _<_}
+use native.Mathlib.Numerals.{add-one}
+use native.Mathlib.Decide.{decLt}
+use native.Mathlib.Omega.{arith}
+use borrow.Author.Tests.{ltb-false}
+use Rattle.seq.specs.Seq.{true, false, List, [], _∷_, ℕ, _+_, _*_, length, ltb, natAbs, least, table, insertBy}
+use Rattle.seq.specs.Tests.{or-false}
+use Rattle.seq.specs.Table.{length-table}
+use Rattle.seq.specs.Least.{least-more, least-found}
+use Rattle.seq.specs.Inserted.{insert-grows}
+use Rattle.paper.specs.Limits.{reach}
+use Rattle.paper.specs.Plane.{Vec}
+use Rattle.paper.specs.Map.{Map}
+use Rattle.paper.specs.Soundings.{Entry, lesser, added, once, tallyFrom, cellOf, soundingsIn, soundingAt, far}
+use Rattle.laws_soundings.specs.Tally.{total, tally-++, from-total}
+use Rattle.plane.specs.Bounds.{Corner}
+use Rattle.soundings_count.specs.Entries.{pairWidth, entriesIn, mostTimes, Grown}
+use Rattle.soundings.specs.declared.batch.Run.{Run}
+
+-- the lent tables have so many rows, and no count of the m pairs overflows where `more` soundings come
+pub record Roomy (room : ℕ) (ls cs : List ℕ) (m more : ℕ) : Type 0 where
+  pub labels : pairWidth * room ≤ length ls
+  pub counts : room ≤ length cs
+  pub short : more ≤ mostTimes
+  pub few : m ≤ room → total (entriesIn ls cs m) + more ≤ mostTimes
+
+-- a sounding with the labels c, unless there are more pairs than room already
+pub record Stepped (room m : ℕ) (c : List ℕ) (ls cs ls′ cs′ : List ℕ) (r : ℕ) : Type 0 where
+  pub over : room < m → r ≡ m
+  pub counted : m ≤ room → Grown room (insertBy lesser added (once c) (entriesIn ls cs m)) ls′ cs′ r
+
+-- the tables hold the m entries of t, or there are more than room
+pub record Counts (room : ℕ) (t : List Entry) (ls cs : List ℕ) (m : ℕ) : Type 0 where
+  pub over : room < m → room < length t
+  pub held : m ≤ room → entriesIn ls cs m ≡ t
+
+-- the first sounding of s that is too far, or their number; and those before it counted on from whatever the n rows stood for
+pub record Batched (ms : List Map) (s : List ℕ) (room n : ℕ) (ls₀ cs₀ ls cs : List ℕ) (r : Run) : Type 0 where
+  pub far-is : r .far ≡ least (far s) (soundingsIn s)
+  pub stays : room < n → room < r .entries
+  pub counts : (t : List Entry) → Counts room t ls₀ cs₀ n → Counts room (tallyFrom t (table (λ i. cellOf ms (soundingAt s i)) (r .far))) ls cs (r .entries)
+
+-- ── one more ──
+
+pub step-over : (room m : ℕ) (c ls cs ls′ cs′ : List ℕ) → room < m → Stepped room m c ls cs ls′ cs′ m
+step-over room m c ls cs ls′ cs′ h = record { over = λ q. refl; counted = λ q. absurd (omega arith) }
+
+pub step-counted : (room m : ℕ) (c d ls cs ls′ cs′ : List ℕ) (r : ℕ) → m ≤ room → d ≡ c → Grown room (insertBy lesser added (once d) (entriesIn ls cs m)) ls′ cs′ r → Stepped room m c ls cs ls′ cs′ r
+step-counted room m c d ls cs ls′ cs′ r h e g =
+    record { over = λ q. absurd (omega arith); counted = λ q. subst (λ (x : List ℕ). Grown room (insertBy lesser added (once x) (entriesIn ls cs m)) ls′ cs′ r) e g }
+
+pub counts-step : (room : ℕ) (u : List Entry) (c ls cs ls′ cs′ : List ℕ) (m r : ℕ) → Counts room u ls cs m → Stepped room m c ls cs ls′ cs′ r → Counts room (insertBy lesser added (once c) u) ls′ cs′ r
+counts-step room u c ls cs ls′ cs′ m r k s =
+    elim (decLt room m) [
+      | yes q ↦ record { over = λ h. omega (arith, k .over q, insert-grows lesser added (once c) u); held = λ h. absurd (omega (arith, s .over q)) }
+      | no q ↦ let g = subst (λ (x : List Entry). Grown room (insertBy lesser added (once c) x) ls′ cs′ r) (k .held (omega arith)) (s .counted (omega arith)) in
+          record { over = λ h. omega (arith, g .entries); held = g .held }
+    ]
+
+-- what the rows are, where there is room for them
+pub counts-own : (room : ℕ) (ls cs : List ℕ) (n : ℕ) → n ≤ room → Counts room (entriesIn ls cs n) ls cs n
+counts-own room ls cs n h = record { over = λ q. absurd (omega arith); held = λ q. refl }
+
+-- a sounding that is not too far lies within the maps' limit
+pub within-limit : (s : List ℕ) (i : ℕ) (c : Vec) → c ≡ soundingAt s i → far s i ≡ false → Corner c
+within-limit s i c e q =
+    let p = or-false (ltb reach (natAbs (soundingAt s i .x))) (ltb reach (natAbs (soundingAt s i .y))) q in
+    subst Corner (sym e) (record { x-is = ltb-false reach (natAbs (soundingAt s i .x)) (p .0); y-is = ltb-false reach (natAbs (soundingAt s i .y)) (p .1) })
+
+-- ── the loop ──
+
+module _ (ms : List Map) (s : List ℕ) (room n : ℕ) where
+  abbrev cellAt : ℕ → List ℕ
+  cellAt i = cellOf ms (soundingAt s i)
+
+  pub record Counting (ls₀ cs₀ ls cs : List ℕ) (m i : ℕ) : Type 0 where
+    pub upto : i ≤ soundingsIn s
+    pub near : least (far s) i ≡ i
+    pub stays : room < n → room < m
+    pub counts : (t : List Entry) → Counts room t ls₀ cs₀ n → Counts room (tallyFrom t (table cellAt i)) ls cs m
+    pub labels-kept : length ls ≡ length ls₀
+    pub counts-kept : length cs ≡ length cs₀
+
+  pub count-starts : (ls cs : List ℕ) → Counting ls cs ls cs n 0
+  count-starts ls cs = record { upto = omega arith; near = refl; stays = λ h. h; counts = λ t k. k; labels-kept = refl; counts-kept = refl }
+
+  module _ {ls₀ cs₀ ls cs : List ℕ} {m i : ℕ} (k : Counting ls₀ cs₀ ls cs m i) where
+    count-few : (n ≤ room → total (entriesIn ls₀ cs₀ n) + soundingsIn s ≤ mostTimes) → i < soundingsIn s → m ≤ room → total (entriesIn ls cs m) + 1 ≤ mostTimes
+    count-few h l q =
+        elim (decLt room n) [
+          | yes b ↦ absurd (omega (arith, k .stays b))
+          | no b ↦ let t = entriesIn ls₀ cs₀ n in
+              let c = k .counts t (counts-own room ls₀ cs₀ n (omega arith)) in
+              omega (arith, h (omega arith), ap total (c .held q), from-total t (table cellAt i), length-table cellAt i)
+        ]
+
+    pub count-roomy : Roomy room ls₀ cs₀ n (soundingsIn s) → i < soundingsIn s → Roomy room ls cs m 1
+    count-roomy h l = record { labels = omega (arith, h .labels, k .labels-kept); counts = omega (arith, h .counts, k .counts-kept); short = omega arith; few = count-few (h .few) l }
+
+    pub count-turns : (c : Vec) (ls′ cs′ : List ℕ) (r : ℕ) → i < soundingsIn s → far s i ≡ false → c ≡ soundingAt s i → Stepped room m (cellOf ms c) ls cs ls′ cs′ r → length ls′ ≡ length ls → length cs′ ≡ length cs
+        → Counting ls₀ cs₀ ls′ cs′ r (i + 1)
+    count-turns c ls′ cs′ r l q e g a b = record {
+      upto = omega arith;
+      near = least-more (far s) i (k .near) q;
+      stays = λ h. omega (arith, k .stays h, g .over (k .stays h));
+      counts = λ t o. subst (λ (x : List Entry). Counts room x ls′ cs′ r) (sym (ap (λ (j : ℕ). tallyFrom t (table cellAt j)) (add-one i) ∙ tally-++ t (table cellAt i) (cellAt i ∷ [])))
+          (counts-step room (tallyFrom t (table cellAt i)) (cellAt i) ls cs ls′ cs′ m r (k .counts t o) (subst (λ (x : Vec). Stepped room m (cellOf ms x) ls cs ls′ cs′ r) e g));
+      labels-kept = a ∙ k .labels-kept;
+      counts-kept = b ∙ k .counts-kept;
+    }
+
+    pub count-stops : (x : Run) → x .entries ≡ m → x .far ≡ i → i < soundingsIn s → far s i ≡ true → Batched ms s room n ls₀ cs₀ ls cs x
+    count-stops x a b l q = record {
+      far-is = b ∙ sym (least-found (far s) (soundingsIn s) i l (k .near) q);
+      stays = λ h. omega (arith, a, k .stays h);
+      counts = λ t o. rw (a, b) (k .counts t o);
+    }
+
+    pub count-ends : (x : Run) → x .entries ≡ m → x .far ≡ soundingsIn s → soundingsIn s ≤ i → Batched ms s room n ls₀ cs₀ ls cs x
+    count-ends x a b l =
+        let e : i ≡ soundingsIn s = omega (arith, k .upto) in
+        record {
+          far-is = b ∙ sym (ap (least (far s)) (sym e) ∙ k .near ∙ e);
+          stays = λ h. omega (arith, a, k .stays h);
+          counts = λ t o. rw (a, b ∙ sym e) (k .counts t o);
+        }

@@ -1,0 +1,9 @@
+pub mod Laid
+pub mod Labels
+pub mod Batch
+pub mod Answer
+pub mod After
+pub mod Close
+pub mod Whole
+pub mod Ran
+pub mod Unique

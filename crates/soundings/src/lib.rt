@@ -1,0 +1,118 @@
+// Soundings by cell (02, Ask 3): the labels of a sounding in each map, counted by pairs. `soundings` answers a whole list. In batches: `lay_both` checks the maps and lays them in tables of
+// their own, once; `begin`, then `go_on` for each batch, then `close`. Whatever the cut, the answer is that of the whole list (specs/Ran.antt).
+mod sounding; // a sounding of the list, and its labels in the maps
+mod batch; // a batch of soundings counted
+mod lay; // the two maps checked and laid in tables
+mod answer; // what is answered, and the lent tables afterwards
+mod progress; // the count batch by batch
+
+pub use answer::Cells;
+pub use answer::Counted;
+use answer::refuse;
+pub use lay::lay_both;
+use limits::MAP_CARRIER_CELLS;
+use limits::MAP_HALVES;
+use limits::MAP_POINT_CELLS;
+use map_file::Check;
+pub use progress::Progress;
+pub use progress::begin;
+pub use progress::close;
+pub use progress::go_on;
+ghost use mathlib.Core.Path.{_≡_};
+ghost use mathlib.Core.List.{[], _∷_};
+ghost use lib.ListN.{length};
+ghost use Rattle.paper.specs.Soundings.{soundings};
+ghost use Rattle.soundings.specs.Laid.{Laid};
+ghost use Rattle.soundings.specs.Labels.{bothMaps};
+ghost use Rattle.soundings.specs.Answer.{roomBy, countedOf};
+ghost use Rattle.soundings.specs.Close.{listed};
+
+// What is answered for a whole list, where the maps pass: it is one batch.
+fn count_list(
+    zones: &[u8],
+    corners: &[i64],
+    origins: &[u16],
+    carriers: &[i16],
+    sides: &[u16],
+    blocks: &[u8],
+    corners2: &[i64],
+    origins2: &[u16],
+    carriers2: &[i16],
+    sides2: &[u16],
+    list: &[u8],
+    labels: &mut [u16],
+    counts: &mut [u32],
+) -> Counted
+    requires { ⌜ Laid (now zones) (now corners) (now origins) (now carriers) (now sides) ⌝ ∗ ⌜ Laid (now blocks) (now corners2) (now origins2) (now carriers2) (now sides2) ⌝ }
+    ensures { λ a. ⌜ countedOf a (now (labels .exit)) (now (counts .exit)) ≡ listed (roomBy (length (now (labels .entry))) (length (now (counts .entry)))) (bothMaps (now (zones .entry)) (now (blocks .entry))) (now (list .entry)) ⌝ }
+{
+    let p = begin();
+    let q = go_on(
+        zones,
+        corners,
+        origins,
+        carriers,
+        sides,
+        blocks,
+        corners2,
+        origins2,
+        carriers2,
+        sides2,
+        list,
+        p,
+        labels,
+        counts,
+    );
+    close(q, labels, counts)
+}
+
+// The soundings of a list by cell, of two map files and a list of any bytes: each pair of labels that occurs, sorted, in rows of the labels, and how often in the counts; zeros past
+// them. Or the refusal of the first rule broken, and zeros.
+pub fn soundings(
+    zones: &[u8],
+    blocks: &[u8],
+    list: &[u8],
+    labels: &mut [u16],
+    counts: &mut [u32],
+) -> Counted
+    ensures { λ a. ⌜ countedOf a (now (labels .exit)) (now (counts .exit)) ≡ soundings (roomBy (length (now (labels .entry))) (length (now (counts .entry)))) (now (zones .entry) ∷ now (blocks .entry) ∷ []) (now (list .entry)) ⌝ }
+{
+    let mut corners = [0i64; MAP_POINT_CELLS];
+    let mut origins = [0u16; MAP_HALVES];
+    let mut carriers = [0i16; MAP_CARRIER_CELLS];
+    let mut sides = [0u16; MAP_HALVES];
+    let mut corners2 = [0i64; MAP_POINT_CELLS];
+    let mut origins2 = [0u16; MAP_HALVES];
+    let mut carriers2 = [0i16; MAP_CARRIER_CELLS];
+    let mut sides2 = [0u16; MAP_HALVES];
+    let c = lay_both(
+        zones,
+        &mut corners,
+        &mut origins,
+        &mut carriers,
+        &mut sides,
+        blocks,
+        &mut corners2,
+        &mut origins2,
+        &mut carriers2,
+        &mut sides2,
+    );
+    match c {
+        Check::Bad(r) => refuse(r, labels, counts),
+        Check::Fine => count_list(
+            zones,
+            &corners,
+            &origins,
+            &carriers,
+            &sides,
+            blocks,
+            &corners2,
+            &origins2,
+            &carriers2,
+            &sides2,
+            list,
+            labels,
+            counts,
+        ),
+    }
+}
