@@ -6,7 +6,7 @@ use soundings::go_on;
 ghost use lib.ListN.{length};
 ghost use Rattle.paper.specs.Soundings.{entryRoom};
 ghost use Rattle.soundings_count.specs.Entries.{pairWidth};
-ghost use Rattle.soundings.specs.Laid.{Laid};
+ghost use Rattle.soundings.specs.Laid.{Ready};
 ghost use Rattle.soundings.specs.Labels.{bothMaps};
 ghost use Rattle.soundings.specs.Answer.{roomBy};
 ghost use Rattle.soundings.specs.After.{Good};
@@ -20,6 +20,7 @@ pub struct Next {
     pub soundings: usize,
     pub far: usize,
     pub entries: usize,
+    pub read: u32,
     pub more: bool,
 }
 
@@ -31,17 +32,19 @@ fn next_batch(
     origins: &[u16],
     carriers: &[i16],
     sides: &[u16],
+    order: &[u16],
     blocks: &[u8],
     corners2: &[i64],
     origins2: &[u16],
     carriers2: &[i16],
     sides2: &[u16],
+    order2: &[u16],
     p: Progress,
     labels: &mut [u16],
     counts: &mut [u32],
 ) -> Next
-    requires { ⌜ Laid (now zones) (now corners) (now origins) (now carriers) (now sides) ⌝ ∗ ⌜ Laid (now blocks) (now corners2) (now origins2) (now carriers2) (now sides2) ⌝ ∗ ⌜ Good (entryRoom pairWidth (roomBy (length (now labels)) (length (now counts)))) (now labels) (now counts) p ⌝ }
-    ensures { λ r. ⌜ Read (bothMaps (now (zones .entry)) (now (blocks .entry))) (entryRoom pairWidth (roomBy (length (now (labels .entry))) (length (now (counts .entry))))) (now (labels .entry)) (now (counts .entry)) p (now (labels .exit)) (now (counts .exit)) (record { soundings = r .soundings; far = r .far; entries = r .entries }) (r .more) ⌝ }
+    requires { ⌜ Ready (now zones) (now corners) (now origins) (now carriers) (now sides) (now order) ⌝ ∗ ⌜ Ready (now blocks) (now corners2) (now origins2) (now carriers2) (now sides2) (now order2) ⌝ ∗ ⌜ Good (entryRoom pairWidth (roomBy (length (now labels)) (length (now counts)))) (now labels) (now counts) p ⌝ }
+    ensures { λ r. ⌜ Read (bothMaps (now (zones .entry)) (now (blocks .entry))) (entryRoom pairWidth (roomBy (length (now (labels .entry))) (length (now (counts .entry))))) (now (labels .entry)) (now (counts .entry)) p (now (labels .exit)) (now (counts .exit)) (record { soundings = r .soundings; far = r .far; entries = r .entries; read = r .read }) (r .more) ⌝ }
 {
     let mut buf = [0u8; BATCH_BYTES];
     let n = io::read_full(fd, &mut buf);
@@ -51,11 +54,13 @@ fn next_batch(
         origins,
         carriers,
         sides,
+        order,
         blocks,
         corners2,
         origins2,
         carriers2,
         sides2,
+        order2,
         &buf[..n],
         p,
         labels,
@@ -65,6 +70,7 @@ fn next_batch(
         soundings: q.soundings,
         far: q.far,
         entries: q.entries,
+        read: q.read,
         more: n == BATCH_BYTES,
     }
 }
@@ -77,15 +83,17 @@ pub fn read_batches(
     origins: &[u16],
     carriers: &[i16],
     sides: &[u16],
+    order: &[u16],
     blocks: &[u8],
     corners2: &[i64],
     origins2: &[u16],
     carriers2: &[i16],
     sides2: &[u16],
+    order2: &[u16],
     labels: &mut [u16],
     counts: &mut [u32],
 ) -> Progress
-    requires { ⌜ Laid (now zones) (now corners) (now origins) (now carriers) (now sides) ⌝ ∗ ⌜ Laid (now blocks) (now corners2) (now origins2) (now carriers2) (now sides2) ⌝ }
+    requires { ⌜ Ready (now zones) (now corners) (now origins) (now carriers) (now sides) (now order) ⌝ ∗ ⌜ Ready (now blocks) (now corners2) (now origins2) (now carriers2) (now sides2) (now order2) ⌝ }
     ensures { λ r. ⌜ Finished (bothMaps (now (zones .entry)) (now (blocks .entry))) (entryRoom pairWidth (roomBy (length (now (labels .entry))) (length (now (counts .entry))))) (now (labels .entry)) (now (counts .entry)) (now (labels .exit)) (now (counts .exit)) r ⌝ }
 {
     let mut p = begin();
@@ -98,11 +106,13 @@ pub fn read_batches(
             origins,
             carriers,
             sides,
+            order,
             blocks,
             corners2,
             origins2,
             carriers2,
             sides2,
+            order2,
             p,
             labels,
             counts,
@@ -111,6 +121,7 @@ pub fn read_batches(
             soundings: next.soundings,
             far: next.far,
             entries: next.entries,
+            read: next.read,
         };
         if !next.more {
             return p;

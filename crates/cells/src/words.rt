@@ -1,4 +1,4 @@
-// What is printed: `ZONE BLOCK COUNT` for each pair, or a refusal.
+// What is printed: `ZONE BLOCK COUNT` for each pair and then `read N`, or a refusal.
 use console::say;
 use console::say_number;
 use limits::PAIR_WIDTH;
@@ -33,6 +33,13 @@ fn say_rows(labels: &[u16], counts: &[u32], n: u16) {
     }
 }
 
+// "The program prints the sum over all soundings and both maps."
+fn say_read(read: u32) {
+    say(b"read ");
+    say_number(read as u64);
+    say(b"\n");
+}
+
 // The line of 01, and then a sentence; of refusal 8 how the two edges of that file meet.
 pub fn say_refused(r: Refusal, zones: &[u8], blocks: &[u8]) {
     console::say_refused(r.number, r.map, r.place);
@@ -47,7 +54,10 @@ pub fn say_refused(r: Refusal, zones: &[u8], blocks: &[u8]) {
 
 pub fn say_answer(answer: Counted, labels: &[u16], counts: &[u32]) {
     match answer {
-        Counted::Done(c) => say_rows(labels, counts, c.entries),
+        Counted::Done(c) => {
+            say_rows(labels, counts, c.entries);
+            say_read(c.read);
+        }
         Counted::Refused(r) => {
             console::say_refused(r.number, r.map, r.place);
             console::say_sentence(r.number, r.map, r.place);

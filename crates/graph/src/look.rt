@@ -69,7 +69,7 @@ fn nearer(s: Seg, t: Seg, p: Point) -> bool
 }
 
 // Whether edge k is a candidate.
-fn candidate(
+pub fn candidate(
     points: &[i64],
     origins: &[u16],
     carriers: &[i16],
@@ -88,7 +88,7 @@ fn candidate(
 }
 
 // With r the nearest candidate so far, `none` where there is none yet: k too.
-fn nearest(carriers: &[i16], none: usize, k: usize, r: usize, p: Point) -> usize
+pub fn nearest(carriers: &[i16], none: usize, k: usize, r: usize, p: Point) -> usize
     requires { ⌜ Carried (now carriers) k × (r < none → Carried (now carriers) r) × (r ≤ none) × Near (ptOf p) ⌝ }
     ensures { λ s. ⌜ s ≡ better (nearerAt (now (carriers .entry)) (ptOf p)) none k r ⌝ }
 {

@@ -1,4 +1,5 @@
 pub mod Sounding
 pub mod Tally
 pub mod Soundings
+pub mod Reads
 pub mod Told

@@ -1,8 +1,8 @@
 -- What is told of soundings that are counted, read back from the lent tables, of any number of map files: the rows are the counts (`told-entries`); they add up to the number of soundings (`told-total`); a row's count is how
--- often its labels occur, and labels that stand in no row occur never (`told-times`); rows stand in strict order (`told-ordered`); and past them there are zeros. Assumes nothing.
+-- often its labels occur, and labels that stand in no row occur never (`told-times`); rows stand in strict order (`told-ordered`); the edges read are summed over soundings and maps (`told-read`), with a ceiling (`told-ceiling`); and past them there are zeros. Assumes nothing.
 use mathlib.Core.Path.{_≡_, refl, sym, _∙_, ap, subst}
 use mathlib.Core.List.{append-assoc}
-use Prim.Native.Nat.{_<_}
+use Prim.Native.Nat.{_<_, _≤_}
 use native.Mathlib.Nat.{mul-suc, mul-zero, zero-add}
 use native.Mathlib.Omega.{arith}
 use lib.ListN.{length-map, List·getD-append}
@@ -13,10 +13,11 @@ use Rattle.seq.specs.Table.{length-table, table-is, table-ext}
 use Rattle.paper.specs.Refusal.{Refusal, given, firstOf, done}
 use Rattle.paper.specs.Map.{Map, mapOf}
 use Rattle.paper.specs.Overlay.{mapFaults}
-use Rattle.paper.specs.Soundings.{Entry, lesser, tally, cellOf, cells, soundingsIn, soundingAt, listFaults, entryRoom, labelRows, times, counted, soundings, Cells, CountRoom, Counted}
+use Rattle.paper.specs.Soundings.{Entry, lesser, tally, cellOf, cells, soundingsIn, soundingAt, listFaults, entryRoom, labelRows, times, counted, soundings, readIn, Cells, CountRoom, Counted}
 use Rattle.laws_refusals.specs.Refusals.{done-none}
 use Rattle.laws_soundings.specs.Tally.{Long, from-long, total, timesOf, occurs, tally-times, tally-ordered}
 use Rattle.laws_soundings.specs.Soundings.{counts-add-up}
+use Rattle.laws_soundings.specs.Reads.{edgesOf, reads-most}
 
 -- the entry in row r: n labels, and how often they occur; those in the first k rows
 abbrev pub rowEntry : ℕ → List ℕ → List ℕ → ℕ → Entry
@@ -89,16 +90,23 @@ module _ (files : List (List ℕ)) (s : List ℕ) where
     abbrev faults : Option Refusal
     faults = firstOf (mapFaults files ++ (listFaults s ++ (given 11 6 (ltb (entryRoom (length files) l) (length t)) ∷ [])))
 
-    is-done : (faults ≡ none) × (record { entries = length t; soundings = soundingsIn s } ≡ c)
+    is-done : (faults ≡ none) × (record { entries = length t; soundings = soundingsIn s; read = readIn ms s } ≡ c)
     unfolding soundings
-    is-done = done-none (record { entries = length t; soundings = soundingsIn s }) c faults e
+    is-done = done-none (record { entries = length t; soundings = soundingsIn s; read = readIn ms s }) c faults e
 
     tables-are : (o .labels ≡ labelRows t ++ replicate (l .labels - length (labelRows t)) 0) × (o .counts ≡ times t ++ replicate (l .counts - length (times t)) 0)
     unfolding soundings
-    tables-are = let r = ap (counted l (record { entries = length t; soundings = soundingsIn s }) t) (is-done .0) in (ap (λ (x : Counted). x .labels) r, ap (λ (x : Counted). x .counts) r)
+    tables-are = let r = ap (counted l (record { entries = length t; soundings = soundingsIn s; read = readIn ms s }) t) (is-done .0) in (ap (λ (x : Counted). x .labels) r, ap (λ (x : Counted). x .counts) r)
 
     pub told-soundings : c .soundings ≡ soundingsIn s
     told-soundings = sym (ap (λ (x : Cells). x .soundings) (is-done .1))
+
+    -- "The program prints the sum over all soundings and both maps" (02, Ask 8), and it has a ceiling: all edges for each sounding
+    pub told-read : c .read ≡ readIn ms s
+    told-read = sym (ap (λ (x : Cells). x .read) (is-done .1))
+
+    pub told-ceiling : c .read ≤ edgesOf ms * c .soundings
+    told-ceiling = subst (λ (n : ℕ). c .read ≤ edgesOf ms * n) (sym told-soundings) (subst (λ (r : ℕ). r ≤ edgesOf ms * soundingsIn s) (sym told-read) (reads-most ms s))
 
     pub told-entries : rowEntries (length files) (o .labels) (o .counts) (c .entries) ≡ t
     told-entries =

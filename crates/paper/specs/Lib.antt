@@ -26,5 +26,6 @@ pub mod Meetings
 pub mod MendSample
 pub mod Tide
 pub mod TideSample
+pub mod Reads
 pub mod Soundings
 pub mod SoundingsSample

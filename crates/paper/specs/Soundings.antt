@@ -1,6 +1,7 @@
 -- Soundings by cell (02, Ask 3): the labels of a sounding, how often each list of labels occurs, which refusal is given, and everything that comes out. THE DEFINITION of the operation,
 -- over any list of map files; it is run with two. Assumes nothing.
 use Rattle.seq.specs.Seq.{Bool, true, false, not, _&&_, _||_, List, [], _∷_, _++_, map, Option, ℕ, _+_, _*_, _/_, _%_, min, ltb, eqb, length, natAbs, pos, table, orZero, insertBy, gather, padded}
+use Rattle.seq.specs.Total.{total}
 use Rattle.paper.specs.Limits.{reach, overlayFaces, listSoundings}
 use Rattle.paper.specs.Plane.{Vec, vec, whole}
 use Rattle.paper.specs.Graph.{west}
@@ -9,6 +10,7 @@ use Rattle.paper.specs.Refusal.{given, firstAt, firstOf, answer, unlessR
 use Rattle.paper.specs.Map.{mapOf, label, Map}
 use Rattle.paper.specs.Pieces.{layer}
 use Rattle.paper.specs.Overlay.{mapFaults}
+use Rattle.paper.specs.Reads.{readFor}
 
 -- ── the list: "x and y as signed 16-bit, low byte first" ──
 
@@ -30,6 +32,10 @@ cellOf ms c = table (λ i. orZero (label (layer ms i)) (west (layer ms i .graph)
 
 abbrev pub cells : List Map → List ℕ → List (List ℕ)
 cells ms s = table (λ i. cellOf ms (soundingAt s i)) (soundingsIn s)
+
+-- "the sum over all soundings and both maps" (02, Ask 8)
+abbrev pub readIn : List Map → List ℕ → ℕ
+readIn ms s = total (readFor ms) (table (soundingAt s) (soundingsIn s))
 
 -- ── "each pair that occurs with its count, sorted by pair" ──
 
@@ -86,10 +92,11 @@ entryRoom n l = min overlayFaces (min (l .labels / n) (l .counts))
 
 -- ── the operation ──
 
--- how many different lists of labels occur, and how many soundings there are
+-- how many different lists of labels occur, how many soundings there are, and how many edges their looks read
 pub record Cells : Type 0 where
   pub entries : ℕ
   pub soundings : ℕ
+  pub read : ℕ
 
 -- what comes out: the answer, and the lent tables
 pub record Counted : Type 0 where
@@ -115,5 +122,5 @@ counted l c t r = record {
 unfoldable pub soundings : CountRoom → List (List ℕ) → List ℕ → Counted
 soundings l files s =
     let t = tally (cells (map mapOf files) s) in
-    counted l (record { entries = length t; soundings = soundingsIn s }) t
+    counted l (record { entries = length t; soundings = soundingsIn s; read = readIn (map mapOf files) s }) t
     (firstOf (mapFaults files ++ (listFaults s ++ (given 11 6 (ltb (entryRoom (length files) l) (length t)) ∷ []))))

@@ -43,8 +43,9 @@ run s = soundings lent (zones ∷ blocks ∷ []) s
 abbrev refusal : ℕ → ℕ → ℕ → Answer Cells
 refusal n m k = refused (record { number = n; map = m; place = k; other = 0 })
 
+-- of the ten edges eight start at height 0, three of them level, and two level ones at height 2: all ten are read from (9, 9), eight from the others
 counts : run (listOf (at 3 1 ∷ at 1 1 ∷ at 9 9 ∷ vec (negsuc 0) (pos 1) ∷ at 1 0 ∷ at 0 0 ∷ []))
-    ≡ record { answer = done (record { entries = 3; soundings = 6 }); labels = 0 ∷ 0 ∷ 5 ∷ 7 ∷ 6 ∷ 0 ∷ 0 ∷ []; counts = 2 ∷ 3 ∷ 1 ∷ 0 ∷ [] }
+    ≡ record { answer = done (record { entries = 3; soundings = 6; read = 50 }); labels = 0 ∷ 0 ∷ 5 ∷ 7 ∷ 6 ∷ 0 ∷ 0 ∷ []; counts = 2 ∷ 3 ∷ 1 ∷ 0 ∷ [] }
 unfolding soundings fault
 counts = refl
 

@@ -12,16 +12,18 @@ use Rattle.seq.specs.Table.{length-table}
 use Rattle.seq.specs.Least.{least-le, least-on, least-ext}
 use Rattle.paper.specs.Limits.{listSoundings}
 use Rattle.paper.specs.Map.{Map}
-use Rattle.paper.specs.Soundings.{Entry, tally, tallyFrom, cells, cellOf, soundingsIn, soundingAt, far, badList}
+use Rattle.paper.specs.Soundings.{Entry, tally, tallyFrom, cells, cellOf, soundingsIn, soundingAt, far, badList, readIn}
 use Rattle.laws_soundings.specs.Tally.{total, from-total}
+use Rattle.laws_soundings.specs.Reads.{readUpto, reads-go-on}
 use Rattle.laws_soundings.specs.Soundings.{counts-go-on, far-before, far-past}
 use Rattle.soundings_count.specs.Entries.{pairWidth, entriesIn, mostTimes}
-use Rattle.soundings.specs.Batch.{Counts, Batched, Roomy, counts-own}
+use Rattle.soundings.specs.Batch.{mostRead, Counts, Batched, Roomy, counts-own}
 use Rattle.soundings.specs.declared.batch.Run.{Run}
 use Rattle.soundings.specs.declared.progress.Progress.{Progress}
 
 pub record Good (room : ℕ) (ls cs : List ℕ) (p : Progress) : Type 0 where
   pub most : p .soundings ≤ listSoundings + 1
+  pub read-few : p .read ≤ mostRead * p .soundings
   pub few : p .entries ≤ room → total (entriesIn ls cs (p .entries)) ≤ p .soundings
 
 -- of bytes that 12 does not refuse
@@ -29,6 +31,7 @@ pub record Standing (ms : List Map) (room : ℕ) (s ls cs : List ℕ) (p : Progr
   pub soundings-are : p .soundings ≡ soundingsIn s
   pub far-is : p .far ≡ least (far s) (soundingsIn s)
   pub counts : soundingsIn s ≤ p .far → Counts room (tally (cells ms s)) ls cs (p .entries)
+  pub reads : soundingsIn s ≤ p .far → p .entries ≤ room → p .read ≡ readIn ms s
 
 pub record After (ms : List Map) (room : ℕ) (s ls cs : List ℕ) (p : Progress) : Type 0 where
   pub over : ltb listSoundings (p .soundings) ≡ badList s
@@ -66,16 +69,16 @@ pub record Went (ms : List Map) (room : ℕ) (b ls cs : List ℕ) (p : Progress)
 pub went-at : {ms : List Map} {k room : ℕ} {b ls cs : List ℕ} {p : Progress} {ls′ cs′ : List ℕ} {r : Progress} → k ≡ room → Went ms k b ls cs p ls′ cs′ r → Went ms room b ls cs p ls′ cs′ r
 went-at {ms} {k} {room} {b} {ls} {cs} {p} {ls′} {cs′} {r} e w = subst (λ (x : ℕ). Went ms x b ls cs p ls′ cs′ r) e w
 
-abbrev pub progress : ℕ → ℕ → ℕ → Progress
-progress n k e = record { soundings = n; far = k; entries = e }
+abbrev pub progress : ℕ → ℕ → ℕ → ℕ → Progress
+progress n k e q = record { soundings = n; far = k; entries = e; read = q }
 
 -- ── the start ──
 
-pub begins : (ms : List Map) (room : ℕ) (ls cs : List ℕ) → After ms room [] ls cs (progress 0 0 0)
-begins ms room ls cs = record { over = refl; held = λ e. record { soundings-are = refl; far-is = refl; counts = λ h. record { over = λ q. absurd (omega arith); held = λ q. refl } } }
+pub begins : (ms : List Map) (room : ℕ) (ls cs : List ℕ) → After ms room [] ls cs (progress 0 0 0 0)
+begins ms room ls cs = record { over = refl; held = λ e. record { soundings-are = refl; far-is = refl; counts = λ h. record { over = λ q. absurd (omega arith); held = λ q. refl }; reads = λ h q. refl } }
 
-pub begins-good : (room : ℕ) (ls cs : List ℕ) → Good room ls cs (progress 0 0 0)
-begins-good room ls cs = record { most = omega arith; few = λ h. omega arith }
+pub begins-good : (room : ℕ) (ls cs : List ℕ) → Good room ls cs (progress 0 0 0 0)
+begins-good room ls cs = record { most = omega arith; read-few = omega arith; few = λ h. omega arith }
 
 -- ── a batch more ──
 
@@ -132,9 +135,9 @@ module _ (ms : List Map) (room : ℕ) (b ls cs : List ℕ) (p : Progress) where
       sum-is = ap (λ (k : ℕ). k + n) (so .soundings-are) ∙ sym in-both
 
   -- 12 is due
-  pub goes-torn : tornBy (p .soundings) (length b) ≡ true → Good room ls cs p → Went ms room b ls cs p ls cs (progress (listSoundings + 1) (p .far) (p .entries))
+  pub goes-torn : tornBy (p .soundings) (length b) ≡ true → Good room ls cs p → Went ms room b ls cs p ls cs (progress (listSoundings + 1) (p .far) (p .entries) (p .read))
   goes-torn q g = record {
-    good = record { most = omega arith; few = λ l. omega (arith, g .few l, g .most) };
+    good = record { most = omega arith; read-few = omega (arith, g .read-few, g .most); few = λ l. omega (arith, g .few l, g .most) };
     torn = λ l. omega arith;
     after = λ s w A. record {
       over = lt-ltb listSoundings (listSoundings + 1) (omega arith) ∙ sym (sym (torn-is s w A) ∙ q);
@@ -148,14 +151,14 @@ module _ (ms : List Map) (room : ℕ) (b ls cs : List ℕ) (p : Progress) where
     few-sum = ltb-false listSoundings (p .soundings + n) (or-false (not (eqb (length b % 4) 0)) (ltb listSoundings (p .soundings + n)) q .1)
 
     -- one was too far before
-    pub goes-far : p .far < p .soundings → Went ms room b ls cs p ls cs (progress (p .soundings + n) (p .far) (p .entries))
+    pub goes-far : p .far < p .soundings → Went ms room b ls cs p ls cs (progress (p .soundings + n) (p .far) (p .entries) (p .read))
     goes-far h = record {
-      good = record { most = omega (arith, few-sum); few = λ l. omega (arith, g .few l) };
+      good = record { most = omega (arith, few-sum); read-few = omega (arith, g .read-few); few = λ l. omega (arith, g .few l) };
       torn = λ l. absurd (omega (arith, few-sum));
       after = λ s w A. record { over = over-both s w A q _ refl; held = λ z. so-far s w A };
     }
       where
-        so-far : (s : List ℕ) → length s % 4 ≡ 0 → After ms room s ls cs p → Standing ms room (s ++ b) ls cs (progress (p .soundings + n) (p .far) (p .entries))
+        so-far : (s : List ℕ) → length s % 4 ≡ 0 → After ms room s ls cs p → Standing ms room (s ++ b) ls cs (progress (p .soundings + n) (p .far) (p .entries) (p .read))
         so-far s w A =
             let S = so s w A q in
             let k = soundingsIn s in
@@ -165,6 +168,7 @@ module _ (ms : List Map) (room : ℕ) (b ls cs : List ℕ) (p : Progress) where
               far-is = S .far-is ∙ sym (first-far s w A q) ∙ sym (ap (λ (c : Bool). cond c (least (far (s ++ b)) k) (k + least (λ i. far (s ++ b) (k + i)) n)) (lt-ltb (least (far (s ++ b)) k) k l))
                   ∙ sym (least-on (far (s ++ b)) k n) ∙ ap (least (far (s ++ b))) (sym (in-both s w A));
               counts = λ x. absurd (omega (arith, in-both s w A, S .soundings-are));
+              reads = λ x. absurd (omega (arith, in-both s w A, S .soundings-are));
             }
 
     pub goes-roomy : pairWidth * room ≤ length ls → room ≤ length cs → Roomy room ls cs (p .entries) n
@@ -182,7 +186,11 @@ module _ (ms : List Map) (room : ℕ) (b ls cs : List ℕ) (p : Progress) where
                 omega (arith, ap total (c .held l), from-total t f, length-table (λ i. cellOf ms (soundingAt b i)) (x .far), g .few (omega arith), B .far-is, least-le (far b) n)
           ]
 
-      so-counted : (s : List ℕ) → length s % 4 ≡ 0 → After ms room s ls cs p → Standing ms room (s ++ b) ls′ cs′ (progress (p .soundings + n) (p .soundings + x .far) (x .entries))
+      -- there was room before
+      had : x .entries ≤ room → p .entries ≤ room
+      had l = elim (decLt room (p .entries)) [ yes o ↦ absurd (omega (arith, B .stays o)) | no o ↦ omega arith ]
+
+      so-counted : (s : List ℕ) → length s % 4 ≡ 0 → After ms room s ls cs p → Standing ms room (s ++ b) ls′ cs′ (progress (p .soundings + n) (p .soundings + x .far) (x .entries) (p .read + x .read))
       so-counted s w A =
           let S = so s w A q in
           let k = soundingsIn s in
@@ -196,11 +204,14 @@ module _ (ms : List Map) (room : ℕ) (b ls cs : List ℕ) (p : Progress) where
                 let e : x .far ≡ n = omega (arith, z, in-both s w A, S .soundings-are, B .far-is, least-le (far b) n) in
                 subst (λ (t : List Entry). Counts room t ls′ cs′ (x .entries)) (ap (λ (j : ℕ). tallyFrom (tally (cells ms s)) (table (λ i. cellOf ms (soundingAt b i)) j)) e ∙ sym (counts-go-on s b k (whole-first s w A q) ms))
                 (B .counts (tally (cells ms s)) (S .counts (omega (arith, h, S .soundings-are))));
+            reads = λ z o.
+                let e : x .far ≡ n = omega (arith, z, in-both s w A, S .soundings-are, B .far-is, least-le (far b) n) in
+                (λ i. S .reads (omega (arith, h, S .soundings-are)) (had o) i + (B .reads o ∙ ap (readUpto ms b) e) i) ∙ sym (reads-go-on s b k (whole-first s w A q) ms);
           }
 
-      pub goes-counted : Went ms room b ls cs p ls′ cs′ (progress (p .soundings + n) (p .soundings + x .far) (x .entries))
+      pub goes-counted : Went ms room b ls cs p ls′ cs′ (progress (p .soundings + n) (p .soundings + x .far) (x .entries) (p .read + x .read))
       goes-counted = record {
-        good = record { most = omega (arith, few-sum); few = still-few };
+        good = record { most = omega (arith, few-sum); read-few = omega (arith, g .read-few, B .read-few, B .far-is, least-le (far b) n); few = still-few };
         torn = λ l. absurd (omega (arith, few-sum));
         after = λ s w A. record { over = over-both s w A q _ refl; held = λ z. so-counted s w A };
       }

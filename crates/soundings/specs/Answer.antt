@@ -18,11 +18,11 @@ use Rattle.soundings.specs.declared.answer.Counted.the-variants.{Done, R
 abbrev pub roomBy : ℕ → ℕ → CountRoom
 roomBy l c = record { labels = l; counts = c }
 
-abbrev pub cellsBy : ℕ → ℕ → paper.Cells
-cellsBy n k = record { entries = n; soundings = k }
+abbrev pub cellsBy : ℕ → ℕ → ℕ → paper.Cells
+cellsBy n k q = record { entries = n; soundings = k; read = q }
 
 abbrev pub countedOf : Counted → List ℕ → List ℕ → paper.Counted
-countedOf (Done c) ls cs = record { answer = done (cellsBy (c .entries) (c .soundings)); labels = ls; counts = cs }
+countedOf (Done c) ls cs = record { answer = done (cellsBy (c .entries) (c .soundings) (c .read)); labels = ls; counts = cs }
 countedOf (Refused r) ls cs = record { answer = refused (refusalOf r); labels = ls; counts = cs }
 
 -- "Refused: all lent tables are zero"
@@ -56,10 +56,10 @@ module _ (ls cs : List ℕ) where
   front-counts (suc n) h =
       take-suc cs n 0 (omega arith) ∙ (λ i. front-counts n (omega arith) i ++ (getD cs n 0 ∷ [])) ∙ sym (times-++ (entriesIn ls cs n) (entryAt ls cs n))
 
-  pub tables-done : (n k : ℕ) (us vs : List ℕ) → pairWidth * n ≤ length ls → n ≤ length cs → us ≡ wiped 0 (pairWidth * n) ls → vs ≡ wiped 0 n cs →
-      record { answer = done (cellsBy n k); labels = us; counts = vs } ≡ counted (roomBy (length ls) (length cs)) (cellsBy n k) (entriesIn ls cs n) none
-  tables-done n k us vs a b e f = λ i. record {
-    answer = done (cellsBy n k);
+  pub tables-done : (n k q : ℕ) (us vs : List ℕ) → pairWidth * n ≤ length ls → n ≤ length cs → us ≡ wiped 0 (pairWidth * n) ls → vs ≡ wiped 0 n cs →
+      record { answer = done (cellsBy n k q); labels = us; counts = vs } ≡ counted (roomBy (length ls) (length cs)) (cellsBy n k q) (entriesIn ls cs n) none
+  tables-done n k q us vs a b e f = λ i. record {
+    answer = done (cellsBy n k q);
     labels = (e ∙ ap (padded 0 (length ls)) (front-labels n a)) i;
     counts = (f ∙ ap (padded 0 (length cs)) (front-counts n b)) i;
   }

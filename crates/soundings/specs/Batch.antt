@@ -11,20 +11,26 @@ use Rattle.seq.specs.Tests.{or-false}
 use Rattle.seq.specs.Table.{length-table}
 use Rattle.seq.specs.Least.{least-more, least-found}
 use Rattle.seq.specs.Inserted.{insert-grows}
-use Rattle.paper.specs.Limits.{reach}
+use Rattle.paper.specs.Limits.{reach, mapEdges, listSoundings}
+use Rattle.paper.specs.Reads.{readFor}
 use Rattle.paper.specs.Plane.{Vec}
 use Rattle.paper.specs.Map.{Map}
 use Rattle.paper.specs.Soundings.{Entry, lesser, added, once, tallyFrom, cellOf, soundingsIn, soundingAt, far}
 use Rattle.laws_soundings.specs.Tally.{total, tally-++, from-total}
+use Rattle.laws_soundings.specs.Reads.{readUpto, reads-more}
 use Rattle.plane.specs.Bounds.{Corner}
 use Rattle.soundings_count.specs.Entries.{pairWidth, entriesIn, mostTimes, Grown}
 use Rattle.soundings.specs.declared.batch.Run.{Run}
+
+-- the edges that are read for one sounding, at most: all edges of both maps
+abbrev pub mostRead : ℕ
+mostRead = pairWidth * mapEdges
 
 -- the lent tables have so many rows, and no count of the m pairs overflows where `more` soundings come
 pub record Roomy (room : ℕ) (ls cs : List ℕ) (m more : ℕ) : Type 0 where
   pub labels : pairWidth * room ≤ length ls
   pub counts : room ≤ length cs
-  pub short : more ≤ mostTimes
+  pub short : more ≤ listSoundings
   pub few : m ≤ room → total (entriesIn ls cs m) + more ≤ mostTimes
 
 -- a sounding with the labels c, unless there are more pairs than room already
@@ -37,11 +43,13 @@ pub record Counts (room : ℕ) (t : List Entry) (ls cs : List ℕ) (m : ℕ) : T
   pub over : room < m → room < length t
   pub held : m ≤ room → entriesIn ls cs m ≡ t
 
--- the first sounding of s that is too far, or their number; and those before it counted on from whatever the n rows stood for
+-- the first sounding of s that is too far, or their number; and those before it counted on from whatever the n rows stood for, with the edges read for them
 pub record Batched (ms : List Map) (s : List ℕ) (room n : ℕ) (ls₀ cs₀ ls cs : List ℕ) (r : Run) : Type 0 where
   pub far-is : r .far ≡ least (far s) (soundingsIn s)
   pub stays : room < n → room < r .entries
   pub counts : (t : List Entry) → Counts room t ls₀ cs₀ n → Counts room (tallyFrom t (table (λ i. cellOf ms (soundingAt s i)) (r .far))) ls cs (r .entries)
+  pub reads : r .entries ≤ room → r .read ≡ readUpto ms s (r .far)
+  pub read-few : r .read ≤ mostRead * r .far
 
 -- ── one more ──
 
@@ -76,18 +84,20 @@ module _ (ms : List Map) (s : List ℕ) (room n : ℕ) where
   abbrev cellAt : ℕ → List ℕ
   cellAt i = cellOf ms (soundingAt s i)
 
-  pub record Counting (ls₀ cs₀ ls cs : List ℕ) (m i : ℕ) : Type 0 where
+  pub record Counting (ls₀ cs₀ ls cs : List ℕ) (m q i : ℕ) : Type 0 where
     pub upto : i ≤ soundingsIn s
     pub near : least (far s) i ≡ i
     pub stays : room < n → room < m
     pub counts : (t : List Entry) → Counts room t ls₀ cs₀ n → Counts room (tallyFrom t (table cellAt i)) ls cs m
+    pub reads : m ≤ room → q ≡ readUpto ms s i
+    pub read-few : q ≤ mostRead * i
     pub labels-kept : length ls ≡ length ls₀
     pub counts-kept : length cs ≡ length cs₀
 
-  pub count-starts : (ls cs : List ℕ) → Counting ls cs ls cs n 0
-  count-starts ls cs = record { upto = omega arith; near = refl; stays = λ h. h; counts = λ t k. k; labels-kept = refl; counts-kept = refl }
+  pub count-starts : (ls cs : List ℕ) → Counting ls cs ls cs n 0 0
+  count-starts ls cs = record { upto = omega arith; near = refl; stays = λ h. h; counts = λ t k. k; reads = λ h. refl; read-few = omega arith; labels-kept = refl; counts-kept = refl }
 
-  module _ {ls₀ cs₀ ls cs : List ℕ} {m i : ℕ} (k : Counting ls₀ cs₀ ls cs m i) where
+  module _ {ls₀ cs₀ ls cs : List ℕ} {m q i : ℕ} (k : Counting ls₀ cs₀ ls cs m q i) where
     count-few : (n ≤ room → total (entriesIn ls₀ cs₀ n) + soundingsIn s ≤ mostTimes) → i < soundingsIn s → m ≤ room → total (entriesIn ls cs m) + 1 ≤ mostTimes
     count-few h l q =
         elim (decLt room n) [
@@ -100,30 +110,40 @@ module _ (ms : List Map) (s : List ℕ) (room n : ℕ) where
     pub count-roomy : Roomy room ls₀ cs₀ n (soundingsIn s) → i < soundingsIn s → Roomy room ls cs m 1
     count-roomy h l = record { labels = omega (arith, h .labels, k .labels-kept); counts = omega (arith, h .counts, k .counts-kept); short = omega arith; few = count-few (h .few) l }
 
-    pub count-turns : (c : Vec) (ls′ cs′ : List ℕ) (r : ℕ) → i < soundingsIn s → far s i ≡ false → c ≡ soundingAt s i → Stepped room m (cellOf ms c) ls cs ls′ cs′ r → length ls′ ≡ length ls → length cs′ ≡ length cs
-        → Counting ls₀ cs₀ ls′ cs′ r (i + 1)
-    count-turns c ls′ cs′ r l q e g a b = record {
+    pub count-turns : (c : Vec) (ls′ cs′ : List ℕ) (r x : ℕ) → i < soundingsIn s → far s i ≡ false → c ≡ soundingAt s i → (m ≤ room → x ≡ readFor ms c) × (x ≤ mostRead) → Stepped room m (cellOf ms c) ls cs ls′ cs′ r → length ls′ ≡ length ls → length cs′ ≡ length cs
+        → Counting ls₀ cs₀ ls′ cs′ r (q + x) (i + 1)
+    count-turns c ls′ cs′ r x l f e o g a b = record {
       upto = omega arith;
-      near = least-more (far s) i (k .near) q;
+      near = least-more (far s) i (k .near) f;
       stays = λ h. omega (arith, k .stays h, g .over (k .stays h));
       counts = λ t o. subst (λ (x : List Entry). Counts room x ls′ cs′ r) (sym (ap (λ (j : ℕ). tallyFrom t (table cellAt j)) (add-one i) ∙ tally-++ t (table cellAt i) (cellAt i ∷ [])))
           (counts-step room (tallyFrom t (table cellAt i)) (cellAt i) ls cs ls′ cs′ m r (k .counts t o) (subst (λ (x : Vec). Stepped room m (cellOf ms x) ls cs ls′ cs′ r) e g));
+      reads = λ h. (λ j. k .reads (had h) j + (o .0 (had h) ∙ ap (readFor ms) e) j) ∙ sym (reads-more ms s i);
+      read-few = omega (arith, k .read-few, o .1);
       labels-kept = a ∙ k .labels-kept;
       counts-kept = b ∙ k .counts-kept;
     }
+      where
+        -- there was room before
+        had : r ≤ room → m ≤ room
+        had h = elim (decLt room m) [ yes z ↦ absurd (omega (arith, g .over z)) | no z ↦ omega arith ]
 
-    pub count-stops : (x : Run) → x .entries ≡ m → x .far ≡ i → i < soundingsIn s → far s i ≡ true → Batched ms s room n ls₀ cs₀ ls cs x
-    count-stops x a b l q = record {
-      far-is = b ∙ sym (least-found (far s) (soundingsIn s) i l (k .near) q);
+    pub count-stops : (x : Run) → x .entries ≡ m → x .far ≡ i → x .read ≡ q → i < soundingsIn s → far s i ≡ true → Batched ms s room n ls₀ cs₀ ls cs x
+    count-stops x a b d l f = record {
+      far-is = b ∙ sym (least-found (far s) (soundingsIn s) i l (k .near) f);
       stays = λ h. omega (arith, a, k .stays h);
       counts = λ t o. rw (a, b) (k .counts t o);
+      reads = λ h. d ∙ k .reads (omega (arith, a)) ∙ ap (readUpto ms s) (sym b);
+      read-few = omega (arith, d, b, k .read-few);
     }
 
-    pub count-ends : (x : Run) → x .entries ≡ m → x .far ≡ soundingsIn s → soundingsIn s ≤ i → Batched ms s room n ls₀ cs₀ ls cs x
-    count-ends x a b l =
+    pub count-ends : (x : Run) → x .entries ≡ m → x .far ≡ soundingsIn s → x .read ≡ q → soundingsIn s ≤ i → Batched ms s room n ls₀ cs₀ ls cs x
+    count-ends x a b d l =
         let e : i ≡ soundingsIn s = omega (arith, k .upto) in
         record {
           far-is = b ∙ sym (ap (least (far s)) (sym e) ∙ k .near ∙ e);
           stays = λ h. omega (arith, a, k .stays h);
           counts = λ t o. rw (a, b ∙ sym e) (k .counts t o);
+          reads = λ h. d ∙ k .reads (omega (arith, a)) ∙ ap (readUpto ms s) (e ∙ sym b);
+          read-few = omega (arith, d, b, e, k .read-few);
         }

@@ -9,7 +9,7 @@ use Rattle.seq.specs.Table.{length-table}
 use Rattle.paper.specs.Limits.{listSoundings}
 use Rattle.paper.specs.Refusal.{Refusal, given, firstOf}
 use Rattle.paper.specs.Map.{Map}
-use Rattle.paper.specs.Soundings.{Entry, Counted, CountRoom, entryRoom, counted, tally, cells, soundingsIn, far, badList, listFaults}
+use Rattle.paper.specs.Soundings.{Entry, Counted, CountRoom, entryRoom, counted, tally, cells, soundingsIn, far, badList, listFaults, readIn}
 use Rattle.laws_refusals.specs.Refusals.{nothing, given-none, first-one}
 use Rattle.soundings_count.specs.Entries.{pairWidth, entryAt, entriesIn}
 use Rattle.soundings.specs.Answer.{cellsBy, refusedWith}
@@ -20,13 +20,13 @@ abbrev pub faultsBy : ℕ → Progress → List (Option Refusal)
 faultsBy room p = given 12 0 (ltb listSoundings (p .soundings)) ∷ given 13 (p .far) (ltb (p .far) (p .soundings)) ∷ given 11 6 (ltb room (p .entries)) ∷ []
 
 abbrev pub closedBy : CountRoom → List ℕ → List ℕ → Progress → Counted
-closedBy l ls cs p = counted l (cellsBy (p .entries) (p .soundings)) (entriesIn ls cs (p .entries)) (firstOf (faultsBy (entryRoom pairWidth l) p))
+closedBy l ls cs p = counted l (cellsBy (p .entries) (p .soundings) (p .read)) (entriesIn ls cs (p .entries)) (firstOf (faultsBy (entryRoom pairWidth l) p))
 
 -- the definition's, of maps that pass
 abbrev pub listed : CountRoom → List Map → List ℕ → Counted
 listed l ms s =
     let t = tally (cells ms s) in
-    counted l (cellsBy (length t) (soundingsIn s)) t (firstOf (listFaults s ++ (given 11 6 (ltb (entryRoom pairWidth l) (length t)) ∷ [])))
+    counted l (cellsBy (length t) (soundingsIn s) (readIn ms s)) t (firstOf (listFaults s ++ (given 11 6 (ltb (entryRoom pairWidth l) (length t)) ∷ [])))
 
 -- ── which is due ──
 
@@ -47,7 +47,7 @@ module _ (room : ℕ) (p : Progress) where
 
 module _ (l : CountRoom) (ls cs : List ℕ) (p : Progress) (room : ℕ) (e : room ≡ entryRoom pairWidth l) where
   abbrev answered : Option Refusal → Counted
-  answered = counted l (cellsBy (p .entries) (p .soundings)) (entriesIn ls cs (p .entries))
+  answered = counted l (cellsBy (p .entries) (p .soundings) (p .read)) (entriesIn ls cs (p .entries))
 
   pub closed-bad : (r : Refusal) → firstOf (faultsBy room p) ≡ some r → refusedWith l r ≡ closedBy l ls cs p
   closed-bad r f = sym (ap answered (ap (λ (k : ℕ). firstOf (faultsBy k p)) (sym e) ∙ f))
@@ -68,43 +68,43 @@ module _ (l : CountRoom) (ms : List Map) (s ls cs : List ℕ) (p : Progress) (A 
   abbrev t : List Entry
   t = tally (cells ms s)
 
-  abbrev outcome : Bool → ℕ → Bool → Bool → ℕ → ℕ → List Entry → Counted
-  outcome b k c d e n x = counted l (cellsBy e n) x (firstOf (given 12 0 b ∷ given 13 k c ∷ given 11 6 d ∷ []))
+  abbrev outcome : Bool → ℕ → Bool → Bool → ℕ → ℕ → ℕ → List Entry → Counted
+  outcome b k c d e n q x = counted l (cellsBy e n q) x (firstOf (given 12 0 b ∷ given 13 k c ∷ given 11 6 d ∷ []))
 
   abbrev k : ℕ
   k = least (far s) (soundingsIn s)
 
   -- 11, or done
   by-room : Standing ms room s ls cs p → soundingsIn s ≤ k → (b : Bool) →
-      outcome b k false (ltb room (p .entries)) (p .entries) (soundingsIn s) (entriesIn ls cs (p .entries)) ≡ outcome b k false (ltb room (length t)) (length t) (soundingsIn s) t
+      outcome b k false (ltb room (p .entries)) (p .entries) (soundingsIn s) (p .read) (entriesIn ls cs (p .entries)) ≡ outcome b k false (ltb room (length t)) (length t) (soundingsIn s) (readIn ms s) t
   by-room S h b =
       let c = S .counts (omega (arith, S .far-is)) in
       elim (decLt room (p .entries)) [
         | yes q ↦ over-room b (lt-ltb room (p .entries) q) (lt-ltb room (length t) (c .over q))
         | no q ↦ let e : entriesIn ls cs (p .entries) ≡ t = c .held (omega arith) in
             let n : p .entries ≡ length t = sym (length-table (entryAt ls cs) (p .entries)) ∙ ap length e in
-            λ i. outcome b k false (ltb room (n i)) (n i) (soundingsIn s) (e i)
+            λ i. outcome b k false (ltb room (n i)) (n i) (soundingsIn s) (S .reads (omega (arith, S .far-is)) (omega arith) i) (e i)
       ]
     where
       over-room : (b : Bool) → ltb room (p .entries) ≡ true → ltb room (length t) ≡ true →
-          outcome b k false (ltb room (p .entries)) (p .entries) (soundingsIn s) (entriesIn ls cs (p .entries)) ≡ outcome b k false (ltb room (length t)) (length t) (soundingsIn s) t
+          outcome b k false (ltb room (p .entries)) (p .entries) (soundingsIn s) (p .read) (entriesIn ls cs (p .entries)) ≡ outcome b k false (ltb room (length t)) (length t) (soundingsIn s) (readIn ms s) t
       over-room true e f = refl
       over-room false e f = rw (e, f)
 
   -- 13, or what comes after it
   by-far : Standing ms room s ls cs p → (b c : Bool) → ltb k (soundingsIn s) ≡ c →
-      outcome b k c (ltb room (p .entries)) (p .entries) (soundingsIn s) (entriesIn ls cs (p .entries)) ≡ outcome b k c (ltb room (length t)) (length t) (soundingsIn s) t
+      outcome b k c (ltb room (p .entries)) (p .entries) (soundingsIn s) (p .read) (entriesIn ls cs (p .entries)) ≡ outcome b k c (ltb room (length t)) (length t) (soundingsIn s) (readIn ms s) t
   by-far S true c e = refl
   by-far S false true e = refl
   by-far S false false e = by-room S (ltb-false k (soundingsIn s) e) false
 
   by-list : (b : Bool) → badList s ≡ b → closedBy l ls cs p ≡ listed l ms s
   by-list true e =
-      ap (λ (b : Bool). outcome b (p .far) (ltb (p .far) (p .soundings)) (ltb room (p .entries)) (p .entries) (p .soundings) (entriesIn ls cs (p .entries))) (A .over ∙ e)
-      ∙ sym (ap (λ (b : Bool). outcome b k (ltb k (soundingsIn s)) (ltb room (length t)) (length t) (soundingsIn s) t) e)
+      ap (λ (b : Bool). outcome b (p .far) (ltb (p .far) (p .soundings)) (ltb room (p .entries)) (p .entries) (p .soundings) (p .read) (entriesIn ls cs (p .entries))) (A .over ∙ e)
+      ∙ sym (ap (λ (b : Bool). outcome b k (ltb k (soundingsIn s)) (ltb room (length t)) (length t) (soundingsIn s) (readIn ms s) t) e)
   by-list false e =
       let S = A .held e in
-      (λ i. outcome (A .over i) (S .far-is i) (ltb (S .far-is i) (S .soundings-are i)) (ltb room (p .entries)) (p .entries) (S .soundings-are i) (entriesIn ls cs (p .entries)))
+      (λ i. outcome (A .over i) (S .far-is i) (ltb (S .far-is i) (S .soundings-are i)) (ltb room (p .entries)) (p .entries) (S .soundings-are i) (p .read) (entriesIn ls cs (p .entries)))
       ∙ by-far S (badList s) (ltb k (soundingsIn s)) refl
 
   pub closes : closedBy l ls cs p ≡ listed l ms s

@@ -1,4 +1,4 @@
--- The map of a file that passes the check stands in tables of its own, and what is seen in it. Assumes nothing.
+-- The map of a file that passes the check stands in tables of its own (`Laid`), with its edges in the order of lower ends beside them (`Ready`); what is seen in it, and how many edges are read. Assumes nothing.
 use mathlib.Core.Path.{_≡_, refl, sym, _∙_, ap, subst}
 use Prim.Native.Nat.{_≤_, _<_}
 use native.Mathlib.Omega.{arith}
@@ -14,6 +14,10 @@ use Rattle.laws_graph.specs.West.{look-below}
 use Rattle.laws_graph.specs.Reading.{edges-count}
 use Rattle.graph.specs.Flat.{Flat, flatGraph}
 use Rattle.graph.specs.Look.{seenLabel}
+use Rattle.paper.specs.Reads.{edgesRead}
+use Rattle.looks.specs.Ordering.{ByLowerEnds}
+use Rattle.looks.specs.Labelled.{Sorted}
+use Rattle.looks.specs.Files.{file-sorted, reads-few}
 use Rattle.map_check.specs.Held.{MapRoom, MapLaid}
 use Rattle.map_check.specs.Laws.Kept.{Kept}
 use Rattle.map_check.proofs.KeptLaws.{kept}
@@ -97,3 +101,18 @@ pub both-none : (a b : Option Refusal) → firstOf (ofMap 1 a ∷ ofMap 2 b ∷ 
 both-none a b e =
     let n = nothing (ofMap 1 a ∷ ofMap 2 b ∷ []) e in
     (of-none 1 a (n .0), of-none 2 b (n .1 .0))
+
+-- ── with its edges in order ──
+
+pub record Ready (s : List ℕ) (ps : List ℤ) (os : List ℕ) (cs : List ℤ) (ls xs : List ℕ) : Type 0 where
+  pub laid : Laid s ps os cs ls
+  pub order : ByLowerEnds ps os (edgesIn s) xs
+
+-- an ordered look can be taken in the tables
+pub sorted-of : {s : List ℕ} {ps : List ℤ} {os : List ℕ} {cs : List ℤ} {ls xs : List ℕ} {n e : ℕ} → Ready s ps os cs ls xs → n ≡ vertexCount s → e ≡ edgesIn s → Sorted ps os cs n e xs
+sorted-of {s} {ps} {os} {cs} {ls} {xs} {n} {e} R v w =
+    coe 1 0 (i. Sorted ps os cs (v i) (w i) xs) (file-sorted s (R .laid .passes) ps os cs (vertexCount s) (edgesIn s) (R .laid .graph-is) xs (R .order))
+
+-- it reads no more than the map's edges
+pub read-few : {s : List ℕ} {ps : List ℤ} {os : List ℕ} {cs : List ℤ} {ls xs : List ℕ} → Ready s ps os cs ls xs → (p : Pt) → edgesRead (mapOf s .graph) p ≤ mapEdges
+read-few {s} R p = omega (arith, reads-few (mapOf s .graph) p, edges-count s, R .laid .few)

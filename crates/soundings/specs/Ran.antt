@@ -86,13 +86,13 @@ module _ (ms : List Map) (room : ℕ) where
   pub record Reached (ls₀ cs₀ ls cs : List ℕ) (p : Progress) : Type 0 where
     pub batches : List (List ℕ)
     pub whole : AllWhole batches
-    pub ran : Ran ms room batches (state ls₀ cs₀ (progress 0 0 0)) (state ls cs p)
+    pub ran : Ran ms room batches (state ls₀ cs₀ (progress 0 0 0 0)) (state ls cs p)
     pub good : Good room ls cs p
 
   pub record Finished (ls₀ cs₀ ls cs : List ℕ) (p : Progress) : Type 0 where
     pub batches : List (List ℕ)
     pub whole : WholeButLast batches
-    pub ran : Ran ms room batches (state ls₀ cs₀ (progress 0 0 0)) (state ls cs p)
+    pub ran : Ran ms room batches (state ls₀ cs₀ (progress 0 0 0 0)) (state ls cs p)
 
   -- one batch of unknown bytes more; where more may come it is whole
   pub record Read (ls cs : List ℕ) (p : Progress) (ls′ cs′ : List ℕ) (q : Progress) (more : Bool) : Type 0 where
@@ -100,7 +100,7 @@ module _ (ms : List Map) (room : ℕ) where
     pub went : Went ms room batch ls cs p ls′ cs′ q
     pub whole : more ≡ true → length batch % 4 ≡ 0
 
-  pub reached-none : (ls cs : List ℕ) → Reached ls cs ls cs (progress 0 0 0)
+  pub reached-none : (ls cs : List ℕ) → Reached ls cs ls cs (progress 0 0 0 0)
   reached-none ls cs = record { batches = []; whole = tt; ran = refl; good = begins-good room ls cs }
 
   module _ {ls₀ cs₀ ls cs : List ℕ} {p : Progress} (R : Reached ls₀ cs₀ ls cs p) where
@@ -108,7 +108,7 @@ module _ (ms : List Map) (room : ℕ) where
     reached-more {ls′} {cs′} {q} {more} r e = record {
       batches = R .batches ++ (r .batch ∷ []);
       whole = all-more (R .batches) (r .batch) (R .whole) (r .whole e);
-      ran = ran-more (R .batches) (r .batch) (state ls₀ cs₀ (progress 0 0 0)) (state ls cs p) (state ls′ cs′ q) (R .ran) (r .went);
+      ran = ran-more (R .batches) (r .batch) (state ls₀ cs₀ (progress 0 0 0 0)) (state ls cs p) (state ls′ cs′ q) (R .ran) (r .went);
       good = r .went .good;
     }
 
@@ -116,14 +116,14 @@ module _ (ms : List Map) (room : ℕ) where
     reached-last {ls′} {cs′} {q} {more} r = record {
       batches = R .batches ++ (r .batch ∷ []);
       whole = last-more (R .batches) (r .batch) (R .whole);
-      ran = ran-more (R .batches) (r .batch) (state ls₀ cs₀ (progress 0 0 0)) (state ls cs p) (state ls′ cs′ q) (R .ran) (r .went);
+      ran = ran-more (R .batches) (r .batch) (state ls₀ cs₀ (progress 0 0 0 0)) (state ls cs p) (state ls′ cs′ q) (R .ran) (r .went);
     }
 
     pub reached-all : Finished ls₀ cs₀ ls cs p
     reached-all = record { batches = R .batches; whole = all-last (R .batches) (R .whole); ran = R .ran }
 
 -- "the summed counts are those of the whole list", and so is every refusal
-pub batches-answer : (l : CountRoom) (ms : List Map) (bs : List (List ℕ)) (x y : State) → x .at ≡ progress 0 0 0 → WholeButLast bs → Ran ms (entryRoom pairWidth l) bs x y →
+pub batches-answer : (l : CountRoom) (ms : List Map) (bs : List (List ℕ)) (x y : State) → x .at ≡ progress 0 0 0 0 → WholeButLast bs → Ran ms (entryRoom pairWidth l) bs x y →
     closedBy l (y .labels) (y .counts) (y .at) ≡ listed l ms (endToEnd bs)
 batches-answer l ms bs x y e w r =
     let room = entryRoom pairWidth l in
@@ -140,4 +140,4 @@ torn-answer l ms bs x y h r =
 pub finished-answer : (l : CountRoom) (a b ls₀ cs₀ ls cs : List ℕ) (p : Progress) → firstOf (mapFaults (a ∷ b ∷ [])) ≡ none →
     (f : Finished (bothMaps a b) (entryRoom pairWidth l) ls₀ cs₀ ls cs p) → closedBy l ls cs p ≡ soundings l (a ∷ b ∷ []) (endToEnd (f .batches))
 finished-answer l a b ls₀ cs₀ ls cs p e f =
-    batches-answer l (bothMaps a b) (f .batches) (state ls₀ cs₀ (progress 0 0 0)) (state ls cs p) refl (f .whole) (f .ran) ∙ maps-pass l a b (endToEnd (f .batches)) e
+    batches-answer l (bothMaps a b) (f .batches) (state ls₀ cs₀ (progress 0 0 0 0)) (state ls cs p) refl (f .whole) (f .ran) ∙ maps-pass l a b (endToEnd (f .batches)) e

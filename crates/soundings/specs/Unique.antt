@@ -26,7 +26,7 @@ refusalOr d (done n) = d
 refusalOr d (refused r) = r
 
 abbrev answerOf : Counted → Answer paper.Cells
-answerOf (Done c) = done (cellsBy (c .entries) (c .soundings))
+answerOf (Done c) = done (cellsBy (c .entries) (c .soundings) (c .read))
 answerOf (Refused r) = refused (refusalOf r)
 
 differ : (a b : Answer paper.Cells) → a ≡ b → (kind a ≡ kind b → ⊥) → ⊥
@@ -34,8 +34,8 @@ differ a b e f = f (ap kind e)
 
 answer-once : (a b : Counted) → answerOf a ≡ answerOf b → a ≡ b
 answer-once (Done a) (Done b) e =
-    let d : cellsBy (a .entries) (a .soundings) ≡ cellsBy (b .entries) (b .soundings) = ap (cellsOr (cellsBy (a .entries) (a .soundings))) e in
-    λ i. Done (record { entries = d i .entries; soundings = d i .soundings })
+    let d : cellsBy (a .entries) (a .soundings) (a .read) ≡ cellsBy (b .entries) (b .soundings) (b .read) = ap (cellsOr (cellsBy (a .entries) (a .soundings) (a .read))) e in
+    λ i. Done (record { entries = d i .entries; soundings = d i .soundings; read = d i .read })
 answer-once (Done a) (Refused b) e = absurd (differ (answerOf (Done a)) (answerOf (Refused b)) e (λ z. omega arith))
 answer-once (Refused a) (Done b) e = absurd (differ (answerOf (Refused a)) (answerOf (Done b)) e (λ z. omega arith))
 answer-once (Refused a) (Refused b) e =

@@ -3,7 +3,7 @@ use mathlib.Core.Path.{_≡_, sym, ap}
 use Rattle.seq.specs.Seq.{List, [], _∷_, _++_, Option, none, some, ℕ, length, ltb}
 use Rattle.paper.specs.Refusal.{Refusal, given, firstOf}
 use Rattle.paper.specs.Overlay.{mapFaults}
-use Rattle.paper.specs.Soundings.{Entry, Counted, CountRoom, entryRoom, counted, tally, cells, soundingsIn, listFaults, soundings}
+use Rattle.paper.specs.Soundings.{Entry, Counted, CountRoom, entryRoom, counted, tally, cells, soundingsIn, listFaults, readIn, soundings}
 use Rattle.laws_refusals.specs.Refusals.{first-none, first-some}
 use Rattle.soundings_count.specs.Entries.{pairWidth}
 use Rattle.soundings.specs.Labels.{bothMaps}
@@ -18,7 +18,7 @@ module _ (l : CountRoom) (a b s : List ℕ) where
   later = listFaults s ++ (given 11 6 (ltb (entryRoom pairWidth l) (length t)) ∷ [])
 
   abbrev outcome : Option Refusal → Counted
-  outcome = counted l (cellsBy (length t) (soundingsIn s)) t
+  outcome = counted l (cellsBy (length t) (soundingsIn s) (readIn (bothMaps a b) s)) t
 
   pub maps-refuse : (r : Refusal) → firstOf (mapFaults (a ∷ b ∷ [])) ≡ some r → refusedWith l r ≡ soundings l (a ∷ b ∷ []) s
   unfolding soundings

@@ -1,4 +1,4 @@
-// What is answered: how many pairs and soundings there are, or a refusal; and the lent tables afterwards.
+// What is answered: how many pairs and soundings there are and how many edges were read, or a refusal; and the lent tables afterwards.
 use limits::FACES;
 use limits::PAIR_WIDTH;
 use map_file::Refusal;
@@ -16,10 +16,11 @@ ghost use Rattle.map_file.specs.Verdict.{refusalOf};
 ghost use Rattle.soundings_count.specs.Entries.{pairWidth, entriesIn};
 ghost use Rattle.soundings.specs.Answer.{roomBy, cellsBy, countedOf, refusedWith};
 
-// How many different pairs occur, and how many soundings there are.
+// How many different pairs occur, how many soundings there are, and how many edges their looks read.
 pub struct Cells {
     pub entries: u16,
     pub soundings: u16,
+    pub read: u32,
 }
 
 pub enum Counted {
@@ -51,14 +52,21 @@ pub fn refuse(r: Refusal, labels: &mut [u16], counts: &mut [u32]) -> Counted
 }
 
 // "Done: places past the counts are zero."
-pub fn finish(labels: &mut [u16], counts: &mut [u32], n: usize, soundings: usize) -> Counted
+pub fn finish(
+    labels: &mut [u16],
+    counts: &mut [u32],
+    n: usize,
+    soundings: usize,
+    read: u32,
+) -> Counted
     requires { ⌜ pairWidth * n ≤ length (now labels) ⌝ ∗ ⌜ n ≤ length (now counts) ⌝ ∗ ⌜ n ≤ overlayFaces ⌝ ∗ ⌜ soundings ≤ listSoundings ⌝ }
-    ensures { λ a. ⌜ countedOf a (now (labels .exit)) (now (counts .exit)) ≡ counted (roomBy (length (now (labels .entry))) (length (now (counts .entry)))) (cellsBy n soundings) (entriesIn (now (labels .entry)) (now (counts .entry)) n) none ⌝ }
+    ensures { λ a. ⌜ countedOf a (now (labels .exit)) (now (counts .exit)) ≡ counted (roomBy (length (now (labels .entry))) (length (now (counts .entry)))) (cellsBy n soundings read) (entriesIn (now (labels .entry)) (now (counts .entry)) n) none ⌝ }
 {
     wipe_from_u16(labels, PAIR_WIDTH * n);
     wipe_from_u32(counts, n);
     Counted::Done(Cells {
         entries: n as u16,
         soundings: soundings as u16,
+        read,
     })
 }

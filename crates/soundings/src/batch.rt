@@ -5,17 +5,27 @@ use crate::sounding::too_far;
 use limits::SOUNDING_SIZE;
 use plane::Vector;
 use soundings_count::put_cell;
+ghost use mathlib.Core.Path.{_≡_};
+ghost use Prim.Native.Nat.{_≤_};
 ghost use Rattle.paper.specs.Soundings.{cellOf, soundingsIn};
 ghost use Rattle.plane.specs.Values.{vecOf};
 ghost use Rattle.plane.specs.Bounds.{Corner};
-ghost use Rattle.soundings.specs.Laid.{Laid};
+ghost use Rattle.paper.specs.Reads.{readFor};
+ghost use Rattle.soundings.specs.Laid.{Ready};
 ghost use Rattle.soundings.specs.Labels.{bothMaps};
-ghost use Rattle.soundings.specs.Batch.{Roomy, Stepped, Batched};
+ghost use Rattle.soundings.specs.Batch.{Roomy, Stepped, Batched, mostRead};
 
-// How many pairs there are, and the number of the first sounding that is too far, or of all soundings.
+// How many pairs there are, the number of the first sounding that is too far, or of all soundings, and how many edges were read for those before it.
 pub struct Run {
     pub entries: usize,
     pub far: usize,
+    pub read: u32,
+}
+
+// How many pairs there are after a sounding, and how many edges were read for it.
+pub struct Step {
+    pub entries: usize,
+    pub read: u32,
 }
 
 // Counts a sounding, unless there are more pairs than room already.
@@ -25,22 +35,28 @@ fn count_one(
     origins: &[u16],
     carriers: &[i16],
     sides: &[u16],
+    order: &[u16],
     blocks: &[u8],
     corners2: &[i64],
     origins2: &[u16],
     carriers2: &[i16],
     sides2: &[u16],
+    order2: &[u16],
     c: Vector,
     labels: &mut [u16],
     counts: &mut [u32],
     room: usize,
     m: usize,
-) -> usize
-    requires { ⌜ Laid (now zones) (now corners) (now origins) (now carriers) (now sides) ⌝ ∗ ⌜ Laid (now blocks) (now corners2) (now origins2) (now carriers2) (now sides2) ⌝ ∗ ⌜ Corner (vecOf c) ⌝ ∗ ⌜ Roomy room (now labels) (now counts) m 1 ⌝ }
-    ensures { λ r. ⌜ Stepped room m (cellOf (bothMaps (now (zones .entry)) (now (blocks .entry))) (vecOf c)) (now (labels .entry)) (now (counts .entry)) (now (labels .exit)) (now (counts .exit)) r ⌝ }
+) -> Step
+    requires { ⌜ Ready (now zones) (now corners) (now origins) (now carriers) (now sides) (now order) ⌝ ∗ ⌜ Ready (now blocks) (now corners2) (now origins2) (now carriers2) (now sides2) (now order2) ⌝ ∗ ⌜ Corner (vecOf c) ⌝ ∗ ⌜ Roomy room (now labels) (now counts) m 1 ⌝ }
+    ensures counted { λ r. ⌜ Stepped room m (cellOf (bothMaps (now (zones .entry)) (now (blocks .entry))) (vecOf c)) (now (labels .entry)) (now (counts .entry)) (now (labels .exit)) (now (counts .exit)) (r .entries) ⌝ }
+    ensures read { λ r. ⌜ (m ≤ room → r .read ≡ readFor (bothMaps (now (zones .entry)) (now (blocks .entry))) (vecOf c)) × (r .read ≤ mostRead) ⌝ }
 {
     if room < m {
-        return m;
+        return Step {
+            entries: m,
+            read: 0,
+        };
     }
     let p = cell(
         zones,
@@ -48,14 +64,20 @@ fn count_one(
         origins,
         carriers,
         sides,
+        order,
         blocks,
         corners2,
         origins2,
         carriers2,
         sides2,
+        order2,
         c,
     );
-    put_cell(labels, counts, room, m, p.first, p.second)
+    let entries = put_cell(labels, counts, room, m, p.first, p.second);
+    Step {
+        entries,
+        read: p.read as u32,
+    }
 }
 
 // Counts the soundings of a batch into the table of n pairs, up to the first that is too far.
@@ -65,49 +87,61 @@ pub fn count_batch(
     origins: &[u16],
     carriers: &[i16],
     sides: &[u16],
+    order: &[u16],
     blocks: &[u8],
     corners2: &[i64],
     origins2: &[u16],
     carriers2: &[i16],
     sides2: &[u16],
+    order2: &[u16],
     list: &[u8],
     labels: &mut [u16],
     counts: &mut [u32],
     room: usize,
     n: usize,
 ) -> Run
-    requires { ⌜ Laid (now zones) (now corners) (now origins) (now carriers) (now sides) ⌝ ∗ ⌜ Laid (now blocks) (now corners2) (now origins2) (now carriers2) (now sides2) ⌝ ∗ ⌜ Roomy room (now labels) (now counts) n (soundingsIn (now list)) ⌝ }
+    requires { ⌜ Ready (now zones) (now corners) (now origins) (now carriers) (now sides) (now order) ⌝ ∗ ⌜ Ready (now blocks) (now corners2) (now origins2) (now carriers2) (now sides2) (now order2) ⌝ ∗ ⌜ Roomy room (now labels) (now counts) n (soundingsIn (now list)) ⌝ }
     ensures { λ r. ⌜ Batched (bothMaps (now (zones .entry)) (now (blocks .entry))) (now (list .entry)) room n (now (labels .entry)) (now (counts .entry)) (now (labels .exit)) (now (counts .exit)) r ⌝ }
 {
     let last = list.len() / SOUNDING_SIZE;
     let mut m = n;
+    let mut read = 0u32;
     let mut i = 0;
     while i < last {
         if too_far(list, i) {
-            return Run { entries: m, far: i };
+            return Run {
+                entries: m,
+                far: i,
+                read,
+            };
         }
         let c = sounding_at(list, i);
-        m = count_one(
+        let step = count_one(
             zones,
             corners,
             origins,
             carriers,
             sides,
+            order,
             blocks,
             corners2,
             origins2,
             carriers2,
             sides2,
+            order2,
             c,
             labels,
             counts,
             room,
             m,
         );
+        m = step.entries;
+        read += step.read;
         i += 1;
     }
     Run {
         entries: m,
         far: last,
+        read,
     }
 }

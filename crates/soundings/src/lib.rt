@@ -1,4 +1,4 @@
-// Soundings by cell (02, Ask 3): the labels of a sounding in each map, counted by pairs. `soundings` answers a whole list. In batches: `lay_both` checks the maps and lays them in tables of
+// Soundings by cell (02, Ask 3): the labels of a sounding in each map, counted by pairs, and how many edges are read for them (Ask 8). `soundings` answers a whole list. In batches: `lay_both` checks the maps and lays them in tables of
 // their own, once; `begin`, then `go_on` for each batch, then `close`. Whatever the cut, the answer is that of the whole list (specs/Ran.antt).
 mod sounding; // a sounding of the list, and its labels in the maps
 mod batch; // a batch of soundings counted
@@ -11,6 +11,7 @@ pub use answer::Counted;
 use answer::refuse;
 pub use lay::lay_both;
 use limits::MAP_CARRIER_CELLS;
+use limits::MAP_EDGES;
 use limits::MAP_HALVES;
 use limits::MAP_POINT_CELLS;
 use map_file::Check;
@@ -22,7 +23,7 @@ ghost use mathlib.Core.Path.{_≡_};
 ghost use mathlib.Core.List.{[], _∷_};
 ghost use lib.ListN.{length};
 ghost use Rattle.paper.specs.Soundings.{soundings};
-ghost use Rattle.soundings.specs.Laid.{Laid};
+ghost use Rattle.soundings.specs.Laid.{Ready};
 ghost use Rattle.soundings.specs.Labels.{bothMaps};
 ghost use Rattle.soundings.specs.Answer.{roomBy, countedOf};
 ghost use Rattle.soundings.specs.Close.{listed};
@@ -34,16 +35,18 @@ fn count_list(
     origins: &[u16],
     carriers: &[i16],
     sides: &[u16],
+    order: &[u16],
     blocks: &[u8],
     corners2: &[i64],
     origins2: &[u16],
     carriers2: &[i16],
     sides2: &[u16],
+    order2: &[u16],
     list: &[u8],
     labels: &mut [u16],
     counts: &mut [u32],
 ) -> Counted
-    requires { ⌜ Laid (now zones) (now corners) (now origins) (now carriers) (now sides) ⌝ ∗ ⌜ Laid (now blocks) (now corners2) (now origins2) (now carriers2) (now sides2) ⌝ }
+    requires { ⌜ Ready (now zones) (now corners) (now origins) (now carriers) (now sides) (now order) ⌝ ∗ ⌜ Ready (now blocks) (now corners2) (now origins2) (now carriers2) (now sides2) (now order2) ⌝ }
     ensures { λ a. ⌜ countedOf a (now (labels .exit)) (now (counts .exit)) ≡ listed (roomBy (length (now (labels .entry))) (length (now (counts .entry)))) (bothMaps (now (zones .entry)) (now (blocks .entry))) (now (list .entry)) ⌝ }
 {
     let p = begin();
@@ -53,11 +56,13 @@ fn count_list(
         origins,
         carriers,
         sides,
+        order,
         blocks,
         corners2,
         origins2,
         carriers2,
         sides2,
+        order2,
         list,
         p,
         labels,
@@ -81,21 +86,25 @@ pub fn soundings(
     let mut origins = [0u16; MAP_HALVES];
     let mut carriers = [0i16; MAP_CARRIER_CELLS];
     let mut sides = [0u16; MAP_HALVES];
+    let mut order = [0u16; MAP_EDGES as usize];
     let mut corners2 = [0i64; MAP_POINT_CELLS];
     let mut origins2 = [0u16; MAP_HALVES];
     let mut carriers2 = [0i16; MAP_CARRIER_CELLS];
     let mut sides2 = [0u16; MAP_HALVES];
+    let mut order2 = [0u16; MAP_EDGES as usize];
     let c = lay_both(
         zones,
         &mut corners,
         &mut origins,
         &mut carriers,
         &mut sides,
+        &mut order,
         blocks,
         &mut corners2,
         &mut origins2,
         &mut carriers2,
         &mut sides2,
+        &mut order2,
     );
     match c {
         Check::Bad(r) => refuse(r, labels, counts),
@@ -105,11 +114,13 @@ pub fn soundings(
             &origins,
             &carriers,
             &sides,
+            &order,
             blocks,
             &corners2,
             &origins2,
             &carriers2,
             &sides2,
+            &order2,
             list,
             labels,
             counts,

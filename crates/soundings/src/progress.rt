@@ -14,28 +14,30 @@ ghost use Rattle.paper.specs.Refusal.{firstOf};
 ghost use Rattle.paper.specs.Soundings.{entryRoom};
 ghost use Rattle.map_file.specs.Verdict.{verdict};
 ghost use Rattle.soundings_count.specs.Entries.{pairWidth};
-ghost use Rattle.soundings.specs.Laid.{Laid};
+ghost use Rattle.soundings.specs.Laid.{Ready};
 ghost use Rattle.soundings.specs.Labels.{bothMaps};
 ghost use Rattle.soundings.specs.Answer.{roomBy, countedOf};
 ghost use Rattle.soundings.specs.After.{tornBy, Good, Went, progress};
 ghost use Rattle.soundings.specs.Close.{faultsBy, closedBy};
 
-// How many soundings there are, where 65,536 says that the list is refused with 12; the number of the first that is too far, or as many as there are; and how many
-// pairs there are, where a number over the room says no more than that.
+// How many soundings there are, where 65,536 says that the list is refused with 12; the number of the first that is too far, or as many as there are; how many
+// pairs there are, where a number over the room says no more than that; and how many edges were read.
 pub struct Progress {
     pub soundings: usize,
     pub far: usize,
     pub entries: usize,
+    pub read: u32,
 }
 
 // No sounding yet, whatever the lent tables hold.
 pub fn begin() -> Progress
-    ensures { λ r. ⌜ r ≡ progress 0 0 0 ⌝ }
+    ensures { λ r. ⌜ r ≡ progress 0 0 0 0 ⌝ }
 {
     Progress {
         soundings: 0,
         far: 0,
         entries: 0,
+        read: 0,
     }
 }
 
@@ -59,17 +61,19 @@ pub fn go_on(
     origins: &[u16],
     carriers: &[i16],
     sides: &[u16],
+    order: &[u16],
     blocks: &[u8],
     corners2: &[i64],
     origins2: &[u16],
     carriers2: &[i16],
     sides2: &[u16],
+    order2: &[u16],
     batch: &[u8],
     p: Progress,
     labels: &mut [u16],
     counts: &mut [u32],
 ) -> Progress
-    requires { ⌜ Laid (now zones) (now corners) (now origins) (now carriers) (now sides) ⌝ ∗ ⌜ Laid (now blocks) (now corners2) (now origins2) (now carriers2) (now sides2) ⌝ ∗ ⌜ Good (entryRoom pairWidth (roomBy (length (now labels)) (length (now counts)))) (now labels) (now counts) p ⌝ }
+    requires { ⌜ Ready (now zones) (now corners) (now origins) (now carriers) (now sides) (now order) ⌝ ∗ ⌜ Ready (now blocks) (now corners2) (now origins2) (now carriers2) (now sides2) (now order2) ⌝ ∗ ⌜ Good (entryRoom pairWidth (roomBy (length (now labels)) (length (now counts)))) (now labels) (now counts) p ⌝ }
     ensures { λ r. ⌜ Went (bothMaps (now (zones .entry)) (now (blocks .entry))) (entryRoom pairWidth (roomBy (length (now (labels .entry))) (length (now (counts .entry))))) (now (batch .entry)) (now (labels .entry)) (now (counts .entry)) p (now (labels .exit)) (now (counts .exit)) r ⌝ }
 {
     if torn(p.soundings, batch.len()) {
@@ -77,6 +81,7 @@ pub fn go_on(
             soundings: LIST_SOUNDINGS + 1,
             far: p.far,
             entries: p.entries,
+            read: p.read,
         };
     }
     let soundings = p.soundings + batch.len() / SOUNDING_SIZE;
@@ -85,6 +90,7 @@ pub fn go_on(
             soundings,
             far: p.far,
             entries: p.entries,
+            read: p.read,
         };
     }
     let room = entry_room(labels.len(), counts.len());
@@ -94,11 +100,13 @@ pub fn go_on(
         origins,
         carriers,
         sides,
+        order,
         blocks,
         corners2,
         origins2,
         carriers2,
         sides2,
+        order2,
         batch,
         labels,
         counts,
@@ -109,6 +117,7 @@ pub fn go_on(
         soundings,
         far: p.soundings + run.far,
         entries: run.entries,
+        read: p.read + run.read,
     }
 }
 
@@ -133,6 +142,6 @@ pub fn close(p: Progress, labels: &mut [u16], counts: &mut [u32]) -> Counted
     let c = fault(p, room);
     match c {
         Check::Bad(r) => refuse(r, labels, counts),
-        Check::Fine => finish(labels, counts, p.entries, p.soundings),
+        Check::Fine => finish(labels, counts, p.entries, p.soundings, p.read),
     }
 }

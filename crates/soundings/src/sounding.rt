@@ -1,8 +1,9 @@
 // A sounding of the list, "x and y as signed 16-bit, low byte first", and its labels in the maps.
 use exact::magnitude;
-use graph::seen_label;
 use limits::REACH;
 use limits::SOUNDING_SIZE;
+use looks::Labelled;
+use looks::label_read;
 use map_file::edge_count;
 use map_file::i16_at;
 use map_file::vertex_count;
@@ -18,13 +19,15 @@ ghost use Rattle.paper.specs.Map.{mapOf, label};
 ghost use Rattle.paper.specs.Soundings.{east, cellOf, soundingsIn, soundingAt, far};
 ghost use Rattle.plane.specs.Values.{vecOf};
 ghost use Rattle.plane.specs.Bounds.{Corner};
-ghost use Rattle.soundings.specs.Laid.{Laid};
+ghost use Rattle.paper.specs.Reads.{edgesRead, readFor};
+ghost use Rattle.soundings.specs.Laid.{Ready};
 ghost use Rattle.soundings.specs.Labels.{labelsOf};
 
-// The labels of a sounding, one for each map.
+// The labels of a sounding, one for each map, and how many edges were read for them.
 pub struct Labels {
     pub first: u16,
     pub second: u16,
+    pub read: u16,
 }
 
 // Sounding i of the list.
@@ -51,26 +54,29 @@ pub fn too_far(list: &[u8], i: usize) -> bool
     REACH < magnitude(i16_at(list, at + 2))
 }
 
-// The label of a sounding at c in the map of a file that stands in the tables: "look west with edges through p counted as west".
+// The label of a sounding at c in the map of a file that stands in the tables, "look west with edges through p counted as west", and how many edges that look reads.
 pub fn label_of(
     file: &[u8],
     corners: &[i64],
     origins: &[u16],
     carriers: &[i16],
     sides: &[u16],
+    order: &[u16],
     c: Vector,
-) -> u16
-    requires { ⌜ Laid (now file) (now corners) (now origins) (now carriers) (now sides) ⌝ ∗ ⌜ Corner (vecOf c) ⌝ }
-    ensures { λ r. ⌜ r ≡ orZero (label (mapOf (now (file .entry)))) (west (mapOf (now (file .entry)) .graph) (whole (vecOf c)) east) ⌝ }
+) -> Labelled
+    requires { ⌜ Ready (now file) (now corners) (now origins) (now carriers) (now sides) (now order) ⌝ ∗ ⌜ Corner (vecOf c) ⌝ }
+    ensures same { λ r. ⌜ r .label ≡ orZero (label (mapOf (now (file .entry)))) (west (mapOf (now (file .entry)) .graph) (whole (vecOf c)) east) ⌝ }
+    ensures read { λ r. ⌜ r .read ≡ edgesRead (mapOf (now (file .entry)) .graph) (whole (vecOf c)) ⌝ }
 {
     let n = vertex_count(file) as usize;
     let e = edge_count(file) as usize;
     let p = whole(c);
-    seen_label(
+    label_read(
         corners,
         origins,
         carriers,
         sides,
+        order,
         n,
         e,
         p,
@@ -78,25 +84,31 @@ pub fn label_of(
     )
 }
 
-// The labels of a sounding at c in both maps.
+// The labels of a sounding at c in both maps, and how many edges are read for them.
 pub fn cell(
     zones: &[u8],
     corners: &[i64],
     origins: &[u16],
     carriers: &[i16],
     sides: &[u16],
+    order: &[u16],
     blocks: &[u8],
     corners2: &[i64],
     origins2: &[u16],
     carriers2: &[i16],
     sides2: &[u16],
+    order2: &[u16],
     c: Vector,
 ) -> Labels
-    requires { ⌜ Laid (now zones) (now corners) (now origins) (now carriers) (now sides) ⌝ ∗ ⌜ Laid (now blocks) (now corners2) (now origins2) (now carriers2) (now sides2) ⌝ ∗ ⌜ Corner (vecOf c) ⌝ }
-    ensures { λ r. ⌜ labelsOf r ≡ cellOf (mapOf (now (zones .entry)) ∷ mapOf (now (blocks .entry)) ∷ []) (vecOf c) ⌝ }
+    requires { ⌜ Ready (now zones) (now corners) (now origins) (now carriers) (now sides) (now order) ⌝ ∗ ⌜ Ready (now blocks) (now corners2) (now origins2) (now carriers2) (now sides2) (now order2) ⌝ ∗ ⌜ Corner (vecOf c) ⌝ }
+    ensures labels { λ r. ⌜ labelsOf r ≡ cellOf (mapOf (now (zones .entry)) ∷ mapOf (now (blocks .entry)) ∷ []) (vecOf c) ⌝ }
+    ensures read { λ r. ⌜ r .read ≡ readFor (mapOf (now (zones .entry)) ∷ mapOf (now (blocks .entry)) ∷ []) (vecOf c) ⌝ }
 {
+    let a = label_of(zones, corners, origins, carriers, sides, order, c);
+    let b = label_of(blocks, corners2, origins2, carriers2, sides2, order2, c);
     Labels {
-        first: label_of(zones, corners, origins, carriers, sides, c),
-        second: label_of(blocks, corners2, origins2, carriers2, sides2, c),
+        first: a.label,
+        second: b.label,
+        read: a.read + b.read,
     }
 }

@@ -11,7 +11,7 @@ returns c =
     let u : tie.After-wipe-from-u16 = search needs in
     let v : tie.After-wipe-from-u32 = search needs in
     let a = s .args in
-    tables-done (a .labels .now) (a .counts .now) (a .n) (a .soundings) _ _ (s .pre .0) (s .pre .1 .0) (u .wipe-from-u16 .ensures) (v .wipe-from-u32 .ensures)
+    tables-done (a .labels .now) (a .counts .now) (a .n) (a .soundings) (a .read) _ _ (s .pre .0) (s .pre .1 .0) (u .wipe-from-u16 .ensures) (v .wipe-from-u32 .ensures)
 
 pub finish-spec : {M : Type 1} → statement M
 finish-spec =

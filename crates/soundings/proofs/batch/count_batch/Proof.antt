@@ -10,17 +10,17 @@ use Rattle.soundings.proofs.batch.count_batch.Statement.{statement}
 use Rattle.soundings.proofs.batch.count_batch.Tie as tie
 
 abbrev Inv-loop : tie.InvT-loop
-Inv-loop zones corners origins carriers sides blocks corners2 origins2 carriers2 sides2 list labels₀ counts₀ room n last m₀ i₀ labels counts m i =
-    Counting (bothMaps zones blocks) list room n labels₀ counts₀ labels counts m i
+Inv-loop zones corners origins carriers sides order blocks corners2 origins2 carriers2 sides2 order2 list labels₀ counts₀ room n last m₀ read₀ i₀ labels counts m read i =
+    Counting (bothMaps zones blocks) list room n labels₀ counts₀ labels counts m read i
 
 abbrev μ-loop : tie.MeasureT-loop
-μ-loop zones corners origins carriers sides blocks corners2 origins2 carriers2 sides2 list labels₀ counts₀ room n last m₀ i₀ labels counts m i = last - i
+μ-loop zones corners origins carriers sides order blocks corners2 origins2 carriers2 sides2 order2 list labels₀ counts₀ room n last m₀ read₀ i₀ labels counts m read i = last - i
 
 loop-holds : tie.Need-loop-holds Inv-loop μ-loop
 loop-holds c = count-starts _ _ _ _ _ _
 
 returns : tie.Need-returns Inv-loop μ-loop
-returns c = count-stops _ _ _ _ (c .before .before .before .loop .inv) _ refl refl (c .before .before .loop-test .taken) (sym (c .before .too-far .ensures) ∙ c .if1 .taken)
+returns c = count-stops _ _ _ _ (c .before .before .before .loop .inv) _ refl refl refl (c .before .before .loop-test .taken) (sym (c .before .too-far .ensures) ∙ c .if1 .taken)
 
 count-one-requires : tie.Need-count-one-requires Inv-loop μ-loop
 count-one-requires c κs =
@@ -45,6 +45,13 @@ add-i c =
     let l : tie.In-loop Inv-loop μ-loop = search needs in
     omega (arith, l .loop-test .taken, s .pre .1 .1 .short)
 
+add-read : tie.Need-add-read Inv-loop μ-loop
+add-read c =
+    let s : tie.Start Inv-loop μ-loop = search needs in
+    let o : tie.After-count-one Inv-loop μ-loop = search needs in
+    let l = o .before .before .before .before .before .before .before in
+    omega (arith, l .loop .inv .read-few, l .loop .inv .upto, o .count-one .ensures .1 .1, s .pre .1 .1 .short)
+
 loop-again : tie.Need-loop-again Inv-loop μ-loop
 loop-again c =
     let l : tie.At-loop Inv-loop μ-loop = search needs in
@@ -52,10 +59,11 @@ loop-again c =
     let e : tie.Else1 Inv-loop μ-loop = search needs in
     let t : tie.After-sounding-at Inv-loop μ-loop = search needs in
     let o : tie.After-count-one Inv-loop μ-loop = search needs in
-    count-turns _ _ _ _ (l .loop .inv) (vecOf (t .sounding-at .result)) _ _ _ (search needs) (sym (f .too-far .ensures) ∙ e .if1 .left) (t .sounding-at .ensures) (o .count-one .ensures) (search needs) (search needs)
+    let k = o .count-one .kept .1 .1 .1 .1 .1 .1 .1 .1 .1 .1 .1 .1 .1 in
+    count-turns _ _ _ _ (l .loop .inv) (vecOf (t .sounding-at .result)) _ _ _ _ (search needs) (sym (f .too-far .ensures) ∙ e .if1 .left) (t .sounding-at .ensures) (o .count-one .ensures .1) (o .count-one .ensures .0) (k .0) (k .1 .0)
 
 returns-2 : tie.Need-returns-2 Inv-loop μ-loop
-returns-2 c = count-ends _ _ _ _ (c .before .loop .inv) _ refl refl (search needs)
+returns-2 c = count-ends _ _ _ _ (c .before .loop .inv) _ refl refl refl (search needs)
 
 pub count-batch-spec : {M : Type 1} → statement M
 count-batch-spec =
@@ -70,6 +78,7 @@ count-batch-spec =
     returns
     (λ c κs. search needs)
     count-one-requires
+    add-read
     add-i
     (λ c. search needs)
     loop-again

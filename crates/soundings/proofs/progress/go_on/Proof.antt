@@ -58,19 +58,29 @@ count-batch-requires c κs =
 
 -- where it started
 abbrev start : tie.Else1 → tie.Start
-start e = e .before .before .before .before .before .before .before .before .before .before .before
+start e = e .before .before .before .before .before .before .before .before .before .before .before .before .before
 
-add-far : tie.Need-add-t19
+add-far : tie.Need-add-t21
 add-far c =
-    let b : tie.After-count-batch = search needs in
+    let b = c .before .before .before .before .before .before in
     let e = b .before .before .before .before .before .before .before in
     let s = start e in
     let a = s .args in
     omega (arith, few-sum (bothMaps (a .zones .now) (a .blocks .now)) (room s) (a .batch .now) (a .labels .now) (a .counts .now) (a .p) (sym (e .before .torn .ensures) ∙ e .if1 .left) (s .pre .1 .1), b .count-batch .ensures .far-is, least-le (far (a .batch .now)) (soundingsIn (a .batch .now)))
 
+add-read : tie.Need-add-t29
+add-read c =
+    let b = c .before .before .before .before .before .before .before .before in
+    let e = b .before .before .before .before .before .before .before in
+    let s = start e in
+    let a = s .args in
+    let B = b .count-batch .ensures in
+    let sum = few-sum (bothMaps (a .zones .now) (a .blocks .now)) (room s) (a .batch .now) (a .labels .now) (a .counts .now) (a .p) (sym (e .before .torn .ensures) ∙ e .if1 .left) (s .pre .1 .1) in
+    omega (arith, sum, s .pre .1 .1 .read-few, B .read-few, B .far-is, least-le (far (a .batch .now)) (soundingsIn (a .batch .now)))
+
 returns-3 : tie.Need-returns-3
 returns-3 c =
-    let b : tie.After-count-batch = search needs in
+    let b = c .before .before .before .before .before .before .before .before in
     let r = b .before .before .before in
     let t = r .before in
     let e = t .before .before .before in
@@ -92,6 +102,7 @@ go-on-spec =
     (λ c κs. search needs)
     count-batch-requires
     add-far
+    add-read
     (λ c. search needs)
     (λ c. search needs)
     returns-3)

@@ -1,0 +1,10 @@
+// How many edges a look reads (02, Ask 8): a map's edges in the order of their lower ends, and a look that takes them from the start and stops at the first that starts higher.
+mod ordering; // a map's edges ordered by lower end
+mod reading; // the look, and how many edges it reads
+mod label; // the label of what it sees
+
+pub use label::Labelled;
+pub use label::label_read;
+pub use ordering::lay_order;
+pub use reading::Looked;
+pub use reading::look_read;
