@@ -1,4 +1,5 @@
 pub mod Told
 pub mod Met
 pub mod ToldTide
+pub mod ToldYear
 pub mod Laws

@@ -4,3 +4,4 @@ mod met; // how two edges meet as one number, and the point
 mod record; // an edge record as two numbers
 mod height; // the height of tide from and as numbers
 mod calls; // the operations
+mod yearly; // the year in three steps

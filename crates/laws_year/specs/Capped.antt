@@ -6,9 +6,10 @@ use native.Mathlib.Omega.{arith}
 use borrow.Author.Tests.{ltb-true, ltb-false, lt-ltb, le-ltb}
 use Rattle.seq.specs.Seq.{Bool, true, false, cond, not, _&&_, List, [], _∷_, map, Option, none, some, ℕ, suc, _+_, ltb, length}
 use Rattle.seq.specs.HowMany.{howMany}
+use Rattle.paper.specs.Limits.{yearFiles, yearPairs}
 use Rattle.paper.specs.Refusal.{given, firstOf, Refusal, Answer, answer}
-use Rattle.laws_year.specs.Names.{wholeNames}
-use Rattle.laws_year.specs.Year.{yearFiles, yearPairs, Pair, gapPair, Sheet, Row, yearAnswer}
+use Rattle.paper.specs.Names.{wholeNames}
+use Rattle.paper.specs.Year.{Pair, gapPair, Sheet, Row, yearAnswer}
 use Rattle.laws_year.specs.Step.{Tally, addFace, addFaces, State, start, orFirst, addRead, addUnread, addFile, yearFrom, badFault, rowIs, stateAnswer}
 use Rattle.laws_year.specs.Tallies.{face-grows}
 use Rattle.laws_year.specs.Run.{state-answer}

@@ -1,20 +1,20 @@
 -- The lists of names. A list ends well exactly if it is entries end to end (`list-whole`, `whole-list`); the name that is found is that of the first entry for the label, or empty
--- (`name-is`); it is a part that lies within the list (`part-within`); and how many entries are allowed for makes no difference once it is enough (`whole-enough`, `name-enough`). Assumes nothing.
+-- (`name-is`); it is a part that lies within the list (`part-within`); and a walk from entry to entry, with no bound on their number, finds the same (`whole-next`, `name-next` and
+-- those beside them). Assumes nothing.
 use mathlib.Core.Path.{_≡_, refl, sym, _∙_, ap, subst}
 use mathlib.Core.Logic.{_⊎_, inl, inr, ⊎-elim}
 use Prim.Native.Nat.{_≤_, _<_}
 use native.Mathlib.Nat.{le-refl}
 use native.Mathlib.Omega.{arith}
-use borrow.Author.Tests.{ltb-false, lt-ltb, le-ltb, eqb-true, eq-eqb, ne-eqb}
+use borrow.Author.Tests.{leb-true, lt-leb, le-leb, eqb-true, eq-eqb, ne-eqb}
 use lib.ListN.{length-append, length-drop}
 use lib.Seq.{drop-cons, length-take-le}
-use Rattle.seq.specs.Seq.{Bool, true, false, cond, List, [], _∷_, _++_, Option, none, some, Option·getD, ℕ, zero, suc, _+_, _^_, ltb, eqb, length, take, drop, gather}
+use Rattle.seq.specs.Seq.{Bool, true, false, cond, List, [], _∷_, _++_, Option, none, some, Option·getD, ℕ, zero, suc, _+_, _^_, leb, eqb, length, take, drop, gather}
 use Rattle.seq.specs.Terms.{Every}
-use Rattle.seq.specs.Tests.{never}
 use Rattle.paper.specs.Bytes.{byteAt, u16, le}
 use Rattle.laws_file.specs.Bytes.{Bytes, Stands, number-of, number-below, le-number}
 use Rattle.laws_file.specs.Stands.{front-stands, back-stands, both-stand, stands-self, stands-whole}
-use Rattle.laws_year.specs.Names.{nameStart, nameLength, entryEnd, wholeFrom, wholeNames, nameFrom, namePart, partOf}
+use Rattle.paper.specs.Names.{nameStart, nameLength, entryEnd, entryFits, wholeFrom, wholeNames, Part, part, nameFrom, namePart, partOf}
 
 -- ── entries, as bytes ──
 
@@ -61,11 +61,11 @@ module _ (s : List ℕ) where
   module _ (label : ℕ) where
     record At (es : List Entry) (n i : ℕ) : Type 0 where
       ends : wholeFrom n s i ≡ true
-      found : partOf s (Option·getD (nameFrom n s label i) (0, 0)) ≡ firstName es label
+      found : partOf s (Option·getD (nameFrom n s label i) (part 0 0)) ≡ firstName es label
 
     no-entry : (n i : ℕ) → i ≡ length s → At [] n i
     no-entry zero i e = record { ends = eq-eqb i (length s) e; found = refl }
-    no-entry (suc n) i e = record { ends = rw (eq-eqb i (length s) e); found = rw (lt-ltb (length s) (i + 3) (omega arith)) }
+    no-entry (suc n) i e = let q : leb (entryEnd s i) (length s) ≡ false = lt-leb (entryEnd s i) (length s) (omega arith) in record { ends = rw q (eq-eqb i (length s) e); found = rw q }
 
     at : (es : List Entry) (n i : ℕ) → Every Fits es → Stands s i (listBytes es) → length s ≡ i + length (listBytes es) → length es ≤ n → At es n i
     at [] n i F h l b = no-entry n i (omega arith)
@@ -82,30 +82,25 @@ module _ (s : List ℕ) where
         let ih = at es n (entryEnd s i) (F .1) (subst (λ (j : ℕ). Stands s j (listBytes es)) next (back-stands s i (entryBytes e) (listBytes es) h)) (omega (arith, size)) (omega arith) in
         let r = ih .found in
         record {
-          ends = rw (ne-eqb i (length s) (λ q. omega arith), le-ltb (length s) (i + 3) (omega arith)) (ih .ends);
-          found = rw (le-ltb (length s) (i + 3) (omega arith)) (pick e es n i tag size name r (eqb (e .0) label) refl);
+          ends = rw (le-leb (entryEnd s i) (length s) (omega (arith, size))) (ih .ends);
+          found = rw (le-leb (entryEnd s i) (length s) (omega (arith, size))) (pick e es n i tag size name r (eqb (e .0) label) refl);
         }
       where
         pick : (e : Entry) (es : List Entry) (n i : ℕ) → u16 s i ≡ e .0 → byteAt s (i + 2) ≡ length (e .1) → take (length (e .1)) (drop (i + 3) s) ≡ e .1
-            → partOf s (Option·getD (nameFrom n s label (entryEnd s i)) (0, 0)) ≡ firstName es label → (c : Bool) → eqb (e .0) label ≡ c
-            → partOf s (Option·getD (cond (eqb (u16 s i) label) (some (nameStart i, nameLength s i)) (nameFrom n s label (entryEnd s i))) (0, 0)) ≡ cond (eqb (e .0) label) (e .1) (firstName es label)
+            → partOf s (Option·getD (nameFrom n s label (entryEnd s i)) (part 0 0)) ≡ firstName es label → (c : Bool) → eqb (e .0) label ≡ c
+            → partOf s (Option·getD (cond (eqb (u16 s i) label) (some (part (nameStart i) (nameLength s i))) (nameFrom n s label (entryEnd s i))) (part 0 0)) ≡ cond (eqb (e .0) label) (e .1) (firstName es label)
         pick e es n i tag size name r true q = rw (tag, q, size) name
         pick e es n i tag size name r false q = rw (tag, q) r
 
   -- ── a list that ends well ──
 
-  within-step : (i : ℕ) (a b r : Bool) → eqb i (length s) ≡ a → ltb (length s) (i + 3) ≡ b → cond a true (cond b false r) ≡ true → (i ≡ length s) ⊎ ((i + 3 ≤ length s) × (r ≡ true))
-  within-step i true b r e f h = inl (eqb-true i (length s) e)
-  within-step i false true r e f h = never h
-  within-step i false false r e f h = inr (ltb-false (length s) (i + 3) f, h)
+  within-step : (i : ℕ) (a r : Bool) → leb (entryEnd s i) (length s) ≡ a → cond a r (eqb i (length s)) ≡ true → (i ≡ length s) ⊎ ((entryEnd s i ≤ length s) × (r ≡ true))
+  within-step i true r e h = inr (leb-true (entryEnd s i) (length s) e, h)
+  within-step i false r e h = inl (eqb-true i (length s) h)
 
   -- nothing more, or an entry and the rest
-  whole-step : (n i : ℕ) → wholeFrom (suc n) s i ≡ true → (i ≡ length s) ⊎ ((i + 3 ≤ length s) × (wholeFrom n s (entryEnd s i) ≡ true))
-  whole-step n i e = within-step i (eqb i (length s)) (ltb (length s) (i + 3)) (wholeFrom n s (entryEnd s i)) refl refl e
-
-  whole-within : (n i : ℕ) → wholeFrom n s i ≡ true → i ≤ length s
-  whole-within zero i e = omega (arith, eqb-true i (length s) e)
-  whole-within (suc n) i e = ⊎-elim (λ q. omega arith) (λ q. omega (arith, q .0)) (whole-step n i e)
+  whole-step : (n i : ℕ) → wholeFrom (suc n) s i ≡ true → (i ≡ length s) ⊎ ((entryEnd s i ≤ length s) × (wholeFrom n s (entryEnd s i) ≡ true))
+  whole-step n i e = within-step i (leb (entryEnd s i) (length s)) (wholeFrom n s (entryEnd s i)) refl e
 
   module _ (B : Bytes s) where
     record Whole (i : ℕ) : Type 0 where
@@ -137,7 +132,7 @@ module _ (s : List ℕ) where
     whole-is : (n i : ℕ) → wholeFrom n s i ≡ true → Whole i
     whole-is zero i e = none-left i (eqb-true i (length s) e)
     whole-is (suc n) i e =
-        ⊎-elim (λ q. none-left i q) (λ q. one-more i (whole-within n (entryEnd s i) (q .1)) (whole-is n (entryEnd s i) (q .1))) (whole-step n i e)
+        ⊎-elim (λ q. none-left i q) (λ q. one-more i (q .0) (whole-is n (entryEnd s i) (q .1))) (whole-step n i e)
 
     -- 20 is not given exactly for entries end to end
     pub whole-list : wholeNames s ≡ true → (es : List Entry) × Every Fits es × (s ≡ listBytes es)
@@ -145,46 +140,63 @@ module _ (s : List ℕ) where
 
   -- ── the part lies within the list ──
 
-  part-step : (label n i : ℕ) → wholeFrom n s i ≡ true → Option·getD (nameFrom n s label i) (0, 0) .0 + Option·getD (nameFrom n s label i) (0, 0) .1 ≤ length s
-  part-step label zero i e = omega arith
-  part-step label (suc n) i e =
-      ⊎-elim
-      (λ q. rw (lt-ltb (length s) (i + 3) (omega arith)) (omega arith))
-      (λ q. rw (le-ltb (length s) (i + 3) (q .0)) (go (eqb (u16 s i) label) (whole-within n (entryEnd s i) (q .1)) (part-step label n (entryEnd s i) (q .1))))
-      (whole-step n i e)
+  abbrev Inside : Option Part → Type 0
+  Inside o = Option·getD o (part 0 0) .start + Option·getD o (part 0 0) .size ≤ length s
+
+  part-step : (label n i : ℕ) → Inside (nameFrom n s label i)
+  part-step label zero i = omega arith
+  part-step label (suc n) i = go (leb (entryEnd s i) (length s)) (eqb (u16 s i) label) refl (part-step label n (entryEnd s i))
     where
-      go : (c : Bool) → entryEnd s i ≤ length s → Option·getD (nameFrom n s label (entryEnd s i)) (0, 0) .0 + Option·getD (nameFrom n s label (entryEnd s i)) (0, 0) .1 ≤ length s
-          → Option·getD (cond c (some (nameStart i, nameLength s i)) (nameFrom n s label (entryEnd s i))) (0, 0) .0 + Option·getD (cond c (some (nameStart i, nameLength s i)) (nameFrom n s label (entryEnd s i))) (0, 0) .1 ≤ length s
-      go true a b = a
-      go false a b = b
+      go : (a c : Bool) → leb (entryEnd s i) (length s) ≡ a → Inside (nameFrom n s label (entryEnd s i)) → Inside (cond a (cond c (some (part (nameStart i) (nameLength s i))) (nameFrom n s label (entryEnd s i))) none)
+      go true true e h = leb-true (entryEnd s i) (length s) e
+      go true false e h = h
+      go false c e h = omega arith
 
-  pub part-within : (label : ℕ) → wholeNames s ≡ true → namePart s label .0 + namePart s label .1 ≤ length s
-  part-within label e = part-step label (length s) 0 e
+  pub part-within : (label : ℕ) → namePart s label .start + namePart s label .size ≤ length s
+  part-within label = part-step label (length s) 0
 
-  -- ── enough is enough ──
+  -- ── a walk from entry to entry ──
 
-  past-whole : (n i : ℕ) → length s ≤ i → wholeFrom n s i ≡ eqb i (length s)
-  past-whole zero i h = refl
-  past-whole (suc n) i h = rw (lt-ltb (length s) (i + 3) (omega arith)) (go (eqb i (length s)))
-    where
-      go : (c : Bool) → cond c true false ≡ c
-      go true = refl
-      go false = refl
+  -- the last entry, or none
+  pub whole-last : (n i : ℕ) → length s < entryEnd s i → wholeFrom n s i ≡ eqb i (length s)
+  whole-last zero i h = refl
+  whole-last (suc n) i h = rw (lt-leb (entryEnd s i) (length s) h)
 
-  past-name : (label n i : ℕ) → length s ≤ i → nameFrom n s label i ≡ none
-  past-name label zero i h = refl
-  past-name label (suc n) i h = rw (lt-ltb (length s) (i + 3) (omega arith))
+  pub name-last : (label n i : ℕ) → length s < entryEnd s i → nameFrom n s label i ≡ none
+  name-last label zero i h = refl
+  name-last label (suc n) i h = rw (lt-leb (entryEnd s i) (length s) h)
 
-  pub whole-enough : (n m i : ℕ) → length s ≤ i + n → length s ≤ i + m → wholeFrom n s i ≡ wholeFrom m s i
-  whole-enough zero m i h k = sym (past-whole m i (omega arith))
-  whole-enough (suc n) zero i h k = past-whole (suc n) i (omega arith)
-  whole-enough (suc n) (suc m) i h k = ap (λ (r : Bool). cond (eqb i (length s)) true (cond (ltb (length s) (nameStart i)) false r)) (whole-enough n m (entryEnd s i) (omega arith) (omega arith))
+  -- how many are allowed for makes no difference once it is enough
+  whole-enough : (n m i : ℕ) → length s ≤ i + n → length s ≤ i + m → wholeFrom n s i ≡ wholeFrom m s i
+  whole-enough zero m i h k = sym (whole-last m i (omega arith))
+  whole-enough (suc n) zero i h k = whole-last (suc n) i (omega arith)
+  whole-enough (suc n) (suc m) i h k = ap (λ (r : Bool). cond (entryFits s i) r (eqb i (length s))) (whole-enough n m (entryEnd s i) (omega arith) (omega arith))
 
-  pub name-enough : (label n m i : ℕ) → length s ≤ i + n → length s ≤ i + m → nameFrom n s label i ≡ nameFrom m s label i
-  name-enough label zero m i h k = sym (past-name label m i (omega arith))
-  name-enough label (suc n) zero i h k = past-name label (suc n) i (omega arith)
+  name-enough : (label n m i : ℕ) → length s ≤ i + n → length s ≤ i + m → nameFrom n s label i ≡ nameFrom m s label i
+  name-enough label zero m i h k = sym (name-last label m i (omega arith))
+  name-enough label (suc n) zero i h k = name-last label (suc n) i (omega arith)
   name-enough label (suc n) (suc m) i h k =
-      ap (λ (r : Option (ℕ × ℕ)). cond (ltb (length s) (nameStart i)) none (cond (eqb (u16 s i) label) (some (nameStart i, nameLength s i)) r)) (name-enough label n m (entryEnd s i) (omega arith) (omega arith))
+      ap (λ (r : Option Part). cond (entryFits s i) (cond (eqb (u16 s i) label) (some (part (nameStart i) (nameLength s i))) r) none) (name-enough label n m (entryEnd s i) (omega arith) (omega arith))
+
+  -- to the next entry
+  next-whole : (n i : ℕ) → length s ≤ i + n → entryEnd s i ≤ length s → wholeFrom n s i ≡ wholeFrom (length s) s (entryEnd s i)
+  next-whole zero i h k = absurd (omega arith)
+  next-whole (suc n) i h k = rw (le-leb (entryEnd s i) (length s) k) (whole-enough n (length s) (entryEnd s i) (omega arith) (omega arith))
+
+  next-name : (label n i : ℕ) → length s ≤ i + n → entryEnd s i ≤ length s → nameFrom n s label i ≡ cond (eqb (u16 s i) label) (some (part (nameStart i) (nameLength s i))) (nameFrom (length s) s label (entryEnd s i))
+  next-name label zero i h k = absurd (omega arith)
+  next-name label (suc n) i h k =
+      rw (le-leb (entryEnd s i) (length s) k)
+      (ap (λ (r : Option Part). cond (eqb (u16 s i) label) (some (part (nameStart i) (nameLength s i))) r) (name-enough label n (length s) (entryEnd s i) (omega arith) (omega arith)))
+
+  pub whole-next : (i : ℕ) → entryEnd s i ≤ length s → wholeFrom (length s) s i ≡ wholeFrom (length s) s (entryEnd s i)
+  whole-next i h = next-whole (length s) i (omega arith) h
+
+  pub name-found : (label i : ℕ) → entryEnd s i ≤ length s → u16 s i ≡ label → nameFrom (length s) s label i ≡ some (part (nameStart i) (nameLength s i))
+  name-found label i h e = next-name label (length s) i (omega arith) h ∙ rw (eq-eqb (u16 s i) label e)
+
+  pub name-next : (label i : ℕ) → entryEnd s i ≤ length s → (u16 s i ≡ label → ⊥) → nameFrom (length s) s label i ≡ nameFrom (length s) s label (entryEnd s i)
+  name-next label i h q = next-name label (length s) i (omega arith) h ∙ rw (ne-eqb (u16 s i) label q)
 
 -- ── a list of entries ──
 

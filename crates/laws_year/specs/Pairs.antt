@@ -6,7 +6,7 @@ use Rattle.seq.specs.Members.{in-every}
 use Rattle.seq.specs.Inserted.{inOrder-from, inOrder-has, inOrder-rising, inOrder-same}
 use Rattle.seq.specs.Collected.{in-witness, in-has}
 use Rattle.seq.specs.PairOrder.{pairBefore, samePair, Any, pair-one, pair-trans, pair-asym, same-pair-is, same-pair-self}
-use Rattle.laws_year.specs.Year.{Pair, sortedPairs}
+use Rattle.paper.specs.Year.{Pair, sortedPairs}
 
 abbrev keep : Pair → Pair → Pair
 keep p q = q

@@ -13,7 +13,7 @@ use Rattle.seq.specs.PairOrder.{pairBefore, samePair, same-pair-is, is-same-pai
 use Rattle.seq.specs.HowMany.{howMany, many-le, many-++, many-some}
 use Rattle.seq.specs.Total.{total, total-ext, total-zero, total-+, total-map}
 use Rattle.seq.specs.Pairs.{map-pairs}
-use Rattle.laws_year.specs.Year.{Pair, gapPair, allFaces, Row, rowOf, sortedPairs, yearRows, yearGaps}
+use Rattle.paper.specs.Year.{Pair, gapPair, allFaces, Row, rowOf, sortedPairs, yearRows, yearGaps}
 use Rattle.laws_year.specs.Pairs.{sorted-rising, sorted-from, sorted-has, in-among, among-in}
 
 abbrev pub rowBefore : Row → Row → Bool

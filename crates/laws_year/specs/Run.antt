@@ -17,9 +17,10 @@ use Rattle.seq.specs.Members.{length-map, gather-++}
 use Rattle.seq.specs.Least.{least-is, no-some}
 use Rattle.seq.specs.PairOrder.{samePair, same-pair-is}
 use Rattle.seq.specs.HowMany.{howMany, many-++, many-none}
+use Rattle.paper.specs.Limits.{yearFiles, yearPairs}
 use Rattle.paper.specs.Refusal.{answer, given, firstAt, firstOf}
-use Rattle.laws_year.specs.Names.{wholeNames}
-use Rattle.laws_year.specs.Year.{yearFiles, yearPairs, Pair, gapPair, Sheet, allFaces, Row, rowOf, sortedPairs, yearRows, yearGaps, isBad, counted, yearFault, yearAnswer}
+use Rattle.paper.specs.Names.{wholeNames}
+use Rattle.paper.specs.Year.{Pair, gapPair, Sheet, allFaces, Row, rowOf, sortedPairs, yearRows, yearGaps, isBad, counted, yearFault, yearAnswer}
 use Rattle.laws_year.specs.Step.{Tally, addFaces, State, start, orFirst, addRead, addUnread, addFile, yearFrom, badFault, stateFault, rowIs, stateAnswer}
 use Rattle.laws_year.specs.Pairs.{in-among}
 use Rattle.laws_year.specs.Rows.{face-of}

@@ -2,9 +2,10 @@
 use Rattle.seq.specs.Seq.{Bool, cond, not, _&&_, List, [], _∷_, Option, none, some, ℕ, suc, _+_, ltb, eqb, length, insertBy, map}
 use Rattle.seq.specs.PairOrder.{pairBefore}
 use Rattle.seq.specs.HowMany.{howMany}
+use Rattle.paper.specs.Limits.{yearFiles, yearPairs}
 use Rattle.paper.specs.Refusal.{given, firstOf, Refusal, Answer, answer}
-use Rattle.laws_year.specs.Names.{wholeNames}
-use Rattle.laws_year.specs.Year.{yearFiles, yearPairs, Pair, gapPair, Sheet, Row}
+use Rattle.paper.specs.Names.{wholeNames}
+use Rattle.paper.specs.Year.{Pair, gapPair, Sheet, Row}
 
 -- a row as it is kept: with the number, from 1, of the last file that has its pair, so that a sheet counts once
 pub record Tally : Type 0 where

@@ -15,7 +15,7 @@ use Rattle.seq.specs.Members.{among-++, ++-among}
 use Rattle.seq.specs.PairOrder.{pairBefore, samePair, not-same, same-pair-self, pair-irr, pair-asym, pair-one}
 use Rattle.seq.specs.HowMany.{howMany, many-++, many-none}
 use Rattle.seq.specs.Inserted.{insert-grows, insert-slow}
-use Rattle.laws_year.specs.Year.{Pair, sortedPairs}
+use Rattle.paper.specs.Year.{Pair, sortedPairs}
 use Rattle.laws_year.specs.Step.{Tally, tallyBefore, firstFace, oneMore, addFace, addFaces}
 use Rattle.laws_year.specs.Pairs.{sorted-rising, sorted-from, sorted-has, sorted-same, in-among, among-in}
 

@@ -151,6 +151,17 @@ pub const PAIR_CELLS: usize = PAIR_WIDTH * FACES;
 // "whole millimetres from −20,000 to 20,000" (02, Ask 5)
 pub const GAUGE_REACH: i32 = 20000;
 
+// The year.
+
+// "up to 400 overlay files", "more than 500 pairs" (02, Ask 14)
+pub const YEAR_FILES: u16 = 400;
+
+pub const YEAR_PAIRS: usize = 500;
+// zone, block, sheets, faces, and the last file that has the pair
+pub const TALLY_WIDTH: usize = 5;
+
+pub const TALLY_CELLS: usize = TALLY_WIDTH * YEAR_PAIRS;
+
 // The listing.
 
 // the bytes of a line, at most

@@ -29,3 +29,6 @@ pub mod TideSample
 pub mod Reads
 pub mod Soundings
 pub mod SoundingsSample
+pub mod Names
+pub mod Year
+pub mod YearSample

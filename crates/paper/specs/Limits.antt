@@ -57,3 +57,10 @@ gaugeReach = 20000
 -- "more than 65,535 soundings" (02, Ask 3)
 abbrev pub listSoundings : ℕ
 listSoundings = 65535
+
+-- "up to 400 overlay files", "more than 500 pairs" (02, Ask 14)
+abbrev pub yearFiles : ℕ
+yearFiles = 400
+
+abbrev pub yearPairs : ℕ
+yearPairs = 500

@@ -2,22 +2,15 @@
 use Rattle.seq.specs.Seq.{Bool, true, false, not, _&&_, List, [], _∷_, _++_, map, Option, none, some, ℕ, suc, _-_, min, ltb, length, getD, take, table, gather, optional, isIn, inOrderBy}
 use Rattle.seq.specs.PairOrder.{pairBefore, samePair}
 use Rattle.seq.specs.HowMany.{howMany}
-use Rattle.paper.specs.Limits.{maps}
+use Rattle.paper.specs.Limits.{maps, yearFiles, yearPairs}
 use Rattle.paper.specs.Bytes.{ascii}
 use Rattle.paper.specs.Refusal.{given, firstAt, firstOf, answer, Refusal, Answer, done, refused}
 use Rattle.paper.specs.Tables.{faceCell, Counts, Tables}
 use Rattle.paper.specs.Ovfile.{layouts, Layout}
 use Rattle.paper.specs.Reader.{readBy}
 use Rattle.paper.specs.Listing.{decimal, isGap, refusedLine}
 use Rattle.paper.specs.Sheets.{ample}
-use Rattle.laws_year.specs.Names.{wholeNames, nameOf}
-
--- "up to 400 overlay files", "more than 500 pairs"
-abbrev pub yearFiles : ℕ
-yearFiles = 400
-
-abbrev pub yearPairs : ℕ
-yearPairs = 500
+use Rattle.paper.specs.Names.{wholeNames, shownName}
 
 -- ── pairs ──
 
@@ -106,7 +99,7 @@ abbrev pub yearLine : List ℕ → List ℕ → Row → List ℕ
 yearLine zones blocks r =
     decimal (r .pair .0) ++ ascii " " ++ decimal (r .pair .1)
     ++ ascii " " ++ decimal (r .sheets) ++ ascii " " ++ decimal (r .faces)
-    ++ ascii " " ++ nameOf zones blocks (r .pair) ++ ascii "\n"
+    ++ ascii " " ++ shownName zones blocks (r .pair .0) (r .pair .1) ++ ascii "\n"
 
 abbrev pub yearText : List ℕ → List ℕ → Answer (List Row × ℕ) → List ℕ
 yearText zones blocks (refused r) = refusedLine r

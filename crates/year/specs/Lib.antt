@@ -1,0 +1,9 @@
+pub mod TallyRows
+pub mod Kept
+pub mod Compared
+pub mod FaceAdded
+pub mod Faced
+pub mod Stated
+pub mod OneFile
+pub mod Closing
+pub mod Run
