@@ -19,7 +19,8 @@ use std::process::ExitCode;
 
 const USAGE: &str = "\
 second list DIR                           list the overlay of DIR/zones.zmp and DIR/blocks.zmp
-second check FILE...                      check map files, a line for each
+second check FILE...                      check map files, or text maps (.txt), a line for each; what is
+                                          wrong, and where, on standard error
 second overlay [BED] ZONES BLOCKS OUT     write the overlay file
 second read FILE [ROOM]                   check and list an overlay file
 second edges FILE                         check an overlay file and list its edges
@@ -45,6 +46,11 @@ second damage-overlay SEED FILE OUT       damage an overlay file
 second meets FILE                         how two edges meet, for each 16 bytes of a file
 second clash FILE                         of a map file refused with 8, how the two edges meet
 second make-meets SEED N FILE             N pairs of edges of all kinds, for `meets`
+second show FILE.zov --svg                a picture of an overlay file: for viewing, not proved
+second show FILE.zov --geojson            the same as GeoJSON, one feature a cell, with its holes
+second show FILE.zov --csv                the same as a table, a line for each corner of each cell
+second import IN.geojson LABEL OUT.txt    a text map of polygons with whole coordinates; LABEL is the property
+                                          with their labels; what does not fit is refused with its place
 second text FILE.txt OUT.zmp              make a map file from text, and check it
 second untext FILE.zmp                    the text of a map file
 second tides FILE                         the height of tide of each record
@@ -62,9 +68,14 @@ const NAMES: [&str; MAPS] = ["zones", "blocks", "bed"];
 /// What a command prints, or why it could not be done.
 type Outcome = Result<String, String>;
 
+mod desk;
+
 fn main() -> ExitCode {
     let args: Vec<String> = std::env::args().skip(1).collect();
     let args: Vec<&str> = args.iter().map(String::as_str).collect();
+    if let Some(code) = desk::run(&args) {
+        return code;
+    }
     match run(&args) {
         Ok(text) => {
             // A reader that has seen enough may close the pipe.
@@ -83,9 +94,6 @@ fn run(args: &[&str]) -> Outcome {
         ["list", dir] => {
             let files = ["zones", "blocks"].map(|name| bytes(&format!("{dir}/{name}.zmp")));
             Ok(list(&files))
-        }
-        ["check", files @ ..] if !files.is_empty() => {
-            Ok(files.iter().map(|f| checked(f)).collect())
         }
         ["overlay", "--bed", bed, zones, blocks, out] => overlay(&[zones, blocks, bed], out),
         ["overlay", zones, blocks, "--bed", bed, out] => overlay(&[zones, blocks, bed], out),
@@ -131,7 +139,6 @@ fn run(args: &[&str]) -> Outcome {
             let file = make::meets::file(number(seed)?, number(n)?);
             save(out, &file).map(|()| String::new())
         }
-        ["text", file, out] => from_text(file, out),
         ["untext", file] => to_text(file),
         ["tides", file] => Ok(second::tide::lines(&bytes(file))),
         ["make-tides", seed, n, out] => {
@@ -173,13 +180,6 @@ fn room_of(args: &[&str]) -> Result<Room, String> {
 fn list(files: &[Vec<u8>]) -> String {
     match overlay_files(files, &Room::FULL) {
         Ok(overlay) => overlay.tables.listing(),
-        Err(refusal) => format!("{refusal}\n"),
-    }
-}
-
-fn checked(path: &str) -> String {
-    match check(&bytes(path)) {
-        Ok(map) => format!("ok {} {}\n", map.vertices.len(), map.edges.len()),
         Err(refusal) => format!("{refusal}\n"),
     }
 }
@@ -342,12 +342,6 @@ fn damage_overlay(seed: u64, file: &str, out: &str) -> Outcome {
     let mut random = Random::new(seed, "damage-overlay");
     let damaged = make::overlay_damage::damaged(&mut random, &bytes(file));
     save(out, &damaged).map(|()| String::new())
-}
-
-fn from_text(file: &str, out: &str) -> Outcome {
-    let text = std::fs::read_to_string(file).map_err(|why| format!("{file}: {why}"))?;
-    let map = text::parse(&text).map_err(|why| format!("{file}: {why}"))?;
-    save(out, &map.bytes()).map(|()| checked(out))
 }
 
 fn to_text(file: &str) -> Outcome {

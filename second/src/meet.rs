@@ -31,7 +31,7 @@ impl fmt::Display for Meeting {
 }
 
 /// x / d in its own lowest terms: `7/3`, or `2`.
-fn fraction(x: i64, d: i64) -> String {
+pub fn fraction(x: i64, d: i64) -> String {
     let g = common(x, d);
     match d / g {
         1 => format!("{}", x / g),
@@ -41,12 +41,18 @@ fn fraction(x: i64, d: i64) -> String {
 
 /// What people are told of edges k and j that clash: `edge 17 crosses edge 23 at 7/3 2`.
 pub fn sentence(map: &Map, k: usize, j: usize) -> String {
+    sentence_with(map, k, j, |k| format!("edge {k}"))
+}
+
+/// The same with other words for an edge than its number.
+pub fn sentence_with(map: &Map, k: usize, j: usize, name: impl Fn(usize) -> String) -> String {
     let at = |p: Point| format!("at {} {}", fraction(p.x, p.d), fraction(p.y, p.d));
+    let (one, other) = (name(k), name(j));
     match meeting(&map.segment(k), &map.segment(j)) {
-        Meeting::Apart => format!("edge {k} is apart from edge {j}"),
-        Meeting::Touching(p) => format!("edge {k} touches edge {j} {}", at(p)),
-        Meeting::Crossing(p) => format!("edge {k} crosses edge {j} {}", at(p)),
-        Meeting::Sharing => format!("edge {k} shares a stretch with edge {j}"),
+        Meeting::Apart => format!("{one} is apart from {other}"),
+        Meeting::Touching(p) => format!("{one} touches {other} {}", at(p)),
+        Meeting::Crossing(p) => format!("{one} crosses {other} {}", at(p)),
+        Meeting::Sharing => format!("{one} shares a stretch with {other}"),
     }
 }
 

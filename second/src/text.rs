@@ -4,24 +4,44 @@ use crate::map::{Edge, Map};
 use std::collections::HashMap;
 use std::fmt::Write;
 
+/// Where the rows of a map stand in its text, lines counted from 1; and the names of its vertices.
+#[derive(Clone, PartialEq, Eq, Debug, Default)]
+pub struct Lines {
+    pub vertices: Vec<usize>,
+    pub edges: Vec<usize>,
+    pub names: Vec<Option<String>>,
+}
+
 /// The map that a text stands for, or the line that is wrong and why.
 pub fn parse(text: &str) -> Result<Map, String> {
+    parse_lines(text).map(|(map, _)| map)
+}
+
+/// The same, with the lines of its vertices and edges.
+pub fn parse_lines(text: &str) -> Result<(Map, Lines), String> {
     let mut reader = Reader::default();
     for (i, line) in text.lines().enumerate() {
         let words: Vec<&str> = line.split('#').next().unwrap_or("").split_whitespace().collect();
         reader.line(&words).map_err(|why| format!("line {}: {why}", i + 1))?;
+        reader.lines.vertices.resize(reader.map.vertices.len(), i + 1);
+        reader.lines.edges.resize(reader.map.edges.len(), i + 1);
+    }
+    reader.lines.names.resize(reader.map.vertices.len(), None);
+    for (name, &v) in &reader.names {
+        reader.lines.names[v as usize] = Some(name.clone());
     }
     let rows = reader.map.vertices.len().max(reader.map.edges.len());
     if rows > u16::MAX as usize {
         return Err("too many lines for a map file".to_string());
     }
-    Ok(reader.map)
+    Ok((reader.map, reader.lines))
 }
 
 #[derive(Default)]
 struct Reader {
     map: Map,
     names: HashMap<String, u16>,
+    lines: Lines,
 }
 
 impl Reader {
