@@ -15,6 +15,13 @@
  *   faces      5 cells            label in the first, the second and the third map, least outer half-edge (65,535 for face 0), hole walks
  * Half-edges 2k and 2k + 1 are overlay edge k from its lower to its upper vertex, and back. Where a call is done, cells past the counts are 0; where it
  * is refused, all cells are 0.
+ *
+ * Which side a face lies on: the face of a half-edge lies at its left as one goes along it, so a face's outline runs counter-clockwise; bonnetewe_next leads from half-edge
+ * to half-edge round it, from the least outer half-edge of its row until that one comes again. Holes: a hole is bounded by another walk of half-edges with the same
+ * face, which runs clockwise; a face's row counts them, and they are found among the half-edges by their face. D: the denominator of both coordinates is one number, above 0
+ * and at most 2,048,000,000; a corner of a map has D 1, and two points are the same just where X, Y and D are.
+ *
+ * To link: cc your.c target/staticlib/libbonnetewe.a -o your, and nothing else (c++ in the same way); -I include for this header.
  */
 #ifndef BONNETEWE_H
 #define BONNETEWE_H
@@ -32,6 +39,7 @@ extern "C" {
 #define BONNETEWE_HALF_CELLS (5 * 4000)
 #define BONNETEWE_SOURCE_CELLS (3 * 2000)
 #define BONNETEWE_FACE_CELLS (5 * 1334)
+#define BONNETEWE_MAP_BYTES (9 + 4 * 200 + 8 * 300) /* the longest map file that is not refused with 3 or 4 */
 #define BONNETEWE_MEND_BYTES (9 + 4 * 200 + 8 * 300)
 #define BONNETEWE_MEND_CELLS (2 * (200 + 300))
 #define BONNETEWE_FILE_BYTES (11 + 16 * 1000 + 18 * 2000 + 10 * 1334)
@@ -61,6 +69,23 @@ static inline unsigned bonnetewe_edges(bonnetewe_answer a)
 static inline unsigned bonnetewe_faces(bonnetewe_answer a)
 {
     return a >> 48 & 65535;
+}
+
+/* Of tables that hold an overlay: vertex v as decimals, the nearest to X/D and Y/D, for viewing (X and Y have 46 bits at most, so only the division rounds);
+ * and the half-edge that follows h round the face at its left. Nothing is checked: v and h are numbers of rows. */
+static inline double bonnetewe_x(const int64_t *vertices, size_t v)
+{
+    return (double)vertices[4 * v] / (double)vertices[4 * v + 2];
+}
+
+static inline double bonnetewe_y(const int64_t *vertices, size_t v)
+{
+    return (double)vertices[4 * v + 1] / (double)vertices[4 * v + 2];
+}
+
+static inline unsigned bonnetewe_next(const uint16_t *halves, size_t h)
+{
+    return halves[5 * h + 2];
 }
 
 /* Done, from bonnetewe_write: the length of the file in bytes. */
@@ -181,7 +206,12 @@ bonnetewe_answer bonnetewe_read(const uint8_t *file, size_t file_length, int64_t
                                 uint16_t *halves, size_t half_cells, uint32_t *sources, size_t source_cells,
                                 uint16_t *faces, size_t face_cells);
 
-/* Writes the overlay file of counts and tables, of version 3, into the buffer; past the file the buffer is 0. */
+/* Writes the overlay file of counts and tables, of version 3, into the buffer; past the file the buffer is 0. It is refused, with map 0, in this order:
+ *    3, place 0     a count over its number (1,000, 2,000, 1,334), or more rows than a table has
+ *    5, place v     vertex v: X or Y does not fit six bytes, or D four without a sign, or its last cell is not its least outgoing half-edge
+ *   21, place k     edge k is not sound: its ends not two vertices in order, no source, or a source cell of 65,536 and more; a follower that does not leave where its half-edge arrives,
+ *                   or that follows another too; a face that is none; a twin or a predecessor that does not fit
+ *   11, place 4     the buffer is shorter than 11 + 16 per vertex + 18 per edge + 10 per face */
 bonnetewe_answer bonnetewe_write(uint16_t vertex_count, uint16_t edge_count, uint16_t face_count,
                                  const int64_t *vertices, size_t vertex_cells, const uint16_t *halves, size_t half_cells,
                                  const uint32_t *sources, size_t source_cells, const uint16_t *faces, size_t face_cells,
