@@ -13,7 +13,7 @@ use plane::Point;
 ghost use Prim.Native.Nat.{_≤_};
 
 // Where vertex v stands in a map file.
-fn vertex_at(v: u16) -> usize
+pub fn vertex_at(v: u16) -> usize
     ensures { λ r. ⌜ r ≤ 262149 ⌝ }
 {
     MAP_HEAD + MAP_VERTEX_SIZE * v as usize
@@ -27,7 +27,7 @@ fn named_at(file: &[u8], at: usize) -> usize
 }
 
 // The coordinate at a place.
-fn coordinate(file: &[u8], at: usize) -> i16 {
+pub fn coordinate(file: &[u8], at: usize) -> i16 {
     let n = u16_at(file, at);
     if n < 32768 {
         n as i16

@@ -1,4 +1,5 @@
 // Files by name. "A file that cannot be opened counts as empty": as a file of 0 bytes.
+use crate::lines::say;
 ghost use Rattle.io.specs.Counts.{Counts};
 
 // Puts a file's first bytes into a buffer and answers how many there are. A buffer of one byte more than the longest valid file is enough: a longer file is
@@ -36,6 +37,20 @@ pub fn within(n: usize, buf: &[u8]) -> usize
     ensures { λ r. ⌜ Counts r (now (buf .entry)) ⌝ }
 {
     if n < buf.len() { n } else { buf.len() }
+}
+
+// "cannot open NAME" for the file that an argument names, if that is so. It is asked after the answer, which has taken it as a file of 0 bytes.
+pub fn say_missing(i: usize) {
+    let mut path = io::buffer();
+    let n = os::arg(i, &mut path);
+    let fd = os::open_read(&path[..n]);
+    if fd < 0 {
+        say(b"cannot open ");
+        say(&path[..n]);
+        say(b"\n");
+    } else {
+        libc::close(fd);
+    }
 }
 
 // Writes a file that an argument names, or says why that cannot be done.

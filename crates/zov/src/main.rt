@@ -4,6 +4,7 @@
 //   zov --list FILE                    lists an overlay file
 //   zov --edges FILE                   lists its edges
 //   zov --check FILE...                checks map files, a line for each; of several, how many are good
+//   zov --help, zov --version          how to use it; its version
 // A refusal is the line of 01, and then a sentence; of a map that is checked in one line, behind its name.
 mod words; // the program's arguments
 mod maps; // map files
@@ -22,6 +23,13 @@ fn usage() {
         b"zov --edges FILE.zov         list its edges: number, lower and upper vertex, sources\n",
     );
     console::say(b"zov --check FILE...          check map files, a line for each\n");
+    console::say(b"zov --help, zov --version    this; the version\n");
+}
+
+// The same with a heading, for one who asks.
+fn help() {
+    console::say(b"zov: an exact, proved overlay of maps\n");
+    usage();
 }
 
 fn main() {
@@ -29,6 +37,8 @@ fn main() {
     let task = words::asked(n);
     match task {
         Task::Usage => usage(),
+        Task::Help => help(),
+        Task::Version => console::say(b"zov 0.13\n"),
         Task::OneFile => console::say(
             b"--list and --edges take one overlay file; nothing is read\n",
         ),

@@ -18,14 +18,31 @@ fn put(text: &[u8], n: u16) {
     say_number(n as u64);
 }
 
-// What 01's line says, and then a sentence; of refusal 8 how the two edges of the file meet.
+// Whether the sentence of a refusal needs the map's file: it says where.
+pub fn has_place(number: u16) -> bool {
+    if number == 8 {
+        return true;
+    }
+    console::names_vertex(number)
+}
+
+// Where a map file is refused with 5, 6, 8 or 9: the vertex, or how the two edges meet.
+pub fn say_where(r: Refusal, file: &[u8]) {
+    if r.number == 8 {
+        console::say_clash(file, r.place, r.other);
+    } else {
+        console::say_corner(file, r.number, r.place);
+    }
+}
+
+// What 01's line says, and then a sentence.
 fn say_bad(r: Refusal, file: &[u8]) {
     put(b"refused ", r.number);
     put(b" map ", r.map);
     put(b" place ", r.place);
     say(b": ");
-    if r.number == 8 {
-        console::say_clash(file, r.place, r.other);
+    if has_place(r.number) {
+        say_where(r, file);
     } else {
         console::say_sentence(r.number, r.map, r.place);
     }
@@ -50,6 +67,7 @@ fn check_arg(i: usize) -> bool {
         }
         Checked::Bad(f) => {
             say_bad(f, &file[..n]);
+            console::say_missing(i);
             false
         }
     }

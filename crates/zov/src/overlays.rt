@@ -1,5 +1,7 @@
 // Overlays, listed and written.
+use crate::maps::has_place;
 use crate::maps::say_name;
+use crate::maps::say_where;
 use crate::words::Maps;
 use console::load_arg;
 use console::say;
@@ -26,14 +28,14 @@ fn word_of(maps: Maps, map: u16) -> usize {
     }
 }
 
-// Refusal 8 of one of the maps: its name, and how the two edges of that file meet.
-fn explain_clash(r: Refusal, maps: Maps, zones: &[u8], blocks: &[u8], bed: &[u8]) {
+// Refusal 5, 6, 8 or 9 of one of the maps: its name, and where it is in that file.
+fn explain_place(r: Refusal, maps: Maps, zones: &[u8], blocks: &[u8], bed: &[u8]) {
     say_name(word_of(maps, r.map));
     let map = r.map;
     match map {
-        1 => console::say_clash(zones, r.place, r.other),
-        2 => console::say_clash(blocks, r.place, r.other),
-        _ => console::say_clash(bed, r.place, r.other),
+        1 => say_where(r, zones),
+        2 => say_where(r, blocks),
+        _ => say_where(r, bed),
     }
 }
 
@@ -42,8 +44,8 @@ fn explain_maps(answer: Answer, maps: Maps, zones: &[u8], blocks: &[u8], bed: &[
     match answer {
         Answer::Done(_) => {}
         Answer::Refused(r) => {
-            if r.number == 8 {
-                explain_clash(r, maps, zones, blocks, bed);
+            if has_place(r.number) {
+                explain_place(r, maps, zones, blocks, bed);
             } else {
                 console::say_sentence(r.number, r.map, r.place);
             }
@@ -61,6 +63,7 @@ pub fn list_arg(i: usize) {
     say(&out[..length]);
     let answer = listed.answer;
     explain(answer);
+    console::say_missing(i);
 }
 
 // The edges of the overlay file that an argument names.
@@ -69,6 +72,7 @@ pub fn edges_arg(i: usize) {
     let n = load_arg(i, &mut file);
     let answer = console::say_edges(&file[..n]);
     explain(answer);
+    console::say_missing(i);
 }
 
 // The overlay of three map files, listed.
@@ -102,6 +106,15 @@ fn lay_files(maps: Maps, zones: &[u8], blocks: &[u8], bed: &[u8]) {
     }
 }
 
+// The words that name files which cannot be opened, under the refusal.
+fn say_missing_maps(maps: Maps) {
+    console::say_missing(maps.zones);
+    console::say_missing(maps.blocks);
+    if maps.bed != 0 {
+        console::say_missing(maps.bed);
+    }
+}
+
 // The map files that the words name; "The two-map overlay is the one with an empty third map".
 pub fn lay(maps: Maps) {
     let mut zones = io::buffer();
@@ -116,4 +129,5 @@ pub fn lay(maps: Maps) {
         let k = load_arg(maps.bed, &mut bed);
         lay_files(maps, &zones[..n], &blocks[..m], &bed[..k]);
     }
+    say_missing_maps(maps);
 }

@@ -13,6 +13,8 @@ pub struct Maps {
 
 pub enum Task {
     Usage,
+    Help,
+    Version,
     OneFile,
     SameName,
     List,
@@ -123,10 +125,21 @@ fn bed_task(n: usize) -> Task {
     overlay_task(n, 3, 2)
 }
 
+// The task of the program's name and one word.
+fn word_task() -> Task {
+    if is_arg(1, b"--help") {
+        return Task::Help;
+    }
+    if is_arg(1, b"--version") {
+        return Task::Version;
+    }
+    Task::Usage
+}
+
 // The task of n words, the program's own name among them.
 pub fn asked(n: usize) -> Task {
     if n < 3 {
-        return Task::Usage;
+        return word_task();
     }
     if is_option(1) {
         return option_task(n);
