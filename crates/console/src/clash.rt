@@ -27,7 +27,7 @@ fn named_at(file: &[u8], at: usize) -> usize
 }
 
 // The coordinate at a place.
-pub fn coordinate(file: &[u8], at: usize) -> i16 {
+fn coordinate(file: &[u8], at: usize) -> i16 {
     let n = u16_at(file, at);
     if n < 32768 {
         n as i16

@@ -1,25 +1,27 @@
 // Refusals 5, 6 and 9 in a sentence, for people: which vertex, what is wrong with it, and where it lies.
-use crate::clash::coordinate;
 use crate::clash::vertex_at;
 use crate::lines::say;
 use crate::lines::say_number;
-use exact::magnitude;
 use map_file::u16_at;
 
-fn say_coordinate(n: i16) {
-    if n < 0 {
+// The coordinate at a place, which stands in two's complement.
+fn say_coordinate(file: &[u8], at: usize) {
+    let n = u16_at(file, at);
+    if n < 32768 {
+        say_number(n as u64);
+    } else {
         say(b"-");
+        say_number(65536 - n as u64);
     }
-    say_number(magnitude(n as i64));
 }
 
 // ", at 10 20"
 fn say_place(file: &[u8], v: u16) {
     let at = vertex_at(v);
     say(b", at ");
-    say_coordinate(coordinate(file, at));
+    say_coordinate(file, at);
     say(b" ");
-    say_coordinate(coordinate(file, at + 2));
+    say_coordinate(file, at + 2);
 }
 
 fn same_place(file: &[u8], u: u16, v: u16) -> bool {

@@ -17,11 +17,9 @@ first-there-spec =
     Inv-loop
     μ-loop
     (λ c. search needs)
-    (λ c. tt)
+    (λ c κs. search needs)
     (λ c. search needs)
     (λ c. search needs)
     (λ c. search needs)
     (λ c. search needs)
-    (λ c. search needs)
-    (λ c. tt)
     (λ c. search needs))
