@@ -228,6 +228,38 @@ bonnetewe_edge_record bonnetewe_edge_sources(const uint16_t *halves, size_t half
 bonnetewe_answer bonnetewe_tide(uint16_t kind, double a, double b, int32_t first, int32_t second);
 double bonnetewe_tide_height(uint16_t kind, double a, double b, int32_t first, int32_t second);
 
+/* The year, in three steps: the state goes in and comes back by value. In its table are rows of zone, block, sheets, faces and the last file's number, by pair. */
+struct bonnetewe_sums {
+    size_t pairs;
+    uint32_t gaps;
+    uint16_t files;
+    uint16_t bad;
+};
+
+struct bonnetewe_year {
+    uint32_t rows[5 * 500];
+    struct bonnetewe_sums sums;
+};
+
+struct bonnetewe_year bonnetewe_year_begin(void);
+
+/* One overlay file more, of any bytes. */
+struct bonnetewe_year bonnetewe_year_add(struct bonnetewe_year year, const uint8_t *file, size_t file_length);
+
+/* What comes of the files with two lists of names: done with the number of pairs, the rows of the table that count, and the gaps; or refused with 17 to 20. */
+bonnetewe_answer bonnetewe_year_close(struct bonnetewe_year year, const uint8_t *zone_names, size_t zone_names_length,
+                                      const uint8_t *block_names, size_t block_names_length);
+
+static inline unsigned bonnetewe_year_pairs(bonnetewe_answer a)
+{
+    return a >> 16 & 65535;
+}
+
+static inline unsigned long bonnetewe_year_gaps(bonnetewe_answer a)
+{
+    return a >> 32;
+}
+
 #ifdef __cplusplus
 }
 #endif
