@@ -30,12 +30,19 @@ static void plain(void)
 }
 
 #ifdef PROVED
-uint64_t bonnetewe_soundings(const uint8_t *zones, size_t n, const uint8_t *blocks, size_t m, const uint8_t *list, size_t k, uint16_t *labels, size_t a, uint32_t *counts,
-                             size_t b);
+#include "bonnetewe.h"
+
+static uint32_t read_edges[1];
 
 static void proved(void)
 {
-    bonnetewe_soundings(zones.bytes, zones.length, blocks.bytes, blocks.length, list, sizeof list, others, 2 * ENTRIES, other_counts, ENTRIES);
+    bonnetewe_soundings(zones.bytes, zones.length, blocks.bytes, blocks.length, list, sizeof list, others, 2 * ENTRIES, other_counts, ENTRIES, read_edges, 1);
+}
+
+/* The same pairs, the same counts and as many edges read. */
+static int agree(void)
+{
+    return memcmp(labels, others, sizeof labels) == 0 && memcmp(counts, other_counts, sizeof counts) == 0 && read_edges[0] == cells.read;
 }
 #endif
 
@@ -97,7 +104,10 @@ int main(int count, char **words)
 {
     printf("%-12s %8s %10s %14s %14s %7s\n", "sheet", "pairs", "read", "plain C", "proved", "ratio");
     for (int i = 1; i < count; i++) {
-        double a = 1e9, b = 1e9;
+        double a = 1e9;
+#ifdef PROVED
+        double b = 1e9;
+#endif
         char *name = strrchr(words[i], '/');
 
         load_sheet(words[i], &zones, &blocks);
@@ -113,15 +123,15 @@ int main(int count, char **words)
 #endif
         }
         printf("%-12s %8d %10u %12.9f s", name ? name + 1 : words[i], cells.entries, cells.read, a);
-        if (b < 1e9) {
-            printf(" %12.9f s %7.2f\n", b, b / a);
-            if (memcmp(labels, others, sizeof labels) != 0 || memcmp(counts, other_counts, sizeof counts) != 0) {
-                printf("the two differ\n");
-                return 1;
-            }
-        } else {
-            printf(" %14s\n", "not built");
+#ifdef PROVED
+        printf(" %12.9f s %7.2f\n", b, b / a);
+        if (!agree()) {
+            printf("the two differ\n");
+            return 1;
         }
+#else
+        printf(" %14s\n", "not built");
+#endif
     }
     return 0;
 }

@@ -2,7 +2,7 @@
  *
  * `rt staticlib bonnetewe` proves the library and writes target/staticlib/libbonnetewe.a, for x86-64 Linux. It allocates nothing and keeps nothing between
  * calls. Of the C library it needs memcpy, memmove and memset, which the compiler may call for it, and nothing else. Each function takes any bytes, any numbers and tables of any lengths; what it answers and what every lent table holds
- * afterwards is fixed by the definitions in crates/paper/specs. crates/bonnetewe/src/calls.rt has the promises.
+ * afterwards is fixed by the definitions in crates/paper/specs. crates/bonnetewe/src has the promises.
  *
  * What C has to see to: a pointer leads to as many cells as the length behind it says, aligned as its type asks (NULL with length 0 is an empty table or
  * file), none of a call's writable tables overlaps another of its tables or
@@ -43,6 +43,11 @@ extern "C" {
 #define BONNETEWE_MEND_BYTES (9 + 4 * 200 + 8 * 300)
 #define BONNETEWE_MEND_CELLS (2 * (200 + 300))
 #define BONNETEWE_FILE_BYTES (11 + 16 * 1000 + 18 * 2000 + 10 * 1334)
+
+/* Tables of these lengths hold the pairs and the counts of every list of soundings, and a list that is not refused with 12 has at most so many bytes. */
+#define BONNETEWE_PAIR_CELLS (2 * 1334)
+#define BONNETEWE_COUNT_CELLS 1334
+#define BONNETEWE_LIST_BYTES (4 * 65535)
 
 /* The empty map's file, for a third map where there is none. */
 static const uint8_t bonnetewe_empty[9] = {'Z', 'M', 'P', 1, 0, 0, 0, 0, 0};
@@ -101,6 +106,17 @@ static inline unsigned bonnetewe_mended_length(bonnetewe_answer a)
 }
 
 static inline unsigned bonnetewe_entries(bonnetewe_answer a)
+{
+    return a >> 32 & 65535;
+}
+
+/* Done, from bonnetewe_soundings: the number of pairs, and that of the soundings. */
+static inline unsigned bonnetewe_pairs(bonnetewe_answer a)
+{
+    return a >> 16 & 65535;
+}
+
+static inline unsigned bonnetewe_soundings_counted(bonnetewe_answer a)
 {
     return a >> 32 & 65535;
 }
@@ -227,6 +243,17 @@ bonnetewe_edge_record bonnetewe_edge_sources(const uint16_t *halves, size_t half
  * for a ratio or weight out of its range or not a number, 16 for a reading missing or beyond 20,000 either way, in that order. */
 bonnetewe_answer bonnetewe_tide(uint16_t kind, double a, double b, int32_t first, int32_t second);
 double bonnetewe_tide_height(uint16_t kind, double a, double b, int32_t first, int32_t second);
+
+/* Counts the soundings of a list by zone and block. In the list each sounding is four bytes, x and y as signed 16-bit, low byte first. The table labels gets a row of two
+ * cells for each pair that occurs, zone then block (0 is open water or no block), sorted by pair; counts gets how often each occurs, in the same order, 1,334 pairs at most. The first
+ * cell of read, where it has one, gets the number of edges that the looks read, over all soundings and both maps. Past these all is 0; where it is refused, all three tables are all 0. Refused in
+ * this order: as bonnetewe_check refuses the zones (map 1), then the blocks (map 2); then with map 0
+ *   12, place 0     the list's length is not a multiple of 4, or it holds more than 65,535 soundings
+ *   13, place i     sounding i, counted from 0, is the first with a coordinate beyond 16,000 either way
+ *   11, place 6     there are more than 1,334 pairs, or more than labels and counts have rows for */
+bonnetewe_answer bonnetewe_soundings(const uint8_t *zones, size_t zones_length, const uint8_t *blocks, size_t blocks_length,
+                                     const uint8_t *list, size_t list_length, uint16_t *labels, size_t label_cells,
+                                     uint32_t *counts, size_t count_cells, uint32_t *read, size_t read_cells);
 
 /* The year, in three steps: the state goes in and comes back by value. In its table are rows of zone, block, sheets, faces and the last file's number, by pair. */
 struct bonnetewe_sums {

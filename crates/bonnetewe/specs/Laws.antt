@@ -4,3 +4,4 @@ pub mod Sound
 pub mod Edges
 pub mod Meets
 pub mod Heights
+pub mod Cells

@@ -5,3 +5,4 @@ mod record; // an edge record as two numbers
 mod height; // the height of tide from and as numbers
 mod calls; // the operations
 mod yearly; // the year in three steps
+mod sounded; // soundings by cell

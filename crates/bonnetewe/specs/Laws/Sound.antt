@@ -36,23 +36,23 @@ use Rattle.bonnetewe.specs.Laws.Means.{Sound, CountsFit, PairFits, told-
 -- ── refusals that fit ──
 
 -- a refusal has a number, and all of it has 16 bits
-abbrev FitBy : Option Refusal → Type 0
+abbrev pub FitBy : Option Refusal → Type 0
 FitBy none = Unit {0}
 FitBy (some r) = (0 < r .number) × (r .number < 65536) × (r .map < 65536) × (r .place < 65536) × (r .other < 65536)
 
 -- nothing is refused, or such a refusal is given
-record Fit (f : Option Refusal) : Type 0 where
-  by : FitBy f
+pub record Fit (f : Option Refusal) : Type 0 where
+  pub by : FitBy f
 
 beside-fits : (r k j : ℕ) (b : Bool) → 0 < r → r < 65536 → k < 65536 → j < 65536 → Fit (beside r k j b)
 beside-fits r k j true p q l h = record { by = (p, q, omega arith, l, h) }
 beside-fits r k j false p q l h = record { by = tt }
 
-given-fits : (r k : ℕ) (b : Bool) → 0 < r → r < 65536 → k < 65536 → Fit (given r k b)
+pub given-fits : (r k : ℕ) (b : Bool) → 0 < r → r < 65536 → k < 65536 → Fit (given r k b)
 given-fits r k b p q l = beside-fits r k 0 b p q l (omega arith)
 
 -- a place below a bound that fits
-at-fits : (r : ℕ) (p : ℕ → Bool) (n : ℕ) → 0 < r → r < 65536 → n < 65536 → Fit (firstAt r p n)
+pub at-fits : (r : ℕ) (p : ℕ → Bool) (n : ℕ) → 0 < r → r < 65536 → n < 65536 → Fit (firstAt r p n)
 at-fits r p n z q l = given-fits r (least p n) (ltb (least p n) n) z q (omega (arith, least-le p n, l))
 
 first-fits : (rs : List (Option Refusal)) → Every Fit rs → Fit (firstOf rs)
@@ -61,16 +61,16 @@ first-fits (none ∷ rs) h = first-fits rs (h .1)
 first-fits (some r ∷ rs) h = h .0
 
 -- what comes behind rules is looked at only where none of them is broken
-then-fits : (xs ys : List (Option Refusal)) → Every Fit xs → (Nothing xs → Every Fit ys) → Fit (firstOf (xs ++ ys))
+pub then-fits : (xs ys : List (Option Refusal)) → Every Fit xs → (Nothing xs → Every Fit ys) → Fit (firstOf (xs ++ ys))
 then-fits [] ys h g = first-fits ys (g tt)
 then-fits (none ∷ xs) ys h g = then-fits xs ys (h .1) (λ n. g (refl, n))
 then-fits (some r ∷ xs) ys h g = h .0
 
-of-fits : (m : ℕ) (r : Option Refusal) → m < 65536 → Fit r → Fit (ofMap m r)
+pub of-fits : (m : ℕ) (r : Option Refusal) → m < 65536 → Fit r → Fit (ofMap m r)
 of-fits m none l h = record { by = tt }
 of-fits m (some r) l h = let (z, n, _, k, j) = h .by in record { by = (z, n, l, k, j) }
 
-sound-by : {A : Type 0} (P : A → Type 0) (a : A) (f : Option Refusal) → Fit f → (f ≡ none → P a) → Sound P (answer a f)
+pub sound-by : {A : Type 0} (P : A → Type 0) (a : A) (f : Option Refusal) → Fit f → (f ≡ none → P a) → Sound P (answer a f)
 sound-by P a none h g = g refl
 sound-by P a (some r) h g = h .by
 
@@ -140,7 +140,7 @@ module _ (s : List ℕ) where
         ),
       )
 
-  fault-fits : Fit (fault s)
+  pub fault-fits : Fit (fault s)
   unfolding fault
   fault-fits = then-fits (formFaults s) (partFaults (map-in .graph) ++ netFaults map-in) form-fits rest-fits
 
