@@ -12,8 +12,8 @@ enum { SOUNDINGS = 65535, ENTRIES = 1334 };
 
 static struct file zones, blocks;
 static uint8_t list[4 * SOUNDINGS];
-static uint16_t labels[2 * ENTRIES], others[2 * ENTRIES];
-static uint32_t counts[ENTRIES], other_counts[ENTRIES];
+static uint16_t labels[2 * ENTRIES];
+static uint32_t counts[ENTRIES];
 static struct plain_cells cells;
 
 static double now(void)
@@ -32,7 +32,8 @@ static void plain(void)
 #ifdef PROVED
 #include "bonnetewe.h"
 
-static uint32_t read_edges[1];
+static uint16_t others[2 * ENTRIES];
+static uint32_t other_counts[ENTRIES], read_edges[1];
 
 static void proved(void)
 {

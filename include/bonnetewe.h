@@ -245,7 +245,7 @@ bonnetewe_answer bonnetewe_tide(uint16_t kind, double a, double b, int32_t first
 double bonnetewe_tide_height(uint16_t kind, double a, double b, int32_t first, int32_t second);
 
 /* Counts the soundings of a list by zone and block. In the list each sounding is four bytes, x and y as signed 16-bit, low byte first. The table labels gets a row of two
- * cells for each pair that occurs, zone then block (0 is open water or no block), sorted by pair; counts gets how often each occurs, in the same order, 1,334 pairs at most. The first
+ * cells for each pair that occurs, zone then block (0 is no zone, or no block), sorted by pair; counts gets how often each occurs, in the same order, 1,334 pairs at most. The first
  * cell of read, where it has one, gets the number of edges that the looks read, over all soundings and both maps. Past these all is 0; where it is refused, all three tables are all 0. Refused in
  * this order: as bonnetewe_check refuses the zones (map 1), then the blocks (map 2); then with map 0
  *   12, place 0     the list's length is not a multiple of 4, or it holds more than 65,535 soundings
