@@ -19,9 +19,9 @@ use Rattle.paper.specs.Lent.{Lengths, roomIn, roomFaults, outcome}
 use Rattle.paper.specs.Overlay.{mapFaults, lent}
 use Rattle.laws_refusals.specs.Refusals.{nothing, given-none, none-given, first-none, first-some, first-one}
 use Rattle.graph.specs.Flat.{pointAt}
-use Rattle.overlay_cut.specs.PieceRows.{pieceAt}
-use Rattle.overlay_graph.specs.Cut.{Cut, CutOf}
-use Rattle.overlay.specs.Judged.{overlaid, doneWith, refusedWith, Within}
+use Rattle.overlay_cut.specs.PieceRows.{pieceAt, piecesIn}
+use Rattle.overlay_graph.specs.Cut.{Cut, CutOf, overlayIn}
+use Rattle.overlay.specs.Judged.{laidOut, overlaid, doneWith, refusedWith, Within}
 
 -- ── the maps ──
 
@@ -103,9 +103,11 @@ module _ (ms : List Map) (c : Cut) (C : CutOf ms c) where
         (vertices-over (room .vertices) (omega arith))
         (λ e. edges-over (omega (arith, ltb-false (room .vertices) (c .vertices) e)) (room .edges) (omega arith))
 
+    pub cut-over : (r : Refusal) → judged ≡ some r → firstOf (roomFaults (roomIn maps l) (countsOf (overlayOf ms))) ≡ some r
+    cut-over r e = judged-first ∙ ap (λ (x : Option Refusal). firstOf (x ∷ given 11 3 (ltb (room .faces) (countsOf o .faces)) ∷ [])) e
+
     pub cut-refused : (r : Refusal) → judged ≡ some r → refusedWith l r ≡ overlaid ms l
-    cut-refused r e =
-        sym (ap (outcome l (countsOf o) (tablesOf ms o)) (judged-first ∙ ap (λ (x : Option Refusal). firstOf (x ∷ given 11 3 (ltb (room .faces) (countsOf o .faces)) ∷ [])) e))
+    cut-refused r e = sym (ap (outcome l (countsOf o) (tablesOf ms o)) (cut-over r e))
 
     pub cut-within : judged ≡ none → Within c l
     cut-within e =
@@ -115,25 +117,37 @@ module _ (ms : List Map) (c : Cut) (C : CutOf ms c) where
           edges = ltb-false (room .edges) (c .edges) (given-none 11 2 (ltb (room .edges) (c .edges)) (n .1 .0));
         }
 
-    module _ (w : Within c l) (n : ℕ) (counted : n ≡ length (overlayOf ms .outers)) where
-      nothing-yet : judged ≡ none
-      nothing-yet =
-          let p = none-given 11 1 (ltb (room .vertices) (c .vertices)) (le-ltb (room .vertices) (c .vertices) (w .vertices)) in
-          let q = none-given 11 2 (ltb (room .edges) (c .edges)) (le-ltb (room .edges) (c .edges) (w .edges)) in
-          λ i. firstOf (p i ∷ q i ∷ [])
+-- ── faces, of points and pieces in tables ──
 
-      faces-are : countsOf o .faces ≡ n + 1
-      faces-are = ap suc (sym counted) ∙ sym (add-one n)
+module _ (ms : List Map) (c : Cut) (l : Lengths) (w : Within c l) (n : ℕ) (counted : n ≡ length (overlayIn ms c .outers)) where
+  abbrev drawn : Overlay
+  drawn = overlayIn ms c
 
-      faces-last : firstOf (roomFaults room (countsOf o)) ≡ given 11 3 (ltb (room .faces) (n + 1))
-      faces-last =
-          judged-first ∙ ap (λ (x : Option Refusal). firstOf (x ∷ given 11 3 (ltb (room .faces) (countsOf o .faces)) ∷ [])) nothing-yet
-          ∙ first-one (given 11 3 (ltb (room .faces) (countsOf o .faces))) ∙ ap (λ (n : ℕ). given 11 3 (ltb (room .faces) n)) faces-are
+  abbrev lent-room : Counts
+  lent-room = roomIn maps l
 
-      pub faces-refused : room .faces < n + 1 → refusedWith l (record { number = 11; map = 0; place = 3; other = 0 }) ≡ overlaid ms l
-      faces-refused h =
-          sym (ap (outcome l (countsOf o) (tablesOf ms o)) (faces-last ∙ ap (given 11 3) (lt-ltb (room .faces) (n + 1) h)))
+  vertices-in-cut : countsOf drawn .vertices ≡ c .vertices
+  unfolding overlayIn
+  vertices-in-cut = length-table (pointAt (c .points)) (c .vertices)
 
-      pub all-within : n + 1 ≤ room .faces → doneWith l (countsOf o) (tablesOf ms o) ≡ overlaid ms l
-      all-within h =
-          sym (ap (outcome l (countsOf o) (tablesOf ms o)) (faces-last ∙ ap (given 11 3) (le-ltb (room .faces) (n + 1) h)))
+  edges-in-cut : countsOf drawn .edges ≡ c .edges
+  unfolding overlayIn
+  edges-in-cut = length-map (piecesIn (c .pieces) (c .edges)) (edgeOf ms) ∙ length-table (pieceAt (c .pieces)) (c .edges)
+
+  faces-in-cut : countsOf drawn .faces ≡ n + 1
+  faces-in-cut = ap suc (sym counted) ∙ sym (add-one n)
+
+  -- vertices and edges have room
+  pub faces-last : firstOf (roomFaults (roomIn maps l) (countsOf (overlayIn ms c))) ≡ given 11 3 (ltb (roomIn maps l .faces) (n + 1))
+  faces-last =
+      let p = none-given 11 1 (ltb (lent-room .vertices) (countsOf drawn .vertices)) (le-ltb (lent-room .vertices) (countsOf drawn .vertices) (omega (arith, vertices-in-cut, w .vertices))) in
+      let q = none-given 11 2 (ltb (lent-room .edges) (countsOf drawn .edges)) (le-ltb (lent-room .edges) (countsOf drawn .edges) (omega (arith, edges-in-cut, w .edges))) in
+      (λ i. firstOf (p i ∷ q i ∷ given 11 3 (ltb (lent-room .faces) (faces-in-cut i)) ∷ [])) ∙ first-one (given 11 3 (ltb (lent-room .faces) (n + 1)))
+
+  pub faces-refused : roomIn maps l .faces < n + 1 → refusedWith l (record { number = 11; map = 0; place = 3; other = 0 }) ≡ laidOut ms (overlayIn ms c) l
+  faces-refused h =
+      sym (ap (outcome l (countsOf drawn) (tablesOf ms drawn)) (faces-last ∙ ap (given 11 3) (lt-ltb (lent-room .faces) (n + 1) h)))
+
+  pub all-within : n + 1 ≤ roomIn maps l .faces → doneWith l (countsOf (overlayIn ms c)) (tablesOf ms (overlayIn ms c)) ≡ laidOut ms (overlayIn ms c) l
+  all-within h =
+      sym (ap (outcome l (countsOf drawn) (tablesOf ms drawn)) (faces-last ∙ ap (given 11 3) (le-ltb (lent-room .faces) (n + 1) h)))

@@ -1,23 +1,23 @@
--- What is stored is the overlay's tables: `stored-is`. In order: the counts; rows of vertices, half-edges and sources. Assumes nothing.
+-- What is stored is the tables of the overlay of the points and pieces that the stages hold: `stored-is`. In order: the counts; rows of vertices, half-edges and sources. Assumes nothing.
 use mathlib.Core.Path.{_≡_, refl, sym, _∙_, ap}
-use Prim.Native.Nat.{_≤_, _<_}
+use Prim.Native.Nat.{_<_}
 use native.Mathlib.Numerals.{add-one}
 use Rattle.seq.specs.Seq.{List, [], _∷_, map, ℕ, zero, suc, _+_, _*_, length, getD, pos, padded, rows}
 use Rattle.seq.specs.Table.{table-at, table-ext, table-map}
 use Rattle.seq.specs.Rows.{rows-ext}
-use Rattle.paper.specs.Limits.{maps, overlayVertices, overlayEdges}
+use Rattle.paper.specs.Limits.{maps}
 use Rattle.paper.specs.Graph.{Graph, edgeCount, point, origin, twin}
 use Rattle.paper.specs.Map.{Map}
 use Rattle.paper.specs.Pieces.{Piece}
-use Rattle.paper.specs.Faces.{Overlay, net, overlayOf}
+use Rattle.paper.specs.Faces.{Overlay, net}
 use Rattle.paper.specs.Tables.{plusOne, vertexRow, halfRow, sourceRow, faceRow, countsOf, tablesOf}
 use Rattle.laws_file.specs.Agree.{padded-cell}
 use Rattle.graph.specs.Flat.{pointAt, flatGraph}
 use Rattle.graph.specs.Laws.Decode.{flat-points, flat-edges, flat-point, flat-origin}
-use Rattle.overlay_cut.specs.PieceRows.{minusOne, pieceAt, piecesIn}
+use Rattle.overlay_cut.specs.PieceRows.{minusOne, pieceAt, noPiece}
 use Rattle.overlay_cut.specs.Net.{sourceIn}
 use Rattle.tables.specs.Rows.{vertexOf, halfOf, sourceOf, faceBy}
-use Rattle.overlay_graph.specs.Cut.{Cut, CutOf}
+use Rattle.overlay_graph.specs.Cut.{Cut, overlayIn}
 use Rattle.overlay_graph.specs.Traced.{Traced, TracedOf}
 use Rattle.overlay.specs.Stored.{stored, storedCounts}
 
@@ -25,20 +25,16 @@ stored-source : (n : ℕ) → plusOne (minusOne n) ≡ n
 stored-source zero = refl
 stored-source (suc k) = refl
 
-module _ (ms : List Map) (c : Cut) (C : CutOf ms c) (few : c .vertices ≤ overlayVertices) (short : c .edges ≤ overlayEdges) where
+module _ (ms : List Map) (c : Cut) where
   abbrev o : Overlay
-  o = overlayOf ms
+  o = overlayIn ms c
 
   -- ── the pieces ──
 
-  pieces-are : piecesIn (c .pieces) (c .edges) ≡ overlayOf ms .pieces
-  unfolding overlayOf
-  pieces-are = C .edges-are few short
-
   source-row : (k : ℕ) → k < c .edges → sourceOf (c .pieces) k ≡ sourceRow o k
+  unfolding overlayIn
   source-row k l =
-      let at : getD (o .pieces) k (record { lo = 0; hi = 0; sources = [] }) ≡ pieceAt (c .pieces) k =
-      ap (λ (ps : List Piece). getD ps k (record { lo = 0; hi = 0; sources = [] })) (sym pieces-are) ∙ table-at (pieceAt (c .pieces)) (c .edges) k (record { lo = 0; hi = 0; sources = [] }) l in
+      let at : getD (o .pieces) k noPiece ≡ pieceAt (c .pieces) k = table-at (pieceAt (c .pieces)) (c .edges) k noPiece l in
       let in-map : ℕ → ℕ = λ m. sourceIn (c .pieces) k m in
       table-ext in-map (λ m. plusOne (minusOne (in-map m))) maps (λ m h. sym (stored-source (in-map m)))
       ∙ sym (table-map plusOne (λ m. minusOne (in-map m)) maps) ∙ ap (λ (p : Piece). map plusOne (p .sources)) (sym at)

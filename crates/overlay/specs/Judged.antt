@@ -4,14 +4,18 @@ use Rattle.seq.specs.Seq.{List}
 use Rattle.paper.specs.Limits.{maps}
 use Rattle.paper.specs.Refusal.{Refusal, firstOf, done, refused}
 use Rattle.paper.specs.Map.{Map}
-use Rattle.paper.specs.Faces.{overlayOf}
+use Rattle.paper.specs.Faces.{Overlay, overlayOf}
 use Rattle.paper.specs.Tables.{Counts, countsOf, Tables, tablesOf}
 use Rattle.paper.specs.Lent.{Lengths, roomIn, roomFaults, paddedTables, zeroTables, outcome, Outcome}
 use Rattle.overlay_graph.specs.Cut.{Cut}
 
--- of the maps ms, in tables of these lengths
+-- of an overlay o of the maps ms, in tables of these lengths
+abbrev pub laidOut : List Map → Overlay → Lengths → Outcome
+laidOut ms o l = let c = countsOf o in outcome l c (tablesOf ms o) (firstOf (roomFaults (roomIn maps l) c))
+
+-- of the maps' own
 abbrev pub overlaid : List Map → Lengths → Outcome
-overlaid ms l = let o = overlayOf ms in let c = countsOf o in outcome l c (tablesOf ms o) (firstOf (roomFaults (roomIn maps l) c))
+overlaid ms l = laidOut ms (overlayOf ms) l
 
 -- "Done: places past the counts are zero. Refused: all lent tables are zero"
 abbrev pub doneWith : Lengths → Counts → Tables → Outcome

@@ -13,17 +13,14 @@ use tables::store_halves;
 use tables::store_sources;
 use tables::store_vertices;
 ghost use mathlib.Core.Path.{_≡_};
-ghost use Prim.Native.Nat.{_+_, _*_, _≤_};
-ghost use lib.ListN.{length};
+ghost use Prim.Native.Nat.{_+_, _≤_};
 ghost use Rattle.paper.specs.Limits.{maps};
-ghost use Rattle.paper.specs.Faces.{overlayOf};
 ghost use Rattle.paper.specs.Tables.{countsOf, tablesOf};
 ghost use Rattle.paper.specs.Lent.{lengthsOf, roomIn};
 ghost use Rattle.tables.specs.Values.{tablesBy, outcomeOf};
-ghost use Rattle.overlay_cut.specs.PieceRows.{pieceWidth};
 ghost use Rattle.overlay_maps.specs.Layers.{layersBy};
 ghost use Rattle.overlay_maps.specs.Held.{Held, heldMaps};
-ghost use Rattle.overlay_graph.specs.Cut.{cutBy, CutOf};
+ghost use Rattle.overlay_graph.specs.Cut.{cutBy, overlayIn, DrawableCut};
 ghost use Rattle.overlay_graph.specs.Traced.{NetBy, FacesBy};
 ghost use Rattle.overlay.specs.Judged.{doneWith, Within};
 
@@ -56,8 +53,8 @@ pub fn fill(
     sources: &mut [u32],
     faces: &mut [u16],
 ) -> Answer
-    requires { ⌜ Held (layersBy (now vstarts) (now estarts) (now corners) (now origins) (now carriers) (now labels)) ⌝ ∗ ⌜ CutOf (heldMaps (layersBy (now vstarts) (now estarts) (now corners) (now origins) (now carriers) (now labels))) (cutBy nv (now points) ne (now pieces)) ⌝ ∗ ⌜ Within (cutBy nv (now points) ne (now pieces)) (lengthsOf (tablesBy (now vertices) (now halves) (now sources) (now faces))) × (pieceWidth * ne ≤ length (now pieces)) ⌝ ∗ ⌜ NetBy (overlayOf (heldMaps (layersBy (now vstarts) (now estarts) (now corners) (now origins) (now carriers) (now labels)))) (cutBy nv (now points) ne (now pieces)) (now ends) (now lines) × FacesBy (overlayOf (heldMaps (layersBy (now vstarts) (now estarts) (now corners) (now origins) (now carriers) (now labels)))) (now next) (now face) (now outers) (now holes) count ⌝ ∗ ⌜ count + 1 ≤ roomIn maps (lengthsOf (tablesBy (now vertices) (now halves) (now sources) (now faces))) .faces ⌝ }
-    ensures { λ a. ⌜ outcomeOf a (tablesBy (now (vertices .exit)) (now (halves .exit)) (now (sources .exit)) (now (faces .exit))) ≡ doneWith (lengthsOf (tablesBy (now (vertices .entry)) (now (halves .entry)) (now (sources .entry)) (now (faces .entry)))) (countsOf (overlayOf (heldMaps (layersBy (now (vstarts .entry)) (now (estarts .entry)) (now (corners .entry)) (now (origins .entry)) (now (carriers .entry)) (now (labels .entry)))))) (tablesOf (heldMaps (layersBy (now (vstarts .entry)) (now (estarts .entry)) (now (corners .entry)) (now (origins .entry)) (now (carriers .entry)) (now (labels .entry)))) (overlayOf (heldMaps (layersBy (now (vstarts .entry)) (now (estarts .entry)) (now (corners .entry)) (now (origins .entry)) (now (carriers .entry)) (now (labels .entry)))))) ⌝ }
+    requires { ⌜ Held (layersBy (now vstarts) (now estarts) (now corners) (now origins) (now carriers) (now labels)) ⌝ ∗ ⌜ DrawableCut (heldMaps (layersBy (now vstarts) (now estarts) (now corners) (now origins) (now carriers) (now labels))) (cutBy nv (now points) ne (now pieces)) ⌝ ∗ ⌜ Within (cutBy nv (now points) ne (now pieces)) (lengthsOf (tablesBy (now vertices) (now halves) (now sources) (now faces))) ⌝ ∗ ⌜ NetBy (overlayIn (heldMaps (layersBy (now vstarts) (now estarts) (now corners) (now origins) (now carriers) (now labels))) (cutBy nv (now points) ne (now pieces))) (cutBy nv (now points) ne (now pieces)) (now ends) (now lines) × FacesBy (overlayIn (heldMaps (layersBy (now vstarts) (now estarts) (now corners) (now origins) (now carriers) (now labels))) (cutBy nv (now points) ne (now pieces))) (now next) (now face) (now outers) (now holes) count ⌝ ∗ ⌜ count + 1 ≤ roomIn maps (lengthsOf (tablesBy (now vertices) (now halves) (now sources) (now faces))) .faces ⌝ }
+    ensures { λ a. ⌜ outcomeOf a (tablesBy (now (vertices .exit)) (now (halves .exit)) (now (sources .exit)) (now (faces .exit))) ≡ doneWith (lengthsOf (tablesBy (now (vertices .entry)) (now (halves .entry)) (now (sources .entry)) (now (faces .entry)))) (countsOf (overlayIn (heldMaps (layersBy (now (vstarts .entry)) (now (estarts .entry)) (now (corners .entry)) (now (origins .entry)) (now (carriers .entry)) (now (labels .entry)))) (cutBy nv (now (points .entry)) ne (now (pieces .entry))))) (tablesOf (heldMaps (layersBy (now (vstarts .entry)) (now (estarts .entry)) (now (corners .entry)) (now (origins .entry)) (now (carriers .entry)) (now (labels .entry)))) (overlayIn (heldMaps (layersBy (now (vstarts .entry)) (now (estarts .entry)) (now (corners .entry)) (now (origins .entry)) (now (carriers .entry)) (now (labels .entry)))) (cutBy nv (now (points .entry)) ne (now (pieces .entry))))) ⌝ }
 {
     let mut prev = [0u16; HALVES];
     first_places(next, 2 * ne, ABSENT, &mut prev, 2 * ne);

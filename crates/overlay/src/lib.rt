@@ -4,13 +4,15 @@ mod fill; // the lent tables filled
 mod stages; // from layers to tables
 
 use crate::stages::from_layers;
-use crate::stages::refuse;
+pub use judge::over_room;
 use limits::LAYER_CARRIER_CELLS;
 use limits::LAYER_HALVES;
 use limits::LAYER_POINT_CELLS;
 use limits::LAYER_STARTS;
 use map_file::Check;
 use overlay_maps::lay_maps;
+pub use stages::from_cut;
+pub use stages::refuse;
 use tables::Answer;
 ghost use mathlib.Core.List.{[], _∷_};
 ghost use Rattle.paper.specs.Lent.{lengthsOf};

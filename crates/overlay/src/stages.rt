@@ -15,16 +15,13 @@ use tables::Answer;
 use tables::room_in;
 use tables::wipe_all;
 ghost use mathlib.Core.Path.{_≡_};
-ghost use Prim.Native.Nat.{_*_, _≤_};
-ghost use lib.ListN.{length};
 ghost use Rattle.paper.specs.Lent.{lengthsOf};
 ghost use Rattle.map_file.specs.Verdict.{refusalOf};
 ghost use Rattle.tables.specs.Values.{tablesBy, outcomeOf};
-ghost use Rattle.overlay_cut.specs.PieceRows.{pieceWidth};
 ghost use Rattle.overlay_maps.specs.Layers.{layersBy};
 ghost use Rattle.overlay_maps.specs.Held.{Held, heldMaps};
-ghost use Rattle.overlay_graph.specs.Cut.{cutBy, CutOf};
-ghost use Rattle.overlay.specs.Judged.{overlaid, refusedWith, Within};
+ghost use Rattle.overlay_graph.specs.Cut.{cutBy, overlayIn, DrawableCut};
+ghost use Rattle.overlay.specs.Judged.{laidOut, overlaid, refusedWith, Within};
 
 // "Refused: all lent tables are zero."
 pub fn refuse(
@@ -40,8 +37,8 @@ pub fn refuse(
     Answer::Refused(r)
 }
 
-// Half-edges, walks and faces, of vertices and edges within the room.
-fn from_cut(
+// Half-edges, walks and faces, of points and pieces within the room: the maps' own, or what is left of them (02, Ask 12). More faces than room are refused.
+pub fn from_cut(
     vstarts: &[usize],
     estarts: &[usize],
     corners: &[i64],
@@ -57,8 +54,8 @@ fn from_cut(
     sources: &mut [u32],
     faces: &mut [u16],
 ) -> Answer
-    requires { ⌜ Held (layersBy (now vstarts) (now estarts) (now corners) (now origins) (now carriers) (now labels)) ⌝ ∗ ⌜ CutOf (heldMaps (layersBy (now vstarts) (now estarts) (now corners) (now origins) (now carriers) (now labels))) (cutBy n (now points) e (now pieces)) ⌝ ∗ ⌜ Within (cutBy n (now points) e (now pieces)) (lengthsOf (tablesBy (now vertices) (now halves) (now sources) (now faces))) ⌝ ∗ ⌜ (4 * n ≤ length (now points)) × (pieceWidth * e ≤ length (now pieces)) ⌝ }
-    ensures { λ a. ⌜ outcomeOf a (tablesBy (now (vertices .exit)) (now (halves .exit)) (now (sources .exit)) (now (faces .exit))) ≡ overlaid (heldMaps (layersBy (now (vstarts .entry)) (now (estarts .entry)) (now (corners .entry)) (now (origins .entry)) (now (carriers .entry)) (now (labels .entry)))) (lengthsOf (tablesBy (now (vertices .entry)) (now (halves .entry)) (now (sources .entry)) (now (faces .entry)))) ⌝ }
+    requires { ⌜ Held (layersBy (now vstarts) (now estarts) (now corners) (now origins) (now carriers) (now labels)) ⌝ ∗ ⌜ DrawableCut (heldMaps (layersBy (now vstarts) (now estarts) (now corners) (now origins) (now carriers) (now labels))) (cutBy n (now points) e (now pieces)) ⌝ ∗ ⌜ Within (cutBy n (now points) e (now pieces)) (lengthsOf (tablesBy (now vertices) (now halves) (now sources) (now faces))) ⌝ }
+    ensures { λ a. ⌜ outcomeOf a (tablesBy (now (vertices .exit)) (now (halves .exit)) (now (sources .exit)) (now (faces .exit))) ≡ laidOut (heldMaps (layersBy (now (vstarts .entry)) (now (estarts .entry)) (now (corners .entry)) (now (origins .entry)) (now (carriers .entry)) (now (labels .entry)))) (overlayIn (heldMaps (layersBy (now (vstarts .entry)) (now (estarts .entry)) (now (corners .entry)) (now (origins .entry)) (now (carriers .entry)) (now (labels .entry)))) (cutBy n (now (points .entry)) e (now (pieces .entry)))) (lengthsOf (tablesBy (now (vertices .entry)) (now (halves .entry)) (now (sources .entry)) (now (faces .entry)))) ⌝ }
 {
     let mut ends = [0u16; HALVES];
     let mut lines = [0i16; CARRIER_CELLS];

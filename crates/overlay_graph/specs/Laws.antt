@@ -1,5 +1,6 @@
 -- The laws behind the proofs of this crate: nothing here is cited by a contract.
 pub mod Standing
 pub mod CutLaws
+pub mod Drawing
 pub mod Tracing
 pub mod Backwards

@@ -5,11 +5,11 @@ use Prim.Native.Nat.{_<_}
 use Rattle.seq.specs.Seq.{List, ℕ, suc, _*_, length, getD, ℤ, table, position, over, padded}
 use Rattle.paper.specs.Map.{Map}
 use Rattle.paper.specs.Graph.{halfCount, leaves}
-use Rattle.paper.specs.Faces.{Overlay, net, overlayOf, holesOf}
+use Rattle.paper.specs.Faces.{Overlay, net, holesOf}
 use Rattle.paper.specs.Tables.{leastHalf}
 use Rattle.graph.specs.Flat.{Flat, flatGraph}
 use Rattle.graph_faces.specs.Linked.{halfRows}
-use Rattle.overlay_graph.specs.Cut.{Cut}
+use Rattle.overlay_graph.specs.Cut.{Cut, overlayIn}
 
 -- of each half-edge where it starts, its follower, its predecessor and its face; of each edge the input edge that it lies along; of each vertex the least outgoing
 -- half-edge; the least half-edges of the outer walks and how many there are; of each face its hole walks
@@ -74,6 +74,6 @@ pub record TracedBy (o : Overlay) (c : Cut) (t : Traced) : Type 0 where
   pub prev-is : PrevBy o c (t .prev)
   pub least-is : LeastBy o c (t .least)
 
--- of the maps ms
+-- of the points and pieces in c
 abbrev pub TracedOf : List Map → Cut → Traced → Type 0
-TracedOf ms c t = TracedBy (overlayOf ms) c t
+TracedOf ms c t = TracedBy (overlayIn ms c) c t

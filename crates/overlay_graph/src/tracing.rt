@@ -7,17 +7,15 @@ use overlay_cut::origins as lay_origins;
 ghost use Prim.Native.Nat.{_*_, _≤_, _<_};
 ghost use lib.ListN.{length};
 ghost use Rattle.paper.specs.Limits.{overlayVertices, overlayEdges};
-ghost use Rattle.paper.specs.Faces.{overlayOf};
 ghost use Rattle.laws_graph.specs.Plane.{Plane};
 ghost use Rattle.graph.specs.Flat.{Flat, flatGraph};
 ghost use Rattle.graph_faces.specs.Linked.{facesOf};
-ghost use Rattle.overlay_cut.specs.PieceRows.{pieceWidth};
 ghost use Rattle.overlay_maps.specs.Layers.{layersBy};
 ghost use Rattle.overlay_maps.specs.Held.{heldMaps, Held};
-ghost use Rattle.overlay_graph.specs.Cut.{cutBy, CutOf};
+ghost use Rattle.overlay_graph.specs.Cut.{cutBy, overlayIn, DrawableCut};
 ghost use Rattle.overlay_graph.specs.Traced.{NetBy, FacesOver};
 
-// The half-edges of the overlay that was cut from the maps: where each starts, "Half-edge 2k goes from lower to upper, 2k+1 back", and the input edge that each edge
+// The half-edges of the overlay of the points and pieces in these tables: where each starts, "Half-edge 2k goes from lower to upper, 2k+1 back", and the input edge that each edge
 // lies along.
 pub fn lay_net(
     vertices: &[usize],
@@ -33,8 +31,8 @@ pub fn lay_net(
     ends: &mut [u16],
     lines: &mut [i16],
 )
-    requires { ⌜ Held (layersBy (now vertices) (now edges) (now corners) (now origins) (now carriers) (now labels)) ⌝ ∗ ⌜ CutOf (heldMaps (layersBy (now vertices) (now edges) (now corners) (now origins) (now carriers) (now labels))) (cutBy n (now points) e (now pieces)) ⌝ ∗ ⌜ (n ≤ overlayVertices) × (e ≤ overlayEdges) ⌝ ∗ ⌜ (4 * n ≤ length (now points)) × (pieceWidth * e ≤ length (now pieces)) ⌝ ∗ ⌜ (2 * e ≤ length (now ends)) × (4 * e ≤ length (now lines)) ⌝ }
-    ensures { λ _. ⌜ NetBy (overlayOf (heldMaps (layersBy (now (vertices .entry)) (now (edges .entry)) (now (corners .entry)) (now (origins .entry)) (now (carriers .entry)) (now (labels .entry))))) (cutBy n (now (points .entry)) e (now (pieces .entry))) (now (ends .exit)) (now (lines .exit)) ⌝ }
+    requires { ⌜ Held (layersBy (now vertices) (now edges) (now corners) (now origins) (now carriers) (now labels)) ⌝ ∗ ⌜ DrawableCut (heldMaps (layersBy (now vertices) (now edges) (now corners) (now origins) (now carriers) (now labels))) (cutBy n (now points) e (now pieces)) ⌝ ∗ ⌜ (2 * e ≤ length (now ends)) × (4 * e ≤ length (now lines)) ⌝ }
+    ensures { λ _. ⌜ NetBy (overlayIn (heldMaps (layersBy (now (vertices .entry)) (now (edges .entry)) (now (corners .entry)) (now (origins .entry)) (now (carriers .entry)) (now (labels .entry)))) (cutBy n (now (points .entry)) e (now (pieces .entry)))) (cutBy n (now (points .entry)) e (now (pieces .entry))) (now (ends .exit)) (now (lines .exit)) ⌝ }
 {
     lay_origins(pieces, e, ends);
     lay_carriers(pieces, e, edges, carriers, lines);

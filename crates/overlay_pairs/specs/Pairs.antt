@@ -1,4 +1,5 @@
--- The labels that the code finds are the definition's: of the half-edges and faces of the overlay of the maps that the layers hold. Assumes nothing.
+-- The labels that the code finds are the definition's: of the half-edges and faces of the overlay of the points and pieces in tables, in the maps that the layers
+-- hold. Assumes nothing.
 use mathlib.Core.Path.{_≡_, refl, sym, _∙_, ap}
 use Prim.Native.Nat.{_≤_, _<_}
 use native.Mathlib.Omega.{arith}
@@ -10,31 +11,26 @@ use Rattle.seq.specs.Table.{length-table, table-at, table-ext, table-const}
 use Rattle.seq.specs.Select.{select-from}
 use Rattle.seq.specs.Members.{at-among}
 use Rattle.seq.specs.Wiped.{padded-at}
-use Rattle.paper.specs.Limits.{maps, overlayVertices, overlayEdges}
-use Rattle.paper.specs.Graph.{Graph, edgeCount, halfCount, pointIn, start, low, upward}
+use Rattle.paper.specs.Limits.{maps}
+use Rattle.paper.specs.Graph.{Graph, edgeCount, halfCount, start, low, upward}
 use Rattle.paper.specs.Map.{Map}
-use Rattle.paper.specs.Pieces.{Piece, layer, verticesOf, edgesOf}
-use Rattle.paper.specs.Faces.{Overlay, labelIn, net, sourcesOf, overlayOf, walksOf, leadsOuter, holesOf}
+use Rattle.paper.specs.Pieces.{Piece, layer}
+use Rattle.paper.specs.Faces.{Overlay, labelIn, net, sourcesOf, leadsOuter, holesOf}
 use Rattle.paper.specs.Tables.{faceRow}
-use Rattle.laws_graph.specs.Halves.{origin-first}
-use Rattle.laws_overlay.specs.Places.{places}
-use Rattle.laws_overlay.specs.Sources.{sourceAt}
-use Rattle.laws_overlay.specs.Pieces as Laws
-use Rattle.laws_overlay.specs.Net.{low-is, sourced}
-use Rattle.laws_overlay.specs.Inside.{overlaid}
-use Rattle.laws_overlay.specs.Parts as Parts
-use Rattle.graph.specs.Flat.{startAt, carrierAt, flatGraph}
+use Rattle.laws_graph.specs.Halves.{even-double, half-first}
+use Rattle.laws_graph.specs.Plane.{up-ends}
+use Rattle.graph.specs.Flat.{startAt, carrierAt}
 use Rattle.graph.specs.Laws.Decode.{flat-edges, flat-upward, flat-start}
 use Rattle.graph.specs.Heading.{flat-starts, flat-carried}
 use Rattle.graph_faces.specs.Linked.{halfRows}
-use Rattle.overlay_cut.specs.PieceRows.{pieceWidth, minusOne, pieceAt, noPiece}
+use Rattle.overlay_cut.specs.PieceRows.{minusOne, pieceAt, noPiece}
 use Rattle.overlay_cut.specs.Net.{sourceIn}
 use Rattle.tables.specs.Rows.{faceBy}
 use Rattle.overlay_maps.specs.Label.{labelBy, stored, label-by}
 use Rattle.overlay_maps.specs.Held.{Held, heldMap, heldMaps, edgeStart}
 use Rattle.overlay_maps.specs.Layers.{Layers}
-use Rattle.overlay_graph.specs.Laws.Standing.{layer-is, keep, held-edges, held-count}
-use Rattle.overlay_graph.specs.Cut.{Cut, CutOf}
+use Rattle.overlay_graph.specs.Laws.Standing.{layer-is, held-edges, held-count}
+use Rattle.overlay_graph.specs.Cut.{Cut, overlayIn, Drawable, DrawableCut}
 use Rattle.overlay_graph.specs.Traced.{NetBy}
 use Rattle.overlay_pairs.specs.Labels.{halfLabel, faceLabel, labelCell, outerOf, Readable}
 
@@ -43,21 +39,22 @@ abbrev pub labelOf : List Map → Overlay → ℕ → ℕ → ℕ
 labelOf ms o i zero = 0
 labelOf ms o i (suc f) = let h = getD (o .outers) f 0 in labelIn (layer ms i) (net o) h (getD (sourcesOf o (h / 2)) i none)
 
--- the tables of the overlay of the maps that the layers hold, within 01's limits: its net, and its outer walks with the hole walks of each face
-pub record Whole (l : Layers) (c : Cut) (origins : List ℕ) (carriers : List ℤ) (outers holes : List ℕ) (count : ℕ) : Type 0 where
+-- the tables of the overlay of the points and pieces in c, within 01's limits: its net, and its outer walks
+pub record Outlined (l : Layers) (c : Cut) (origins : List ℕ) (carriers : List ℤ) (outers : List ℕ) (count : ℕ) : Type 0 where
   pub held : Held l
-  pub cut : CutOf (heldMaps l) c
-  pub few-vertices : c .vertices ≤ overlayVertices
-  pub few-edges : c .edges ≤ overlayEdges
-  pub pieces-long : pieceWidth * c .edges ≤ length (c .pieces)
-  pub net-by : NetBy (overlayOf (heldMaps l)) c origins carriers
-  pub outers-is : outers ≡ padded 0 halfRows (overlayOf (heldMaps l) .outers)
-  pub count-is : count ≡ length (overlayOf (heldMaps l) .outers)
-  pub holes-is : holes ≡ padded 0 (suc halfRows) (table (holesOf (overlayOf (heldMaps l))) (suc count))
+  pub cut : DrawableCut (heldMaps l) c
+  pub net-by : NetBy (overlayIn (heldMaps l) c) c origins carriers
+  pub outers-is : outers ≡ padded 0 halfRows (overlayIn (heldMaps l) c .outers)
+  pub count-is : count ≡ length (overlayIn (heldMaps l) c .outers)
+
+-- and the hole walks of each face
+pub record Whole (l : Layers) (c : Cut) (origins : List ℕ) (carriers : List ℤ) (outers holes : List ℕ) (count : ℕ) : Type 0 where
+  pub outlined : Outlined l c origins carriers outers count
+  pub holes-is : holes ≡ padded 0 (suc halfRows) (table (holesOf (overlayIn (heldMaps l) c)) (suc count))
 
 -- the rows of the first n faces
-abbrev pub faceRows : Layers → ℕ → List ℕ
-faceRows l n = rows (faceRow (heldMaps l) (overlayOf (heldMaps l))) n
+abbrev pub faceRows : Layers → Cut → ℕ → List ℕ
+faceRows l c n = rows (faceRow (heldMaps l) (overlayIn (heldMaps l) c)) n
 
 -- ── a stored source ──
 
@@ -69,57 +66,52 @@ most : (n e : ℕ) (o : Option ℕ) → minusOne n ≡ o → ((k : ℕ) → o �
 most zero e o q f = omega arith
 most (suc n) e o q f = f n (sym q)
 
+-- ── a cell of a table that is filled ──
+
+at : (x : List ℕ) (g : ℕ → ℕ) (n : ℕ) (d : List ℕ) → x ≡ filled n g d → (f : ℕ) → f < n → getD x f 0 ≡ g f
+at x g n d e f q = ap (λ (y : List ℕ). getD y f 0) e ∙ filled-at g n f d 0 q
+
 -- ── half-edges ──
 
-module _ (l : Layers) (c : Cut) (os : List ℕ) (bs : List ℤ) (outers holes : List ℕ) (count : ℕ) (W : Whole l c os bs outers holes count) where
-  abbrev H : Held l
-  H = W .held
-
+module _ (l : Layers) (c : Cut) (os : List ℕ) (bs : List ℤ) (outers : List ℕ) (count : ℕ) (O : Outlined l c os bs outers count) where
   abbrev ms : List Map
   ms = heldMaps l
 
   abbrev o : Overlay
-  o = overlayOf ms
+  o = overlayIn ms c
 
-  abbrev flat : Graph
-  flat = flatGraph (c .points) os bs (c .vertices) (c .edges)
+  abbrev D : Drawable ms o
+  D = O .cut .drawable
 
-  flat-is : flat ≡ overlaid ms
-  flat-is = W .net-by .net-is ∙ Parts.net-is ms
-
-  edges-are : edgeCount (overlaid ms) ≡ c .edges
-  edges-are = ap edgeCount (sym flat-is) ∙ flat-edges (c .points) os bs (c .vertices) (c .edges)
+  edges-are : edgeCount (net o) ≡ c .edges
+  edges-are = ap edgeCount (sym (O .net-by .net-is)) ∙ flat-edges (c .points) os bs (c .vertices) (c .edges)
 
   module _ (k : ℕ) (b : k < c .edges) where
-    within : k < edgeCount (overlaid ms)
+    within : k < edgeCount (net o)
     within = omega (arith, edges-are)
 
-    piece-is : Laws.pieceAt (edgesOf ms (verticesOf ms)) k ≡ pieceAt (c .pieces) k
-    piece-is = ap (λ (ps : List Piece). getD ps k noPiece) (sym (W .cut .edges-are (W .few-vertices) (W .few-edges))) ∙ table-at (pieceAt (c .pieces)) (c .edges) k noPiece b
-
-    source-is : (i : ℕ) → i < maps → sourceAt (Laws.pieceAt (edgesOf ms (verticesOf ms)) k .sources) i ≡ minusOne (sourceIn (c .pieces) k i)
-    source-is i h = ap (λ (p : Piece). sourceAt (p .sources) i) piece-is ∙ table-at (λ j. minusOne (sourceIn (c .pieces) k j)) maps i none h
+    source-is : (i : ℕ) → i < maps → getD (sourcesOf o k) i none ≡ minusOne (sourceIn (c .pieces) k i)
+    unfolding overlayIn
+    source-is i h = ap (λ (p : Piece). getD (p .sources) i none) (table-at (pieceAt (c .pieces)) (c .edges) k noPiece b) ∙ table-at (λ j. minusOne (sourceIn (c .pieces) k j)) maps i none h
 
     -- the stored source is the definition's, and names an edge of its map
     source-stored : (i : ℕ) → i < maps → sourceIn (c .pieces) k i ≡ stored (getD (sourcesOf o k) i none)
-    source-stored i h = sym (ap stored (ap (λ (ss : List (Option ℕ)). sourceAt ss i) (Parts.sources-are ms k) ∙ source-is i h) ∙ stored-back (sourceIn (c .pieces) k i))
+    source-stored i h = sym (ap stored (source-is i h) ∙ stored-back (sourceIn (c .pieces) k i))
 
     source-most : (i : ℕ) → i < maps → sourceIn (c .pieces) k i ≤ edgeStart l (i + 1) - edgeStart l i
     source-most i h =
-        let K = keep l H in
         most (sourceIn (c .pieces) k i) (edgeStart l (i + 1) - edgeStart l i) _ (sym (source-is i h))
-        (λ r e. omega (arith, held-edges l H i h, sourced ms K (verticesOf ms) (places ms K) k within .from i r e .of-map))
+        (λ r e. omega (arith, held-edges l (O .held) i h, D .sources i k r (omega (arith, held-count l)) within e))
 
     -- "its lower end", and the upward direction
     low-at : startAt (c .points) os (2 * k) ≡ low (net o) k
     low-at =
-        let K = keep l H in
-        sym (flat-start (c .points) os bs (c .vertices) (c .edges) (W .net-by .flat .origins) (2 * k) (omega arith))
-        ∙ ap (λ (g : Graph). start g (2 * k)) flat-is ∙ ap (pointIn (verticesOf ms)) (origin-first k (overlaid ms))
-        ∙ sym (low-is ms K (verticesOf ms) (places ms K) k within) ∙ ap (λ (g : Graph). low g k) (sym (Parts.net-is ms))
+        sym (flat-start (c .points) os bs (c .vertices) (c .edges) (O .net-by .flat .origins) (2 * k) (omega arith))
+        ∙ ap (λ (g : Graph). start g (2 * k)) (O .net-by .net-is)
+        ∙ sym (up-ends (net o) (2 * k) (D .goes (2 * k) (omega (arith, within)) ∙ even-double k) .0) ∙ ap (low (net o)) (half-first k)
 
     up-at : carrierAt bs k .up ≡ upward (net o) k
-    up-at = sym (flat-upward (c .points) os bs (c .vertices) (c .edges) k b) ∙ ap (λ (g : Graph). upward g k) (W .net-by .net-is)
+    up-at = sym (flat-upward (c .points) os bs (c .vertices) (c .edges) k b) ∙ ap (λ (g : Graph). upward g k) (O .net-by .net-is)
 
   -- the label of half-edge h in map i
   label-is : (i h : ℕ) → i < maps → h < 2 * c .edges → halfLabel (heldMap l i) (c .points) os bs (c .pieces) i h ≡ labelIn (layer ms i) (net o) h (getD (sourcesOf o (h / 2)) i none)
@@ -132,24 +124,23 @@ module _ (l : Layers) (c : Cut) (os : List ℕ) (bs : List ℤ) (outers holes : 
   -- ── faces ──
 
   outer-at : (f : ℕ) → f < count → getD outers f 0 ≡ getD (o .outers) f 0
-  outer-at f b = ap (λ (x : List ℕ). getD x f 0) (W .outers-is) ∙ padded-at 0 halfRows f (o .outers) 0 (omega (arith, W .count-is))
+  outer-at f b = ap (λ (x : List ℕ). getD x f 0) (O .outers-is) ∙ padded-at 0 halfRows f (o .outers) 0 (omega (arith, O .count-is))
+
+  outers-are : o .outers ≡ select (leadsOuter (o .walks)) (halfCount (net o))
+  unfolding overlayIn
+  outers-are = refl
 
   outer-below : (f : ℕ) → f < count → getD outers f 0 < 2 * c .edges
   outer-below f b =
-      let p = leadsOuter (walksOf (overlaid ms)) in
-      let n = halfCount (overlaid ms) in
-      let e : getD outers f 0 ≡ getD (select p n) f 0 = outer-at f b ∙ ap (λ (x : List ℕ). getD x f 0) (Parts.outers-are ms) in
-      let q = select-from p n (getD (select p n) f 0) (at-among (select p n) f 0 (omega (arith, W .count-is, ap length (Parts.outers-are ms)))) .0 in
+      let p = leadsOuter (o .walks) in
+      let n = halfCount (net o) in
+      let e : getD outers f 0 ≡ getD (select p n) f 0 = outer-at f b ∙ ap (λ (x : List ℕ). getD x f 0) outers-are in
+      let q = select-from p n (getD (select p n) f 0) (at-among (select p n) f 0 (omega (arith, O .count-is, ap length outers-are))) .0 in
       omega (arith, e, q, edges-are)
 
   -- what the code reads is there
   pub outers-long : count ≤ length outers
-  outers-long = omega (arith, W .count-is, ap length (W .outers-is), length-append (o .outers) (replicate (halfRows - length (o .outers)) 0))
-
-  pub holes-long : count + 1 ≤ length holes
-  holes-long =
-      let counts = table (holesOf o) (suc count) in
-      omega (arith, ap length (W .holes-is), length-append counts (replicate (suc halfRows - length counts) 0), length-table (holesOf o) (suc count))
+  outers-long = omega (arith, O .count-is, ap length (O .outers-is), length-append (o .outers) (replicate (halfRows - length (o .outers)) 0))
 
   pub readable : (i f : ℕ) → i < maps → f < count + 1 → Readable l (c .points) os bs (c .pieces) outers i f
   readable i zero b q = tt
@@ -157,20 +148,18 @@ module _ (l : Layers) (c : Cut) (os : List ℕ) (bs : List ℤ) (outers holes : 
       let r : f < count = omega arith in
       let h = getD outers f 0 in
       let k : h / 2 < c .edges = omega (arith, outer-below f r) in
-      let F = W .net-by .flat in (
+      let F = O .net-by .flat in (
         omega (arith, outers-long),
         record {
           placed = record {
             of-maps = b;
             starts = flat-starts (c .points) os bs (c .vertices) (c .edges) F (2 * (h / 2)) (omega arith);
             carried = flat-carried (c .points) os bs (c .vertices) (c .edges) F (h / 2) k;
-            row = omega (arith, W .pieces-long);
+            row = omega (arith, O .cut .pieces-long);
           };
           source-most = source-most (h / 2) k i b;
         },
       )
-
-  -- ── the rows of the faces ──
 
   label-at : (i f : ℕ) → i < maps → f < count + 1 → faceLabel (heldMap l i) (c .points) os bs (c .pieces) i outers f ≡ labelOf ms o i f
   label-at i zero b q = refl
@@ -178,38 +167,54 @@ module _ (l : Layers) (c : Cut) (os : List ℕ) (bs : List ℤ) (outers holes : 
       let r : f < count = omega arith in
       label-is i (getD outers f 0) b (outer-below f r) ∙ ap (λ (h : ℕ). labelIn (layer ms i) (net o) h (getD (sourcesOf o (h / 2)) i none)) (outer-at f r)
 
-  holes-at : (f : ℕ) → f < count + 1 → getD holes f 0 ≡ holesOf o f
+  -- in the table that is filled with them, the label of face f in map i
+  pub labels-are : (labels d : List ℕ) → labels ≡ filled (maps * (count + 1)) (labelCell l (c .points) os bs (c .pieces) outers) d →
+      (f : ℕ) → f < count + 1 → (i : ℕ) → i < maps → cell 0 maps labels f i ≡ labelOf (heldMaps l) (overlayIn (heldMaps l) c) i f
+  labels-are labels d e f q i b =
+      let j : ℕ = maps * f + i in
+      let row : j / maps ≡ f = omega arith in
+      let place : j % maps ≡ i = omega arith in
+      at labels (labelCell l (c .points) os bs (c .pieces) outers) (maps * (count + 1)) d e j (omega arith)
+      ∙ (λ k. faceLabel (heldMap l (place k)) (c .points) os bs (c .pieces) (place k) outers (row k)) ∙ label-at i f b q
+
+-- ── the rows of the faces ──
+
+module _ (l : Layers) (c : Cut) (os : List ℕ) (bs : List ℤ) (outers holes : List ℕ) (count : ℕ) (W : Whole l c os bs outers holes count) where
+  abbrev held : List Map
+  held = heldMaps l
+
+  abbrev drawn : Overlay
+  drawn = overlayIn (heldMaps l) c
+
+  pub holes-long : count + 1 ≤ length holes
+  holes-long =
+      let counts = table (holesOf drawn) (suc count) in
+      omega (arith, ap length (W .holes-is), length-append counts (replicate (suc halfRows - length counts) 0), length-table (holesOf drawn) (suc count))
+
+  holes-at : (f : ℕ) → f < count + 1 → getD holes f 0 ≡ holesOf drawn f
   holes-at f q =
-      ap (λ (x : List ℕ). getD x f 0) (W .holes-is) ∙ padded-at 0 (suc halfRows) f (table (holesOf o) (suc count)) 0 (omega (arith, length-table (holesOf o) (suc count)))
-      ∙ table-at (holesOf o) (suc count) f 0 (omega arith)
+      ap (λ (x : List ℕ). getD x f 0) (W .holes-is) ∙ padded-at 0 (suc halfRows) f (table (holesOf drawn) (suc count)) 0 (omega (arith, length-table (holesOf drawn) (suc count)))
+      ∙ table-at (holesOf drawn) (suc count) f 0 (omega arith)
 
   -- labels, and two columns, filled face by face
-  module _ (labels outer counts d₁ d₂ d₃ : List ℕ) (labels-are : labels ≡ filled (maps * (count + 1)) (labelCell l (c .points) os bs (c .pieces) outers) d₁)
+  module _ (labels outer counts d₁ d₂ d₃ : List ℕ) (labels-are-filled : labels ≡ filled (maps * (count + 1)) (labelCell l (c .points) os bs (c .pieces) outers) d₁)
       (outer-is : outer ≡ filled (count + 1) (outerOf outers) d₂) (counts-are : counts ≡ filled (count + 1) (λ f. getD holes f 0) d₃) where
-    at : (x : List ℕ) (g : ℕ → ℕ) (n : ℕ) (d : List ℕ) → x ≡ filled n g d → (f : ℕ) → f < n → getD x f 0 ≡ g f
-    at x g n d e f q = ap (λ (y : List ℕ). getD y f 0) e ∙ filled-at g n f d 0 q
-
-    counted : (f : ℕ) → f < count + 1 → getD counts f 0 ≡ holesOf o f
+    counted : (f : ℕ) → f < count + 1 → getD counts f 0 ≡ holesOf drawn f
     counted f q = at counts (λ x. getD holes x 0) (count + 1) d₃ counts-are f q ∙ holes-at f q
 
-    labelled : (f : ℕ) → f < count + 1 → (i : ℕ) → i < maps → cell 0 maps labels f i ≡ labelOf ms o i f
-    labelled f q i b =
-        let j : ℕ = maps * f + i in
-        let row : j / maps ≡ f = omega arith in
-        let place : j % maps ≡ i = omega arith in
-        at labels (labelCell l (c .points) os bs (c .pieces) outers) (maps * (count + 1)) d₁ labels-are j (omega arith)
-        ∙ (λ k. faceLabel (heldMap l (place k)) (c .points) os bs (c .pieces) (place k) outers (row k)) ∙ label-at i f b q
+    labelled : (f : ℕ) → f < count + 1 → (i : ℕ) → i < maps → cell 0 maps labels f i ≡ labelOf held drawn i f
+    labelled = labels-are l c os bs outers count (W .outlined) labels d₁ labels-are-filled
 
-    row-labels : (f : ℕ) → f < count + 1 → table (cell 0 maps labels f) maps ≡ table (λ i. labelOf ms o i f) maps
-    row-labels f q = table-ext (cell 0 maps labels f) (λ i. labelOf ms o i f) maps (labelled f q)
+    row-labels : (f : ℕ) → f < count + 1 → table (cell 0 maps labels f) maps ≡ table (λ i. labelOf held drawn i f) maps
+    row-labels f q = table-ext (cell 0 maps labels f) (λ i. labelOf held drawn i f) maps (labelled f q)
 
-    row-is : (f : ℕ) → f < count + 1 → faceBy labels outer counts f ≡ faceRow ms o f
+    row-is : (f : ℕ) → f < count + 1 → faceBy labels outer counts f ≡ faceRow held drawn f
     row-is zero q =
         let e = at outer (outerOf outers) (count + 1) d₂ outer-is 0 q in
         λ i. (row-labels 0 q ∙ table-const 0 maps ∙ ap (λ (n : ℕ). replicate n 0) (sym (held-count l))) i ++ (e i ∷ counted 0 q i ∷ [])
     row-is (suc f) q =
-        let e = at outer (outerOf outers) (count + 1) d₂ outer-is (suc f) q ∙ outer-at f (omega arith) in
-        λ i. (row-labels (suc f) q ∙ ap (table (λ i. labelOf ms o i (suc f))) (sym (held-count l))) i ++ (e i ∷ counted (suc f) q i ∷ [])
+        let e = at outer (outerOf outers) (count + 1) d₂ outer-is (suc f) q ∙ outer-at l c os bs outers count (W .outlined) f (omega arith) in
+        λ i. (row-labels (suc f) q ∙ ap (table (λ i. labelOf held drawn i (suc f))) (sym (held-count l))) i ++ (e i ∷ counted (suc f) q i ∷ [])
 
-    pub rows-are : rows (faceBy labels outer counts) (count + 1) ≡ rows (faceRow ms o) (count + 1)
-    rows-are = rows-ext (faceBy labels outer counts) (faceRow ms o) (count + 1) row-is
+    pub rows-are : rows (faceBy labels outer counts) (count + 1) ≡ rows (faceRow held drawn) (count + 1)
+    rows-are = rows-ext (faceBy labels outer counts) (faceRow held drawn) (count + 1) row-is

@@ -2,4 +2,5 @@
 mod label; // the labels of all faces in every map
 mod rows; // the rows of all faces
 
+pub use label::lay_labels;
 pub use rows::rows_in;

@@ -71,7 +71,7 @@ pub fn rows_in(
     counts: &mut [u16],
 )
     requires { ⌜ Whole (layersBy (now vstarts) (now estarts) (now corners) (now origins) (now carriers) (now labels)) (cutBy nv (now points) ne (now pieces)) (now ends) (now lines) (now outers) (now holes) count ⌝ ∗ ⌜ (maps * (count + 1) ≤ length (now triples)) × (count + 1 ≤ length (now outer)) × (count + 1 ≤ length (now counts)) ⌝ }
-    ensures { λ _. ⌜ rows (faceBy (now (triples .exit)) (now (outer .exit)) (now (counts .exit))) (count + 1) ≡ faceRows (layersBy (now (vstarts .entry)) (now (estarts .entry)) (now (corners .entry)) (now (origins .entry)) (now (carriers .entry)) (now (labels .entry))) (count + 1) ⌝ }
+    ensures { λ _. ⌜ rows (faceBy (now (triples .exit)) (now (outer .exit)) (now (counts .exit))) (count + 1) ≡ faceRows (layersBy (now (vstarts .entry)) (now (estarts .entry)) (now (corners .entry)) (now (origins .entry)) (now (carriers .entry)) (now (labels .entry))) (cutBy nv (now (points .entry)) ne (now (pieces .entry))) (count + 1) ⌝ }
 {
     let n = count + 1;
     lay_labels(

@@ -1,4 +1,4 @@
--- What the stages of tracing make of the overlay's vertices and edges: the tables of its graph, of its walks and of its faces. Each stage takes the equation that
+-- What the stages of tracing make of the points and pieces in tables: the tables of their graph, of its walks and of its faces. Each stage takes the equation that
 -- its function promises. Assumes nothing.
 use mathlib.Core.Path.{_≡_, refl, sym, _∙_, ap, subst}
 use Prim.Native.Nat.{_≤_, _<_}
@@ -7,38 +7,31 @@ use Rattle.seq.specs.Seq.{List, ℕ, suc, _*_, length, getD, replicate, table, 
 use Rattle.seq.specs.Filled.{filled-at, Holds}
 use Rattle.seq.specs.Laid.{length-laid}
 use Rattle.seq.specs.Wiped.{length-padded, padded-at, over-zeros}
-use Rattle.paper.specs.Limits.{overlayVertices, overlayEdges, absent}
+use Rattle.paper.specs.Limits.{overlayEdges, absent}
 use Rattle.paper.specs.Graph.{Graph, halfCount, follower, followers, leaves}
 use Rattle.paper.specs.Map.{Map}
-use Rattle.paper.specs.Pieces.{verticesOf, graphOf}
-use Rattle.paper.specs.Faces.{net, overlayOf, holesOf}
+use Rattle.paper.specs.Faces.{net, holesOf}
 use Rattle.paper.specs.Tables.{leastHalf}
 use Rattle.laws_graph.specs.Plane.{Plane}
 use Rattle.laws_graph.specs.Follow.{followers-length, followers-at, follower-below}
-use Rattle.laws_overlay.specs.Places.{places}
-use Rattle.laws_overlay.specs.NetPlane.{net-plane}
-use Rattle.graph.specs.Flat.{Numbers, Flat, flatGraph}
+use Rattle.graph.specs.Flat.{Points, Numbers, Flat, flatGraph}
 use Rattle.graph.specs.Laws.Decode.{flat-points, flat-halves, flat-origin}
 use Rattle.graph.specs.Places.{firstPlace}
 use Rattle.graph.specs.Laws.Firsts.{place-least, place-predecessor}
 use Rattle.graph_faces.specs.Linked.{halfRows, facesOf}
+use Rattle.overlay_cut.specs.Points.{points-by}
 use Rattle.overlay_cut.specs.Net.{endsOf, carrierIn, segRow}
 use Rattle.overlay_cut.specs.Laws.NetAre as NetAre
 use Rattle.overlay_cut.specs.Laws.NetBounds.{carriers-near}
 use Rattle.overlay_maps.specs.Held.{heldMaps, Held}
 use Rattle.overlay_maps.specs.Layers.{Layers}
-use Rattle.overlay_graph.specs.Laws.Standing.{keep, holds, starts, vertices-near}
-use Rattle.overlay_graph.specs.Cut.{Cut, CutOf}
+use Rattle.overlay_graph.specs.Laws.Standing.{holds, starts}
+use Rattle.overlay_graph.specs.Cut.{Cut, overlayIn, DrawableCut}
 use Rattle.overlay_graph.specs.Traced.{NetBy, FacesOver, FacesBy, PrevBy, LeastBy}
 
 -- ── the graph ──
 
--- the overlay's net is plane
-pub net-planar : (l : Layers) → Held l → (g : Graph) → g ≡ net (overlayOf (heldMaps l)) → Plane g
-unfolding overlayOf
-net-planar l H g q = subst Plane (sym q) (net-plane (heldMaps l) (keep l H) (verticesOf (heldMaps l)) (places (heldMaps l) (keep l H)))
-
-module _ (l : Layers) (H : Held l) (c : Cut) (C : CutOf (heldMaps l) c) (few-vertices : c .vertices ≤ overlayVertices) (few-edges : c .edges ≤ overlayEdges) (long : 4 * c .vertices ≤ length (c .points))
+module _ (l : Layers) (H : Held l) (c : Cut) (D : DrawableCut (heldMaps l) c)
     (os₀ : List ℕ) (bs₀ : List ℤ) (room-os : 2 * c .edges ≤ length os₀) (room-bs : 4 * c .edges ≤ length bs₀)
     (os : List ℕ) (bs : List ℤ) (o : os ≡ laid (c .edges) (endsOf (c .pieces)) os₀) (b : bs ≡ laid (c .edges) (λ k. segRow (carrierIn (c .pieces) (l .carriers) (l .edges) k)) bs₀) where
   abbrev n : ℕ
@@ -47,22 +40,30 @@ module _ (l : Layers) (H : Held l) (c : Cut) (C : CutOf (heldMaps l) c) (few-ver
   abbrev e : ℕ
   e = c .edges
 
-  net-is : flatGraph (c .points) os bs (c .vertices) (c .edges) ≡ net (overlayOf (heldMaps l))
-  unfolding overlayOf
-  net-is = NetAre.net-is (holds l H) (c .pieces) e os os₀ bs bs₀ o b (c .points) n ∙ (λ i. graphOf (heldMaps l) (C .vertices-are few-vertices i) (C .edges-are few-vertices few-edges i))
+  net-is : flatGraph (c .points) os bs (c .vertices) (c .edges) ≡ net (overlayIn (heldMaps l) c)
+  unfolding overlayIn
+  net-is = NetAre.net-is (holds l H) (c .pieces) e os os₀ bs bs₀ o b (c .points) n
+
+  planar : Plane (flatGraph (c .points) os bs n e)
+  planar = subst Plane (sym net-is) (D .drawable .plane)
 
   named : (h : ℕ) → h < 2 * e → getD os h 0 < n
   named h q =
-      omega (arith, flat-origin (c .points) os bs n e h q, flat-points (c .points) os bs n e, net-planar l H (flatGraph (c .points) os bs n e) net-is .starts h (omega (arith, flat-halves (c .points) os bs n e)))
+      omega (arith, flat-origin (c .points) os bs n e h q, flat-points (c .points) os bs n e, planar .starts h (omega (arith, flat-halves (c .points) os bs n e)))
+
+  -- its points are within 01's bounds
+  points-near : Points (c .points) (c .vertices)
+  unfolding overlayIn
+  points-near = points-by (c .points) n (D .points-long) (D .drawable .near)
 
   net-flat : Flat (c .points) os bs (c .vertices) (c .edges)
   net-flat = record {
-    points = vertices-near l H (c .points) n long (C .vertices-are few-vertices);
+    points = points-near;
     origins = record { long = omega (arith, ap length o ∙ length-laid 2 (endsOf (c .pieces)) (λ i. refl) e os₀ room-os, room-os); named = named };
     carriers = carriers-near (starts l H) (c .pieces) e bs bs₀ room-bs b;
   }
 
-  pub net-by : NetBy (overlayOf (heldMaps l)) c os bs
+  pub net-by : NetBy (overlayIn (heldMaps l) c) c os bs
   net-by = record { flat = net-flat; net-is = net-is }
 
 -- ── walks ──
@@ -100,43 +101,48 @@ module _ (ps : List ℤ) (os : List ℕ) (cs : List ℤ) (n e : ℕ) (P : Plane 
   pub least-is : (least d : List ℕ) → least ≡ filled n (firstPlace os (2 * e) absent) d → (v : ℕ) → v < n → getD least v 0 ≡ leastHalf (leaves g v) (halfCount g)
   least-is least d q v l = ap (λ (x : List ℕ). getD x v 0) q ∙ filled-at (firstPlace os (2 * e) absent) n v d 0 l ∙ place-least ps os cs n e v
 
--- ── the overlay's ──
+-- ── those of the points and pieces in c ──
 
-module _ (ms : List Map) (g : Graph) (q : g ≡ net (overlayOf ms)) where
-  walked : followers g ≡ overlayOf ms .walks .next
-  unfolding overlayOf
+module _ (ms : List Map) (c : Cut) (g : Graph) (q : g ≡ net (overlayIn ms c)) where
+  pub walked : followers g ≡ overlayIn ms c .walks .next
+  unfolding overlayIn
   walked = ap followers q
 
-  faced : facesOf g .face ≡ overlayOf ms .face
-  unfolding overlayOf
+  faced : facesOf g .face ≡ overlayIn ms c .face
+  unfolding overlayIn
   faced = ap (λ (x : Graph). facesOf x .face) q
 
-  outer : facesOf g .outers ≡ overlayOf ms .outers
-  unfolding overlayOf
+  outer : facesOf g .outers ≡ overlayIn ms c .outers
+  unfolding overlayIn
   outer = ap (λ (x : Graph). facesOf x .outers) q
 
-  holed : (k : ℕ) → table (holesOf (facesOf g)) k ≡ table (holesOf (overlayOf ms)) k
-  unfolding overlayOf
+  holed : (k : ℕ) → table (holesOf (facesOf g)) k ≡ table (holesOf (overlayIn ms c)) k
+  unfolding overlayIn
   holed k = ap (λ (x : Graph). table (holesOf (facesOf x)) k) q
 
-module _ (ms : List Map) (c : Cut) (os : List ℕ) (bs : List ℤ) (small : c .edges ≤ overlayEdges)
-    (P : Plane (flatGraph (c .points) os bs (c .vertices) (c .edges))) (q : flatGraph (c .points) os bs (c .vertices) (c .edges) ≡ net (overlayOf ms)) where
+module _ (ms : List Map) (c : Cut) (D : DrawableCut ms c) (os : List ℕ) (bs : List ℤ) (N : NetBy (overlayIn ms c) c os bs) where
   abbrev f : Graph
   f = flatGraph (c .points) os bs (c .vertices) (c .edges)
 
+  abbrev q : f ≡ net (overlayIn ms c)
+  q = N .net-is
+
+  pub net-planar : Plane (flatGraph (c .points) os bs (c .vertices) (c .edges))
+  net-planar = subst Plane (sym q) (D .drawable .plane)
+
   -- in tables that were zero
-  pub faces-by : (next face outers holes : List ℕ) (n : ℕ) → FacesOver (facesOf f) (replicate halfRows 0) (replicate halfRows 0) (replicate halfRows 0) (replicate (suc halfRows) 0) next face outers holes n
-      → FacesBy (overlayOf ms) next face outers holes n
+  pub faces-by : (next face outers holes : List ℕ) (n : ℕ) → FacesOver (facesOf (flatGraph (c .points) os bs (c .vertices) (c .edges))) (replicate halfRows 0) (replicate halfRows 0) (replicate halfRows 0) (replicate (suc halfRows) 0) next face outers holes n
+      → FacesBy (overlayIn ms c) next face outers holes n
   faces-by next face outers holes n A = record {
-    next-is = A .next-is ∙ over-zeros 0 halfRows (followers f) ∙ ap (padded 0 halfRows) (walked ms f q);
-    face-is = A .face-is ∙ over-zeros 0 halfRows (facesOf f .face) ∙ ap (padded 0 halfRows) (faced ms f q);
-    outers-is = A .outers-is ∙ over-zeros 0 halfRows (facesOf f .outers) ∙ ap (padded 0 halfRows) (outer ms f q);
-    count-is = A .count-is ∙ ap length (outer ms f q);
-    holes-is = A .holes-is ∙ over-zeros 0 (suc halfRows) (table (holesOf (facesOf f)) (suc n)) ∙ ap (padded 0 (suc halfRows)) (holed ms f q (suc n));
+    next-is = A .next-is ∙ over-zeros 0 halfRows (followers f) ∙ ap (padded 0 halfRows) (walked ms c f q);
+    face-is = A .face-is ∙ over-zeros 0 halfRows (facesOf f .face) ∙ ap (padded 0 halfRows) (faced ms c f q);
+    outers-is = A .outers-is ∙ over-zeros 0 halfRows (facesOf f .outers) ∙ ap (padded 0 halfRows) (outer ms c f q);
+    count-is = A .count-is ∙ ap length (outer ms c f q);
+    holes-is = A .holes-is ∙ over-zeros 0 (suc halfRows) (table (holesOf (facesOf f)) (suc n)) ∙ ap (padded 0 (suc halfRows)) (holed ms c f q (suc n));
   }
 
-  pub prev-of : (next : List ℕ) → next ≡ padded 0 halfRows (followers f) → (prev d : List ℕ) → prev ≡ filled (2 * c .edges) (firstPlace next (2 * c .edges) absent) d → PrevBy (overlayOf ms) c prev
-  prev-of next is prev d p h b = prev-is (c .points) os bs (c .vertices) (c .edges) P small next is prev d p h b ∙ ap (position h) (walked ms f q)
+  pub prev-of : (next : List ℕ) → next ≡ padded 0 halfRows (followers (flatGraph (c .points) os bs (c .vertices) (c .edges))) → (prev d : List ℕ) → prev ≡ filled (2 * c .edges) (firstPlace next (2 * c .edges) absent) d → PrevBy (overlayIn ms c) c prev
+  prev-of next is prev d p h b = prev-is (c .points) os bs (c .vertices) (c .edges) net-planar (D .few-edges) next is prev d p h b ∙ ap (position h) (walked ms c f q)
 
-  pub least-of : (least d : List ℕ) → least ≡ filled (c .vertices) (firstPlace os (2 * c .edges) absent) d → LeastBy (overlayOf ms) c least
-  least-of least d l v b = least-is (c .points) os bs (c .vertices) (c .edges) P small least d l v b ∙ ap (λ (x : Graph). leastHalf (leaves x v) (halfCount x)) q
+  pub least-of : (least d : List ℕ) → least ≡ filled (c .vertices) (firstPlace os (2 * c .edges) absent) d → LeastBy (overlayIn ms c) c least
+  least-of least d l v b = least-is (c .points) os bs (c .vertices) (c .edges) net-planar (D .few-edges) least d l v b ∙ ap (λ (x : Graph). leastHalf (leaves x v) (halfCount x)) q

@@ -33,23 +33,16 @@ abbrev lent : tie.Start → Lengths
 lent s = let a = s .args in lengthsOf (tablesBy (now (a .vertices)) (now (a .halves)) (now (a .sources)) (now (a .faces)))
 
 few : (s : tie.Start) → s .args .nv ≤ overlayVertices
-few s = omega (arith, s .pre .1 .1 .0 .0 .vertices)
+few s = s .pre .1 .0 .few-vertices
 
 short : (s : tie.Start) → s .args .ne ≤ overlayEdges
-short s = omega (arith, s .pre .1 .1 .0 .0 .edges)
+short s = s .pre .1 .0 .few-edges
 
 whole : (s : tie.Start) → Whole (L s) (C s) (now (s .args .ends)) (now (s .args .lines)) (now (s .args .outers)) (now (s .args .holes)) (s .args .count)
 whole s =
     let F = s .pre .1 .1 .1 .0 .1 in
     record {
-      held = s .pre .0;
-      cut = s .pre .1 .0;
-      few-vertices = few s;
-      few-edges = short s;
-      pieces-long = s .pre .1 .1 .0 .1;
-      net-by = s .pre .1 .1 .1 .0 .0;
-      outers-is = F .outers-is;
-      count-is = F .count-is;
+      outlined = record { held = s .pre .0; cut = s .pre .1 .0; net-by = s .pre .1 .1 .1 .0 .0; outers-is = F .outers-is; count-is = F .count-is };
       holes-is = F .holes-is;
     }
 
@@ -65,7 +58,7 @@ first-places-requires : tie.Need-first-places-requires
 first-places-requires c κs =
     let s = begun (c .before) in
     let a = s .args in (
-      next-named (L s) (s .pre .0) (C s) (short s) (now (a .ends)) (now (a .lines)) (s .pre .1 .1 .1 .0 .0) (now (a .next)) (now (a .face)) (now (a .outers)) (now (a .holes)) (a .count) (s .pre .1 .1 .1 .0 .1),
+      next-named (heldMaps (L s)) (C s) (s .pre .1 .0) (now (a .ends)) (now (a .lines)) (s .pre .1 .1 .1 .0 .0) (now (a .next)) (now (a .face)) (now (a .outers)) (now (a .holes)) (a .count) (s .pre .1 .1 .1 .0 .1),
       (omega (arith, short s), omega (arith, short s)),
     )
 
@@ -96,7 +89,7 @@ cast-f c = omega (arith, begun (c .before .before .before .before .before .befor
 store-vertices-requires : tie.Need-store-vertices-requires
 store-vertices-requires c κs =
     let s = begun (c .before .before .before .before .before .before .before .before .before .before .before .before .before .before .before) in
-    (omega (arith, s .pre .1 .1 .0 .0 .vertices), s .pre .1 .1 .1 .0 .0 .flat .points .long, omega (arith, few s, c .before .before .before .before .before .before .before .before .before .before .first-places2 .kept .1 .1 .1 .0))
+    (omega (arith, s .pre .1 .1 .0 .vertices), s .pre .1 .1 .1 .0 .0 .flat .points .long, omega (arith, few s, c .before .before .before .before .before .before .before .before .before .before .first-places2 .kept .1 .1 .1 .0))
 
 store-halves-requires : tie.Need-store-halves-requires
 store-halves-requires c κs =
@@ -104,18 +97,18 @@ store-halves-requires c κs =
     let a = s .args in
     let N = s .pre .1 .1 .1 .0 .0 in
     let F = s .pre .1 .1 .1 .0 .1 in
-    let n = next-named (L s) (s .pre .0) (C s) (short s) (now (a .ends)) (now (a .lines)) N (now (a .next)) (now (a .face)) (now (a .outers)) (now (a .holes)) (a .count) F .long in
+    let n = next-named (heldMaps (L s)) (C s) (s .pre .1 .0) (now (a .ends)) (now (a .lines)) N (now (a .next)) (now (a .face)) (now (a .outers)) (now (a .holes)) (a .count) F .long in
     let q = c .before .before .before .before .before .before .before .before .before .before .before .before .before .before .before .before .before .first-places .kept .1 .1 .1 .0 in (
       short s,
-      omega (arith, s .pre .1 .1 .0 .0 .edges),
+      omega (arith, s .pre .1 .1 .0 .edges),
       N .flat .origins .long,
       omega (arith, n, q, short s),
       omega (arith, n, q, short s),
-      face-long (L s) (s .pre .0) (C s) (short s) (now (a .ends)) (now (a .lines)) N (now (a .next)) (now (a .face)) (now (a .outers)) (now (a .holes)) (a .count) F,
+      face-long (heldMaps (L s)) (C s) (s .pre .1 .0) (now (a .ends)) (now (a .lines)) N (now (a .next)) (now (a .face)) (now (a .outers)) (now (a .holes)) (a .count) F,
     )
 
 store-sources-requires : tie.Need-store-sources-requires
-store-sources-requires c κs = let s = begun (c .before .before .before .before .before .before .before .before .before .before .before .before .before .before .before .before .before .before .before .before .before .before .before) in (omega (arith, s .pre .1 .1 .0 .0 .edges), s .pre .1 .1 .0 .1)
+store-sources-requires c κs = let s = begun (c .before .before .before .before .before .before .before .before .before .before .before .before .before .before .before .before .before .before .before .before .before .before .before) in (omega (arith, s .pre .1 .1 .0 .edges), s .pre .1 .0 .pieces-long)
 
 store-faces-requires : tie.Need-store-faces-requires
 store-faces-requires c κs =
@@ -154,8 +147,8 @@ module _ (c : tie.After-rows-in) where
       record {
         net-by = N;
         faces-by = F;
-        prev-is = prev-by (L s) (s .pre .0) (C s) (short s) (now (a .ends)) (now (a .lines)) N (now (a .next)) (now (a .face)) (now (a .outers)) (now (a .holes)) (a .count) F _ _ (c .before .before .before .before .before .before .before .before .first-places .ensures);
-        least-is = least-by (L s) (s .pre .0) (C s) (short s) (now (a .ends)) (now (a .lines)) N _ _ (c .before .before .before .before .before .first-places2 .ensures);
+        prev-is = prev-by (heldMaps (L s)) (C s) (s .pre .1 .0) (now (a .ends)) (now (a .lines)) N (now (a .next)) (now (a .face)) (now (a .outers)) (now (a .holes)) (a .count) F _ _ (c .before .before .before .before .before .before .before .before .first-places .ensures);
+        least-is = least-by (heldMaps (L s)) (C s) (s .pre .1 .0) (now (a .ends)) (now (a .lines)) N _ _ (c .before .before .before .before .before .first-places2 .ensures);
       }
 
 returns : tie.Need-returns
@@ -164,8 +157,8 @@ returns c =
     let k = s r in
     let x = r .rows-in .last in
     let ms = heldMaps (L k) in
-    let counted = counts-are ms (C k) (k .pre .1 .0) (few k) (short k) (T r) (traced r) (x .1 .1 .1 .1 .1 .1 .1 .1 .1 .1 .1 .1 .1 .1 .1 .0) (x .1 .1 .1 .1 .1 .1 .1 .1 .1 .1 .1 .1 .1 .1 .1 .1 .0) (x .1 .1 .1 .1 .1 .1 .1 .1 .1 .1 .1 .1 .1 .1 .1 .1 .1 .0) (r .rows-in .ensures) in
-    let stored = stored-is ms (C k) (k .pre .1 .0) (few k) (short k) (T r) (traced r) (x .1 .1 .1 .1 .1 .1 .1 .1 .1 .1 .1 .1 .1 .1 .1 .0) (x .1 .1 .1 .1 .1 .1 .1 .1 .1 .1 .1 .1 .1 .1 .1 .1 .0) (x .1 .1 .1 .1 .1 .1 .1 .1 .1 .1 .1 .1 .1 .1 .1 .1 .1 .0) (r .rows-in .ensures) in
+    let counted = counts-are ms (C k) (T r) (traced r) (x .1 .1 .1 .1 .1 .1 .1 .1 .1 .1 .1 .1 .1 .1 .1 .0) (x .1 .1 .1 .1 .1 .1 .1 .1 .1 .1 .1 .1 .1 .1 .1 .1 .0) (x .1 .1 .1 .1 .1 .1 .1 .1 .1 .1 .1 .1 .1 .1 .1 .1 .1 .0) (r .rows-in .ensures) in
+    let stored = stored-is ms (C k) (T r) (traced r) (x .1 .1 .1 .1 .1 .1 .1 .1 .1 .1 .1 .1 .1 .1 .1 .0) (x .1 .1 .1 .1 .1 .1 .1 .1 .1 .1 .1 .1 .1 .1 .1 .1 .0) (x .1 .1 .1 .1 .1 .1 .1 .1 .1 .1 .1 .1 .1 .1 .1 .1 .1 .0) (r .rows-in .ensures) in
     λ i. record {
       answer = done (counted i);
       tables = ((λ j. tablesBy (c .before .before .before .before .before .before .before .before .before .before .before .before .before .before .before .before .before .store-vertices .ensures j) (c .before .before .before .before .before .before .before .before .before .before .before .before .before .store-halves .ensures j) (c .before .before .before .before .before .before .before .before .before .store-sources .ensures j) (c .before .before .store-faces .ensures j)) ∙ ap (paddedTables (lent k)) stored) i;

@@ -5,9 +5,8 @@ use native.Mathlib.Omega.{arith}
 use borrow.Author.Needs.{needs}
 use denote.Ref.{now}
 use Rattle.seq.specs.Seq.{List, ℕ, suc, replicate, ℤ}
-use Rattle.paper.specs.Limits.{overlayVertices, overlayEdges}
+use Rattle.paper.specs.Limits.{overlayEdges}
 use Rattle.paper.specs.Map.{Map}
-use Rattle.paper.specs.Faces.{overlayOf}
 use Rattle.paper.specs.Tables.{Counts}
 use Rattle.paper.specs.Lent.{Lengths, lengthsOf}
 use Rattle.laws_graph.specs.Plane.{Plane}
@@ -16,7 +15,7 @@ use Rattle.graph_faces.specs.Linked.{halfRows, facesOf}
 use Rattle.tables.specs.Values.{tablesBy}
 use Rattle.overlay_maps.specs.Layers.{Layers, layersBy}
 use Rattle.overlay_maps.specs.Held.{heldMaps}
-use Rattle.overlay_graph.specs.Cut.{Cut, cutBy}
+use Rattle.overlay_graph.specs.Cut.{Cut, cutBy, overlayIn}
 use Rattle.overlay_graph.specs.Traced.{NetBy, FacesOver, FacesBy}
 use Rattle.overlay_graph.specs.Laws.Tracing.{net-planar, faces-by}
 use Rattle.overlay.proofs.JudgeLaws.{faces-refused, all-within}
@@ -38,19 +37,16 @@ module _ (s : tie.Start) where
   abbrev lent : Lengths
   lent = let a = s .args in lengthsOf (tablesBy (now (a .vertices)) (now (a .halves)) (now (a .sources)) (now (a .faces)))
 
-  few : k .vertices ≤ overlayVertices
-  few = omega (arith, s .pre .1 .1 .0 .vertices)
-
   short : k .edges ≤ overlayEdges
-  short = omega (arith, s .pre .1 .1 .0 .edges)
+  short = s .pre .1 .0 .few-edges
 
-  module _ (os : List ℕ) (bs : List ℤ) (N : NetBy (overlayOf ms) k os bs) where
+  module _ (os : List ℕ) (bs : List ℤ) (N : NetBy (overlayIn ms k) k os bs) where
     planar : Plane (flatGraph (k .points) os bs (k .vertices) (k .edges))
-    planar = net-planar l (s .pre .0) (flatGraph (k .points) os bs (k .vertices) (k .edges)) (N .net-is)
+    planar = net-planar ms k (s .pre .1 .0) os bs N
 
     -- followers and faces, in tables that were zero
-    faced : (next face outers holes : List ℕ) (n : ℕ) → FacesOver (facesOf (flatGraph (k .points) os bs (k .vertices) (k .edges))) (replicate halfRows 0) (replicate halfRows 0) (replicate halfRows 0) (replicate (suc halfRows) 0) next face outers holes n → FacesBy (overlayOf ms) next face outers holes n
-    faced next face outers holes n A = faces-by ms k os bs short planar (N .net-is) next face outers holes n A
+    faced : (next face outers holes : List ℕ) (n : ℕ) → FacesOver (facesOf (flatGraph (k .points) os bs (k .vertices) (k .edges))) (replicate halfRows 0) (replicate halfRows 0) (replicate halfRows 0) (replicate (suc halfRows) 0) next face outers holes n → FacesBy (overlayIn ms k) next face outers holes n
+    faced = faces-by ms k (s .pre .1 .0) os bs N
 
 -- ── the needs ──
 
@@ -58,14 +54,14 @@ lay-net-requires : tie.Need-lay-net-requires
 lay-net-requires c κs =
     let s = c .before .before .before .before .before .before .before .before .before .before in
     let p = s .pre in
-    (p .0, (p .1 .0, ((few s, short s), ((p .1 .1 .1 .0, p .1 .1 .1 .1), (omega (arith, short s), omega (arith, short s))))))
+    (p .0, (p .1 .0, (omega (arith, short s), omega (arith, short s))))
 
 walk-net-requires : tie.Need-walk-net-requires
 walk-net-requires c κs =
     let s = c .before .before .before .before .before .before .before .before .before .before .before .before .before .before .before .before .before .before .before in
     let b = c .before .before .before .before .before .before .before .before .lay-net in (
       b .ensures .flat,
-      ((few s, short s), (planar s (b .last .1 .1 .1 .1 .1 .1 .1 .1 .1 .1 .0) (b .last .1 .1 .1 .1 .1 .1 .1 .1 .1 .1 .1 .0) (b .ensures), (omega (arith, short s), omega (arith, short s), omega (arith, short s), omega (arith, short s)))),
+      ((s .pre .1 .0 .few-vertices, short s), (planar s (b .last .1 .1 .1 .1 .1 .1 .1 .1 .1 .1 .0) (b .last .1 .1 .1 .1 .1 .1 .1 .1 .1 .1 .1 .0) (b .ensures), (omega (arith, short s), omega (arith, short s), omega (arith, short s), omega (arith, short s)))),
     )
 
 fill-requires : tie.Need-fill-requires
@@ -76,7 +72,7 @@ fill-requires c κs =
     let w = c .before .before .before .before .before .before .before .before .before .before .before .before .before .before .before .before .before .walk-net in
     let room = ap (λ (n : Counts). n .faces) (c .before .before .before .before .before .before .before .before .before .before .before .before .room-in .ensures) in
     let f = faced s (b .last .1 .1 .1 .1 .1 .1 .1 .1 .1 .1 .0) (b .last .1 .1 .1 .1 .1 .1 .1 .1 .1 .1 .1 .0) (b .ensures) (w .last .1 .1 .1 .1 .1 .0) (w .last .1 .1 .1 .1 .1 .1 .0) (w .last .1 .1 .1 .1 .1 .1 .1 .0) (w .last .1 .1 .1 .1 .1 .1 .1 .1 .0) (w .result) (w .ensures) in
-    (p .0, (p .1 .0, ((p .1 .1 .0, p .1 .1 .1 .1), ((b .ensures, f), omega (arith, room, c .before .before .before .before .before .before .before .before .before .before .if1)))))
+    (p .0, (p .1 .0, (p .1 .1, ((b .ensures, f), omega (arith, room, c .before .before .before .before .before .before .before .before .before .before .if1)))))
 
 same-length : tie.Need-same-length
 same-length c = c .before .before .before .before .before .before .before .refuse .kept .1 .0
@@ -97,7 +93,7 @@ returns c =
     let w = c .before .before .before .before .before .before .before .before .before .before .before .before .before .before .before .before .before .before .before .walk-net in
     let room = ap (λ (n : Counts). n .faces) (c .before .before .before .before .before .before .before .before .before .before .before .before .before .before .room-in .ensures) in
     let f = faced s (b .last .1 .1 .1 .1 .1 .1 .1 .1 .1 .1 .0) (b .last .1 .1 .1 .1 .1 .1 .1 .1 .1 .1 .1 .0) (b .ensures) (w .last .1 .1 .1 .1 .1 .0) (w .last .1 .1 .1 .1 .1 .1 .0) (w .last .1 .1 .1 .1 .1 .1 .1 .0) (w .last .1 .1 .1 .1 .1 .1 .1 .1 .0) (w .result) (w .ensures) in
-    c .before .before .before .before .before .before .before .refuse .ensures ∙ faces-refused (ms s) (k s) (s .pre .1 .0) (lent s) (s .pre .1 .1 .0) (w .result) (f .count-is) (omega (arith, room, c .before .before .before .before .before .before .before .before .before .before .before .before .if1))
+    c .before .before .before .before .before .before .before .refuse .ensures ∙ faces-refused (ms s) (k s) (lent s) (s .pre .1 .1) (w .result) (f .count-is) (omega (arith, room, c .before .before .before .before .before .before .before .before .before .before .before .before .if1))
 
 same-length-5 : tie.Need-same-length-5
 same-length-5 c = c .before .before .before .before .before .before .before .fill .kept .1 .1 .1 .1 .1 .1 .1 .1 .1 .1 .1 .1 .1 .1 .1 .1 .1 .0
@@ -118,7 +114,7 @@ returns-2 c =
     let w = c .before .before .before .before .before .before .before .before .before .before .before .before .before .before .before .before .before .before .before .before .before .before .before .before .before .walk-net in
     let room = ap (λ (n : Counts). n .faces) (c .before .before .before .before .before .before .before .before .before .before .before .before .before .before .before .before .before .before .before .before .room-in .ensures) in
     let f = faced s (b .last .1 .1 .1 .1 .1 .1 .1 .1 .1 .1 .0) (b .last .1 .1 .1 .1 .1 .1 .1 .1 .1 .1 .1 .0) (b .ensures) (w .last .1 .1 .1 .1 .1 .0) (w .last .1 .1 .1 .1 .1 .1 .0) (w .last .1 .1 .1 .1 .1 .1 .1 .0) (w .last .1 .1 .1 .1 .1 .1 .1 .1 .0) (w .result) (w .ensures) in
-    c .before .before .before .before .before .before .before .fill .ensures ∙ all-within (ms s) (k s) (s .pre .1 .0) (lent s) (s .pre .1 .1 .0) (w .result) (f .count-is) (omega (arith, room, c .before .before .before .before .before .before .before .before .before .before .before .before .before .before .before .before .before .before .if1))
+    c .before .before .before .before .before .before .before .fill .ensures ∙ all-within (ms s) (k s) (lent s) (s .pre .1 .1) (w .result) (f .count-is) (omega (arith, room, c .before .before .before .before .before .before .before .before .before .before .before .before .before .before .before .before .before .before .if1))
 
 pub from-cut-spec : {M : Type 1} → statement M
 from-cut-spec =

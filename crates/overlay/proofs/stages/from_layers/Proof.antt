@@ -7,21 +7,27 @@ use Rattle.seq.specs.Seq.{List, [], _∷_, ltb}
 use Rattle.paper.specs.Limits.{maps}
 use Rattle.paper.specs.Refusal.{given, firstOf}
 use Rattle.paper.specs.Map.{Map}
+use Rattle.paper.specs.Faces.{Overlay}
 use Rattle.paper.specs.Tables.{Counts}
 use Rattle.paper.specs.Lent.{Lengths, lengthsOf, roomIn}
 use Rattle.map_file.specs.Verdict.{verdict}
 use Rattle.tables.specs.Values.{tablesBy}
-use Rattle.overlay_maps.specs.Layers.{layersBy}
+use Rattle.overlay_maps.specs.Layers.{Layers, layersBy}
 use Rattle.overlay_maps.specs.Held.{heldMaps}
 use Rattle.overlay_graph.specs.declared.cutting.CutCounts.{CutCounts}
+use Rattle.overlay_graph.specs.Laws.Drawing.{overlay-in, cut-drawable}
+use Rattle.overlay.specs.Judged.{laidOut}
 use Rattle.overlay.proofs.JudgeLaws.{cut-refused, cut-within}
 use Rattle.overlay.proofs.stages.from_layers.Statement.{statement}
 use Rattle.overlay.proofs.stages.from_layers.Tie as tie
 
 -- ── what is known ──
 
+abbrev L : tie.Start → Layers
+L s = let a = s .args in layersBy (a .vstarts .now) (a .estarts .now) (a .corners .now) (a .origins .now) (a .carriers .now) (a .labels .now)
+
 abbrev ms : tie.Start → List Map
-ms s = let a = s .args in heldMaps (layersBy (a .vstarts .now) (a .estarts .now) (a .corners .now) (a .origins .now) (a .carriers .now) (a .labels .now))
+ms s = heldMaps (L s)
 
 abbrev lent : tie.Start → Lengths
 lent s = let a = s .args in lengthsOf (tablesBy (now (a .vertices)) (now (a .halves)) (now (a .sources)) (now (a .faces)))
@@ -49,7 +55,7 @@ from-cut-requires c κs =
     let s = c .before .before .before .before .before .before .before .before .before .before .before .before .before .before .before .before .before .before .before .before .before .before in
     let k = c .before .before .before .before .before .before .before .before .before .before .before .before .cut-maps in
     let w = cut-within (ms s) _ (k .ensures) (lent s) (sym (judged (c .before .before .before .before .before .before .before .before)) ∙ ap verdict (c .before .before .before .before .before .before .enum-told .given .1)) in
-    (s .pre, (k .ensures, (w, (omega (arith, w .vertices, k .kept .1 .1 .1 .1 .1 .1 .0), omega (arith, w .edges, k .kept .1 .1 .1 .1 .1 .1 .1 .0)))))
+    (s .pre, (cut-drawable (L s) (s .pre) _ (k .ensures) (omega (arith, w .vertices)) (omega (arith, w .edges)) (omega (arith, w .vertices, k .kept .1 .1 .1 .1 .1 .1 .0)) (omega (arith, w .edges, k .kept .1 .1 .1 .1 .1 .1 .1 .0)), w))
 
 same-length : tie.Need-same-length
 same-length c = c .before .before .before .before .before .before .before .refuse .kept .1 .0
@@ -81,7 +87,11 @@ same-length-8 : tie.Need-same-length-8
 same-length-8 c = c .before .before .before .before .before .before .before .from-cut .kept .1 .1 .1 .1 .1 .1 .1 .1 .1 .1 .1 .1 .1 .0
 
 returns-2 : tie.Need-returns-2
-returns-2 c = c .before .before .before .before .before .before .before .from-cut .ensures
+returns-2 c =
+    let s = c .before .before .before .before .before .before .before .before .before .before .before .before .before .before .before .before .before .before .before .before .before .before .before .before .before .before .before .before .before .before in
+    let k = c .before .before .before .before .before .before .before .before .before .before .before .before .before .before .before .before .before .before .before .before .cut-maps in
+    let w = cut-within (ms s) _ (k .ensures) (lent s) (sym (judged (c .before .before .before .before .before .before .before .before .before .before .before .before .before .before .before .before)) ∙ ap verdict (c .before .before .before .before .before .before .before .before .before .before .before .before .before .before .enum-told .given .1)) in
+    c .before .before .before .before .before .before .before .from-cut .ensures ∙ ap (λ (o : Overlay). laidOut (ms s) o (lent s)) (overlay-in (ms s) _ (k .ensures) (omega (arith, w .vertices)) (omega (arith, w .edges)))
 
 pub from-layers-spec : {M : Type 1} → statement M
 from-layers-spec =

@@ -15,7 +15,7 @@ l s = layersBy (s .args .vertices .now) (s .args .edges .now) (s .args .corners 
 carriers-requires : tie.Need-carriers-requires
 carriers-requires c κs =
     let s = c .before .before .before .before .before .before .before .before .before .before .before in
-    (s .pre .1 .1 .1 .0 .1, (starts (l s) (s .pre .0), s .pre .1 .1 .1 .1 .1))
+    (s .pre .1 .0 .pieces-long, (starts (l s) (s .pre .0), s .pre .1 .1 .1))
 
 returns : tie.Need-returns
 returns c =
@@ -24,7 +24,7 @@ returns c =
     let p = s .pre in
     let o = c .before .before .before .before .before .origins in
     let b = c .before .carriers in
-    net-by (l s) (p .0) (cutBy (a .n) (a .points .now) (a .e) (a .pieces .now)) (p .1 .0) (p .1 .1 .0 .0) (p .1 .1 .0 .1) (p .1 .1 .1 .0 .0) (now (a .ends)) (now (a .lines)) (p .1 .1 .1 .1 .0) (p .1 .1 .1 .1 .1)
+    net-by (l s) (p .0) (cutBy (a .n) (a .points .now) (a .e) (a .pieces .now)) (p .1 .0) (now (a .ends)) (now (a .lines)) (p .1 .1 .0) (p .1 .1 .1)
     (o .last .1 .1 .0) (b .last .1 .1 .1 .1 .0) (o .ensures) (b .ensures)
 
 pub lay-net-spec : {M : Type 1} → statement M

@@ -21,14 +21,14 @@ lay-labels-requires : tie.Need-lay-labels-requires
 lay-labels-requires c κs =
     let s = c .before .before .before .before .before .before .before .before .before .before .before .before in
     let a = s .args in
-    let W = s .pre .0 in
-    (W .held, (readable (L s) (C s) (now (a .ends)) (now (a .lines)) (now (a .outers)) (now (a .holes)) (a .count) W, s .pre .1 .0))
+    let O = s .pre .0 .outlined in
+    (O .held, (readable (L s) (C s) (now (a .ends)) (now (a .lines)) (now (a .outers)) (a .count) O, s .pre .1 .0))
 
 lay-outers-requires : tie.Need-lay-outers-requires
 lay-outers-requires c κs =
     let s = c .before .before .before .before .before .before .before .before .before .before .before .before .before .before .before .before in
     let a = s .args in
-    (omega (arith, outers-long (L s) (C s) (now (a .ends)) (now (a .lines)) (now (a .outers)) (now (a .holes)) (a .count) (s .pre .0)), s .pre .1 .1)
+    (omega (arith, outers-long (L s) (C s) (now (a .ends)) (now (a .lines)) (now (a .outers)) (a .count) (s .pre .0 .outlined)), s .pre .1 .1)
 
 lay-holes-requires : tie.Need-lay-holes-requires
 lay-holes-requires c κs =
