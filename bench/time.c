@@ -1,5 +1,5 @@
-/* time FOLDER...: for each sheet the seconds of one overlay by the plain C and by the proved library, and their ratio. Both fill the same tables of full size, with the third map empty;
- * no table is cleared before. The two take turns, each for a tenth of a second at least, five times; the least time of each counts. */
+/* time FOLDER...: for each sheet the seconds of one overlay by the plain C and by the proved library, the plain way and by the sweep, and the ratio of each to the plain C. All fill the
+ * same tables of full size, with the third map empty; no table is cleared before. They take turns, each for a tenth of a second at least, five times; the least time of each counts. */
 #include <stdio.h>
 #include <string.h>
 #include <time.h>
@@ -32,13 +32,23 @@ static void plain(void)
     counted[0] = a.vertices, counted[1] = a.edges, counted[2] = a.faces;
 }
 
-static void proved(void)
+static void proved(unsigned way)
 {
-    bonnetewe_answer a = bonnetewe_overlay(zones.bytes, zones.length, blocks.bytes, blocks.length, bonnetewe_empty,
-                                           sizeof bonnetewe_empty, vertices, BONNETEWE_VERTEX_CELLS, halves,
-                                           BONNETEWE_HALF_CELLS, sources, BONNETEWE_SOURCE_CELLS, faces, BONNETEWE_FACE_CELLS);
+    bonnetewe_answer a = bonnetewe_overlay_by(way, zones.bytes, zones.length, blocks.bytes, blocks.length, bonnetewe_empty,
+                                              sizeof bonnetewe_empty, vertices, BONNETEWE_VERTEX_CELLS, halves,
+                                              BONNETEWE_HALF_CELLS, sources, BONNETEWE_SOURCE_CELLS, faces, BONNETEWE_FACE_CELLS);
 
     counted[0] = bonnetewe_vertices(a), counted[1] = bonnetewe_edges(a), counted[2] = bonnetewe_faces(a);
+}
+
+static void proved_plain(void)
+{
+    proved(BONNETEWE_PLAIN);
+}
+
+static void proved_swept(void)
+{
+    proved(BONNETEWE_SWEPT);
 }
 
 /* The seconds of one run. */
@@ -57,20 +67,22 @@ static double once(void (*run)(void))
 
 int main(int count, char **words)
 {
-    printf("%-12s %8s %6s %6s %14s %14s %7s\n", "sheet", "vertices", "edges", "faces", "plain C", "proved", "ratio");
+    void (*const runs[3])(void) = { plain, proved_plain, proved_swept };
+
+    printf("%-12s %8s %6s %6s %14s %14s %14s %7s %7s\n", "sheet", "vertices", "edges", "faces", "plain C", "proved, plain", "proved, swept", "ratio", "ratio");
     for (int i = 1; i < count; i++) {
-        double a = 1e9, b = 1e9;
+        double least[3] = { 1e9, 1e9, 1e9 };
         char *name = strrchr(words[i], '/');
 
         load_sheet(words[i], &zones, &blocks);
-        for (int turn = 0; turn < 5; turn++) {
-            double p = once(plain), q = once(proved);
+        for (int turn = 0; turn < 5; turn++)
+            for (int k = 0; k < 3; k++) {
+                double t = once(runs[k]);
 
-            a = p < a ? p : a;
-            b = q < b ? q : b;
-        }
-        printf("%-12s %8u %6u %6u %12.9f s %12.9f s %7.2f\n", name ? name + 1 : words[i], counted[0], counted[1], counted[2], a, b,
-               b / a);
+                least[k] = t < least[k] ? t : least[k];
+            }
+        printf("%-12s %8u %6u %6u %12.9f s %12.9f s %12.9f s %7.2f %7.2f\n", name ? name + 1 : words[i], counted[0], counted[1], counted[2],
+               least[0], least[1], least[2], least[1] / least[0], least[2] / least[0]);
     }
     return 0;
 }

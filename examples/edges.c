@@ -79,6 +79,8 @@ static int nothing(void)
 {
     return bonnetewe_number(bonnetewe_check(NULL, 0)) == 1 &&
            bonnetewe_number(bonnetewe_overlay(NULL, 0, NULL, 0, NULL, 0, NULL, 0, NULL, 0, NULL, 0, NULL, 0)) == 1 &&
+           bonnetewe_number(bonnetewe_overlay_by(BONNETEWE_PLAIN, NULL, 0, NULL, 0, NULL, 0, NULL, 0, NULL, 0, NULL, 0, NULL, 0)) == 1 &&
+           bonnetewe_number(bonnetewe_overlay_by(BONNETEWE_SWEPT, NULL, 0, NULL, 0, NULL, 0, NULL, 0, NULL, 0, NULL, 0, NULL, 0)) == 1 &&
            bonnetewe_number(bonnetewe_read(NULL, 0, NULL, 0, NULL, 0, NULL, 0, NULL, 0)) == 1 &&
            bonnetewe_number(bonnetewe_write(1, 0, 0, NULL, 0, NULL, 0, NULL, 0, NULL, 0, NULL, 0)) == 3 &&
            bonnetewe_edge_ends(NULL, 0, NULL, 0, 0) == 0 && bonnetewe_edge_sources(NULL, 0, NULL, 0, 0) == 0;

@@ -217,6 +217,15 @@ bonnetewe_answer bonnetewe_overlay(const uint8_t *zones, size_t zones_length, co
                                    const uint8_t *bed, size_t bed_length, int64_t *vertices, size_t vertex_cells, uint16_t *halves, size_t half_cells,
                                    uint32_t *sources, size_t source_cells, uint16_t *faces, size_t face_cells);
 
+/* The same with the way to collect the vertices chosen: BONNETEWE_PLAIN, each edge tested with all edges of the maps before its own; or any other number, BONNETEWE_SWEPT, a line
+ * that passes over the plane and tests only neighbours. For all files both give the same answer and the same tables, refusals included: it is proved. bonnetewe_overlay takes
+ * the sweep, which is faster on full sheets; on small ones the plain way is. */
+#define BONNETEWE_PLAIN 0
+#define BONNETEWE_SWEPT 1
+bonnetewe_answer bonnetewe_overlay_by(uint16_t way, const uint8_t *zones, size_t zones_length, const uint8_t *blocks, size_t blocks_length,
+                                      const uint8_t *bed, size_t bed_length, int64_t *vertices, size_t vertex_cells, uint16_t *halves, size_t half_cells,
+                                      uint32_t *sources, size_t source_cells, uint16_t *faces, size_t face_cells);
+
 /* Reads an overlay file of version 1, 2 or 3 into the tables; where a version has no third source or label it is 0. */
 bonnetewe_answer bonnetewe_read(const uint8_t *file, size_t file_length, int64_t *vertices, size_t vertex_cells,
                                 uint16_t *halves, size_t half_cells, uint32_t *sources, size_t source_cells,

@@ -10,6 +10,7 @@ use ovfile::u16_at;
 use ovfile::u32_at;
 use std::num::wrapping_add_u64;
 use std::num::wrapping_sub_u64;
+use tables::Answer;
 use tables::Counts;
 
 const START: u64 = 14695981039346656037;
@@ -83,6 +84,34 @@ pub fn of(c: Counts, vertices: &[i64], halves: &[u16], sources: &[u32], faces: &
     let sum = add_u16s(sum, halves, EDGE_WIDTH * c.edges as usize);
     let sum = add_u32s(sum, sources, SOURCE_WIDTH * c.edges as usize);
     add_u16s(sum, faces, FACE_WIDTH * c.faces as usize)
+}
+
+// An answer: 0 and the counts, or the four numbers of the refusal.
+fn add_answer(digest: u64, a: Answer) -> u64 {
+    match a {
+        Answer::Done(c) => {
+            let sum = add(add(digest, 0, 2), c.vertices as u64, 2);
+            add(add(sum, c.edges as u64, 2), c.faces as u64, 2)
+        }
+        Answer::Refused(r) => {
+            let sum = add(add(digest, r.number as u64, 2), r.map as u64, 2);
+            add(add(sum, r.place as u64, 2), r.other as u64, 2)
+        }
+    }
+}
+
+// An answer and every cell of the lent tables.
+pub fn of_outcome(
+    a: Answer,
+    vertices: &[i64],
+    halves: &[u16],
+    sources: &[u32],
+    faces: &[u16],
+) -> u64 {
+    let sum = add_i64s(add_answer(START, a), vertices, vertices.len());
+    let sum = add_u16s(sum, halves, halves.len());
+    let sum = add_u32s(sum, sources, sources.len());
+    add_u16s(sum, faces, faces.len())
 }
 
 fn add_u8s(digest: u64, t: &[u8]) -> u64 {

@@ -1,8 +1,9 @@
-// Many overlays: a line for each three map files in the pack `pairs` (second/README.md), the answer and a digest of all tables. Then many
-// files mended. What is printed is held to the second program's answers.
+// Many overlays: a line for each three map files in the pack `pairs` (second/README.md), the answer and a digest of all tables; the two ways to collect the vertices
+// must give the same. Then many files mended. What is printed is held to the second program's answers.
 mod digest; // the digest of what is lent
 mod mends; // files mended
 mod pack; // the numbers and files of a pack
+mod ways; // both ways to collect the vertices
 
 use console::say;
 use console::say_number;
@@ -77,6 +78,9 @@ fn next(fd: i32) {
     let m = pack::fetch(fd, m, &mut blocks);
     let mut bed = io::large_buffer();
     let k = pack::fetch(fd, k, &mut bed);
+    if !ways::agree(&zones[..n], &blocks[..m], &bed[..k], rows) {
+        say(b"the ways differ: ");
+    }
     let mut vertices = [0i64; VERTEX_CELLS];
     let mut halves = [0u16; HALF_CELLS];
     let mut sources = [0u32; SOURCE_CELLS];

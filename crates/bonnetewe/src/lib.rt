@@ -4,5 +4,6 @@ mod met; // how two edges meet as one number, and the point
 mod record; // an edge record as two numbers
 mod height; // the height of tide from and as numbers
 mod calls; // the operations
+mod ways; // the overlay, the way to collect the vertices chosen
 mod yearly; // the year in three steps
 mod sounded; // soundings by cell

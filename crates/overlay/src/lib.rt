@@ -10,6 +10,7 @@ use limits::LAYER_HALVES;
 use limits::LAYER_POINT_CELLS;
 use limits::LAYER_STARTS;
 use map_file::Check;
+use overlay_graph::Way;
 use overlay_maps::lay_maps;
 pub use stages::from_cut;
 pub use stages::refuse;
@@ -19,8 +20,10 @@ ghost use Rattle.paper.specs.Lent.{lengthsOf};
 ghost use Rattle.tables.specs.Values.{tablesBy};
 ghost use Rattle.tables.specs.Promise.{Promised};
 
-// The overlay of three files of any bytes in the lent tables: the three counts, or a refusal. "The two-map overlay is the one with an empty third map" (02, Ask 13).
-pub fn overlay(
+// The overlay of three files of any bytes in the lent tables, the vertices collected by the way that is asked for: the three counts, or a refusal. "For all files both
+// give the same answer and the same tables, refusals included" (02, Ask 10): the promise does not speak of the way.
+pub fn overlay_by(
+    way: Way,
     zones: &[u8],
     blocks: &[u8],
     bed: &[u8],
@@ -52,6 +55,7 @@ pub fn overlay(
         Check::Bad(r) => refuse(r, vertices, halves, sources, faces),
         Check::Fine => {
             from_layers(
+                way,
                 &vertex_starts,
                 &edge_starts,
                 &corners,
@@ -65,4 +69,29 @@ pub fn overlay(
             )
         }
     }
+}
+
+// The overlay of three files of any bytes in the lent tables: the three counts, or a refusal. "The two-map overlay is the one with an empty third map" (02, Ask 13).
+// The vertices are collected by the way that is faster on full sheets.
+pub fn overlay(
+    zones: &[u8],
+    blocks: &[u8],
+    bed: &[u8],
+    vertices: &mut [i64],
+    halves: &mut [u16],
+    sources: &mut [u32],
+    faces: &mut [u16],
+) -> Answer
+    ensures { λ r. ⌜ Promised (lengthsOf (tablesBy (now (vertices .entry)) (now (halves .entry)) (now (sources .entry)) (now (faces .entry)))) (now (zones .entry) ∷ now (blocks .entry) ∷ now (bed .entry) ∷ []) r (tablesBy (now (vertices .exit)) (now (halves .exit)) (now (sources .exit)) (now (faces .exit))) ⌝ }
+{
+    overlay_by(
+        Way::Swept,
+        zones,
+        blocks,
+        bed,
+        vertices,
+        halves,
+        sources,
+        faces,
+    )
 }

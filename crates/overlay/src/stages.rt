@@ -8,6 +8,7 @@ use limits::PIECE_CELLS;
 use limits::POINT_CELLS;
 use map_file::Check;
 use map_file::Refusal;
+use overlay_graph::Way;
 use overlay_graph::cut_maps;
 use overlay_graph::lay_net;
 use overlay_graph::walk_net;
@@ -124,8 +125,9 @@ pub fn from_cut(
     }
 }
 
-// Vertices and edges.
+// Vertices and edges, the vertices by the way that is asked for.
 pub fn from_layers(
+    way: Way,
     vstarts: &[usize],
     estarts: &[usize],
     corners: &[i64],
@@ -143,6 +145,7 @@ pub fn from_layers(
     let mut points = [0i64; POINT_CELLS];
     let mut pieces = [0u16; PIECE_CELLS];
     let cut = cut_maps(
+        way,
         vstarts,
         estarts,
         corners,

@@ -1,3 +1,4 @@
+pub mod Collected
 pub mod Cut
 pub mod Traced
 pub mod Laws

@@ -1,8 +1,7 @@
 // Vertices and edges: "Vertices stand in point order", edges are "the pieces of input edges between neighbouring overlay vertices on them".
-use limits::MAPS;
+use crate::collecting::Way;
+use crate::collecting::vertices_by;
 use limits::VERTEX_ROWS;
-use overlay_cut::collect;
-use overlay_cut::order;
 use overlay_cut::pieces;
 ghost use Prim.Native.Nat.{_*_, _≤_};
 ghost use lib.ListN.{length};
@@ -20,8 +19,9 @@ pub struct CutCounts {
 }
 
 // The vertices and edges of the overlay of the maps in these tables, in tables with one row more than the overlay may have, so that a count says whether there are
-// more; where there are too many vertices, no edges.
+// more; where there are too many vertices, no edges. By either way they are the same.
 pub fn cut_maps(
+    way: Way,
     vertices: &[usize],
     edges: &[usize],
     corners: &[i64],
@@ -34,15 +34,22 @@ pub fn cut_maps(
     requires { ⌜ Held (layersBy (now vertices) (now edges) (now corners) (now origins) (now carriers) (now labels)) ⌝ ∗ ⌜ (pointWidth * vertexRows ≤ length (now points)) × (pieceWidth * edgeRows ≤ length (now rows)) ⌝ }
     ensures { λ r. ⌜ CutOf (heldMaps (layersBy (now (vertices .entry)) (now (edges .entry)) (now (corners .entry)) (now (origins .entry)) (now (carriers .entry)) (now (labels .entry)))) (cutBy (r .vertices) (now (points .exit)) (r .edges) (now (rows .exit))) ⌝ }
 {
-    let c = vertices[MAPS];
-    let n = collect(corners, c, carriers, edges, points);
+    let n = vertices_by(
+        way,
+        vertices,
+        edges,
+        corners,
+        origins,
+        carriers,
+        labels,
+        points,
+    );
     if VERTEX_ROWS <= n {
         return CutCounts {
             vertices: n,
             edges: 0,
         };
     }
-    order(points, n);
     let e = pieces(points, n, carriers, edges, rows);
     CutCounts {
         vertices: n,

@@ -263,6 +263,7 @@ module _ (files : List (List ℕ)) (d l : Layers) (is : Layered files d l) where
         edges-long = starts-room edgesIn (l .edges) (d .edges) (is .edges-are) (room .edges);
         vertices-first = v0 0 (omega arith) ∙ start-first vertexCount 0 files;
         edges-first = e0 0 (omega arith) ∙ start-first edgesIn 0 files;
+        edges-few = omega (arith, edges-end (maps - 1) (omega arith), few-edges);
         stands = λ i h. stands i (omega arith);
         keeps = λ i h. subst Keeps (sym (held-is i (omega arith))) (passes-keeps (getD files i []) (passes i (omega arith)));
       }

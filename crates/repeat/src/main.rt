@@ -1,4 +1,5 @@
-// repeat ZONES BLOCKS N: runs the overlay of two map files N times (at most 1,000,000), and prints the seconds that one run takes, then the answer.
+// repeat ZONES BLOCKS N: runs the overlay of two map files N times (at most 1,000,000) by either way to collect the vertices, and prints for each the seconds that one
+// run takes, then the answer.
 mod time; // seconds
 mod words; // the number of runs
 
@@ -9,6 +10,7 @@ use limits::FACE_CELLS;
 use limits::HALF_CELLS;
 use limits::SOURCE_CELLS;
 use limits::VERTEX_CELLS;
+use overlay_graph::Way;
 use overlay_maps::EMPTY;
 use tables::Answer;
 ghost use Prim.Native.Nat.{_≤_};
@@ -29,13 +31,14 @@ fn say_answer(answer: Answer) {
 }
 
 // One run, in tables of its own; the third map is empty.
-fn run(zones: &[u8], blocks: &[u8]) -> Answer {
+fn run(way: Way, zones: &[u8], blocks: &[u8]) -> Answer {
     let mut vertices = [0i64; VERTEX_CELLS];
     let mut halves = [0u16; HALF_CELLS];
     let mut sources = [0u32; SOURCE_CELLS];
     let mut faces = [0u16; FACE_CELLS];
     let bed = EMPTY;
-    overlay::overlay(
+    overlay::overlay_by(
+        way,
         zones,
         blocks,
         &bed,
@@ -47,34 +50,45 @@ fn run(zones: &[u8], blocks: &[u8]) -> Answer {
 }
 
 // So many runs, and the answer of one more.
-fn runs(zones: &[u8], blocks: &[u8], n: u32) -> Answer {
+fn runs(way: Way, zones: &[u8], blocks: &[u8], n: u32) -> Answer {
     let mut i: u32 = 0;
     while i < n {
-        run(zones, blocks);
+        run(way, zones, blocks);
         i += 1;
     }
-    run(zones, blocks)
+    run(way, zones, blocks)
 }
 
-fn measure(n: u32)
+// By one way, under its name.
+fn measure(name: &[u8], way: Way, zones: &[u8], blocks: &[u8], n: u32)
+    requires { ⌜ n ≤ 1000000 ⌝ }
+{
+    let start = libc::clock();
+    let answer = runs(way, zones, blocks, n);
+    let end = libc::clock();
+    say(name);
+    time::say_seconds(start, end, n + 1);
+    say_answer(answer);
+}
+
+fn measure_both(n: u32)
     requires { ⌜ n ≤ 1000000 ⌝ }
 {
     let mut zones = io::buffer();
     let z = load_arg(1, &mut zones);
     let mut blocks = io::buffer();
     let b = load_arg(2, &mut blocks);
-    let start = libc::clock();
-    let answer = runs(&zones[..z], &blocks[..b], n);
-    let end = libc::clock();
-    time::say_seconds(start, end, n + 1);
-    say_answer(answer);
+    measure(b"plain ", Way::Plain, &zones[..z], &blocks[..b], n);
+    measure(b"swept ", Way::Swept, &zones[..z], &blocks[..b], n);
 }
 
 fn main() {
     let n = words::count_arg(3);
     if n == 0 {
-        say(b"repeat ZONES BLOCKS N   the seconds of one overlay of two map files, by N runs\n");
+        say(
+            b"repeat ZONES BLOCKS N   the seconds of one overlay of two map files, the plain way and by the sweep, by N runs of each\n",
+        );
         return;
     }
-    measure(n - 1);
+    measure_both(n - 1);
 }

@@ -1,4 +1,5 @@
--- The points that are collected from held layers, put in order, and the pieces between them, are the overlay's vertices and edges. Assumes nothing.
+-- The points that are collected from held layers, put in order, are the overlay's vertices; the pieces between these, however they were collected, are its edges.
+-- Assumes nothing.
 use mathlib.Core.Path.{_≡_, _∙_}
 use Prim.Native.Nat.{_≤_, _<_}
 use native.Mathlib.Omega.{arith}
@@ -18,6 +19,7 @@ use Rattle.overlay_cut.specs.Laws.EdgesAre.{edges-are, edges-over}
 use Rattle.overlay_maps.specs.Held.{vertexStart, heldMaps, Held}
 use Rattle.overlay_maps.specs.Layers.{Layers}
 use Rattle.overlay_graph.specs.Laws.Standing.{keep, holds, vertices-near, unordered-near}
+use Rattle.overlay_graph.specs.Collected.{CollectedOf}
 use Rattle.overlay_graph.specs.Cut.{cutBy, CutOf}
 
 -- the n points in a table are those that are collected
@@ -37,28 +39,32 @@ module _ (l : Layers) (H : Held l) (out : List ℤ) (n : ℕ) (e : Collected l o
     collected-near h = unordered-near l H out n h each
 
     -- put in order
-    module _ (ps : List ℤ) (o : pointsOf ps n ≡ inOrder (pointsOf out n)) where
-      ordered-are : pointsOf ps n ≡ verticesOf (heldMaps l)
-      ordered-are = o ∙ each .ordered
-
-      pub ordered-near : 4 * n ≤ length ps → Points ps n
-      ordered-near h = vertices-near l H ps n h ordered-are
-
-      -- and the pieces between them
-      module _ (rows : List ℕ) (r : ℕ) (p : piecesIn rows r ≡ puts edgeRows [] (cutAll ps n (l .carriers) (l .edges))) where
-        pub cut-is : CutOf (heldMaps l) (cutBy n ps r rows)
-        cut-is = record {
-          vertices-are = λ h. ordered-are;
-          vertices-over = λ h. absurd (omega arith);
-          edges-are = λ h q. edges-are ps n (holds l H) (verticesOf (heldMaps l)) ordered-are rows r p q .are;
-          edges-over = λ h q. edges-over ps n (holds l H) (verticesOf (heldMaps l)) ordered-are rows r p q;
-        }
+    pub ordered-is : (ps : List ℤ) → pointsOf ps n ≡ inOrder (pointsOf out n) → CollectedOf (heldMaps l) ps n
+    ordered-is ps o = record { vertices-are = λ h. o ∙ each .ordered; vertices-over = λ h. absurd (omega arith) }
 
   -- more of them: no more is said
-  pub cut-over : vertexRows ≤ n → (ps : List ℤ) (rows : List ℕ) (r : ℕ) → CutOf (heldMaps l) (cutBy n ps r rows)
-  cut-over more ps rows r = record {
-    vertices-are = λ h. absurd (omega arith);
-    vertices-over = λ h. vertices-over (holds l H) (keep l H) out n e h;
+  pub collected-over : vertexRows ≤ n → (ps : List ℤ) → CollectedOf (heldMaps l) ps n
+  collected-over more ps = record { vertices-are = λ h. absurd (omega arith); vertices-over = λ h. vertices-over (holds l H) (keep l H) out n e h }
+
+-- ── the pieces between the vertices ──
+
+module _ (l : Layers) (H : Held l) (ps : List ℤ) (n : ℕ) (v : CollectedOf (heldMaps l) ps n) where
+  module _ (few : n < vertexRows) where
+    pub ordered-near : 4 * n ≤ length ps → Points ps n
+    ordered-near h = vertices-near l H ps n h (v .vertices-are (omega arith))
+
+    pub cut-is : (rows : List ℕ) (r : ℕ) → piecesIn rows r ≡ puts edgeRows [] (cutAll ps n (l .carriers) (l .edges)) → CutOf (heldMaps l) (cutBy n ps r rows)
+    cut-is rows r p = record {
+      vertices-are = λ h. v .vertices-are h;
+      vertices-over = λ h. v .vertices-over h;
+      edges-are = λ h q. edges-are ps n (holds l H) (verticesOf (heldMaps l)) (v .vertices-are h) rows r p q .are;
+      edges-over = λ h q. edges-over ps n (holds l H) (verticesOf (heldMaps l)) (v .vertices-are h) rows r p q;
+    }
+
+  pub cut-over : vertexRows ≤ n → (rows : List ℕ) (r : ℕ) → CutOf (heldMaps l) (cutBy n ps r rows)
+  cut-over more rows r = record {
+    vertices-are = λ h. v .vertices-are h;
+    vertices-over = λ h. v .vertices-over h;
     edges-are = λ h q. absurd (omega arith);
     edges-over = λ h q. absurd (omega arith);
   }

@@ -5,10 +5,10 @@ use Rattle.repeat.proofs.runs.Statement.{statement}
 use Rattle.repeat.proofs.runs.Tie as tie
 
 abbrev Inv-loop : tie.InvT-loop
-Inv-loop zones blocks n i₀ i = Unit {0}
+Inv-loop way zones blocks n i₀ i = Unit {0}
 
 abbrev μ-loop : tie.MeasureT-loop
-μ-loop zones blocks n i₀ i = n - i
+μ-loop way zones blocks n i₀ i = n - i
 
 pub runs-spec : {M : Type 1} → statement M
 runs-spec =

@@ -55,7 +55,7 @@ from-cut-requires c κs =
     let s = c .before .before .before .before .before .before .before .before .before .before .before .before .before .before .before .before .before .before .before .before .before .before in
     let k = c .before .before .before .before .before .before .before .before .before .before .before .before .cut-maps in
     let w = cut-within (ms s) _ (k .ensures) (lent s) (sym (judged (c .before .before .before .before .before .before .before .before)) ∙ ap verdict (c .before .before .before .before .before .before .enum-told .given .1)) in
-    (s .pre, (cut-drawable (L s) (s .pre) _ (k .ensures) (omega (arith, w .vertices)) (omega (arith, w .edges)) (omega (arith, w .vertices, k .kept .1 .1 .1 .1 .1 .1 .0)) (omega (arith, w .edges, k .kept .1 .1 .1 .1 .1 .1 .1 .0)), w))
+    (s .pre, (cut-drawable (L s) (s .pre) _ (k .ensures) (omega (arith, w .vertices)) (omega (arith, w .edges)) (omega (arith, w .vertices, k .kept .1 .1 .1 .1 .1 .1 .1 .0)) (omega (arith, w .edges, k .kept .1 .1 .1 .1 .1 .1 .1 .1 .0)), w))
 
 same-length : tie.Need-same-length
 same-length c = c .before .before .before .before .before .before .before .refuse .kept .1 .0

@@ -3,8 +3,8 @@ use native.Mathlib.Omega.{arith}
 use borrow.Author.Needs.{needs}
 use denote.Ref.{now}
 use Rattle.overlay_maps.specs.Layers.{Layers, layersBy}
-use Rattle.overlay_graph.specs.Laws.Standing.{corners-near, starts, upright}
-use Rattle.overlay_graph.specs.Laws.CutLaws.{collected-once, collected-near, ordered-near, cut-is, cut-over}
+use Rattle.overlay_graph.specs.Laws.Standing.{starts}
+use Rattle.overlay_graph.specs.Laws.CutLaws.{ordered-near, cut-is, cut-over}
 use Rattle.overlay_graph.proofs.cutting.cut_maps.Statement.{statement}
 use Rattle.overlay_graph.proofs.cutting.cut_maps.Tie as tie
 
@@ -12,57 +12,30 @@ use Rattle.overlay_graph.proofs.cutting.cut_maps.Tie as tie
 abbrev l : tie.Start → Layers
 l s = layersBy (s .args .vertices .now) (s .args .edges .now) (s .args .corners .now) (s .args .origins .now) (s .args .carriers .now) (s .args .labels .now)
 
-collect-requires : tie.Need-collect-requires
-collect-requires c κs =
-    let s = c .before .before .before .before .before .before .before in
-    (record { long = s .pre .1 .0; within = omega arith }, (corners-near (l s) (s .pre .0), (starts (l s) (s .pre .0), upright (l s) (s .pre .0))))
+vertices-by-requires : tie.Need-vertices-by-requires
+vertices-by-requires c κs = let s = c .before .before .before .before .before .before in (s .pre .0, s .pre .1 .0)
 
 returns : tie.Need-returns
 returns c =
-    let s = c .before .before .before .before .before .before .before .before .before .before in
-    let k = c .before .before .collect in
-    cut-over (l s) (s .pre .0) (k .last .1 .1 .1 .1 .0) (k .result) (k .ensures) (c .if1 .taken) (k .last .1 .1 .1 .1 .0) (now (s .args .rows)) 0
-
-order-requires : tie.Need-order-requires
-order-requires c κs =
-    let s = c .before .before .before .before .before .before .before .before .before .before .before in
-    let k = c .before .before .before .collect in
-    let out = k .last .1 .1 .1 .1 .0 in
-    let few = c .before .if1 .left in (
-      collected-near (l s) (s .pre .0) out (k .result) (k .ensures) few (omega (arith, few, s .pre .1 .0, k .kept .1 .1 .1 .1 .0)),
-      collected-once (l s) (s .pre .0) out (k .result) (k .ensures) few,
-    )
+    let s = c .before .before .before .before .before .before .before .before .before in
+    let v = c .before .before .vertices-by in
+    cut-over (l s) (s .pre .0) (v .last .1 .1 .1 .1 .1 .1 .1 .0) (v .result) (v .ensures) (c .if1 .taken) (now (s .args .rows)) 0
 
 pieces-requires : tie.Need-pieces-requires
 pieces-requires c κs =
-    let s = c .before .before .before .before .before .before .before .before .before .before .before .before .before .before .before in
-    let k = c .before .before .before .before .before .before .before .collect in
-    let o = c .before .before .before .order in
-    let out = k .last .1 .1 .1 .1 .0 in
-    let few = c .before .before .before .before .before .if1 .left in (
-      (ordered-near (l s) (s .pre .0) out (k .result) (k .ensures) few (o .last .0) (o .ensures) (omega (arith, few, s .pre .1 .0, o .kept .0, k .kept .1 .1 .1 .1 .0)), omega (arith, few)),
+    let s = c .before .before .before .before .before .before .before .before .before .before .before in
+    let v = c .before .before .before .before .vertices-by in
+    let few = c .before .before .if1 .left in (
+      (ordered-near (l s) (s .pre .0) (v .last .1 .1 .1 .1 .1 .1 .1 .0) (v .result) (v .ensures) few (omega (arith, few, s .pre .1 .0, v .kept .1 .1 .1 .1 .1 .1 .1 .0)), omega (arith, few)),
       (starts (l s) (s .pre .0), record { long = s .pre .1 .1; within = omega arith }),
     )
 
 returns-2 : tie.Need-returns-2
 returns-2 c =
-    let s = c .before .before .before .before .before .before .before .before .before .before .before .before .before .before .before .before .before .before in
-    let k = c .before .before .before .before .before .before .before .before .before .before .collect in
-    let o = c .before .before .before .before .before .before .order in
+    let s = c .before .before .before .before .before .before .before .before .before .before .before .before .before .before in
+    let v = c .before .before .before .before .before .before .before .vertices-by in
     let p = c .before .before .pieces in
-    let out = k .last .1 .1 .1 .1 .0 in
-    cut-is (l s) (s .pre .0) out (k .result) (k .ensures) (c .before .before .before .before .before .before .before .before .if1 .left) (o .last .0) (o .ensures) (p .last .1 .1 .1 .1 .0) (p .result) (p .ensures)
+    cut-is (l s) (s .pre .0) (v .last .1 .1 .1 .1 .1 .1 .1 .0) (v .result) (v .ensures) (c .before .before .before .before .before .if1 .left) (p .last .1 .1 .1 .1 .0) (p .result) (p .ensures)
 
 pub cut-maps-spec : {M : Type 1} → statement M
-cut-maps-spec =
-    tie.close
-    (tie.spec
-    (λ c. search needs)
-    collect-requires
-    (λ c. search needs)
-    returns
-    order-requires
-    pieces-requires
-    (λ c. search needs)
-    (λ c. search needs)
-    returns-2)
+cut-maps-spec = tie.close (tie.spec vertices-by-requires (λ c. search needs) returns pieces-requires (λ c. search needs) (λ c. search needs) returns-2)

@@ -1,0 +1,79 @@
+// The vertices of the overlay in point order, by either of two ways: "Add a second way to collect the vertices .. Keep the plain way" (02, Ask 10).
+use limits::MAPS;
+use limits::VERTEX_ROWS;
+use overlay_cut::collect;
+use overlay_cut::order;
+use overlay_sweep::sweep;
+ghost use Prim.Native.Nat.{_*_, _≤_};
+ghost use lib.ListN.{length};
+ghost use Rattle.graph.specs.Flat.{pointWidth};
+ghost use Rattle.overlay_cut.specs.Rooms.{vertexRows};
+ghost use Rattle.overlay_maps.specs.Layers.{layersBy};
+ghost use Rattle.overlay_maps.specs.Held.{heldMaps, Held};
+ghost use Rattle.overlay_graph.specs.Collected.{CollectedOf};
+
+// The plain way tests each edge with all edges of the maps before its own, and puts the points in order at the end. The other is "a line that passes over the plane
+// from the smallest point upward" (02, Ask 10).
+pub enum Way {
+    Plain,
+    Swept,
+}
+
+// The vertices of the overlay of the maps in these tables, the plain way: how many there are, or VERTEX_ROWS where there are more than the overlay may have.
+fn collect_maps(
+    vertices: &[usize],
+    edges: &[usize],
+    corners: &[i64],
+    origins: &[u16],
+    carriers: &[i16],
+    labels: &[u16],
+    points: &mut [i64],
+) -> usize
+    requires { ⌜ Held (layersBy (now vertices) (now edges) (now corners) (now origins) (now carriers) (now labels)) ⌝ ∗ ⌜ pointWidth * vertexRows ≤ length (now points) ⌝ }
+    ensures { λ r. ⌜ CollectedOf (heldMaps (layersBy (now (vertices .entry)) (now (edges .entry)) (now (corners .entry)) (now (origins .entry)) (now (carriers .entry)) (now (labels .entry)))) (now (points .exit)) r ⌝ }
+{
+    let c = vertices[MAPS];
+    let n = collect(corners, c, carriers, edges, points);
+    if VERTEX_ROWS <= n {
+        return n;
+    }
+    order(points, n);
+    n
+}
+
+// The same by the line, which meets them in order.
+fn sweep_maps(
+    vertices: &[usize],
+    edges: &[usize],
+    corners: &[i64],
+    origins: &[u16],
+    carriers: &[i16],
+    labels: &[u16],
+    points: &mut [i64],
+) -> usize
+    requires { ⌜ Held (layersBy (now vertices) (now edges) (now corners) (now origins) (now carriers) (now labels)) ⌝ ∗ ⌜ pointWidth * vertexRows ≤ length (now points) ⌝ }
+    ensures { λ r. ⌜ CollectedOf (heldMaps (layersBy (now (vertices .entry)) (now (edges .entry)) (now (corners .entry)) (now (origins .entry)) (now (carriers .entry)) (now (labels .entry)))) (now (points .exit)) r ⌝ }
+{
+    let c = vertices[MAPS];
+    sweep(corners, c, carriers, edges, points)
+}
+
+// The same by the way that is asked for.
+pub fn vertices_by(
+    way: Way,
+    vertices: &[usize],
+    edges: &[usize],
+    corners: &[i64],
+    origins: &[u16],
+    carriers: &[i16],
+    labels: &[u16],
+    points: &mut [i64],
+) -> usize
+    requires { ⌜ Held (layersBy (now vertices) (now edges) (now corners) (now origins) (now carriers) (now labels)) ⌝ ∗ ⌜ pointWidth * vertexRows ≤ length (now points) ⌝ }
+    ensures { λ r. ⌜ CollectedOf (heldMaps (layersBy (now (vertices .entry)) (now (edges .entry)) (now (corners .entry)) (now (origins .entry)) (now (carriers .entry)) (now (labels .entry)))) (now (points .exit)) r ⌝ }
+{
+    match way {
+        Way::Plain => collect_maps(vertices, edges, corners, origins, carriers, labels, points),
+        Way::Swept => sweep_maps(vertices, edges, corners, origins, carriers, labels, points),
+    }
+}

@@ -1,0 +1,59 @@
+-- `overlay_sweep::corners::corners_in` meets its contract. Assumes nothing.
+use mathlib.Core.Path.{sym, subst}
+use Prim.Native.Nat.{_-_}
+use native.Mathlib.Omega.{arith}
+use borrow.Author.Needs.{needs}
+use Rattle.plane.specs.Bounds.{Near}
+use Rattle.plane.specs.Values.{ptOf}
+use Rattle.overlay_sweep.specs.Ahead.{room-steady}
+use Rattle.overlay_sweep.specs.Laws.Corners.{Cornered, cornered-starts, cornered-turns, cornered-ends}
+use Rattle.overlay_sweep.proofs.corners.corners_in.Statement.{statement}
+use Rattle.overlay_sweep.proofs.corners.corners_in.Tie as tie
+
+abbrev Inv-loop : tie.InvT-loop
+Inv-loop rows c out₀ n₀ v₀ out n v = Cornered rows c out₀ out n v
+
+abbrev μ-loop : tie.MeasureT-loop
+μ-loop rows c out₀ n₀ v₀ out n v = v
+
+loop-holds : tie.Need-loop-holds Inv-loop μ-loop
+loop-holds c = cornered-starts (search needs)
+
+point-at-requires : tie.Need-point-at-requires Inv-loop μ-loop
+point-at-requires c κs = let l = c .before .before .loop in omega (arith, l .inv .within, c .before .before .before .pre .0 .long)
+
+near : (c : tie.After-point-at Inv-loop μ-loop) → Near (ptOf (c .point-at .result))
+near c =
+    let l = c .before .before .before .loop in
+    subst Near (sym (c .point-at .ensures)) (c .before .before .before .before .pre .0 .near (l .v - 1) (omega (arith, l .inv .within, c .before .before .loop-test .taken)))
+
+queue-in-requires : tie.Need-queue-in-requires Inv-loop μ-loop
+queue-in-requires c κs =
+    let r = c .before .before .before .loop .inv .is .rows in
+    (r .points, (near c, (room-steady _ _ r _ (near c), r .room)))
+
+loop-again : tie.Need-loop-again Inv-loop μ-loop
+loop-again c =
+    let q = c .before .queue-in in
+    cornered-turns (ptOf (c .before .before .point-at .result)) (c .before .before .before .before .before .loop .inv) (c .before .before .before .before .loop-test .taken) (c .before .before .point-at .ensures) (near (c .before .before)) (q .kept .0) (q .ensures)
+
+same-length : tie.Need-same-length Inv-loop μ-loop
+same-length c = c .before .loop .inv .kept
+
+returns : tie.Need-returns Inv-loop μ-loop
+returns c = cornered-ends (c .before .loop .inv) (search needs)
+
+pub corners-in-spec : {M : Type 1} → statement M
+corners-in-spec =
+    tie.close
+    (tie.spec
+    Inv-loop
+    μ-loop
+    loop-holds
+    (λ c. search needs)
+    point-at-requires
+    queue-in-requires
+    (λ c. search needs)
+    loop-again
+    same-length
+    returns)

@@ -1,0 +1,22 @@
+-- `overlay_sweep::queue::stands_at` meets its contract. Assumes nothing.
+use mathlib.Core.Path.{sym, _∙_, ap, subst}
+use native.Mathlib.Omega.{arith}
+use borrow.Author.Needs.{needs}
+use Rattle.seq.specs.Seq.{not}
+use Rattle.paper.specs.Plane.{before}
+use Rattle.plane.specs.Bounds.{Near}
+use Rattle.plane.specs.Values.{ptOf}
+use Rattle.overlay_sweep.specs.Queue.{not-there, stands-by}
+use Rattle.overlay_sweep.proofs.queue.stands_at.Statement.{statement}
+use Rattle.overlay_sweep.proofs.queue.stands_at.Tie as tie
+
+before-requires : tie.Need-before-requires
+before-requires c κs = let s = c .before .before in (s .pre .1, subst Near (sym (c .point-at .ensures)) (s .pre .0 .near (s .args .a) (search needs)))
+
+returns : tie.Need-returns
+returns c =
+    let a = c .before .before .before .args in
+    stands-by (a .points .now) (a .n) (a .a) (ptOf (a .p)) (search needs) _ (ap not (c .before2 .ensures ∙ ap (before (ptOf (a .p))) (c .before .point-at .ensures)))
+
+pub stands-at-spec : {M : Type 1} → statement M
+stands-at-spec = tie.close (tie.spec (λ c κs. search needs) before-requires returns (λ c. not-there (λ h. absurd (omega arith))))

@@ -1,0 +1,55 @@
+-- `overlay_sweep::stops::sweep` meets its contract. Assumes nothing.
+use native.Mathlib.Omega.{arith}
+use borrow.Author.Needs.{needs}
+use Rattle.paper.specs.Limits.{maps}
+use Rattle.overlay_cut.specs.Cuts.{startOf}
+use Rattle.overlay_sweep.specs.Loop.{begun}
+use Rattle.overlay_sweep.proofs.stops.sweep.Statement.{statement}
+use Rattle.overlay_sweep.proofs.stops.sweep.Tie as tie
+
+shared-slice-read-e : tie.Need-shared-slice-read-e
+shared-slice-read-e c =
+    let start : tie.Start = search needs in
+    omega (arith, start .pre .starts-long)
+
+slice-aggregate-by-lower-end : tie.Need-slice-aggregate-by-lower-end
+slice-aggregate-by-lower-end c = search needs
+
+by-lower-end-requires : tie.Need-by-lower-end-requires
+by-lower-end-requires c κs =
+    let start : tie.Start = search needs in
+    let g = start .pre in
+    (g .carriers, (omega (arith, g .few), omega (arith, g .few, slice-aggregate-by-lower-end c)))
+
+corners-in-requires : tie.Need-corners-in-requires
+corners-in-requires c κs =
+    let start : tie.Start = search needs in
+    let g = start .pre in
+    (g .corners, g .room)
+
+slice-aggregate-all-turns-2 : tie.Need-slice-aggregate-all-turns-2
+slice-aggregate-all-turns-2 c = search needs
+
+all-turns-requires : tie.Need-all-turns-requires
+all-turns-requires c κs =
+    let s : tie.Start = search needs in
+    let a = s .args in
+    let b = c .before .before .before .before .before .before .before .by-lower-end in
+    begun (a .carriers .now) (startOf (a .starts .now) maps) (a .starts .now) (a .rows .now) (a .k) (a .out .now) (s .pre) _ _ (b .ensures .0) (b .ensures .1) (omega (arith, slice-aggregate-all-turns-2 (c .before))) _ _ (c .before .before .before .before .corners-in .ensures)
+
+returns : tie.Need-returns
+returns c = c .before .before .all-turns .ensures
+
+pub sweep-spec : {M : Type 1} → statement M
+sweep-spec =
+    tie.close
+    (tie.spec
+    shared-slice-read-e
+    slice-aggregate-by-lower-end
+    by-lower-end-requires
+    corners-in-requires
+    (λ c. search needs)
+    slice-aggregate-all-turns-2
+    all-turns-requires
+    (λ c. search needs)
+    returns)

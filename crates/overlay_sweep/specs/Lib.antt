@@ -1,0 +1,12 @@
+pub mod Sides
+pub mod Numbers
+pub mod Queue
+pub mod Splice
+pub mod Fans
+pub mod Ahead
+pub mod Neighbours
+pub mod Turned
+pub mod Between
+pub mod Loop
+pub mod Vertices
+pub mod Laws
