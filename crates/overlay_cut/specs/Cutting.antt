@@ -52,11 +52,12 @@ pub record Linking (cap n : ℕ) (on : ℕ → Bool) (s : List (Option ℕ)) (to
   pub is : puts cap (piecesIn t c) (links s (select on v ++ upper n next)) ≡ total
 
 module _ (cap n : ℕ) (on : ℕ → Bool) (s : List (Option ℕ)) where
-  pub link-starts : (t : List ℕ) (c : ℕ) → c ≤ cap → Linking cap n on s (puts cap (piecesIn t c) (links s (select on n))) t c n n
-  link-starts t c h =
-      let e : select on n ++ upper n n ≡ select on n = rw (le-ltb n n (omega arith)) (append-nil (select on n)) in
+  -- from the row on from which none is on it
+  pub link-starts : (t : List ℕ) (c r : ℕ) → c ≤ cap → r ≤ n → select on n ≡ select on r → Linking cap n on s (puts cap (piecesIn t c) (links s (select on n))) t c r n
+  link-starts t c r h l q =
+      let e : select on r ++ upper n n ≡ select on n = rw (le-ltb n n (omega arith)) (append-nil (select on r) ∙ sym q) in
       record {
-        low = omega arith;
+        low = l;
         above = omega arith;
         within = h;
         is = ap (λ (l : List ℕ). puts cap (piecesIn t c) (links s l)) e;
@@ -94,11 +95,11 @@ module _ (cap n : ℕ) (on : ℕ → Bool) (s : List (Option ℕ)) where
               ∙ ap (puts cap (piecesIn t c)) (sym (links-join s (select on (v - 1)) (v - 1) (upper n next)) ∙ ap (links s) (sym a)) ∙ r .is;
         }
 
-    pub link-ends : v ≤ 0 → piecesIn t c ≡ total
+    -- down to the row below which none is
+    pub link-ends : select on v ≡ [] → piecesIn t c ≡ total
     link-ends h =
-        let q : 0 ≡ v = omega arith in
         ap (puts cap (piecesIn t c)) (sym (one (ltb next n)))
-        ∙ ap (λ (k : ℕ). puts cap (piecesIn t c) (links s (select on k ++ upper n next))) q ∙ r .is
+        ∙ ap (λ (l : List ℕ). puts cap (piecesIn t c) (links s (l ++ upper n next))) (sym h) ∙ r .is
       where
         one : (b : Bool) → links s (cond b (next ∷ []) []) ≡ []
         one true = refl

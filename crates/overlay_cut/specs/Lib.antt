@@ -1,4 +1,5 @@
 pub mod Points
+pub mod Between
 pub mod Capped
 pub mod PieceRows
 pub mod Put

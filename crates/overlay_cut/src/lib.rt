@@ -1,6 +1,7 @@
 // The overlay's vertices, collected and ordered, and the pieces of the input edges, from all maps' edges in one table.
 mod collecting; // corners and crossings, each point once
 mod ordering; // points put in order, by halves
+mod between; // which vertices may be on an edge
 mod put; // a piece put in order
 mod cutting; // the edges cut into pieces
 mod edges; // the overlay's graph in tables

@@ -13,12 +13,12 @@ use Rattle.overlay_cut.proofs.cutting.cut_map.Statement.{statement}
 use Rattle.overlay_cut.proofs.cutting.cut_map.Tie as tie
 
 abbrev Inv-loop : tie.InvT-loop
-Inv-loop points n carriers from e m pieces₀ count total₀ k₀ pieces total k =
+Inv-loop points n sorted carriers from e m pieces₀ count total₀ k₀ pieces total k =
     (k ≤ e) × (length pieces ≡ length pieces₀)
     × Cutting edgeRows (cutRow points n carriers from m) (puts edgeRows (piecesIn pieces₀ count) (cutMap points n carriers from m e)) pieces total k
 
 abbrev μ-loop : tie.MeasureT-loop
-μ-loop points n carriers from e m pieces₀ count total₀ k₀ pieces total k = k
+μ-loop points n sorted carriers from e m pieces₀ count total₀ k₀ pieces total k = k
 
 loop-holds : tie.Need-loop-holds Inv-loop μ-loop
 loop-holds c = (search needs, refl, cut-starts edgeRows _ _ _ _ (search needs))
@@ -42,8 +42,8 @@ loop-again c =
     let l = at-loop .loop in
     let s = start .args in (
       search needs,
-      c .before .before .cut-edge .kept .1 .1 .1 .1 .1 .0 ∙ l .inv .1,
-      cut-turns edgeRows (cutRow (s .points .now) (s .n) (s .carriers .now) (s .from) (s .m)) (l .inv .2) (c .before .before .cut-edge .last .1 .1 .1 .1 .1 .0) (c .before .before .cut-edge .result) (search needs)
+      c .before .before .cut-edge .kept .1 .1 .1 .1 .1 .1 .0 ∙ l .inv .1,
+      cut-turns edgeRows (cutRow (s .points .now) (s .n) (s .carriers .now) (s .from) (s .m)) (l .inv .2) (c .before .before .cut-edge .last .1 .1 .1 .1 .1 .1 .0) (c .before .before .cut-edge .result) (search needs)
           (c .before .before .cut-edge .ensures ∙ ap (λ (q : Seg). puts edgeRows (piecesIn (l .pieces) (l .total)) (cutEdge (s .points .now) (s .n) q (s .m) (l .k - 1))) (after-carrier-at .carrier-at .ensures .0)),
     )
 

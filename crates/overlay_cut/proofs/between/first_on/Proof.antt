@@ -1,0 +1,30 @@
+-- `overlay_cut::between::first_on` meets its contract. Assumes nothing.
+use mathlib.Core.Path.{_∙_, ap}
+use Rattle.seq.specs.Seq.{least}
+use Rattle.seq.specs.Halves.{reached}
+use Rattle.paper.specs.Plane.{Pt, before}
+use Rattle.plane.specs.Values.{segOf}
+use Rattle.graph.specs.Flat.{pointAt}
+use Rattle.overlay_cut.specs.Between.{foot-below, below-none}
+use borrow.Author.Needs.{needs}
+use Rattle.overlay_cut.proofs.between.first_on.Statement.{statement}
+use Rattle.overlay_cut.proofs.between.first_on.Tie as tie
+
+place-requires : tie.Need-place-requires
+place-requires c κs =
+    let start : tie.Start = search needs in
+    let then : tie.Then1 = search needs in
+    (start .pre .0, (c .foot .ensures .1, start .pre .1 .0 .if-so (then .if1 .taken)))
+
+returns : tie.Need-returns
+returns c =
+    let start : tie.Start = search needs in
+    let then : tie.Then1 = search needs in
+    let after-foot : tie.After-foot = search needs in
+    let after-place : tie.After-place = search needs in
+    let a = start .args in
+    foot-below (a .points .now) (a .n) (start .pre .0) (start .pre .1 .0 .if-so (then .if1 .taken)) (segOf (a .s)) (after-place .place .result)
+    (after-place .place .ensures ∙ ap (λ (q : Pt). least (reached before (pointAt (a .points .now)) q) (a .n)) (after-foot .foot .ensures .0))
+
+pub first-on-spec : {M : Type 1} → statement M
+first-on-spec = tie.close (tie.spec (λ c κs. search needs) place-requires returns (λ c. below-none _ _))
