@@ -10,6 +10,7 @@ use Rattle.seq.specs.Table.{length-table}
 use Rattle.paper.specs.Pieces.{Piece, links, linksFrom, earlier, joined}
 use Rattle.overlay_cut.specs.Capped.{capped, putAll, putAll-++, putAll-le}
 use Rattle.overlay_cut.specs.PieceRows.{pieceAt, piecesIn}
+use Rattle.overlay_cut.specs.PieceOrder.{InPieceOrder, order-kept}
 
 -- pieces put into a table with room for cap of them
 abbrev pub puts : ℕ → List Piece → List Piece → List Piece
@@ -49,17 +50,19 @@ pub record Linking (cap n : ℕ) (on : ℕ → Bool) (s : List (Option ℕ)) (to
   pub low : v ≤ n
   pub above : next ≤ n
   pub within : c ≤ cap
+  pub ordered : InPieceOrder t c
   pub is : puts cap (piecesIn t c) (links s (select on v ++ upper n next)) ≡ total
 
 module _ (cap n : ℕ) (on : ℕ → Bool) (s : List (Option ℕ)) where
   -- from the row on from which none is on it
-  pub link-starts : (t : List ℕ) (c r : ℕ) → c ≤ cap → r ≤ n → select on n ≡ select on r → Linking cap n on s (puts cap (piecesIn t c) (links s (select on n))) t c r n
-  link-starts t c r h l q =
+  pub link-starts : (t : List ℕ) (c r : ℕ) → c ≤ cap → InPieceOrder t c → r ≤ n → select on n ≡ select on r → Linking cap n on s (puts cap (piecesIn t c) (links s (select on n))) t c r n
+  link-starts t c r h o l q =
       let e : select on r ++ upper n n ≡ select on n = rw (le-ltb n n (omega arith)) (append-nil (select on r) ∙ sym q) in
       record {
         low = l;
         above = omega arith;
         within = h;
+        ordered = o;
         is = ap (λ (l : List ℕ). puts cap (piecesIn t c) (links s l)) e;
       }
 
@@ -73,6 +76,7 @@ module _ (cap n : ℕ) (on : ℕ → Bool) (s : List (Option ℕ)) where
           low = omega (arith, r .low);
           above = r .above;
           within = r .within;
+          ordered = r .ordered;
           is = ap (λ (l : List ℕ). puts cap (piecesIn t c) (links s (l ++ upper n next))) (sym f ∙ ap (select on) q) ∙ r .is;
         }
 
@@ -89,6 +93,7 @@ module _ (cap n : ℕ) (on : ℕ → Bool) (s : List (Option ℕ)) where
           low = omega (arith, r .low);
           above = omega (arith, r .low);
           within = count-within cap t u c d (linksFrom s (v - 1) (upper n next)) (r .within) k;
+          ordered = order-kept cap t u c d (linksFrom s (v - 1) (upper n next)) (r .ordered) k;
           is = ap (λ (l : List ℕ). puts cap (piecesIn u d) (links s (select on (v - 1) ++ l))) g
               ∙ ap (λ (l : List Piece). puts cap l (links s (select on (v - 1) ++ ((v - 1) ∷ [])))) k
               ∙ sym (putAll-++ earlier joined cap (piecesIn t c) (links s (select on (v - 1) ++ ((v - 1) ∷ []))) (linksFrom s (v - 1) (upper n next)))
@@ -109,11 +114,12 @@ module _ (cap n : ℕ) (on : ℕ → Bool) (s : List (Option ℕ)) where
 
 pub record Cutting (cap : ℕ) (f : ℕ → List Piece) (total : List Piece) (t : List ℕ) (c k : ℕ) : Type 0 where
   pub within : c ≤ cap
+  pub ordered : InPieceOrder t c
   pub is : puts cap (piecesIn t c) (rows f k) ≡ total
 
 module _ (cap : ℕ) (f : ℕ → List Piece) where
-  pub cut-starts : (t : List ℕ) (c k : ℕ) → c ≤ cap → Cutting cap f (puts cap (piecesIn t c) (rows f k)) t c k
-  cut-starts t c k h = record { within = h; is = refl }
+  pub cut-starts : (t : List ℕ) (c k : ℕ) → c ≤ cap → InPieceOrder t c → Cutting cap f (puts cap (piecesIn t c) (rows f k)) t c k
+  cut-starts t c k h o = record { within = h; ordered = o; is = refl }
 
   module _ {total : List Piece} {t : List ℕ} {c k : ℕ} (r : Cutting cap f total t c k) where
     pub cut-turns : (u : List ℕ) (d : ℕ) → 0 < k → piecesIn u d ≡ puts cap (piecesIn t c) (f (k - 1)) → Cutting cap f total u d (k - 1)
@@ -121,6 +127,7 @@ module _ (cap : ℕ) (f : ℕ → List Piece) where
         let q : suc (k - 1) ≡ k = omega arith in
         record {
           within = count-within cap t u c d (f (k - 1)) (r .within) e;
+          ordered = order-kept cap t u c d (f (k - 1)) (r .ordered) e;
           is = ap (λ (l : List Piece). puts cap l (rows f (k - 1))) e ∙ sym (putAll-++ earlier joined cap (piecesIn t c) (rows f (k - 1)) (f (k - 1)))
               ∙ ap (λ (j : ℕ). puts cap (piecesIn t c) (rows f j)) q ∙ r .is;
         }

@@ -3,6 +3,7 @@ pub mod Between
 pub mod Capped
 pub mod PieceRows
 pub mod Put
+pub mod PieceOrder
 pub mod Rooms
 pub mod Cutting
 pub mod Cuts

@@ -19,6 +19,7 @@ ghost use Rattle.plane.specs.Values.{segOf};
 ghost use Rattle.graph.specs.Flat.{Points, Carriers};
 ghost use Rattle.overlay_cut.specs.Rooms.{vertexRows, edgeRows};
 ghost use Rattle.overlay_cut.specs.PieceRows.{piecesIn};
+ghost use Rattle.overlay_cut.specs.PieceOrder.{InPieceOrder};
 ghost use Rattle.overlay_cut.specs.Cutting.{puts, upper};
 ghost use Rattle.overlay_cut.specs.Between.{InOrderIf};
 ghost use Rattle.overlay_cut.specs.Cuts.{PieceTable, Starts, cutEdge, cutMap, cutAll};
@@ -33,7 +34,7 @@ fn link(
     m: usize,
     number: u16,
 ) -> usize
-    requires { ⌜ PieceTable (now pieces) count ⌝ ∗ ⌜ v < vertexRows ⌝ ∗ ⌜ n ≤ vertexRows ⌝ ∗ ⌜ m < maps ⌝ ∗ ⌜ number < absent ⌝ }
+    requires { ⌜ PieceTable (now pieces) count × InPieceOrder (now pieces) count ⌝ ∗ ⌜ v < vertexRows ⌝ ∗ ⌜ n ≤ vertexRows ⌝ ∗ ⌜ m < maps ⌝ ∗ ⌜ number < absent ⌝ }
     ensures { λ r. ⌜ piecesIn (now (pieces .exit)) r ≡ puts edgeRows (piecesIn (now (pieces .entry)) count) (linksFrom (only maps m number) v (upper n next)) ⌝ }
 {
     if n <= next {
@@ -53,7 +54,7 @@ fn cut_edge(
     pieces: &mut [u16],
     count: usize,
 ) -> usize
-    requires { ⌜ PieceTable (now pieces) count ⌝ ∗ ⌜ Points (now points) n × (n ≤ vertexRows) × InOrderIf sorted (now points) n ⌝ ∗ ⌜ Edge (segOf s) ⌝ ∗ ⌜ m < maps ⌝ ∗ ⌜ number < absent ⌝ }
+    requires { ⌜ PieceTable (now pieces) count × InPieceOrder (now pieces) count ⌝ ∗ ⌜ Points (now points) n × (n ≤ vertexRows) × InOrderIf sorted (now points) n ⌝ ∗ ⌜ Edge (segOf s) ⌝ ∗ ⌜ m < maps ⌝ ∗ ⌜ number < absent ⌝ }
     ensures { λ r. ⌜ piecesIn (now (pieces .exit)) r ≡ puts edgeRows (piecesIn (now (pieces .entry)) count) (cutEdge (now (points .entry)) n (segOf s) m number) ⌝ }
 {
     let first = first_on(points, n, sorted, s);
@@ -82,7 +83,7 @@ fn cut_map(
     pieces: &mut [u16],
     count: usize,
 ) -> usize
-    requires { ⌜ PieceTable (now pieces) count ⌝ ∗ ⌜ Points (now points) n × (n ≤ vertexRows) × InOrderIf sorted (now points) n ⌝ ∗ ⌜ Carriers (now carriers) (from + e) ⌝ ∗ ⌜ m < maps ⌝ ∗ ⌜ e < absent ⌝ }
+    requires { ⌜ PieceTable (now pieces) count × InPieceOrder (now pieces) count ⌝ ∗ ⌜ Points (now points) n × (n ≤ vertexRows) × InOrderIf sorted (now points) n ⌝ ∗ ⌜ Carriers (now carriers) (from + e) ⌝ ∗ ⌜ m < maps ⌝ ∗ ⌜ e < absent ⌝ }
     ensures { λ r. ⌜ piecesIn (now (pieces .exit)) r ≡ puts edgeRows (piecesIn (now (pieces .entry)) count) (cutMap (now (points .entry)) n (now (carriers .entry)) from m e) ⌝ }
 {
     let mut total = count;

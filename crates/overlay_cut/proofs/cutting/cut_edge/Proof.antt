@@ -28,8 +28,9 @@ abbrev μ-loop : tie.MeasureT-loop
 
 loop-holds : tie.Need-loop-holds Inv-loop μ-loop
 loop-holds c =
+    let start : tie.Start Inv-loop μ-loop = search needs in
     let past : tie.After-past-on Inv-loop μ-loop = search needs in
-    (refl, link-starts edgeRows _ _ _ _ _ _ (search needs) (past .past-on .ensures .within) (on-upto (past .past-on .ensures)))
+    (refl, link-starts edgeRows _ _ _ _ _ _ (search needs) (start .pre .0 .1) (past .past-on .ensures .within) (on-upto (past .past-on .ensures)))
 
 point-at-requires : tie.Need-point-at-requires Inv-loop μ-loop
 point-at-requires c κs =
@@ -42,6 +43,15 @@ on-seg-requires c κs =
     let s : tie.Start Inv-loop μ-loop = search needs in
     let at-loop : tie.At-loop Inv-loop μ-loop = search needs in
     (s .pre .1 .1 .0, subst Near (sym (c .point-at .ensures)) (s .pre .1 .0 .0 .near (at-loop .loop .v - 1) (omega (arith, at-loop .loop .inv .1 .low))))
+
+link-requires : tie.Need-link-requires Inv-loop μ-loop
+link-requires c κs =
+    let s : tie.Start Inv-loop μ-loop = search needs in
+    let at-loop : tie.At-loop Inv-loop μ-loop = search needs in
+    let l = at-loop .loop in (
+      (record { long = omega (arith, l .inv .0, s .pre .0 .0 .long); within = l .inv .1 .within }, l .inv .1 .ordered),
+      (omega (arith, l .inv .1 .low, s .pre .1 .0 .1), (s .pre .1 .0 .1, (s .pre .1 .1 .1 .0, s .pre .1 .1 .1 .1))),
+    )
 
 -- what the test of vertex v says
 tested : (c : tie.After-on-seg Inv-loop μ-loop) (s : tie.Start Inv-loop μ-loop) (v : ℕ) → ptOf (c .before .point-at .result) ≡ pointAt (s .args .points .now) v
@@ -83,7 +93,7 @@ cut-edge-spec =
     (λ c. search needs)
     point-at-requires
     on-seg-requires
-    (λ c κs. search needs)
+    link-requires
     (λ c. search needs)
     loop-again
     (λ c. search needs)

@@ -21,7 +21,9 @@ abbrev μ-loop : tie.MeasureT-loop
 μ-loop points n sorted carriers from e m pieces₀ count total₀ k₀ pieces total k = k
 
 loop-holds : tie.Need-loop-holds Inv-loop μ-loop
-loop-holds c = (search needs, refl, cut-starts edgeRows _ _ _ _ (search needs))
+loop-holds c =
+    let start : tie.Start Inv-loop μ-loop = search needs in
+    (search needs, refl, cut-starts edgeRows _ _ _ _ (search needs) (start .pre .0 .1))
 
 carrier-at-requires : tie.Need-carrier-at-requires Inv-loop μ-loop
 carrier-at-requires c κs =
@@ -32,7 +34,7 @@ cut-edge-requires : tie.Need-cut-edge-requires Inv-loop μ-loop
 cut-edge-requires c κs =
     let at-loop : tie.At-loop Inv-loop μ-loop = search needs in
     let s : tie.Start Inv-loop μ-loop = search needs in
-    (record { long = omega (arith, at-loop .loop .inv .1); within = at-loop .loop .inv .2 .within }, (s .pre .1 .0, (c .before .carrier-at .ensures .1, (s .pre .1 .1 .1 .0, omega arith))))
+    ((record { long = omega (arith, at-loop .loop .inv .1); within = at-loop .loop .inv .2 .within }, at-loop .loop .inv .2 .ordered), (s .pre .1 .0, (c .before .carrier-at .ensures .1, (s .pre .1 .1 .1 .0, omega arith))))
 
 loop-again : tie.Need-loop-again Inv-loop μ-loop
 loop-again c =

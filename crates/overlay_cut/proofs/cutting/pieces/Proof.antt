@@ -6,6 +6,7 @@ use lib.ListN.{length}
 use Rattle.paper.specs.Limits.{maps}
 use Rattle.overlay_cut.specs.Rooms.{edgeRows}
 use Rattle.overlay_cut.specs.Cutting.{puts, Cutting, cut-starts, cut-turns, cut-ends}
+use Rattle.overlay_cut.specs.PieceOrder.{no-pieces}
 use Rattle.overlay_cut.specs.Cuts.{cutPart, cutAll, part-carried}
 use borrow.Author.Needs.{needs}
 use native.Mathlib.Omega.{arith}
@@ -20,7 +21,7 @@ abbrev μ-loop : tie.MeasureT-loop
 μ-loop points n carriers starts out₀ sorted total₀ m₀ out total m = m
 
 loop-holds : tie.Need-loop-holds Inv-loop μ-loop
-loop-holds c = (search needs, refl, cut-starts edgeRows _ _ 0 _ (search needs))
+loop-holds c = (search needs, refl, cut-starts edgeRows _ _ 0 _ (search needs) (no-pieces _))
 
 sub-e : tie.Need-sub-e Inv-loop μ-loop
 sub-e c =
@@ -34,7 +35,7 @@ cut-map-requires c κs =
     let s : tie.Start Inv-loop μ-loop = search needs in
     let sorted : tie.After-rise Inv-loop μ-loop = search needs in
     let l = at-loop .loop in
-    (record { long = omega (arith, l .inv .1); within = l .inv .2 .within }, ((s .pre .0 .0, s .pre .0 .1, sorted .rise .ensures), (part-carried (s .pre .1 .0) (l .m - 1) (omega arith), (omega arith, s .pre .1 .0 .few (l .m - 1) (omega arith)))))
+    ((record { long = omega (arith, l .inv .1); within = l .inv .2 .within }, l .inv .2 .ordered), ((s .pre .0 .0, s .pre .0 .1, sorted .rise .ensures), (part-carried (s .pre .1 .0) (l .m - 1) (omega arith), (omega arith, s .pre .1 .0 .few (l .m - 1) (omega arith)))))
 
 loop-again : tie.Need-loop-again Inv-loop μ-loop
 loop-again c =
