@@ -17,7 +17,7 @@ use Rattle.seq.specs.Total.{total}
 use Rattle.paper.specs.Limits.{maps, mapVertices, mapEdges}
 use Rattle.paper.specs.Refusal.{Refusal, firstOf}
 use Rattle.paper.specs.Graph.{Graph, origin}
-use Rattle.paper.specs.Map.{mapOf, vertexCount, edgesIn, fault, formFaults, partFaults, netFaults}
+use Rattle.paper.specs.Map.{Map, mapOf, vertexCount, edgesIn, fault, formFaults, partFaults, netFaults}
 use Rattle.laws_map.specs.Keeps.{Keeps}
 use Rattle.laws_map.specs.Files.{passes-keeps}
 use Rattle.laws_refusals.specs.Refusals.{first-none}
@@ -27,6 +27,7 @@ use Rattle.map_check.specs.Held.{flatMap}
 use Rattle.map_check.specs.Laws.Kept.{Kept}
 use Rattle.map_check.proofs.KeptLaws.{kept}
 use Rattle.map_check.proofs.LoadedLaws.{point-held, carrier-held, cell-held, labels-table, graph-held, held-flat}
+use Rattle.overlay_maps.specs.Ended.{Ended}
 use Rattle.overlay_maps.specs.Standing.{cells, standing, Stands}
 use Rattle.overlay_maps.specs.Layers.{Layers, cornersOf, originsOf, carriersOf, labelsOf, starts, Layered, LayerRoom}
 use Rattle.overlay_maps.specs.Held.{vertexStart, edgeStart, heldMap, heldMaps, Held}
@@ -149,6 +150,9 @@ module _ (s : List ℕ) where
         (carrier-held s (carriersOf s) (carriersOf s) (omega (arith, carriers-long s)) carriers-all)
         passes-kept (omega (arith, corners-long s)) (omega (arith, origins-long s)) (omega (arith, carriers-long s))
 
+    ended-is : Ended (mapOf s .graph)
+    ended-is = let K : Keeps (mapOf s) = passes-keeps s passes in record { foot-is = λ k l. K .foot-is k l; head-is = λ k l. K .head-is k l }
+
   -- ── one map in its parts ──
 
   module _ (ps : List ℤ) (os : List ℕ) (cs : List ℤ) (ls : List ℕ) (v w a b : ℕ)
@@ -174,6 +178,7 @@ module _ (s : List ℕ) where
       labels-in = l;
       few = omega arith;
       flat = coe 1 0 (i. Flat (cp i) (co i) (ca i) (few i) (short i)) (flat-is e);
+      ended = subst (λ (m : Map). Ended (m .graph)) (sym standing-is) (ended-is e);
     }
 
 -- ── all ──

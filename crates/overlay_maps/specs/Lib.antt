@@ -1,5 +1,6 @@
 pub mod Label
 pub mod Place
+pub mod Ended
 pub mod Standing
 pub mod Refused
 pub mod Layers

@@ -1,7 +1,7 @@
 // "The label of a half-edge in a map: if it lies along an edge of that map, the label of that edge on that side; otherwise the label of what is seen looking
 // west in that map from its lower end along it."
+use crate::west::seen_label;
 use graph::east_side;
-use graph::seen_label;
 use graph::twin;
 use limits::CARRIER_WIDTH;
 use limits::POINT_WIDTH;
@@ -13,8 +13,9 @@ ghost use lib.ListN.{length};
 ghost use Rattle.paper.specs.Limits.{absent};
 ghost use Rattle.plane.specs.Values.{ptOf, vecOf};
 ghost use Rattle.plane.specs.Bounds.{Direction, Near};
-ghost use Rattle.graph.specs.Flat.{Flat};
+ghost use Rattle.graph.specs.Flat.{Flat, flatGraph};
 ghost use Rattle.map_check.specs.Held.{flatMap};
+ghost use Rattle.overlay_maps.specs.Ended.{Ended};
 ghost use Rattle.overlay_maps.specs.Label.{ownLabel};
 ghost use Rattle.overlay_maps.specs.Standing.{Stands, standing};
 ghost use Rattle.overlay_maps.specs.Place.{labelAt, partAt};
@@ -82,7 +83,7 @@ pub fn label_in(
     e: usize,
     at: Place,
 ) -> u16
-    requires { ⌜ Flat (now points) (now origins) (now carriers) n e ⌝ ∗ ⌜ 2 * e ≤ absent ⌝ ∗ ⌜ 2 * e ≤ length (now labels) ⌝ ∗ ⌜ at .source ≤ e ⌝ ∗ ⌜ Near (ptOf (at .low)) × Direction (vecOf (at .up)) ⌝ }
+    requires { ⌜ Flat (now points) (now origins) (now carriers) n e × Ended (flatGraph (now points) (now origins) (now carriers) n e) ⌝ ∗ ⌜ 2 * e ≤ absent ⌝ ∗ ⌜ 2 * e ≤ length (now labels) ⌝ ∗ ⌜ at .source ≤ e ⌝ ∗ ⌜ Near (ptOf (at .low)) × Direction (vecOf (at .up)) ⌝ }
     ensures { λ r. ⌜ r ≡ labelAt (flatMap (now (points .entry)) (now (origins .entry)) (now (carriers .entry)) (now (labels .entry)) n e) at ⌝ }
 {
     if at.source == 0 {

@@ -12,7 +12,7 @@ label-in-requires c κs =
     let s : tie.Start = search needs in
     let k = s .pre .0 in
     let l = length-cells (now (s .args .labels)) (2 * s .args .part .a) (2 * s .args .part .b) (k .labels-in) in
-    (k .flat, (omega (arith, k .few), (omega (arith, l), (s .pre .1 .0, s .pre .1 .1))))
+    ((k .flat, k .ended), (omega (arith, k .few), (omega (arith, l), (s .pre .1 .0, s .pre .1 .1))))
 
 pub label-at-spec : {M : Type 1} → statement M
 label-at-spec =
