@@ -68,7 +68,8 @@ fn is_smallest(points: &[i64], origins: &[u16], next: &[u16], m: usize, h: usize
     true
 }
 
-// Whether h "is the greatest-angle half-edge that makes its walk a hole walk".
+// Whether h "is the greatest-angle half-edge that makes its walk a hole walk". Most half-edges are followed within a few steps by one from a smaller vertex, so the walk is looked at
+// first, and a greater angle is searched only for a few of each walk.
 fn makes_hole(
     points: &[i64],
     origins: &[u16],
@@ -80,10 +81,10 @@ fn makes_hole(
     requires { ⌜ (m ≤ length (now origins)) × Headings (now headings) m × Walked (now points) (now origins) (now next) m × (h < m) ⌝ }
     ensures { λ r. ⌜ r ≡ makesHoleAt (now (points .entry)) (now (origins .entry)) (now (headings .entry)) (now (next .entry)) m h ⌝ }
 {
-    if first_greater(origins, headings, m, h) < m {
+    if !is_smallest(points, origins, next, m, h) {
         return false;
     }
-    is_smallest(points, origins, next, m, h)
+    !(first_greater(origins, headings, m, h) < m)
 }
 
 // The label of the half-edge seen strictly west of where h starts, or 0 where the outside is seen.

@@ -1,28 +1,39 @@
--- `map_check::labels::makes_hole` meets its contract. Assumes nothing.
-use mathlib.Core.Path.{sym, ap, _∙_}
-use native.Mathlib.Omega.{arith}
+-- `map_check::labels::makes_hole` meets its contract: the two tests of the definition, the walk first. Assumes nothing.
+use mathlib.Core.Path.{_≡_, refl, sym, ap, _∙_}
 use borrow.Author.Needs.{needs}
-use borrow.Author.Tests.{lt-ltb, le-ltb}
 use denote.Ref.{now}
-use Rattle.seq.specs.Seq.{Bool, not, _&&_, least}
+use Rattle.seq.specs.Seq.{Bool, true, false, not, _&&_, ltb, someBelow}
 use Rattle.map_check.specs.Labels.{greaterAt, smallestAt}
 use Rattle.map_check.proofs.labels.makes_hole.Statement.{statement}
 use Rattle.map_check.proofs.labels.makes_hole.Tie as tie
+
+-- whatever the first test says: the second does not hold, or it does
+neither : (a b : Bool) → not b ≡ true → false ≡ (a && b)
+neither true false e = refl
+neither false false e = refl
+neither true true e = e
+neither false true e = refl
+
+first-only : (a b : Bool) → not b ≡ false → a ≡ (a && b)
+first-only true true e = refl
+first-only false true e = refl
+first-only true false e = e
+first-only false false e = refl
 
 returns : tie.Need-returns
 returns c =
     let start : tie.Start = search needs in
     let a = start .args in
-    sym (ap (λ (b : Bool). not b && smallestAt (now (a .points)) (now (a .origins)) (now (a .next)) (a .m) (a .h))
-    (lt-ltb (least (greaterAt (now (a .origins)) (now (a .headings)) (a .h)) (a .m)) (a .m) (omega (arith, c .before .first-greater .ensures, c .if1 .taken))))
+    let smallest = smallestAt (now (a .points)) (now (a .origins)) (now (a .next)) (a .m) (a .h) in
+    neither (not (someBelow (greaterAt (now (a .origins)) (now (a .headings)) (a .h)) (a .m))) smallest (sym (ap not (c .before .is-smallest .ensures)) ∙ c .if1 .taken)
 
 returns-2 : tie.Need-returns-2
 returns-2 c =
     let start : tie.Start = search needs in
     let a = start .args in
-    c .is-smallest .ensures
-    ∙ sym (ap (λ (b : Bool). not b && smallestAt (now (a .points)) (now (a .origins)) (now (a .next)) (a .m) (a .h))
-    (le-ltb (least (greaterAt (now (a .origins)) (now (a .headings)) (a .h)) (a .m)) (a .m) (omega (arith, c .before .before .first-greater .ensures, c .before .if1 .left))))
+    let smallest = smallestAt (now (a .points)) (now (a .origins)) (now (a .next)) (a .m) (a .h) in
+    ap (λ x. not (ltb x (a .m))) (c .first-greater .ensures)
+    ∙ first-only (not (someBelow (greaterAt (now (a .origins)) (now (a .headings)) (a .h)) (a .m))) smallest (sym (ap not (c .before .before .is-smallest .ensures)) ∙ c .before .if1 .left)
 
 pub makes-hole-spec : {M : Type 1} → statement M
 makes-hole-spec =
