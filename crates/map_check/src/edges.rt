@@ -1,25 +1,43 @@
 // Rules 8 and 9: edges that share more than ends, and vertices without an edge, each a search for its least place.
 use graph::carrier_at;
+use plane::Seg;
 use plane::boxes_apart;
 use plane::clash_by;
 ghost use mathlib.Core.Path.{_≡_};
 ghost use Prim.Native.Nat.{_≤_, _<_};
 ghost use lib.ListN.{length};
+ghost use lib.Signed.{ltZ};
 ghost use Rattle.seq.specs.Seq.{least};
-ghost use Rattle.paper.specs.Plane.{clash};
+ghost use Rattle.paper.specs.Plane.{head, clash};
+ghost use Rattle.plane.specs.Values.{segOf};
+ghost use Rattle.plane.specs.Bounds.{Edge};
 ghost use Rattle.graph.specs.Flat.{carrierAt, Carriers};
 ghost use Rattle.graph.specs.Upright.{Upright};
 ghost use Rattle.map_check.specs.Net.{clashingAt, startsAt, lonelyAt};
 ghost use Rattle.map_check.specs.Later.{laterAt};
 
-// Whether edges k and j share a point that is not an end of both, by how they meet; edges go up. Nothing more is reckoned of two whose
-// boxes are apart.
+// Whether the upper end of s is lower than the lower end of t: as edges go up, s then lies wholly below t.
+fn lies_under(s: Seg, t: Seg) -> bool
+    requires { ⌜ Edge (segOf s) × Edge (segOf t) ⌝ }
+    ensures { λ r. ⌜ r ≡ ltZ (head (segOf s) .y) (segOf t .foot .y) ⌝ }
+{
+    s.y + s.v < t.y
+}
+
+// Whether edges k and j share a point that is not an end of both, by how they meet; edges go up. Of most pairs one lies wholly below the other, which one
+// comparison says; and nothing more is reckoned of two whose boxes are apart.
 fn clashes(carriers: &[i16], e: usize, k: usize, j: usize) -> bool
     requires { ⌜ Carriers (now carriers) e × (k < e) × (j < e) × Upright (now carriers) e ⌝ }
     ensures { λ r. ⌜ r ≡ clash (carrierAt (now (carriers .entry)) k) (carrierAt (now (carriers .entry)) j) ⌝ }
 {
     let s = carrier_at(carriers, k);
     let t = carrier_at(carriers, j);
+    if lies_under(s, t) {
+        return false;
+    }
+    if lies_under(t, s) {
+        return false;
+    }
     if boxes_apart(s, t) {
         return false;
     }
