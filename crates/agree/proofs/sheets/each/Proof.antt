@@ -1,14 +1,14 @@
--- `agree::each` ends: the pair's number rises. Assumes nothing.
+-- `agree::sheets::each` ends: the pair's number rises. Assumes nothing.
 use Prim.Native.Nat.{_-_}
 use borrow.Author.Needs.{needs}
-use Rattle.agree.proofs.each.Statement.{statement}
-use Rattle.agree.proofs.each.Tie as tie
+use Rattle.agree.proofs.sheets.each.Statement.{statement}
+use Rattle.agree.proofs.sheets.each.Tie as tie
 
 abbrev Inv-loop : tie.InvT-loop
-Inv-loop fd count i₀ t4 i = Unit {0}
+Inv-loop fd melts count i₀ t4 i = Unit {0}
 
 abbrev μ-loop : tie.MeasureT-loop
-μ-loop fd count i₀ t4 i = count - i
+μ-loop fd melts count i₀ t4 i = count - i
 
 pub each-spec : {M : Type 1} → statement M
 each-spec =
