@@ -1,5 +1,5 @@
-/* digests FOLDER...: the plain overlay's answer for FOLDER/zones.zmp and FOLDER/blocks.zmp, with the digest of its tables, as
- * `second digests` prints it (second/README.md). */
+/* digests [--melt] FOLDER...: the plain overlay's answer for FOLDER/zones.zmp and FOLDER/blocks.zmp, with the digest of its tables, as
+ * `second digests` prints it (second/README.md); with --melt that of the melted tables, as `second melt-digests` does. */
 #include <stdio.h>
 #include <string.h>
 
@@ -42,13 +42,14 @@ static void print_digest(struct plain_answer a)
 int main(int count, char **words)
 {
     static struct file zones, blocks;
+    int melts = count > 1 && strcmp(words[1], "--melt") == 0;
 
-    for (int i = 1; i < count; i++) {
+    for (int i = 1 + melts; i < count; i++) {
         struct plain_tables tables = { vertices, halves, sources, faces, 4 * 1000, 5 * 4000, SOURCE_WIDTH * 2000, FACE_WIDTH * 1334 };
         char *name = strrchr(words[i], '/');
 
         load_sheet(words[i], &zones, &blocks);
-        struct plain_answer a = plain_overlay(zones.bytes, zones.length, blocks.bytes, blocks.length, &tables);
+        struct plain_answer a = (melts ? plain_melt : plain_overlay)(zones.bytes, zones.length, blocks.bytes, blocks.length, &tables);
         printf("%s ", name ? name + 1 : words[i]);
         if (a.number == 0)
             print_digest(a);

@@ -1,5 +1,6 @@
-/* time FOLDER...: for each sheet the seconds of one overlay by the plain C and by the proved library, the plain way and by the sweep, and the ratio of each to the plain C. All fill the
- * same tables of full size, with the third map empty; no table is cleared before. They take turns, each for a tenth of a second at least, five times; the least time of each counts. */
+/* time [--melt] FOLDER...: for each sheet the seconds of one overlay by the plain C and by the proved library, the plain way and by the sweep, and the ratio of each to the plain C. All fill the
+ * same tables of full size, with the third map empty; no table is cleared before. They take turns, each for a tenth of a second at least, five times; the least time of each counts. With --melt the same of the
+ * overlay melted, by the plain C and by the proved library. */
 #include <stdio.h>
 #include <string.h>
 #include <time.h>
@@ -14,6 +15,7 @@ static uint32_t sources[BONNETEWE_SOURCE_CELLS];
 static uint16_t faces[BONNETEWE_FACE_CELLS];
 static struct file zones, blocks;
 static unsigned counted[3];
+static int melts;
 
 static double now(void)
 {
@@ -27,7 +29,7 @@ static void plain(void)
 {
     struct plain_tables tables = { vertices, halves, sources, faces, BONNETEWE_VERTEX_CELLS, BONNETEWE_HALF_CELLS,
                                    BONNETEWE_SOURCE_CELLS, BONNETEWE_FACE_CELLS };
-    struct plain_answer a = plain_overlay(zones.bytes, zones.length, blocks.bytes, blocks.length, &tables);
+    struct plain_answer a = (melts ? plain_melt : plain_overlay)(zones.bytes, zones.length, blocks.bytes, blocks.length, &tables);
 
     counted[0] = a.vertices, counted[1] = a.edges, counted[2] = a.faces;
 }
@@ -51,6 +53,15 @@ static void proved_swept(void)
     proved(BONNETEWE_SWEPT);
 }
 
+static void proved_melted(void)
+{
+    bonnetewe_answer a = bonnetewe_melt(zones.bytes, zones.length, blocks.bytes, blocks.length, bonnetewe_empty, sizeof bonnetewe_empty,
+                                        vertices, BONNETEWE_VERTEX_CELLS, halves, BONNETEWE_HALF_CELLS, sources, BONNETEWE_SOURCE_CELLS,
+                                        faces, BONNETEWE_FACE_CELLS);
+
+    counted[0] = bonnetewe_vertices(a), counted[1] = bonnetewe_edges(a), counted[2] = bonnetewe_faces(a);
+}
+
 /* The seconds of one run. */
 static double once(void (*run)(void))
 {
@@ -67,22 +78,29 @@ static double once(void (*run)(void))
 
 int main(int count, char **words)
 {
-    void (*const runs[3])(void) = { plain, proved_plain, proved_swept };
+    void (*runs[3])(void) = { plain, proved_plain, proved_swept };
+    int ways = 3;
 
-    printf("%-12s %8s %6s %6s %14s %14s %14s %7s %7s\n", "sheet", "vertices", "edges", "faces", "plain C", "proved, plain", "proved, swept", "ratio", "ratio");
-    for (int i = 1; i < count; i++) {
+    melts = count > 1 && strcmp(words[1], "--melt") == 0;
+    if (melts)
+        runs[1] = proved_melted, ways = 2;
+    printf("%-12s %8s %6s %6s %14s", melts ? "melted" : "sheet", "vertices", "edges", "faces", "plain C");
+    printf(melts ? " %14s %7s\n" : " %14s %7s %14s %7s\n", melts ? "proved" : "proved, plain", "ratio", "proved, swept", "ratio");
+    for (int i = 1 + melts; i < count; i++) {
         double least[3] = { 1e9, 1e9, 1e9 };
         char *name = strrchr(words[i], '/');
 
         load_sheet(words[i], &zones, &blocks);
         for (int turn = 0; turn < 5; turn++)
-            for (int k = 0; k < 3; k++) {
+            for (int k = 0; k < ways; k++) {
                 double t = once(runs[k]);
 
                 least[k] = t < least[k] ? t : least[k];
             }
-        printf("%-12s %8u %6u %6u %12.9f s %12.9f s %12.9f s %7.2f %7.2f\n", name ? name + 1 : words[i], counted[0], counted[1], counted[2],
-               least[0], least[1], least[2], least[1] / least[0], least[2] / least[0]);
+        printf("%-12s %8u %6u %6u %12.9f s", name ? name + 1 : words[i], counted[0], counted[1], counted[2], least[0]);
+        for (int k = 1; k < ways; k++)
+            printf(" %12.9f s %7.2f", least[k], least[k] / least[0]);
+        printf("\n");
     }
     return 0;
 }

@@ -1,6 +1,7 @@
-/* listing FOLDER [OUT.zov [BED.zmp]]: the listing of FOLDER/zones.zmp and FOLDER/blocks.zmp, with a third map where one is named, by the proved library called
- * from C. The overlay is also written as an overlay file, to OUT.zov where that is named, and read back into the same tables, and only then listed. */
+/* listing [--melt] FOLDER [OUT.zov [BED.zmp]]: the listing of FOLDER/zones.zmp and FOLDER/blocks.zmp, with a third map where one is named, by the proved library called
+ * from C; with --melt that of the cells melted together. The overlay is also written as an overlay file, to OUT.zov where that is named, and read back into the same tables, and only then listed. */
 #include <stdio.h>
+#include <string.h>
 
 #include "../bench/files.h"
 #include "bonnetewe.h"
@@ -53,15 +54,19 @@ int main(int count, char **words)
     const uint8_t *bed = bonnetewe_empty;
     size_t bed_length = sizeof bonnetewe_empty;
     bonnetewe_answer a, written;
+    int melts = count > 1 && strcmp(words[1], "--melt") == 0;
 
+    count -= melts;
+    words += melts;
     load_sheet(count > 1 ? words[1] : ".", &zones, &blocks);
     if (count > 3) {
         load_file(words[3], &third);
         bed = third.bytes;
         bed_length = third.length;
     }
-    a = bonnetewe_overlay(zones.bytes, zones.length, blocks.bytes, blocks.length, bed, bed_length, vertices, BONNETEWE_VERTEX_CELLS,
-                          halves, BONNETEWE_HALF_CELLS, sources, BONNETEWE_SOURCE_CELLS, faces, BONNETEWE_FACE_CELLS);
+    a = (melts ? bonnetewe_melt : bonnetewe_overlay)(zones.bytes, zones.length, blocks.bytes, blocks.length, bed, bed_length, vertices,
+                                                     BONNETEWE_VERTEX_CELLS, halves, BONNETEWE_HALF_CELLS, sources, BONNETEWE_SOURCE_CELLS,
+                                                     faces, BONNETEWE_FACE_CELLS);
     if (!bonnetewe_done(a))
         return refused(a);
     written = bonnetewe_write(bonnetewe_vertices(a), bonnetewe_edges(a), bonnetewe_faces(a), vertices, BONNETEWE_VERTEX_CELLS,

@@ -226,6 +226,12 @@ bonnetewe_answer bonnetewe_overlay_by(uint16_t way, const uint8_t *zones, size_t
                                       const uint8_t *bed, size_t bed_length, int64_t *vertices, size_t vertex_cells, uint16_t *halves, size_t half_cells,
                                       uint32_t *sources, size_t source_cells, uint16_t *faces, size_t face_cells);
 
+/* The same with the cells melted together: every edge of the overlay with the same labels on both sides in each map is dropped, then every vertex left without an edge, and the rest is
+ * numbered afresh. It is refused exactly where bonnetewe_overlay is, and with the same answer: there must be room for the whole overlay. */
+bonnetewe_answer bonnetewe_melt(const uint8_t *zones, size_t zones_length, const uint8_t *blocks, size_t blocks_length,
+                                const uint8_t *bed, size_t bed_length, int64_t *vertices, size_t vertex_cells, uint16_t *halves, size_t half_cells,
+                                uint32_t *sources, size_t source_cells, uint16_t *faces, size_t face_cells);
+
 /* Reads an overlay file of version 1, 2 or 3 into the tables; where a version has no third source or label it is 0. */
 bonnetewe_answer bonnetewe_read(const uint8_t *file, size_t file_length, int64_t *vertices, size_t vertex_cells,
                                 uint16_t *halves, size_t half_cells, uint32_t *sources, size_t source_cells,

@@ -124,7 +124,52 @@ static void store_faces(const struct faces *f, uint16_t *rows)
     }
 }
 
-static struct plain_answer overlay_maps(const struct map *maps, struct plain_tables *t)
+/* The walks and faces of a net, with their labels; false if the faces are more than room. */
+static bool find_faces(const struct map *maps, const struct source *sources, int room, struct net *n, struct faces *f)
+{
+    link_net(n);
+    if (!number_faces(n, room, f))
+        return false;
+    place_holes(n, f);
+    f->label[0][0] = f->label[0][1] = 0;
+    for (int i = 1; i < f->count; i++)
+        for (int m = 0; m < 2; m++)
+            f->label[i][m] = face_label(&maps[m], m, n, sources, f->least[i]);
+    return true;
+}
+
+/* Drops the edges with the same labels on both sides, and then the vertices without an edge; the others close up in order. */
+static void drop_edges(struct net *n, struct source *sources, const struct faces *f)
+{
+    static uint16_t number[VERTICES];
+    int edges = 0, vertices = 0;
+
+    memset(number, 0, sizeof number);
+    for (int k = 0; k < n->edges; k++) {
+        const uint16_t *left = f->label[f->of_walk[n->lead[2 * k]]], *right = f->label[f->of_walk[n->lead[2 * k + 1]]];
+
+        if (left[0] == right[0] && left[1] == right[1])
+            continue;
+        n->line[edges] = n->line[k];
+        sources[edges] = sources[k];
+        for (int i = 0; i < 2; i++) {
+            n->origin[2 * edges + i] = n->origin[2 * k + i];
+            number[n->origin[2 * k + i]] = 1;
+        }
+        edges++;
+    }
+    for (int v = 0; v < n->vertices; v++)
+        if (number[v]) {
+            number[v] = vertices;
+            n->at[vertices++] = n->at[v];
+        }
+    for (int h = 0; h < 2 * edges; h++)
+        n->origin[h] = number[n->origin[h]];
+    n->vertices = vertices;
+    n->edges = edges;
+}
+
+static struct plain_answer overlay_maps(const struct map *maps, bool melts, struct plain_tables *t)
 {
     static struct net net;
     static struct source sources[EDGES];
@@ -136,14 +181,12 @@ static struct plain_answer overlay_maps(const struct map *maps, struct plain_tab
     int over = cut_maps(maps, vertex_room, edge_room, &net, sources);
     if (over != 0)
         return room_refusal(over);
-    link_net(&net);
-    if (!number_faces(&net, face_room, &faces))
+    if (!find_faces(maps, sources, face_room, &net, &faces))
         return room_refusal(3);
-    place_holes(&net, &faces);
-    faces.label[0][0] = faces.label[0][1] = 0;
-    for (int f = 1; f < faces.count; f++)
-        for (int m = 0; m < 2; m++)
-            faces.label[f][m] = face_label(&maps[m], m, &net, sources, faces.least[f]);
+    if (melts) {
+        drop_edges(&net, sources, &faces);
+        find_faces(maps, sources, face_room, &net, &faces);
+    }
     store_vertices(&net, t->vertices);
     store_halves(&net, &faces, t->halves);
     store_sources(&net, sources, t->sources);
@@ -151,8 +194,8 @@ static struct plain_answer overlay_maps(const struct map *maps, struct plain_tab
     return (struct plain_answer){ .vertices = net.vertices, .edges = net.edges, .faces = faces.count };
 }
 
-struct plain_answer plain_overlay(const uint8_t *zones, size_t zones_length, const uint8_t *blocks, size_t blocks_length,
-                                  struct plain_tables *tables)
+static struct plain_answer lay(const uint8_t *zones, size_t zones_length, const uint8_t *blocks, size_t blocks_length, bool melts,
+                               struct plain_tables *tables)
 {
     static struct map maps[2];
 
@@ -166,5 +209,17 @@ struct plain_answer plain_overlay(const uint8_t *zones, size_t zones_length, con
         fault = load_map(blocks, blocks_length, &maps[1]);
         fault.map = 2;
     }
-    return fault.number != 0 ? fault : overlay_maps(maps, tables);
+    return fault.number != 0 ? fault : overlay_maps(maps, melts, tables);
+}
+
+struct plain_answer plain_overlay(const uint8_t *zones, size_t zones_length, const uint8_t *blocks, size_t blocks_length,
+                                  struct plain_tables *tables)
+{
+    return lay(zones, zones_length, blocks, blocks_length, false, tables);
+}
+
+struct plain_answer plain_melt(const uint8_t *zones, size_t zones_length, const uint8_t *blocks, size_t blocks_length,
+                               struct plain_tables *tables)
+{
+    return lay(zones, zones_length, blocks, blocks_length, true, tables);
 }

@@ -31,4 +31,8 @@ struct plain_answer {
 struct plain_answer plain_overlay(const uint8_t *zones, size_t zones_length, const uint8_t *blocks, size_t blocks_length,
                                   struct plain_tables *tables);
 
+/* The same without the edges that have the same labels on both sides. */
+struct plain_answer plain_melt(const uint8_t *zones, size_t zones_length, const uint8_t *blocks, size_t blocks_length,
+                               struct plain_tables *tables);
+
 #endif

@@ -2,12 +2,17 @@
 
 use crate::make;
 use crate::map::{decode, Map};
+use crate::overlay::Room;
+use crate::ovfile::read;
 use crate::soundings;
+use crate::within::Ceilings;
 use crate::year;
+use std::collections::BTreeMap;
 use std::io::Write;
 
 pub const USAGE: &str = "
 second cells [--read] ZONES BLOCKS LIST   soundings by cell, and the edges read
+second cells-in FILE.zov LIST             soundings by cell, looked up in the tables of an overlay file
 second make-list SEED N ZONES BLOCKS OUT  make a list of N soundings over two maps
 second make-cells SEED N FILE             N pairs of maps with a list of soundings in one file
 second cells-answers [--read] FILE        the answer and digest of each case of such a pack
@@ -27,6 +32,7 @@ pub fn run(args: &[&str]) -> Option<Outcome> {
     Some(match args {
         ["cells", "--read", zones, blocks, list] => Ok(cells([zones, blocks, list], true)),
         ["cells", zones, blocks, list] => Ok(cells([zones, blocks, list], false)),
+        ["cells-in", file, list] => Ok(cells_in(file, list)),
         ["make-list", seed, n, zones, blocks, out] => make_list(seed, n, [zones, blocks], out),
         ["make-cells", seed, n, out] => make_cells(seed, n, out),
         ["cells-answers", "--read", file] => cells_answers(file, true),
@@ -58,6 +64,22 @@ fn number<T: std::str::FromStr>(word: &str) -> Result<T, String> {
 fn cells(files: [&str; 3], read: bool) -> String {
     let [zones, blocks, list] = files.map(bytes);
     soundings::text([&zones, &blocks], &list, read)
+}
+
+/// The file's cells in place of the maps; the list is taken as it stands.
+fn cells_in(file: &str, list: &str) -> String {
+    match read(&bytes(file), &Room::FULL) {
+        Ok(tables) => {
+            let ceilings = Ceilings::new(&tables);
+            let mut cells = BTreeMap::new();
+            for place in soundings::places(&bytes(list)) {
+                let [zone, block, ..] = ceilings.labels(place);
+                *cells.entry((zone, block)).or_insert(0u32) += 1;
+            }
+            cells.iter().map(|((zone, block), n)| format!("{zone} {block} {n}\n")).collect()
+        }
+        Err(refusal) => format!("{refusal}\n"),
+    }
 }
 
 fn make_list(seed: &str, n: &str, maps: [&str; 2], out: &str) -> Outcome {

@@ -7,6 +7,7 @@ use second::limits::MAPS;
 use second::make;
 use second::map::decode;
 use second::meet;
+use second::melt::melt_files;
 use second::mend;
 use second::overlay::{overlay_files, Overlay, Room};
 use second::ovfile::{file_as, file_of, read};
@@ -22,22 +23,28 @@ second list DIR                           list the overlay of DIR/zones.zmp and 
 second check FILE...                      check map files, or text maps (.txt), a line for each; what is
                                           wrong, and where, on standard error
 second overlay [BED] ZONES BLOCKS OUT     write the overlay file
+second melt [BED] ZONES BLOCKS [OUT]      list the melted tables, and write them as an overlay file
 second read FILE [ROOM]                   check and list an overlay file
 second edges FILE                         check an overlay file and list its edges
 second rewrite FILE OUT                   read an overlay file and write it again
 second as-version N FILE OUT              the same, as a file of version N
 second digest [BED] ZONES BLOCKS [ROOM]   counts and digest of the overlay's tables
+second melt-digest [BED] ZONES BLOCKS [ROOM]
+                                          the same of the melted tables
 second kinds                              the kinds of maps, pairs and sheets
 second make KIND SEED OUT.zmp             make a map file
 second pair KIND SEED DIR                 make DIR/zones.zmp and DIR/blocks.zmp
 second sheet KIND SEED DIR                make them and DIR/bed.zmp
 second set SEED N DIR                     make N pairs of all kinds in turn, in folders of DIR
 second digests DIR                        the digest of the maps in each folder of DIR
+second melt-digests DIR                   the same of the melted tables
 second pack SEED N FILE                   N sheets of all kinds and N/10 clashing ones in one file, with
                                           tables to lend
 second pack SEED N FILE --orders          behind them the same maps in other orders
 second answers FILE                       the answer and digest of each entry of a pack
 second orders FILE                        lay each entry in all six orders, and compare (02, Ask 11)
+second melt-pack SEED N FILE              N sheets of which much melts in one file, as a pack
+second melt-answers FILE                  the answer and digest of the melted tables of each entry
 second unpack FILE I DIR                  make the maps of entry I of a pack in DIR, and say its ROOM
 second mend IN OUT                        mend a map file, and list what was done
 second mend-pack SEED N FILE              N files to be mended in one file, with the room to lend
@@ -98,6 +105,8 @@ fn run(args: &[&str]) -> Outcome {
         ["overlay", "--bed", bed, zones, blocks, out] => overlay(&[zones, blocks, bed], out),
         ["overlay", zones, blocks, "--bed", bed, out] => overlay(&[zones, blocks, bed], out),
         ["overlay", zones, blocks, out] => overlay(&[zones, blocks], out),
+        ["melt", "--bed", bed, zones, blocks, out @ ..] => melted(&[zones, blocks, bed], out),
+        ["melt", zones, blocks, out @ ..] => melted(&[zones, blocks], out),
         ["read", file, room @ ..] => read_file(file, &room_of(room)?),
         ["edges", file] => Ok(edges(file)),
         ["rewrite", file, out] => rewrite(Version::NEWEST, file, out),
@@ -105,16 +114,23 @@ fn run(args: &[&str]) -> Outcome {
             rewrite(Version::of(number(n)?).ok_or("no such version")?, file, out)
         }
         ["digest", "--bed", bed, zones, blocks, room @ ..] => {
-            Ok(digest(&[zones, blocks, bed], &room_of(room)?))
+            Ok(digest(laid(&[zones, blocks, bed], &room_of(room)?)))
         }
-        ["digest", zones, blocks, room @ ..] => Ok(digest(&[zones, blocks], &room_of(room)?)),
+        ["digest", zones, blocks, room @ ..] => Ok(digest(laid(&[zones, blocks], &room_of(room)?))),
+        ["melt-digest", "--bed", bed, zones, blocks, room @ ..] => {
+            Ok(digest(melt_of(&[zones, blocks, bed], &room_of(room)?)))
+        }
+        ["melt-digest", zones, blocks, room @ ..] => {
+            Ok(digest(melt_of(&[zones, blocks], &room_of(room)?)))
+        }
         ["kinds"] => Ok(kinds()),
         ["make", kind, seed, out] => {
             let file = make::map_file(kind, number(seed)?).ok_or("no such kind of map")?;
             save(out, &file).map(|()| String::new())
         }
         ["set", seed, n, dir] => set(number(seed)?, number(n)?, dir),
-        ["digests", dir] => digests(dir),
+        ["digests", dir] => digests(dir, laid),
+        ["melt-digests", dir] => digests(dir, melt_of),
         ["pack", seed, n, out] => {
             let entries = pack::make(number(seed)?, number(n)?);
             save(out, &pack::bytes(&entries)).map(|()| String::new())
@@ -124,7 +140,12 @@ fn run(args: &[&str]) -> Outcome {
             save(out, &pack::bytes(&entries)).map(|()| String::new())
         }
         ["orders", file] => pack::in_all_orders(&packed(file)?),
-        ["answers", file] => answers(file),
+        ["answers", file] => answers(file, pack::Entry::answer),
+        ["melt-pack", seed, n, out] => {
+            let entries = make::melts::make(number(seed)?, number(n)?);
+            save(out, &pack::bytes(&entries)).map(|()| String::new())
+        }
+        ["melt-answers", file] => answers(file, pack::Entry::melted),
         ["unpack", file, i, dir] => unpack(file, number(i)?, dir),
         ["mend", file, out] => mend_file(file, out),
         ["mend-pack", seed, n, out] => {
@@ -208,6 +229,26 @@ fn overlay(paths: &[&str], out: &str) -> Outcome {
     }
 }
 
+/// The melted tables of the maps in some files.
+fn melt_of(paths: &[&str], room: &Room) -> Result<Overlay, Refusal> {
+    let files: Vec<Vec<u8>> = paths.iter().map(|path| bytes(path)).collect();
+    melt_files(&files, room)
+}
+
+/// The listing of the melted tables; where a file is asked for, they are written. Refused, none is.
+fn melted(paths: &[&str], out: &[&str]) -> Outcome {
+    let tables = match melt_of(paths, &Room::FULL) {
+        Ok(melted) => melted.tables,
+        Err(refusal) => return Ok(format!("{refusal}\n")),
+    };
+    match out {
+        [] => {}
+        [out] => save(out, &file_of(&tables).map_err(|refusal| refusal.to_string())?)?,
+        _ => return Err(USAGE.to_string()),
+    }
+    Ok(tables.listing())
+}
+
 fn read_file(path: &str, room: &Room) -> Outcome {
     Ok(match read(&bytes(path), room) {
         Ok(tables) => tables.listing(),
@@ -230,8 +271,8 @@ fn rewrite(version: Version, path: &str, out: &str) -> Outcome {
     }
 }
 
-fn digest(paths: &[&str], room: &Room) -> String {
-    match laid(paths, room) {
+fn digest(done: Result<Overlay, Refusal>) -> String {
+    match done {
         Ok(overlay) => format!("done {}\n", overlay.tables.digest()),
         Err(refusal) => format!("{refusal}\n"),
     }
@@ -252,10 +293,10 @@ fn kinds() -> String {
         out += &format!("  {:14} {}\n", k.name, k.about);
     }
     out += "sheets of three maps:\n";
-    for k in make::triples::KINDS {
+    for k in make::triples::KINDS.iter().chain(make::melts::KINDS) {
         out += &format!("  {:14} {}\n", k.name, k.about);
     }
-    out + "  any            any of these, and of the pairs but the last\n"
+    out + "  any            any of the sheets that are not made to melt, and of the pairs but the last\n"
 }
 
 fn pair(kind: &str, seed: u64, dir: &str) -> Outcome {
@@ -286,7 +327,7 @@ fn set(seed: u64, n: usize, dir: &str) -> Outcome {
 }
 
 /// `NAME ANSWER` for each folder, in the order of their names.
-fn digests(dir: &str) -> Outcome {
+fn digests(dir: &str, done: fn(&[&str], &Room) -> Result<Overlay, Refusal>) -> Outcome {
     let why = |why: std::io::Error| format!("{dir}: {why}");
     let mut folders: Vec<_> =
         std::fs::read_dir(dir).map_err(why)?.collect::<Result<_, _>>().map_err(why)?;
@@ -298,7 +339,7 @@ fn digests(dir: &str) -> Outcome {
         let paths: Vec<String> =
             there.map(|name| path(name).to_string_lossy().into_owned()).collect();
         let paths: Vec<&str> = paths.iter().map(String::as_str).collect();
-        let answer = digest(&paths, &Room::FULL);
+        let answer = digest(done(&paths, &Room::FULL));
         format!("{} {answer}", entry.file_name().to_string_lossy())
     };
     Ok(folders.iter().map(line).collect())
@@ -309,9 +350,9 @@ fn packed(file: &str) -> Result<Vec<pack::Entry>, String> {
 }
 
 /// `I ANSWER` for each entry of a pack.
-fn answers(file: &str) -> Outcome {
+fn answers(file: &str, answer: fn(&pack::Entry) -> String) -> Outcome {
     let entries = packed(file)?;
-    Ok(entries.iter().enumerate().map(|(i, e)| format!("{i} {}\n", e.answer())).collect())
+    Ok(entries.iter().enumerate().map(|(i, e)| format!("{i} {}\n", answer(e))).collect())
 }
 
 fn unpack(file: &str, i: usize, dir: &str) -> Outcome {

@@ -95,9 +95,20 @@ fn cuts(maps: &[&Map]) -> Vec<Vec<Vec<Point>>> {
 
 /// An overlay edge on its way into the tables: where it comes from, and a direction from its
 /// lower end to its upper one.
-struct Piece {
-    sources: Sources,
-    way: (i64, i64),
+pub struct Piece {
+    pub sources: Sources,
+    pub way: (i64, i64),
+}
+
+/// The direction of edge k of a map from its lower end to its upper one.
+pub fn upward(map: &Map, k: usize) -> (i64, i64) {
+    let (x, y) = map.segment(k).way();
+    let rises = y > 0 || (y == 0 && x > 0);
+    if rises {
+        (x, y)
+    } else {
+        (-x, -y)
+    }
 }
 
 /// The pieces of all edges by lower and upper vertex number, each once.
@@ -113,9 +124,7 @@ fn pieces(
             let mut on: Vec<usize> = cuts.iter().map(|p| number[p]).collect();
             on.sort_unstable();
             on.dedup();
-            let (x, y) = maps[m].segment(k).way();
-            let rises = y > 0 || (y == 0 && x > 0);
-            let way = if rises { (x, y) } else { (-x, -y) };
+            let way = upward(maps[m], k);
             for pair in on.windows(2) {
                 let sources = [None; MAPS];
                 let piece = pieces.entry((pair[0], pair[1])).or_insert(Piece { sources, way });
@@ -127,7 +136,11 @@ fn pieces(
 }
 
 /// The tables, once vertices and pieces are known.
-fn finish(maps: &[&Map], points: Vec<Point>, pieces: BTreeMap<(usize, usize), Piece>) -> Overlay {
+pub fn finish(
+    maps: &[&Map],
+    points: Vec<Point>,
+    pieces: BTreeMap<(usize, usize), Piece>,
+) -> Overlay {
     let sources: Vec<Sources> = pieces.values().map(|piece| piece.sources).collect();
     let graph = Graph {
         points,

@@ -8,6 +8,7 @@ use crate::limits::{EDGES, FACES, MAPS, VERTICES};
 use crate::make::pairs::CLASHING;
 use crate::make::triples::{names, sheet_files, Sheet};
 use crate::map::Map;
+use crate::melt::melt_files;
 use crate::overlay::{overlay_files, Room};
 use crate::random::Random;
 use crate::selftest::orders::{self, Laid};
@@ -29,6 +30,14 @@ impl Entry {
     pub fn answer(&self) -> String {
         match overlay_files(&self.files, &self.room()) {
             Ok(overlay) => format!("done {}", overlay.tables.digest()),
+            Err(refusal) => refusal.whole(),
+        }
+    }
+
+    /// The same of the melted tables.
+    pub fn melted(&self) -> String {
+        match melt_files(&self.files, &self.room()) {
+            Ok(melted) => format!("done {}", melted.tables.digest()),
             Err(refusal) => refusal.whole(),
         }
     }

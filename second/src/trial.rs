@@ -2,16 +2,18 @@
 //! definitions against them. README.md has the form of the lines.
 
 use crate::check::check;
-use crate::literal::slip::{OF_MAPS, OF_PAIRS, OF_TRIPLES};
+use crate::literal::slip::{melting_tells, OF_MAPS, OF_MELTING, OF_PAIRS, OF_TRIPLES};
 use crate::make::damage::{damage_map, KINDS};
 use crate::make::few::{diagonals, few, three_few, two_few};
 use crate::make::meets;
+use crate::make::melts::with_few;
 use crate::make::overlay_damage;
 use crate::make::table_damage::{self, Order};
-use crate::make::telling::{telling_map, telling_maps};
+use crate::make::telling::{sought, telling_map, telling_maps};
 use crate::make::triples::Sheet;
 use crate::map::Map;
 use crate::meet::{asked, parse, Ask, ASK};
+use crate::melt::melt_files;
 use crate::overlay::{overlay_files, Overlay, Room};
 use crate::ovfile::{file_of, read, write};
 use crate::random::Random;
@@ -27,8 +29,8 @@ const MEETS: usize = 20;
 /// No file of a map line is longer.
 const LONGEST: usize = 260;
 
-/// The lines of n rounds: a pair, three maps at once, five maps, a room, a file read, a file written, and of all kinds
-/// of two edges how they meet.
+/// The lines of n rounds: a pair, three maps at once, maps melted, five maps, a room, a file read, a file written, and of
+/// all kinds of two edges how they meet.
 pub fn run(seed: u64, n: usize) -> String {
     let mut out = String::new();
     for round in 0..n {
@@ -37,6 +39,7 @@ pub fn run(seed: u64, n: usize) -> String {
         let mut line = |text: String| writeln!(out, "{text}").expect("a string takes all text");
         line(laid_line(&files));
         line(laid_line(&three(&mut random, round)));
+        line(melt_line(&mut Random::new(seed.wrapping_add(round as u64), "trial melt"), round));
         for i in 0..MAPS {
             let file = map(&mut random, round * MAPS + i);
             line(map_line(&file));
@@ -183,6 +186,35 @@ fn room_line(random: &mut Random, round: usize) -> String {
         Err(refusal) => refusal.whole(),
     };
     format!("room {} {} {answer}", all_hex(&files), words(rows))
+}
+
+/// Maps with few labels, of two rounds one sought out so that a slip of melting would show; of four one is
+/// lent about what the overlay asks, of eight one has a damaged file.
+fn melt_line(random: &mut Random, round: usize) -> String {
+    let slip = OF_MELTING[round / 2 % OF_MELTING.len()];
+    let few = |random: &mut Random| {
+        let mut maps = three_few(random);
+        maps.iter_mut().for_each(|map| with_few(random, map));
+        maps
+    };
+    let maps = match round % 2 {
+        0 => few(random),
+        _ => sought(random, few, |maps| melting_tells(slip, &maps.each_ref())),
+    };
+    let mut files = maps.map(|map| map.bytes());
+    if round % 8 == 6 {
+        let kind = random.below(KINDS.len());
+        files[random.below(files.len())] = damaged(random, kind);
+    }
+    let needs = needs(&files);
+    let rows = if round % 4 == 2 { rows(random, needs) } else { needs.map(|n| n + 1) };
+    let room = Room::lent(rows[0], rows[1], rows[2], rows[3]);
+    let done = melt_files(&files, &room);
+    let answer = match done.and_then(|o| file_of(&o.tables).map(|file| (o, file))) {
+        Ok((melted, file)) => format!("done {} {}", melted.tables.digest(), hex(&file)),
+        Err(refusal) => refusal.whole(),
+    };
+    format!("melt {} {} {answer}", all_hex(&files), words(rows))
 }
 
 /// The tables of a small overlay, and its file.

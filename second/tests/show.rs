@@ -3,6 +3,7 @@
 
 use second::limits::MAPS;
 use second::map::{Edge, Map};
+use second::melt::melt_files;
 use second::overlay::{overlay_files, Room};
 use second::ovfile::file_of;
 use second::show::{cells, csv, decimal, geojson, label, svg, Cell};
@@ -14,6 +15,13 @@ fn sheet(name: &str) -> Tables {
     let there = ["zones", "blocks", "bed"].iter().take(MAPS);
     let files: Vec<Vec<u8>> = there.filter_map(|map| std::fs::read(path(map)).ok()).collect();
     overlay_files(&files, &Room::FULL).expect("the sheet is laid").tables
+}
+
+/// What is left of a sheet of two maps when it is melted.
+fn melted(name: &str) -> Tables {
+    let path = |map| format!("{}/../sheets/{name}/{map}.zmp", env!("CARGO_MANIFEST_DIR"));
+    let files = ["zones", "blocks"].map(|map| std::fs::read(path(map)).expect("a map"));
+    melt_files(&files, &Room::FULL).expect("the sheet is melted").tables
 }
 
 fn data(name: &str) -> String {
@@ -33,8 +41,8 @@ fn the_sample() {
 /// The pictures of the documents are those of the sheets.
 #[test]
 fn the_pictures_of_the_documents() {
-    for name in ["sample", "mudflat", "estuary", "coast", "bed"] {
-        let tables = sheet(name);
+    for name in ["sample", "mudflat", "estuary", "coast", "bed", "merged", "melted"] {
+        let tables = if name == "melted" { melted("merged") } else { sheet(name) };
         let path = format!("{}/../docs/sheets/{name}.svg", env!("CARGO_MANIFEST_DIR"));
         let stored = std::fs::read_to_string(path).expect("a picture of docs/sheets");
         let picture = svg::text(name, &tables, &cells(&tables).expect("cells"));

@@ -21,6 +21,7 @@ ghost use Rattle.paper.specs.Meeting.{meet};
 ghost use Rattle.paper.specs.Mend.{mend};
 ghost use Rattle.paper.specs.Lent.{lengthsOf};
 ghost use Rattle.paper.specs.Overlay.{overlay};
+ghost use Rattle.paper.specs.Melt.{melt};
 ghost use Rattle.paper.specs.Record.{edgeRecord};
 ghost use Rattle.paper.specs.Reader.{read};
 ghost use Rattle.paper.specs.Writer.{write};
@@ -73,6 +74,23 @@ pub extern "C" fn bonnetewe_overlay(
     ensures { λ r. ⌜ Told (overlay (lengthsOf (tablesBy (now (vertices .entry)) (now (halves .entry)) (now (sources .entry)) (now (faces .entry)))) (now (zones .entry)) (now (blocks .entry)) (now (bed .entry))) (tablesBy (now (vertices .exit)) (now (halves .exit)) (now (sources .exit)) (now (faces .exit))) r ⌝ }
 {
     let answer = overlay::overlay(zones, blocks, bed, vertices, halves, sources, faces);
+    of_answer(answer)
+}
+
+// The same with the cells melted together (02, Ask 12): what is left of the overlay without the edges that have the same labels on both sides.
+#[no_mangle]
+pub extern "C" fn bonnetewe_melt(
+    zones: &[u8],
+    blocks: &[u8],
+    bed: &[u8],
+    vertices: &mut [i64],
+    halves: &mut [u16],
+    sources: &mut [u32],
+    faces: &mut [u16],
+) -> u64
+    ensures { λ r. ⌜ Told (melt (lengthsOf (tablesBy (now (vertices .entry)) (now (halves .entry)) (now (sources .entry)) (now (faces .entry)))) (now (zones .entry)) (now (blocks .entry)) (now (bed .entry))) (tablesBy (now (vertices .exit)) (now (halves .exit)) (now (sources .exit)) (now (faces .exit))) r ⌝ }
+{
+    let answer = melt::melt(zones, blocks, bed, vertices, halves, sources, faces);
     of_answer(answer)
 }
 

@@ -16,7 +16,7 @@ use Rattle.paper.specs.Plane.{Vec, whole}
 use Rattle.paper.specs.Graph.{Graph, west}
 use Rattle.paper.specs.Refusal.{done}
 use Rattle.paper.specs.Map.{Map, mapOf, label}
-use Rattle.paper.specs.Pieces.{layer, verticesOf}
+use Rattle.paper.specs.Pieces.{Piece, layer, verticesOf, edgesOf}
 use Rattle.paper.specs.Faces.{overlayOf}
 use Rattle.paper.specs.Tables.{Counts, Tables, faceOf, faceCell}
 use Rattle.paper.specs.Lent.{Lengths}
@@ -24,8 +24,6 @@ use Rattle.paper.specs.Soundings.{soundingsIn, soundingAt, east, cellOf, cells,
 use Rattle.laws_plane.specs.Ends.{0<1}
 use Rattle.laws_graph.specs.West.{look-below}
 use Rattle.laws_overlay.specs.Maps.{AllKeep}
-use Rattle.laws_overlay.specs.Places.{places}
-use Rattle.laws_overlay.specs.NetPlane.{net-clear}
 use Rattle.laws_overlay.specs.Inside.{overlaid}
 use Rattle.laws_overlay.specs.Files.{mapsOf, maps-count, layer-is, files-keep}
 use Rattle.laws_labels.specs.Drawn.{seenLabels}
@@ -36,8 +34,8 @@ use Rattle.laws_soundings.specs.Told.{rowEntries, told-times}
 use Rattle.laws_promise.specs.Looking.{Looks}
 use Rattle.laws_promise.specs.Looks.{looks-once, west-looks}
 use Rattle.laws_promise.specs.Defined.{graphIn, Defined}
-use Rattle.laws_promise.specs.Held.{Held}
-use Rattle.laws_promise.specs.Ways.{plane, of-net}
+use Rattle.laws_promise.specs.Held.{Held, overlay-pieced}
+use Rattle.laws_promise.specs.Ways.{of-net}
 use Rattle.laws_promise.specs.Graphs.{graph-is}
 use Rattle.laws_promise.specs.Demands.{countsFor, Overlaid, done-is-overlaid}
 use Rattle.laws_promise.specs.Promised.{held, done-is-defined}
@@ -64,6 +62,9 @@ module _ (l : Lengths) (files : List (List ℕ)) (r : code.Answer) (t : Tables) 
   abbrev g : Graph
   g = overlaid (mapsOf files)
 
+  abbrev ps : List Piece
+  ps = edgesOf (mapsOf files) (verticesOf (mapsOf files))
+
   overlay : Overlaid l files c t
   overlay = done-is-overlaid l files r t promise c e
 
@@ -84,11 +85,11 @@ module _ (l : Lengths) (files : List (List ℕ)) (r : code.Answer) (t : Tables) 
 
   looks-there : (v : Vec) → Looks (graphIn (mapsOf files) c t) (whole v) east (seenFrom v)
   looks-there v =
-      subst (λ (x : Graph). Looks x (whole v) east (seenFrom v)) (sym (graph-is ms keep c t in-tables))
-      (west-looks g (plane ms keep c t in-tables) (whole v) 0<1 (net-clear ms keep (verticesOf ms) (places ms keep)) east (inl refl))
+      subst (λ (x : Graph). Looks x (whole v) east (seenFrom v)) (sym (graph-is ms ps g (overlay-pieced ms keep) c t in-tables))
+      (west-looks g (overlay-pieced ms keep .plane) (whole v) 0<1 (overlay-pieced ms keep .clear) east (inl refl))
 
   seen-counted : (v : Vec) (h : ℕ) → seenFrom v ≡ some h → h < 2 * c .edges
-  seen-counted v h q = of-net ms keep c t in-tables (look-below g (whole v) east h q)
+  seen-counted v h q = of-net ms ps g (overlay-pieced ms keep) c t in-tables (look-below g (whole v) east h q)
 
   -- and its labels are stored
   stored-seen : (v : Vec) (s : Option ℕ) → seenFrom v ≡ s → seenLabels ms (overlayOf ms) s ≡ stored (length files) t (faceSeen t s)

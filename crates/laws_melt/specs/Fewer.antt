@@ -44,7 +44,7 @@ use Rattle.laws_labels.specs.Labels.{theorem-A}
 use Rattle.laws_labels.specs.OneFace.{outersOf, heldIn, one-face}
 use Rattle.laws_melt.specs.Part.{Part, old, old-below, start-old, up-old, upward-old, low-old, high-old, part-plane}
 use Rattle.laws_melt.specs.Neat.{Neat, pieceSpan, neat-share, neat-clear, overlay-neat}
-use Rattle.laws_melt.specs.Melted.{keptPieces, isEnd, meltedGraph, meltedOf}
+use Rattle.paper.specs.Melt.{keptPieces, isEnd, meltedGraph, meltedOf}
 use Rattle.laws_melt.specs.Thin.{was, stood, stood-nth, edges-long, pieces-long, piece-was, melted-edge, melted-part}
 use Rattle.laws_melt.specs.Melts.{wasHalf}
 

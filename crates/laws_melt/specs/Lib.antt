@@ -1,5 +1,4 @@
 pub mod Part
-pub mod Melted
 pub mod Thin
 pub mod Melts
 pub mod Stored
@@ -7,4 +6,3 @@ pub mod Neat
 pub mod Fewer
 pub mod MeltEmpty
 pub mod Whole
-pub mod Examples

@@ -21,7 +21,7 @@ use Rattle.paper.specs.Faces.{Overlay, overlayOf, overlayBy, walksOf, net, labe
 use Rattle.laws_overlay.specs.Pieces.{noPiece, pieceAt}
 use Rattle.laws_overlay.specs.EmptyMap.{withEmpty, withNone, one-more, edges-same}
 use Rattle.laws_overlay.specs.EmptyTables.{withNones, empty-overlay, empty-labels}
-use Rattle.laws_melt.specs.Melted.{separates, keptEdges, keptPieces, isEnd, keptVertices, afresh, meltedPieces, meltedGraph, meltedOf}
+use Rattle.paper.specs.Melt.{separates, keptEdges, keptPieces, isEnd, keptVertices, afresh, meltedPieces, meltedGraph, meltedOf}
 
 -- ── two lists with the same number put in differ where they did ──
 

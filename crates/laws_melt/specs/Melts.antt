@@ -43,7 +43,7 @@ use Rattle.laws_labels.specs.LabelIn.{AlongEdge, Source, along, off}
 use Rattle.laws_labels.specs.Overlay.{piece-leaving, overlay-covers, source-is}
 use Rattle.laws_melt.specs.Part.{Part, halfAs, as-even, as-half, old, old-below, up-old, low-old, along-old, part-plane, HasJumps, part-covers}
 use Rattle.laws_labels.specs.Drawn.{Drawn, seenInMaps, seenLabels, drawn-held, drawn-seen}
-use Rattle.laws_melt.specs.Melted.{separates, meltedPieces, meltedGraph, meltedOf}
+use Rattle.paper.specs.Melt.{separates, meltedPieces, meltedGraph, meltedOf}
 use Rattle.laws_melt.specs.Thin.{was, stood, was-kept, kept-was, melted-piece, melted-part}
 
 -- ── the source of a piece goes with it ──

@@ -23,7 +23,7 @@ use Rattle.laws_overlay.specs.Places.{places, at-before}
 use Rattle.laws_overlay.specs.Pieces.{pieceAt, noPiece, pieces-rising}
 use Rattle.laws_overlay.specs.Cells.{label-cell, half-cell}
 use Rattle.laws_labels.specs.Demand3.{stored}
-use Rattle.laws_melt.specs.Melted.{separates, keptPieces, isEnd, afresh, meltedGraph, meltedPieces, meltedOf}
+use Rattle.paper.specs.Melt.{separates, keptPieces, isEnd, afresh, meltedGraph, meltedPieces, meltedOf}
 use Rattle.laws_melt.specs.Thin.{was, stood, stood-nth, was-kept, low-used, high-used, melted-piece, edges-long, melted-long, melted-part}
 use Rattle.laws_melt.specs.Melts.{wasHalf, melted-drawn, melted-face}
 

@@ -22,7 +22,7 @@ use Rattle.laws_overlay.specs.Pieces.{noPiece, pieceAt, piece-ends}
 use Rattle.laws_overlay.specs.Net.{edge-is}
 use Rattle.laws_overlay.specs.Inside.{overlaid}
 use Rattle.laws_overlay.specs.Parts.{net-is, pieces-are}
-use Rattle.laws_melt.specs.Melted.{separates, keptEdges, keptPieces, isEnd, afresh, meltedPieces, meltedGraph}
+use Rattle.paper.specs.Melt.{separates, keptEdges, keptPieces, isEnd, afresh, meltedPieces, meltedGraph}
 use Rattle.laws_melt.specs.Part.{Part}
 
 module _ (ms : List Map) (K : AllKeep ms) where

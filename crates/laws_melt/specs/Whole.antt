@@ -1,21 +1,21 @@
--- The operation of Ask 12 over files, and its room: the melted tables fit wherever the overlay's do (`melted-fits`), so that room is judged on the overlay alone (`melt`, `melt-done`). Assumes nothing.
+-- Melting over files (Ask 12), and its room: the melted tables fit wherever the overlay's do (`melted-fits`), so that room is judged on the overlay alone (`melt-done`). Assumes nothing.
 use mathlib.Core.Path.{_≡_}
 use native.Mathlib.Omega.{arith}
 use lib.ListN.{length-map}
-use Rattle.seq.specs.Seq.{List, _++_, ℕ, length}
-use Rattle.paper.specs.Refusal.{done, firstOf, answer}
+use Rattle.seq.specs.Seq.{List, ℕ, length}
+use Rattle.paper.specs.Refusal.{done}
 use Rattle.paper.specs.Map.{Map}
 use Rattle.paper.specs.Pieces.{verticesOf, edgesOf, edgeOf}
 use Rattle.paper.specs.Faces.{overlayOf}
-use Rattle.paper.specs.Tables.{Counts, countsOf, tablesOf}
-use Rattle.paper.specs.Lent.{Lengths, Outcome, outcome, roomIn, roomFaults}
-use Rattle.paper.specs.Overlay.{mapFaults, lent}
+use Rattle.paper.specs.Tables.{Counts, countsOf}
+use Rattle.paper.specs.Lent.{Lengths, roomIn}
+use Rattle.paper.specs.Overlay.{lent}
 use Rattle.laws_refusals.specs.Room.{Fits}
 use Rattle.laws_overlay.specs.Maps.{AllKeep}
 use Rattle.laws_overlay.specs.Parts.{vertex-count, edge-count}
 use Rattle.laws_overlay.specs.Files.{AllPass, mapsOf, files-keep}
 use Rattle.laws_labels.specs.Done.{done-passes, done-fits}
-use Rattle.laws_melt.specs.Melted.{meltedOf}
+use Rattle.paper.specs.Melt.{meltedOf}
 use Rattle.laws_melt.specs.Stored.{fewer-vertices, fewer-edges}
 use Rattle.laws_melt.specs.Fewer.{melted-faces}
 
@@ -26,12 +26,6 @@ module _ (ms : List Map) (K : AllKeep ms) where
     edges = omega (arith, F .edges, fewer-edges ms K, edge-count ms, length-map (edgesOf ms (verticesOf ms)) (edgeOf ms));
     faces = omega (arith, F .faces, melted-faces ms K);
   }
-
--- the operation of Ask 12: "Refusals: the overlay's, 11 included, which is judged on the overlay before melting". To stand in `paper`
-abbrev pub melt : Lengths → List (List ℕ) → Outcome
-melt l files =
-    let ms = mapsOf files in
-    outcome l (countsOf (meltedOf ms)) (tablesOf ms (meltedOf ms)) (firstOf (mapFaults files ++ roomFaults (roomIn (length files) l) (countsOf (overlayOf ms))))
 
 -- whenever it is done each file passes, and the melted tables have room
 pub melt-done : (l : Lengths) (files : List (List ℕ)) (c : Counts) → lent l files .answer ≡ done c → AllPass files × Fits (roomIn (length files) l) (countsOf (meltedOf (mapsOf files)))

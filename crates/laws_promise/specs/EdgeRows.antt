@@ -4,7 +4,7 @@ use mathlib.Core.Logic.{_⊎_, inl, inr}
 use Prim.Native.Nat.{_<_, _-_}
 use native.Mathlib.Omega.{arith}
 use borrow.Author.Tests.{eqb-true, ltb-true}
-use Rattle.seq.specs.Seq.{true, _&&_, List, Option, none, some, ℕ, suc, _+_, _*_, ltb, eqb, length, getD}
+use Rattle.seq.specs.Seq.{true, _&&_, List, ℕ, _+_, _*_, ltb, eqb, length, getD}
 use Rattle.seq.specs.Tests.{or-cases, and-parts}
 use Rattle.seq.specs.Members.{at-among}
 use Rattle.seq.specs.Pairs.{rising-at}
@@ -12,24 +12,20 @@ use Rattle.paper.specs.Plane.{Pt}
 use Rattle.paper.specs.Graph.{Graph}
 use Rattle.paper.specs.Map.{Map}
 use Rattle.paper.specs.Pieces.{layer, Piece, earlier, along, verticesOf, edgesOf}
-use Rattle.paper.specs.Tables.{Counts, Tables, originOf, sourceCell, plusOne}
-use Rattle.laws_plane.specs.Edges.{On}
-use Rattle.laws_graph.specs.Halves.{origin-first, origin-second}
-use Rattle.laws_map.specs.Keeps.{seg, edges}
+use Rattle.paper.specs.Tables.{Counts, Tables, originOf, plusOne}
+use Rattle.laws_map.specs.Keeps.{edges}
 use Rattle.laws_overlay.specs.Maps.{AllKeep}
 use Rattle.laws_overlay.specs.Places.{places}
-use Rattle.laws_overlay.specs.Links.{Runs, along-from}
-use Rattle.laws_overlay.specs.Sources.{sourceAt}
-use Rattle.laws_overlay.specs.Pieces.{Sourced, noPiece, pieceAt, pieces-rising, piece-at, piece-of}
-use Rattle.laws_overlay.specs.Net.{net-edges, from-is, to-is}
+use Rattle.laws_overlay.specs.Links.{along-from}
+use Rattle.laws_overlay.specs.Pieces.{noPiece, pieceAt, pieces-rising, piece-of}
+use Rattle.laws_overlay.specs.Net.{net-edges}
 use Rattle.laws_overlay.specs.Inside.{overlaid}
 use Rattle.laws_overlay.specs.Chain.{chain}
-use Rattle.laws_promise.specs.Defined.{Near, Joined, EdgeRows}
-use Rattle.laws_promise.specs.Held.{Held}
-
-plus-one : (o : Option ℕ) (j : ℕ) → plusOne o ≡ suc j → o ≡ some j
-plus-one none j e = absurd (omega arith)
-plus-one (some k) j e = ap some (omega arith)
+use Rattle.laws_promise.specs.Defined.{Joined, EdgeRows}
+use Rattle.laws_promise.specs.Rows.{Pieced}
+use Rattle.laws_promise.specs.Held.{Held, overlay-pieced}
+use Rattle.laws_promise.specs.Nears as Nears
+use Rattle.laws_promise.specs.Nears.{near-runs, has-source, cell-near, near-cell}
 
 module _ (ms : List Map) (K : AllKeep ms) (c : Counts) (t : Tables) (H : Held ms c t) where
   abbrev vs : List Pt
@@ -41,78 +37,24 @@ module _ (ms : List Map) (K : AllKeep ms) (c : Counts) (t : Tables) (H : Held ms
   abbrev ps : List Piece
   ps = edgesOf ms (verticesOf ms)
 
-  below : {v : ℕ} → v < c .vertices → v < length vs
-  below {v} = subst (λ (n : ℕ). v < n) (H .vertices-are)
-
   counted : {v : ℕ} → v < length vs → v < c .vertices
   counted {v} = subst (λ (n : ℕ). v < n) (sym (H .vertices-are))
 
-  pub in-pieces : {k : ℕ} → k < c .edges → k < length (edgesOf ms (verticesOf ms))
+  in-pieces : {k : ℕ} → k < c .edges → k < length ps
   in-pieces {k} = subst (λ (n : ℕ). k < n) (H .edges-are ∙ net-edges ms vs)
 
   of-pieces : {k : ℕ} → k < length ps → k < c .edges
   of-pieces {k} = subst (λ (n : ℕ). k < n) (sym (H .edges-are ∙ net-edges ms vs))
 
-  -- ── the ends of edge k ──
+  -- the ends of an edge, and its sources
+  N : Pieced ms (edgesOf ms (verticesOf ms)) (overlaid ms)
+  N = overlay-pieced ms K
 
-  pub low-end : (k : ℕ) → k < c .edges → originOf t (2 * k) ≡ pieceAt (edgesOf ms (verticesOf ms)) k .lo
-  low-end k l = H .origin-at (2 * k) (omega arith) ∙ origin-first k g ∙ from-is ms vs k
+  low-end : (k : ℕ) → k < c .edges → originOf t (2 * k) ≡ pieceAt ps k .lo
+  low-end = Nears.low-end ms ps g N c t H
 
-  pub high-end : (k : ℕ) → k < c .edges → originOf t (2 * k + 1) ≡ pieceAt (edgesOf ms (verticesOf ms)) k .hi
-  high-end k l = H .origin-at (2 * k + 1) (omega arith) ∙ origin-second k g ∙ to-is ms vs k
-
-  -- ── neighbours, by the tables and by the definition ──
-
-  pub runs-near : (i k u v : ℕ) → Runs ms (verticesOf ms) i k u v → Near ms c t i k u v
-  runs-near i k u v r =
-      let n = r .near in
-      let b : v < c .vertices = counted (n .below) in
-      record {
-        in-list = r .in-list;
-        of-map = r .of-map;
-        rises = n .rises;
-        below = b;
-        on-low = subst (On (seg (layer ms i) k)) (sym (H .point-is u (omega (arith, n .rises)))) (n .on-lo);
-        on-high = subst (On (seg (layer ms i) k)) (sym (H .point-is v b)) (n .on-hi);
-        none-between = λ w x y o. n .none w x y (subst (On (seg (layer ms i) k)) (H .point-is w (omega arith)) o);
-      }
-
-  pub near-runs : (i k u v : ℕ) → Near ms c t i k u v → Runs ms (verticesOf ms) i k u v
-  near-runs i k u v n = record {
-    in-list = n .in-list;
-    of-map = n .of-map;
-    near = record {
-      rises = n .rises;
-      below = below (n .below);
-      on-lo = subst (On (seg (layer ms i) k)) (H .point-is u (omega (arith, n .rises, n .below))) (n .on-low);
-      on-hi = subst (On (seg (layer ms i) k)) (H .point-is v (n .below)) (n .on-high);
-      none = λ w x y o. n .none-between w x y (subst (On (seg (layer ms i) k)) (sym (H .point-is w (omega (arith, n .below)))) o);
-    };
-  }
-
-  module _ (k : ℕ) (l : k < c .edges) where
-    piece-sourced : Sourced ms (verticesOf ms) (pieceAt (edgesOf ms (verticesOf ms)) k)
-    piece-sourced = piece-at ms K vs (places ms K) k (in-pieces l)
-
-    -- of its ends
-    to-near : (i j : ℕ) → Runs ms vs i j (pieceAt ps k .lo) (pieceAt ps k .hi) → Near ms c t i j (originOf t (2 * k)) (originOf t (2 * k + 1))
-    to-near i j r =
-        subst (λ (u : ℕ). Near ms c t i j u (originOf t (2 * k + 1))) (sym (low-end k l))
-        (subst (λ (v : ℕ). Near ms c t i j (pieceAt ps k .lo) v) (sym (high-end k l)) (runs-near i j (pieceAt ps k .lo) (pieceAt ps k .hi) r))
-
-    of-near : (i j : ℕ) → Near ms c t i j (originOf t (2 * k)) (originOf t (2 * k + 1)) → Runs ms vs i j (pieceAt ps k .lo) (pieceAt ps k .hi)
-    of-near i j n =
-        near-runs i j (pieceAt ps k .lo) (pieceAt ps k .hi)
-        (subst (λ (u : ℕ). Near ms c t i j u (pieceAt ps k .hi)) (low-end k l) (subst (λ (v : ℕ). Near ms c t i j (originOf t (2 * k)) v) (high-end k l) n))
-
-    has-source : (i : ℕ) × (j : ℕ) × Near ms c t i j (originOf t (2 * k)) (originOf t (2 * k + 1))
-    has-source = let (i, j, e) = piece-sourced .one in (i, j, to-near i j (piece-sourced .from i j e))
-
-    pub cell-near : (i j : ℕ) → i < length ms → sourceCell (length ms) t k i ≡ suc j → Near ms c t i j (originOf t (2 * k)) (originOf t (2 * k + 1))
-    cell-near i j b e = to-near i j (piece-sourced .from i j (plus-one (sourceAt (pieceAt ps k .sources) i) j (sym (H .source-at k i l b) ∙ e)))
-
-    pub near-cell : (i j : ℕ) → Near ms c t i j (originOf t (2 * k)) (originOf t (2 * k + 1)) → sourceCell (length ms) t k i ≡ suc j
-    near-cell i j n = H .source-at k i l (n .in-list) ∙ ap plusOne (piece-sourced .all i j (of-near i j n))
+  high-end : (k : ℕ) → k < c .edges → originOf t (2 * k + 1) ≡ pieceAt ps k .hi
+  high-end = Nears.high-end ms ps g N c t H
 
   -- ── order ──
 
@@ -152,11 +94,11 @@ module _ (ms : List Map) (K : AllKeep ms) (c : Counts) (t : Tables) (H : Held ms
 
   pub edge-rows : EdgeRows ms c t
   edge-rows = record {
-    edge-is = λ k l. has-source k l;
-    edge-there = λ i j u v n. let (r, b, x, y) = piece-of ms K vs (places ms K) i j u v (near-runs i j u v n) in
+    edge-is = has-source ms ps g N c t H;
+    edge-there = λ i j u v n. let (r, b, x, y) = piece-of ms K vs (places ms K) i j u v (near-runs ms ps g N c t H i j u v n) in
         (r, of-pieces b, low-end r (of-pieces b) ∙ x, high-end r (of-pieces b) ∙ y);
-    source-is = λ k i j l b e. cell-near k l i j b e;
-    source-there = λ k i j l n. near-cell k l i j n;
+    source-is = λ k i j l b e. cell-near ms ps g N c t H k l i j b e;
+    source-there = λ k i j l n. near-cell ms ps g N c t H k l i j n;
     sorted = in-order;
     joined = join;
   }

@@ -1,4 +1,4 @@
--- The label of a half-edge in a map in 01's words (`Labelled` of Defined): the definition's label has them, in tables that hold the overlay (`label-found`), and no second label does, in tables that keep (b) of
+-- The label of a half-edge in a map in 01's words (`Labelled` of Defined): the definition's label has them, in tables that hold a graph of pieces (`label-found`), and no second label does, in tables that keep (b) of
 -- Defined (`labelled-once`). Assumes nothing.
 use mathlib.Core.Path.{_≡_, refl, sym, _∙_, ap, subst}
 use mathlib.Core.Logic.{inl, inr}
@@ -6,29 +6,26 @@ use Prim.Native.Nat.{_<_}
 use native.Mathlib.Omega.{arith}
 use Rattle.seq.specs.Seq.{Bool, true, false, cond, not, List, Option, none, some, ℕ, _+_, _*_, _/_, length, orZero}
 use Rattle.seq.specs.Tests.{clash}
-use Rattle.paper.specs.Plane.{Pt, Vec, dir, before, opposite}
-use Rattle.paper.specs.Graph.{Graph, pointIn, edgeCount, halfCount, even, twin, origin, start, low, goesUp, upward, heading, eastSide, west}
+use Rattle.paper.specs.Plane.{Pt, Vec, dir, opposite}
+use Rattle.paper.specs.Graph.{Graph, edgeCount, halfCount, even, twin, start, low, goesUp, upward, heading, eastSide, west}
 use Rattle.paper.specs.Map.{Map, label}
-use Rattle.paper.specs.Pieces.{layer, verticesOf, edgesOf}
+use Rattle.paper.specs.Pieces.{layer, Piece}
 use Rattle.paper.specs.Faces.{labelIn}
 use Rattle.paper.specs.Tables.{Counts, Tables, originOf, sourceCell, plusOne}
 use Rattle.laws_plane.specs.Angles.{SameWay}
-use Rattle.laws_graph.specs.Halves.{half-first, twin-first, origin-first, origin-second, Which, first, second, which}
+use Rattle.laws_graph.specs.Halves.{even-double, half-first, twin-first, Which, first, second, which}
 use Rattle.laws_graph.specs.Plane.{Plane, up-ends, upward-up, ends-real, goesUp-twin, heading-along}
 use Rattle.laws_graph.specs.East.{east-half, east-down, west-half, west-up}
 use Rattle.laws_looks.specs.Ordered.{keeps-clear}
 use Rattle.laws_overlay.specs.Maps.{AllKeep}
-use Rattle.laws_overlay.specs.Places.{places}
-use Rattle.laws_overlay.specs.Net.{ends-before}
 use Rattle.laws_overlay.specs.Sources.{sourceAt}
 use Rattle.laws_overlay.specs.Pieces.{pieceAt}
-use Rattle.laws_overlay.specs.Inside.{overlaid}
 use Rattle.laws_promise.specs.Looking.{Looks}
 use Rattle.laws_promise.specs.Looks.{looks-once, west-looks, looks-along}
 use Rattle.laws_promise.specs.Defined.{fromAt, wayAt, Near, EdgeRows, LabelAlong, LabelSeen, Labelled}
-use Rattle.laws_promise.specs.Held.{Held}
-use Rattle.laws_promise.specs.EdgeRows.{cell-near, near-cell}
-use Rattle.laws_promise.specs.Ways.{plane, in-net, from-start, way-is}
+use Rattle.laws_promise.specs.Rows.{Pieced, Rows}
+use Rattle.laws_promise.specs.Nears.{cell-near, near-cell}
+use Rattle.laws_promise.specs.Ways.{in-net, from-start, way-is}
 
 -- ── no second label ──
 
@@ -71,18 +68,15 @@ module _ (ms : List Map) (K : AllKeep ms) (c : Counts) (t : Tables) (E : EdgeRow
 
 -- ── the definition's label ──
 
-module _ (ms : List Map) (K : AllKeep ms) (c : Counts) (t : Tables) (H : Held ms c t) (i h : ℕ) (li : i < length ms) (l : h < 2 * c .edges) where
-  abbrev g : Graph
-  g = overlaid ms
-
+module _ (ms : List Map) (K : AllKeep ms) (ps : List Piece) (g : Graph) (N : Pieced ms ps g) (c : Counts) (t : Tables) (H : Rows ms ps g c t) (i h : ℕ) (li : i < length ms) (l : h < 2 * c .edges) where
   abbrev m : Map
   m = layer ms i
 
   abbrev k : ℕ
   k = h / 2
 
-  P : Plane (overlaid ms)
-  P = plane ms K c t H
+  P : Plane g
+  P = N .plane
 
   Q : Plane (layer ms i .graph)
   Q = K i li .plane
@@ -93,27 +87,25 @@ module _ (ms : List Map) (K : AllKeep ms) (c : Counts) (t : Tables) (H : Held ms
   l2 : 2 * (h / 2) < 2 * c .edges
   l2 = omega (arith, lk)
 
-  in-g : h / 2 < edgeCount (overlaid ms)
+  in-g : h / 2 < edgeCount g
   in-g = subst (λ (n : ℕ). k < n) (H .edges-are) lk
 
   -- half-edge 2k goes up, from the lower end
   goes-up : goesUp g (2 * k) ≡ true
-  goes-up =
-      (λ j. before (pointIn (verticesOf ms) (origin-first k g j)) (pointIn (verticesOf ms) ((ap (origin g) (twin-first k) ∙ origin-second k g) j)))
-      ∙ ends-before ms K (verticesOf ms) (places ms K) k in-g
+  goes-up = N .goes (2 * k) (in-net ms ps g N c t H l2) ∙ even-double k
 
   low-at : low g k ≡ fromAt t (2 * k)
-  low-at = ap (low g) (sym (half-first k)) ∙ up-ends g (2 * k) goes-up .0 ∙ sym (from-start ms K c t H (2 * k) l2)
+  low-at = ap (low g) (sym (half-first k)) ∙ up-ends g (2 * k) goes-up .0 ∙ sym (from-start ms ps g N c t H (2 * k) l2)
 
   way-along : SameWay (upward g k) (wayAt t (2 * k))
   way-along =
-      subst (SameWay (upward g k)) (sym (way-is ms K c t H (2 * k) l2))
-      (subst (λ (u : Vec). SameWay u (dir (start g (2 * k)) (start g (twin (2 * k))))) headed (heading-along g P (2 * k) (in-net ms K c t H l2)))
+      subst (SameWay (upward g k)) (sym (way-is ms ps g N c t H (2 * k) l2))
+      (subst (λ (u : Vec). SameWay u (dir (start g (2 * k)) (start g (twin (2 * k))))) headed (heading-along g P (2 * k) (in-net ms ps g N c t H l2)))
     where
       headed : heading g (2 * k) ≡ upward g k
       headed = (λ j. cond (goes-up j) (upward g (half-first k j)) (opposite (upward g (half-first k j))))
 
-  source-cell : sourceCell (length ms) t k i ≡ plusOne (sourceAt (pieceAt (edgesOf ms (verticesOf ms)) k .sources) i)
+  source-cell : sourceCell (length ms) t k i ≡ plusOne (sourceAt (pieceAt (ps) k .sources) i)
   source-cell = H .source-at k i lk li
 
   -- along edge j of the map
@@ -136,9 +128,9 @@ module _ (ms : List Map) (K : AllKeep ms) (c : Counts) (t : Tables) (H : Held ms
       one-way false = east-down (m .graph) Q j (n .of-map)
 
   -- along none
-  seen : sourceAt (pieceAt (edgesOf ms (verticesOf ms)) k .sources) i ≡ none → LabelSeen ms c t i h (labelIn m g h none)
+  seen : sourceAt (pieceAt (ps) k .sources) i ≡ none → LabelSeen ms c t i h (labelIn m g h none)
   seen e = record {
-    off = λ j n. omega (arith, near-cell ms K c t H k lk i j n, source-cell ∙ ap plusOne e);
+    off = λ j n. omega (arith, near-cell ms ps g N c t H k lk i j n, source-cell ∙ ap plusOne e);
     seen = west (m .graph) (low g k) (upward g k);
     looks = subst (λ (p : Pt). Looks (m .graph) p (wayAt t (2 * k)) (west (m .graph) (low g k) (upward g k))) low-at
         (looks-along (m .graph) Q (low g k) (upward g k) (wayAt t (2 * k)) (upward-up g P k in-g) way-along (west (m .graph) (low g k) (upward g k))
@@ -146,9 +138,9 @@ module _ (ms : List Map) (K : AllKeep ms) (c : Counts) (t : Tables) (H : Held ms
     label-is = refl;
   }
 
-  pub label-found : Labelled ms c t i h (labelIn (layer ms i) (overlaid ms) h (sourceAt (pieceAt (edgesOf ms (verticesOf ms)) (h / 2) .sources) i))
-  label-found = go (sourceAt (pieceAt (edgesOf ms (verticesOf ms)) k .sources) i) refl
+  pub label-found : Labelled ms c t i h (labelIn (layer ms i) g h (sourceAt (pieceAt (ps) (h / 2) .sources) i))
+  label-found = go (sourceAt (pieceAt (ps) k .sources) i) refl
     where
-      go : (s : Option ℕ) → sourceAt (pieceAt (edgesOf ms (verticesOf ms)) k .sources) i ≡ s → Labelled ms c t i h (labelIn m g h s)
-      go (some j) e = inl (along j (cell-near ms K c t H k lk i j li (source-cell ∙ ap plusOne e)))
+      go : (s : Option ℕ) → sourceAt (pieceAt (ps) k .sources) i ≡ s → Labelled ms c t i h (labelIn m g h s)
+      go (some j) e = inl (along j (cell-near ms ps g N c t H k lk i j li (source-cell ∙ ap plusOne e)))
       go none e = inr (seen e)

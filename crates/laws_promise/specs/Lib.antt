@@ -4,7 +4,9 @@ pub mod Demands
 pub mod Looking
 pub mod Looks
 pub mod Defined
+pub mod Rows
 pub mod Held
+pub mod Nears
 pub mod VertexRows
 pub mod EdgeRows
 pub mod Ways

@@ -2,9 +2,13 @@
 -- promise alone (`Promised`, crates/tables/specs/Promise.antt): r is what it answers, t what the tables hold, l their lengths. Assumes nothing.
 use mathlib.Core.Path.{_≡_, sym, _∙_, ap, subst}
 use Prim.Native.Nat.{_<_}
-use Rattle.seq.specs.Seq.{List, ℕ, length}
+use Rattle.seq.specs.Seq.{List, ℕ, _*_, length, getD}
 use Rattle.paper.specs.Refusal.{done}
 use Rattle.paper.specs.Map.{Map}
+use Rattle.paper.specs.Pieces.{Piece, verticesOf, edgesOf}
+use Rattle.paper.specs.Graph.{Graph}
+use Rattle.paper.specs.Faces.{overlayOf}
+use Rattle.laws_overlay.specs.Inside.{overlaid}
 use Rattle.paper.specs.Tables.{Counts, Tables}
 use Rattle.paper.specs.Lent.{Lengths, lengthsOf, roomIn, paddedTables}
 use Rattle.laws_overlay.specs.Maps.{AllKeep}
@@ -18,8 +22,9 @@ use Rattle.tables.specs.Values.{answerOf}
 use Rattle.tables.specs.Promise.{Promised}
 use Rattle.laws_promise.specs.Good.{table-lengths}
 use Rattle.laws_promise.specs.Demands.{countsFor, tablesFor, pairFor, Overlaid, done-is-overlaid, passes-is-overlaid}
-use Rattle.laws_promise.specs.Defined.{Zeros, Defined}
-use Rattle.laws_promise.specs.Held.{Held, padded-held, padded-zeros}
+use Rattle.laws_promise.specs.Defined.{Zeros, Labelled, Defined}
+use Rattle.laws_promise.specs.Rows.{Pieced}
+use Rattle.laws_promise.specs.Held.{Held, overlay-pieced, padded-held, padded-zeros}
 use Rattle.laws_promise.specs.VertexRows.{vertex-rows}
 use Rattle.laws_promise.specs.EdgeRows.{edge-rows}
 use Rattle.laws_promise.specs.HalfRows.{half-rows}
@@ -43,6 +48,19 @@ module _ (files : List (List ℕ)) (P : AllPass files) (l : Lengths) where
   pub held : Held (mapsOf files) (countsFor files) (paddedTables l (tablesFor files))
   held = padded-held ms keep l
 
+  abbrev ps : List Piece
+  ps = edgesOf (mapsOf files) (verticesOf (mapsOf files))
+
+  abbrev g : Graph
+  g = overlaid (mapsOf files)
+
+  N : Pieced (mapsOf files) (edgesOf (mapsOf files) (verticesOf (mapsOf files))) (overlaid (mapsOf files))
+  N = overlay-pieced ms keep
+
+  labelled : (h i : ℕ) → h < 2 * c .edges → i < length ms → Labelled ms c t i h (getD (pairFor files h) i 0)
+  unfolding overlayOf
+  labelled = pair-labelled ms keep ps g N c t held
+
   module _ (F : Fits (roomIn (length files) l) (countsFor files)) where
     pub lengths-are : lengthsOf (paddedTables l (tablesFor files)) ≡ l
     lengths-are = padded-lengths (length files) l c (tablesFor files) (table-lengths ms keep ∙ ap (λ (n : ℕ). exactLengths n c) (maps-count files)) F
@@ -54,11 +72,11 @@ module _ (files : List (List ℕ)) (P : AllPass files) (l : Lengths) where
       lengths = lengths-are;
       vertices = vertex-rows ms keep (files-reach files P) c t held;
       edges = edge-rows ms keep c t held;
-      halves = half-rows ms keep c t held;
-      faces = face-rows ms keep c t held;
+      halves = half-rows ms ps g N c t held;
+      faces = face-rows ms keep ps g N c t held;
       zeros = subst (λ (n : ℕ). Zeros n c t) (maps-count files) (padded-zeros ms keep l);
       pair = pairFor files;
-      pair-is = λ h i b m. pair-labelled ms keep c t held h i b (subst (λ (n : ℕ). i < n) (sym (maps-count files)) m);
+      pair-is = λ h i b m. labelled h i b (subst (λ (n : ℕ). i < n) (sym (maps-count files)) m);
       agrees = A;
     }
 

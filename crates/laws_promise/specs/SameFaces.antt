@@ -12,7 +12,7 @@ use Rattle.seq.specs.Pairs.{pairs-at}
 use Rattle.paper.specs.Plane.{Pt, Vec, nowhere, before, lessAngle}
 use Rattle.paper.specs.Graph.{Graph, walk, followers, holeLook}
 use Rattle.paper.specs.Map.{Map}
-use Rattle.paper.specs.Pieces.{layer}
+use Rattle.paper.specs.Pieces.{layer, Piece, verticesOf, edgesOf}
 use Rattle.paper.specs.Faces.{walksOf, holeAt}
 use Rattle.paper.specs.Tables.{Counts, Tables, originOf, faceCell}
 use Rattle.paper.specs.Tables as T
@@ -22,12 +22,13 @@ use Rattle.laws_graph.specs.Faces.{Facing, outerNumber, face-unique, face-same,
 use Rattle.laws_overlay.specs.Maps.{AllKeep}
 use Rattle.laws_overlay.specs.Inside.{overlaid}
 use Rattle.laws_promise.specs.Defined.{fromAt, wayAt, OnWalk, leastOf, graphIn, VertexRows, Near, EdgeRows, HalfRows, Hole, Least, Labelled, FaceRows}
-use Rattle.laws_promise.specs.Held.{Held}
+use Rattle.laws_promise.specs.Rows.{Pieced}
+use Rattle.laws_promise.specs.Held.{Held, overlay-pieced}
 use Rattle.laws_promise.specs.Looking.{Looks}
 use Rattle.laws_promise.specs.Looks.{looks-once}
 use Rattle.laws_promise.specs.Labels.{labelled-once}
 use Rattle.laws_promise.specs.FaceRows.{hole-look}
-use Rattle.laws_promise.specs.Ways.{plane, in-net, of-net}
+use Rattle.laws_promise.specs.Ways.{in-net, of-net}
 use Rattle.laws_promise.specs.Graphs.{graph-is, on-along, along-on, on-below, is-hole, hole-held}
 use Rattle.laws_promise.specs.SameEdges.{near-to, near-back, half-d, from-same, way-same, graph-same, edges-agree, origin-agrees, followers-agree}
 
@@ -42,8 +43,14 @@ module _ (ms : List Map) (K : AllKeep ms) (c : Counts) (t : Tables) (X : VertexR
   abbrev n : ℕ
   n = length ms
 
+  abbrev ps : List Piece
+  ps = edgesOf ms (verticesOf ms)
+
+  N : Pieced ms (edgesOf ms (verticesOf ms)) (overlaid ms)
+  N = overlay-pieced ms K
+
   abbrev P : Plane (overlaid ms)
-  P = plane ms K d u H
+  P = N .plane
 
   to : {h : ℕ} → h < 2 * c .edges → h < 2 * d .edges
   to = half-d ms c t X E S d u W F R
@@ -67,7 +74,7 @@ module _ (ms : List Map) (K : AllKeep ms) (c : Counts) (t : Tables) (X : VertexR
 
   module _ (h : ℕ) (l : h < 2 * d .edges) where
     below : (k : ℕ) → OnWalk d u h k → k < 2 * c .edges
-    below k i = back (on-below ms K d u H h l k i)
+    below k i = back (on-below ms ps g N d u H h l k i)
 
     hole-to : Hole c t h → Hole d u h
     hole-to o =
@@ -98,14 +105,14 @@ module _ (ms : List Map) (K : AllKeep ms) (c : Counts) (t : Tables) (X : VertexR
     -- two least half-edges of one walk are one
     one-least : (x y : ℕ) → OnWalk d u h x → OnWalk d u h y → Least d u x → Least d u y → x ≡ y
     one-least x y i j a b =
-        let lx = on-below ms K d u H h l x i in
-        let ly = on-below ms K d u H h l y j in
-        let p : x ≤ y = a y (along-on ms K d u H x lx y (along-trans g P (along-sym g P (in-net ms K d u H l) (on-along ms K d u H h l x i)) (on-along ms K d u H h l y j))) in
-        let q : y ≤ x = b x (along-on ms K d u H y ly x (along-trans g P (along-sym g P (in-net ms K d u H l) (on-along ms K d u H h l y j)) (on-along ms K d u H h l x i))) in
+        let lx = on-below ms ps g N d u H h l x i in
+        let ly = on-below ms ps g N d u H h l y j in
+        let p : x ≤ y = a y (along-on ms ps g N d u H x lx y (along-trans g P (along-sym g P (in-net ms ps g N d u H l) (on-along ms ps g N d u H h l x i)) (on-along ms ps g N d u H h l y j))) in
+        let q : y ≤ x = b x (along-on ms ps g N d u H y ly x (along-trans g P (along-sym g P (in-net ms ps g N d u H l) (on-along ms ps g N d u H h l y j)) (on-along ms ps g N d u H h l x i))) in
         omega arith
 
     itself : OnWalk d u h h
-    itself = along-on ms K d u H h l h (0, refl)
+    itself = along-on ms ps g N d u H h l h (0, refl)
 
   -- ── the outer walks' least half-edges ──
 
@@ -173,19 +180,19 @@ module _ (ms : List Map) (K : AllKeep ms) (c : Counts) (t : Tables) (X : VertexR
       let f = T.faceOf t h in
       let b : f < c .faces = S .face-below h l in
       let y = leastOf n t f in
-      let ly : y < 2 * d .edges = on-below ms K d u H h (to l) y (walk-to h y i) in
+      let ly : y < 2 * d .edges = on-below ms ps g N d u H h (to l) y (walk-to h y i) in
       let q : T.faceOf u y ≡ f = ap (T.faceOf u) (least-same f b) ∙ B .least-face f z (subst (λ (k : ℕ). f < k) faces-same b) in
-      sym q ∙ H .face-at y ly ∙ face-same g P h y (in-net ms K d u H (to l)) (on-along ms K d u H h (to l) y (walk-to h y i)) ∙ sym (H .face-at h (to l))
+      sym q ∙ H .face-at y ly ∙ face-same g P h y (in-net ms ps g N d u H (to l)) (on-along ms ps g N d u H h (to l) y (walk-to h y i)) ∙ sym (H .face-at h (to l))
 
   facing : Facing (overlaid ms) (T.faceOf t)
   unfolding hole-to
   facing h b = go (holeAt (walksOf g) h) refl
     where
       l : h < 2 * d .edges
-      l = of-net ms K d u H b
+      l = of-net ms ps g N d u H b
 
       same-graph : graphIn ms c t ≡ overlaid ms
-      same-graph = graph-same ms c t X E S d u W F R ∙ graph-is ms K d u H
+      same-graph = graph-same ms c t X E S d u W F R ∙ graph-is ms ps g N d u H
 
       -- what is seen by the words is what the definition sees
       hole-seen : Hole c t h → T.faceOf t h ≡ orZero (T.faceOf t) (holeLook g (followers g) h)
@@ -194,14 +201,14 @@ module _ (ms : List Map) (K : AllKeep ms) (c : Counts) (t : Tables) (X : VertexR
           let m = o .maker in
           let q : fromAt t m ≡ fromAt u m = from-same ms c t X E S d u W F R m (below h l m (walk-to h m (o .on))) in
           let here : Looks (overlaid ms) (fromAt u m) nowhere s = subst (λ (p : Pt). Looks g p nowhere s) q (subst (λ (x : Graph). Looks x (fromAt t m) nowhere s) same-graph looks) in
-          e ∙ ap (orZero (T.faceOf t)) (looks-once g (fromAt u m) nowhere s (holeLook g (followers g) h) here (hole-look ms K d u H h l (hole-to h l o)))
+          e ∙ ap (orZero (T.faceOf t)) (looks-once g (fromAt u m) nowhere s (holeLook g (followers g) h) here (hole-look ms K ps g N d u H h l (hole-to h l o)))
 
       go : (x : Bool) → holeAt (walksOf g) h ≡ x → T.faceOf t h ≡ cond x (orZero (T.faceOf t) (holeLook g (followers g) h)) (outerNumber g h)
-      go true e = hole-seen (hole-back h l (is-hole ms K d u H h l e))
-      go false e = outer-same h (back l) (λ o. clash (hole-held ms K d u H h l (hole-to h l o)) e) ∙ H .face-at h l ∙ outer-face g P h b e
+      go true e = hole-seen (hole-back h l (is-hole ms ps g N d u H h l e))
+      go false e = outer-same h (back l) (λ o. clash (hole-held ms ps g N d u H h l (hole-to h l o)) e) ∙ H .face-at h l ∙ outer-face g P h b e
 
   pub face-cell-same : (h : ℕ) → h < 2 * c .edges → T.faceOf t h ≡ T.faceOf u h
-  face-cell-same h l = face-unique g P (T.faceOf t) facing h (in-net ms K d u H (to l)) ∙ sym (H .face-at h (to l))
+  face-cell-same h l = face-unique g P (T.faceOf t) facing h (in-net ms ps g N d u H (to l)) ∙ sym (H .face-at h (to l))
 
   -- ── the rows of faces ──
 

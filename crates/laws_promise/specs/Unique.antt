@@ -7,20 +7,24 @@ use native.Mathlib.Omega.{arith}
 use lib.Seq.{ext-getD, getD-take}
 use Rattle.seq.specs.Seq.{List, ℕ, zero, suc, _+_, _*_, length, getD, pos, cell}
 use Rattle.paper.specs.Refusal.{done}
+use Rattle.paper.specs.Graph.{Graph}
 use Rattle.paper.specs.Map.{Map}
+use Rattle.paper.specs.Pieces.{Piece, verticesOf, edgesOf}
 use Rattle.paper.specs.Plane.{Pt}
 use Rattle.paper.specs.Tables.{Counts, Tables, vertexWidth, halfWidth, faceWidth, vertexCell, halfCell, sourceCell, faceCell}
 use Rattle.paper.specs.Lent.{Lengths, lengthsOf, roomIn, paddedTables}
 use Rattle.paper.specs.Overlay.{lent}
 use Rattle.laws_refusals.specs.Room.{Fits}
 use Rattle.laws_overlay.specs.Maps.{AllKeep}
+use Rattle.laws_overlay.specs.Inside.{overlaid}
 use Rattle.laws_overlay.specs.Files.{mapsOf, maps-count, files-keep, files-reach}
 use Rattle.laws_labels.specs.Done.{passes-done, done-tables}
 use Rattle.laws_roundtrip.specs.ReadCells.{exactLengths}
 use Rattle.laws_roundtrip.specs.Counted.{AtLeast, room-rows, rows-same}
 use Rattle.laws_promise.specs.Demands.{countsFor, tablesFor}
 use Rattle.laws_promise.specs.Defined.{VertexRows, EdgeRows, HalfRows, FaceRows, Zeros, Defined}
-use Rattle.laws_promise.specs.Held.{Held, padded-zeros}
+use Rattle.laws_promise.specs.Rows.{Pieced}
+use Rattle.laws_promise.specs.Held.{Held, overlay-pieced, padded-zeros}
 use Rattle.laws_promise.specs.VertexRows.{vertex-rows}
 use Rattle.laws_promise.specs.EdgeRows.{edge-rows}
 use Rattle.laws_promise.specs.HalfRows.{half-rows}
@@ -54,6 +58,15 @@ module _ (l : Lengths) (files : List (List ℕ)) (c : Counts) (t : Tables) (D : 
   K : AllKeep (mapsOf files)
   K = files-keep files (D .passes)
 
+  abbrev ps : List Piece
+  ps = edgesOf (mapsOf files) (verticesOf (mapsOf files))
+
+  abbrev g : Graph
+  g = overlaid (mapsOf files)
+
+  N : Pieced (mapsOf files) (edgesOf (mapsOf files) (verticesOf (mapsOf files))) (overlaid (mapsOf files))
+  N = overlay-pieced ms K
+
   H : Held (mapsOf files) (countsFor files) (paddedTables l (tablesFor files))
   H = held files (D .passes) l
 
@@ -64,10 +77,10 @@ module _ (l : Lengths) (files : List (List ℕ)) (c : Counts) (t : Tables) (D : 
   F = edge-rows ms K d u H
 
   R : HalfRows (countsFor files) (paddedTables l (tablesFor files))
-  R = half-rows ms K d u H
+  R = half-rows ms ps g N d u H
 
   B : FaceRows (mapsOf files) (countsFor files) (paddedTables l (tablesFor files))
-  B = face-rows ms K d u H
+  B = face-rows ms K ps g N d u H
 
   -- ── the counts ──
 

@@ -1,2 +1,3 @@
 -- The laws behind the proofs of this crate: nothing here is cited by a contract.
 pub mod Room
+pub mod Melted

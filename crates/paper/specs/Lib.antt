@@ -32,3 +32,5 @@ pub mod SoundingsSample
 pub mod Names
 pub mod Year
 pub mod YearSample
+pub mod Melt
+pub mod MeltSample

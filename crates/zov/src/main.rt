@@ -1,6 +1,7 @@
 // zov, the overlay for daily use:
 //   zov ZONES BLOCKS [OUT]             lists the overlay of two map files, and writes its overlay file to OUT
 //   zov --bed BED ZONES BLOCKS [OUT]   the same with a third map
+//   zov --melt [--bed BED] ZONES BLOCKS [OUT]   the same with the cells melted together: without the lines that separate nothing
 //   zov --list FILE                    lists an overlay file
 //   zov --edges FILE                   lists its edges
 //   zov --check FILE...                checks map files, a line for each; of several, how many are good
@@ -18,6 +19,9 @@ fn usage() {
         b"zov ZONES BLOCKS [OUT.zov]   list the overlay of two map files; write its overlay file\n",
     );
     console::say(b"zov --bed BED ZONES BLOCKS [OUT.zov]   the same with a third map\n");
+    console::say(
+        b"zov --melt [--bed BED] ZONES BLOCKS [OUT.zov]   the same without the lines that separate nothing\n",
+    );
     console::say(b"zov --list FILE.zov          list an overlay file\n");
     console::say(
         b"zov --edges FILE.zov         list its edges: number, lower and upper vertex, sources\n",

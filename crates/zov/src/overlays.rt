@@ -85,14 +85,33 @@ fn list_maps(maps: Maps, zones: &[u8], blocks: &[u8], bed: &[u8]) {
     explain_maps(answer, maps, zones, blocks, bed);
 }
 
-// Its overlay file, to the file that a word names; nothing is written where the overlay is refused.
-fn save_maps(out: usize, zones: &[u8], blocks: &[u8], bed: &[u8]) {
+// What is left of it when it is melted, listed.
+fn list_melted(maps: Maps, zones: &[u8], blocks: &[u8], bed: &[u8]) {
+    let mut out = [0u8; LISTING];
+    let listed = lists::melted::list(zones, blocks, bed, &mut out);
+    let length = listed.length;
+    say(&out[..length]);
+    let answer = listed.answer;
+    explain_maps(answer, maps, zones, blocks, bed);
+}
+
+// The overlay file of the one or of the other.
+fn file_of(melts: bool, zones: &[u8], blocks: &[u8], bed: &[u8], buffer: &mut [u8]) -> WriteAnswer {
+    if melts {
+        lists::melted::file(zones, blocks, bed, buffer)
+    } else {
+        lists::from_maps::file(zones, blocks, bed, buffer)
+    }
+}
+
+// It goes to the file that a word names; nothing is written where the overlay is refused.
+fn save_maps(maps: Maps, zones: &[u8], blocks: &[u8], bed: &[u8]) {
     let mut file = io::large_buffer();
-    let answer = lists::from_maps::file(zones, blocks, bed, &mut file);
+    let answer = file_of(maps.melts, zones, blocks, bed, &mut file);
     match answer {
         WriteAnswer::Done(length) => {
             let k = console::within(length, &file);
-            console::save_arg(out, &file[..k]);
+            console::save_arg(maps.out, &file[..k]);
         }
         WriteAnswer::Refused(_) => {}
     }
@@ -100,9 +119,13 @@ fn save_maps(out: usize, zones: &[u8], blocks: &[u8], bed: &[u8]) {
 
 // The overlay of three map files listed, and written where that is asked for.
 fn lay_files(maps: Maps, zones: &[u8], blocks: &[u8], bed: &[u8]) {
-    list_maps(maps, zones, blocks, bed);
+    if maps.melts {
+        list_melted(maps, zones, blocks, bed);
+    } else {
+        list_maps(maps, zones, blocks, bed);
+    }
     if maps.out != 0 {
-        save_maps(maps.out, zones, blocks, bed);
+        save_maps(maps, zones, blocks, bed);
     }
 }
 

@@ -3,8 +3,9 @@ use console::is_arg;
 use console::same_args;
 ghost use Prim.Native.Nat.{_≤_};
 
-// The words that name the maps and OUT; `bed` is 0 where there is no third map, and `out` where nothing is to be written.
+// Whether the overlay is to be melted, and the words that name the maps and OUT; `bed` is 0 where there is no third map, and `out` where nothing is to be written.
 pub struct Maps {
+    pub melts: bool,
     pub zones: usize,
     pub blocks: usize,
     pub bed: usize,
@@ -35,7 +36,7 @@ fn is_option(i: usize) -> bool {
 
 // Whether one of the three words from `first` on is an option; one that is not there is none.
 fn any_option(first: usize) -> bool
-    requires { ⌜ first ≤ 3 ⌝ }
+    requires { ⌜ first ≤ 4 ⌝ }
 {
     if is_option(first) {
         return true;
@@ -74,8 +75,8 @@ fn one_file(n: usize, task: Task) -> Task {
 }
 
 // Of n words: zones and blocks from word `first` on, and where to write their overlay.
-fn overlay_task(n: usize, first: usize, bed: usize) -> Task
-    requires { ⌜ first ≤ 3 ⌝ }
+fn overlay_task(melts: bool, n: usize, first: usize, bed: usize) -> Task
+    requires { ⌜ first ≤ 4 ⌝ }
 {
     let blocks = first + 1;
     if any_option(first) {
@@ -83,6 +84,7 @@ fn overlay_task(n: usize, first: usize, bed: usize) -> Task
     }
     if n == first + 2 {
         return Task::Overlay(Maps {
+            melts,
             zones: first,
             blocks,
             bed,
@@ -91,6 +93,7 @@ fn overlay_task(n: usize, first: usize, bed: usize) -> Task
     }
     if n == first + 3 {
         return write_task(Maps {
+            melts,
             zones: first,
             blocks,
             bed,
@@ -112,17 +115,30 @@ fn option_task(n: usize) -> Task {
         return one_file(n, Task::Edges);
     }
     if is_arg(1, b"--bed") {
-        return bed_task(n);
+        return bed_task(false, n, 2);
+    }
+    if is_arg(1, b"--melt") {
+        return melt_task(n);
     }
     Task::Usage
 }
 
-// Three map files, the third first.
-fn bed_task(n: usize) -> Task {
-    if is_option(2) {
+// Three map files, the third first, which word `bed` names.
+fn bed_task(melts: bool, n: usize, bed: usize) -> Task
+    requires { ⌜ bed ≤ 3 ⌝ }
+{
+    if is_option(bed) {
         return Task::Usage;
     }
-    overlay_task(n, 3, 2)
+    overlay_task(melts, n, bed + 1, bed)
+}
+
+// Cells melted together, of two or three map files.
+fn melt_task(n: usize) -> Task {
+    if is_arg(2, b"--bed") {
+        return bed_task(true, n, 3);
+    }
+    overlay_task(true, n, 2, 0)
 }
 
 // The task of the program's name and one word.
@@ -144,5 +160,5 @@ pub fn asked(n: usize) -> Task {
     if is_option(1) {
         return option_task(n);
     }
-    overlay_task(n, 1, 0)
+    overlay_task(false, n, 1, 0)
 }

@@ -3,6 +3,7 @@
 
 pub mod check;
 pub mod meet;
+pub mod melt;
 pub mod net;
 pub mod overlay;
 pub mod reader;

@@ -49,7 +49,7 @@ fn vertices(maps: &[&Map], slip: Option<Slip>) -> Vec<Point> {
 }
 
 /// A piece of an edge: its lower and upper vertex number, and where it comes from.
-type Piece = ((usize, usize), Sources);
+pub type Piece = ((usize, usize), Sources);
 
 /// "Edges are the pieces of input edges between neighbouring overlay vertices on them; a piece
 /// that comes from both maps stands once. They are sorted by lower, then upper vertex number." "A
@@ -113,6 +113,14 @@ fn net(maps: &[&Map], points: Vec<Point>, pieces: &[Piece], slip: Option<Slip>) 
         ways: carriers.into_iter().map(upward).collect(),
         slip,
     }
+}
+
+/// The vertices and edges of tables.
+pub fn net_of(maps: &[&Map], tables: &Tables) -> Net {
+    let points = tables.vertices.iter().map(|row| Point { x: row.x, y: row.y, d: row.d });
+    let ends = tables.half_edges.chunks(2).map(|r| (r[0].origin as usize, r[1].origin as usize));
+    let pieces: Vec<Piece> = ends.zip(tables.sources.iter().copied()).collect();
+    net(maps, points.collect(), &pieces, None)
 }
 
 /// "The label of a half-edge in a map: if it lies along an edge of that map, the label of that
@@ -180,7 +188,17 @@ fn sort_walks(net: &Net, followers: &[usize]) -> Sorted {
 pub fn overlay(maps: &[&Map], slip: Option<Slip>) -> (Tables, Vec<Labels>) {
     let points = vertices(maps, slip);
     let pieces = pieces(maps, &points, slip);
-    let net = net(maps, points, &pieces, slip);
+    tables_of(maps, points, &pieces, slip)
+}
+
+/// The tables of some vertices and pieces of edges, and the labels of each half-edge.
+pub fn tables_of(
+    maps: &[&Map],
+    points: Vec<Point>,
+    pieces: &[Piece],
+    slip: Option<Slip>,
+) -> (Tables, Vec<Labels>) {
+    let net = net(maps, points, pieces, slip);
     let of_maps: Vec<Net> = maps.iter().map(|map| Net::of(map, slip)).collect();
     let outgoing = net.outgoing();
     let followers: Vec<usize> = (0..net.half_edges()).map(|h| net.follower(&outgoing, h)).collect();

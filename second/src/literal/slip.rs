@@ -1,7 +1,7 @@
 //! The slips that document 01 guards against, and some near them. An input on which a slip
 //! changes the answer is worth trying: it tells the slip from the truth.
 
-use super::{check, overlay};
+use super::{check, melt, overlay};
 use crate::map::Map;
 
 /// A slip. The functions of this folder do as 01 says where they are given none.
@@ -49,6 +49,14 @@ pub enum Slip {
     WalkSeen,
     /// Rule 10 judges hole walks only where no follower differs.
     FollowersFirst,
+    /// Melting: the third labels are not compared.
+    PairsOnly,
+    /// Melting: an edge goes only where the same face lies on both sides.
+    FencesOnly,
+    /// Melting: an edge with the same face on both sides stays.
+    FencesStay,
+    /// Melting: vertices left without an edge stay.
+    LonelyStay,
 }
 
 /// Slips that show in the check of a map.
@@ -85,6 +93,10 @@ pub const OF_PAIRS: &[Slip] = &[
 /// Slips that show only in the overlay of three maps.
 pub const OF_TRIPLES: &[Slip] = &[Slip::FirstMapOnly, Slip::TwoSources, Slip::ThirdAsSecond];
 
+/// Slips that show in the melted tables.
+pub const OF_MELTING: &[Slip] =
+    &[Slip::PairsOnly, Slip::FencesOnly, Slip::FencesStay, Slip::LonelyStay];
+
 /// Does the check of a map show the slip?
 pub fn map_tells(slip: Slip, map: &Map) -> bool {
     check::fault(map, None) != check::fault(map, Some(slip))
@@ -93,4 +105,9 @@ pub fn map_tells(slip: Slip, map: &Map) -> bool {
 /// Does the overlay of valid maps show the slip?
 pub fn maps_tell(slip: Slip, maps: &[&Map]) -> bool {
     overlay::overlay(maps, None) != overlay::overlay(maps, Some(slip))
+}
+
+/// Do the melted tables of valid maps show the slip?
+pub fn melting_tells(slip: Slip, maps: &[&Map]) -> bool {
+    melt::melted(maps, None) != melt::melted(maps, Some(slip))
 }

@@ -5,6 +5,7 @@ pub mod damage;
 pub mod drawing;
 pub mod few;
 pub mod meets;
+pub mod melts;
 pub mod mends;
 pub mod names;
 pub mod overlay_damage;

@@ -14,7 +14,7 @@ pub const KINDS: &[Kind] =
 const TRIES: usize = 1_000;
 
 /// The first that shows it, or the last.
-fn search<T>(
+pub fn sought<T>(
     random: &mut Random,
     make: impl Fn(&mut Random) -> T,
     shows: impl Fn(&T) -> bool,
@@ -40,7 +40,7 @@ pub fn telling_map(random: &mut Random, slip: Slip, make: fn(&mut Random) -> Map
         let kind = kinds[random.below(kinds.len())];
         decode(&damage::damage_map(kind, random, map.clone())).unwrap_or(map)
     };
-    search(random, any, |map| map_tells(slip, map))
+    sought(random, any, |map| map_tells(slip, map))
 }
 
 /// Valid maps on which the slip shows in the overlay.
@@ -49,10 +49,10 @@ pub fn telling_maps<const N: usize>(
     slip: Slip,
     make: fn(&mut Random) -> [Map; N],
 ) -> [Map; N] {
-    search(random, make, |maps| maps_tell(slip, &maps.each_ref()))
+    sought(random, make, |maps| maps_tell(slip, &maps.each_ref()))
 }
 
 fn valid(random: &mut Random) -> Map {
     let slip = random.pick(OF_MAPS);
-    search(random, few, |map| fault(map).is_none() && map_tells(slip, map))
+    sought(random, few, |map| fault(map).is_none() && map_tells(slip, map))
 }

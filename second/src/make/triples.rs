@@ -3,6 +3,7 @@
 use super::damage;
 use super::drawing::Drawing;
 use super::few::three_few;
+use super::melts::KINDS as MELTS;
 use super::pairs::{drawing_of, moved, pair_files, CLASHING, KINDS as PAIRS};
 use super::plain::{cells, place};
 use super::room::size;
@@ -26,7 +27,7 @@ pub struct TripleKind {
     make: fn(&mut Random) -> Sheet,
 }
 
-const fn kind(
+pub(super) const fn kind(
     name: &'static str,
     about: &'static str,
     make: fn(&mut Random) -> Sheet,
@@ -62,7 +63,7 @@ pub fn sheet_files(kind: &str, seed: u64) -> Option<Sheet> {
         let name = random.pick(&names());
         return sheet_files(name, random.bits());
     }
-    if let Some(kind) = KINDS.iter().find(|k| k.name == kind) {
+    if let Some(kind) = KINDS.iter().chain(MELTS).find(|k| k.name == kind) {
         return Some((kind.make)(&mut random));
     }
     let [zones, blocks] = pair_files(kind, seed)?;

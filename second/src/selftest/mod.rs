@@ -3,6 +3,7 @@
 
 mod files;
 mod laws;
+pub mod melting;
 pub mod orders;
 mod tides;
 mod turned;
@@ -95,6 +96,7 @@ fn sheet(files: &Sheet) -> Result<bool, String> {
     files::all(&done)?;
     turned::overlays(&maps, &done)?;
     orders::with_empty(&maps)?;
+    melting::all(&maps, &done)?;
     Ok(true)
 }
 

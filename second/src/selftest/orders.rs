@@ -63,7 +63,7 @@ fn same(
     }
 }
 
-fn exchanged(given: &Overlay, laid: &Overlay, order: Order) -> Found {
+pub fn exchanged(given: &Overlay, laid: &Overlay, order: Order) -> Found {
     let (a, b) = (&given.tables, &laid.tables);
     holds(a.vertices == b.vertices, || "other vertices".into())?;
     holds(a.half_edges == b.half_edges, || "other half-edges".into())?;

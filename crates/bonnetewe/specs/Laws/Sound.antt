@@ -1,15 +1,13 @@
--- Every answer that check, overlay, read, write and mend can give is sound: a refusal's number is not 0, and it, its map, its place, its other edge and all counts have 16 bits, whatever the bytes,
--- the lengths and the counts are. So one number that a C function answers is one answer, and nothing is asked (`check-means`, `overlay-means`, `read-means`, `write-means`, `mend-means`). Assumes nothing.
+-- Every answer that check, overlay, read and write can give is sound: a refusal's number is not 0, and it, its map, its place, its other edge and all counts have 16 bits, whatever the bytes,
+-- the lengths and the counts are. So one number that a C function answers is one answer, and nothing is asked (`check-means`, `overlay-means`, `read-means`, `write-means`). Assumes nothing.
 use mathlib.Core.Path.{_≡_, refl, sym, _∙_}
 use Prim.Native.Nat.{_<_, _≤_}
 use native.Mathlib.Omega.{arith}
 use borrow.Author.Tests.{ltb-false}
-use Rattle.seq.specs.Seq.{Bool, true, false, not, _||_, List, [], _∷_, _++_, Option, none, some, ℕ, _/_, ltb, eqb, length, getD, least, someBelow}
+use Rattle.seq.specs.Seq.{Bool, true, false, not, _||_, List, [], _∷_, _++_, Option, none, some, ℕ, ltb, eqb, length, least, someBelow}
 use Rattle.seq.specs.Tests.{or-false}
 use Rattle.seq.specs.Terms.{Every}
 use Rattle.seq.specs.Least.{least-le}
-use Rattle.seq.specs.Count.{count-le}
-use Rattle.seq.specs.Select.{length-select}
 use Rattle.paper.specs.Limits.{maps, mapVertices, mapEdges, mapHead, overlayHead}
 use Rattle.paper.specs.Bytes.{ascii, marked, u16}
 use Rattle.paper.specs.Graph.{Graph, edgeCount, halfCount, followers}
@@ -22,15 +20,10 @@ use Rattle.paper.specs.Overlay.{mapFaults, overlay}
 use Rattle.paper.specs.Ovfile.{Layout, layouts, layoutOf, fileLength, soundEdge, over}
 use Rattle.paper.specs.Reader.{countsIn, headFaults, numbers, tablesIn, read}
 use Rattle.paper.specs.Writer.{badVertex, badEdge, writeFault, write}
-use Rattle.paper.specs.Mend.{keptEdge, keptEdges, hasEdge, keptVertices, cornerOf, edgeRow, entries, mended, noVertex, entryWidth, mendFault, mend}
 use Rattle.laws_refusals.specs.Refusals.{Nothing, nothing, given-none}
 use Rattle.laws_refusals.specs.Room.{Fits, not-over, room-none}
 use Rattle.laws_graph.specs.Reading.{points-count, edges-count}
-use Rattle.laws_mend.specs.Clean.{Mendable}
-use Rattle.laws_mend.specs.Faults.{fault-is}
-use Rattle.laws_mend.specs.MapFile.{length-map-file}
-use Rattle.laws_mend.specs.Outcome.{entries-few}
-use Rattle.bonnetewe.specs.Told.{toldMap, Told, ToldFile, ToldMending}
+use Rattle.bonnetewe.specs.Told.{toldMap, Told, ToldFile}
 use Rattle.bonnetewe.specs.Laws.Means.{Sound, CountsFit, PairFits, told-means, told-map-means, told-length-means}
 
 -- ── refusals that fit ──
@@ -84,11 +77,11 @@ front [] ys n = tt
 front (x ∷ xs) ys n = (n .0, front xs ys (n .1))
 
 -- a rule of a number from 1 to 21, with a place of at most 4
-rule-fits : (r k : ℕ) (b : Bool) → 0 < r → r ≤ 21 → k ≤ 4 → Fit (given r k b)
+pub rule-fits : (r k : ℕ) (b : Bool) → 0 < r → r ≤ 21 → k ≤ 4 → Fit (given r k b)
 rule-fits r k b z q l = given-fits r k b z (omega (arith, q)) (omega (arith, l))
 
 -- the same of the first of at most 4,000 places
-place-fits : (r : ℕ) (p : ℕ → Bool) (n : ℕ) → 0 < r → r ≤ 21 → n ≤ 4000 → Fit (firstAt r p n)
+pub place-fits : (r : ℕ) (p : ℕ → Bool) (n : ℕ) → 0 < r → r ≤ 21 → n ≤ 4000 → Fit (firstAt r p n)
 place-fits r p n z q l = at-fits r p n z (omega (arith, q)) (omega (arith, l))
 
 -- ── one map ──
@@ -101,12 +94,12 @@ module _ (s : List ℕ) where
   many = ltb mapVertices (vertexCount s) || ltb mapEdges (edgesIn s)
 
   -- "V ≤ 200, E ≤ 300" where no rule of the form is broken
-  small : Nothing (formFaults s) → (vertexCount s ≤ mapVertices) × (edgesIn s ≤ mapEdges)
+  pub small : Nothing (formFaults s) → (vertexCount s ≤ mapVertices) × (edgesIn s ≤ mapEdges)
   small n =
       let o = or-false (ltb mapVertices (vertexCount s)) (ltb mapEdges (edgesIn s)) (given-none 3 0 many (n .1 .1 .0)) in
       (ltb-false mapVertices (vertexCount s) (o .0), ltb-false mapEdges (edgesIn s) (o .1))
 
-  form-fits : Every Fit (formFaults s)
+  pub form-fits : Every Fit (formFaults s)
   form-fits = (
     rule-fits 1 0 (ltb (length s) mapHead || not (marked (ascii "ZMP") s 0)) (omega arith) (omega arith) (omega arith),
     (
@@ -175,12 +168,18 @@ module _ (l : Lengths) (a b c : List ℕ) where
   abbrev of-maps : List (Option Refusal)
   of-maps = mapFaults (a ∷ b ∷ c ∷ [])
 
+  -- of the maps, then of room
+  pub laid-fits : Fit (firstOf (mapFaults (a ∷ b ∷ c ∷ []) ++ roomFaults (roomIn maps l) (countsOf (overlayOf (mapOf a ∷ mapOf b ∷ mapOf c ∷ [])))))
+  laid-fits =
+      then-fits of-maps (roomFaults (roomIn maps l) counted) (of-fits 1 (fault a) (omega arith) (fault-fits a), (of-fits 2 (fault b) (omega arith) (fault-fits b), (of-fits 3 (fault c) (omega arith) (fault-fits c), tt)))
+      (λ n. room-fits (roomIn maps l) counted)
+
   pub overlay-sound : Sound CountsFit (overlay l a b c .answer)
   overlay-sound =
       let room = roomIn maps l in
       let rs = of-maps ++ roomFaults room counted in
       sound-by CountsFit counted (firstOf rs)
-      (then-fits of-maps (roomFaults room counted) (of-fits 1 (fault a) (omega arith) (fault-fits a), (of-fits 2 (fault b) (omega arith) (fault-fits b), (of-fits 3 (fault c) (omega arith) (fault-fits c), tt))) (λ n. room-fits room counted))
+      laid-fits
       (λ e. fits-small l counted (room-none room counted (behind of-maps (roomFaults room counted) (nothing rs e))))
 
 module _ (l : Lengths) (s : List ℕ) where
@@ -242,51 +241,6 @@ module _ (n : ℕ) (c : Counts) (t : Tables) where
       )))
       (λ e. tt)
 
--- ── mending ──
-
-module _ (n l : ℕ) (s : List ℕ) where
-  abbrev graph-in : Graph
-  graph-in = mapOf s .graph
-
-  abbrev long : ℕ
-  long = length (mended (mapOf s))
-
-  abbrev listed : ℕ
-  listed = length (entries (mapOf s .graph))
-
-  mended-small : Mendable s → length (mended (mapOf s)) < 65536
-  mended-small M =
-      let g = graph-in in
-      let keptV = hasEdge g (keptEdges g) in
-      let vs = keptVertices g in
-      let ks = keptEdges g in
-      omega (
-        arith,
-        length-map-file (length vs) (length ks) (λ i. cornerOf g (getD vs i 0)) (λ i. edgeRow (mapOf s) vs (getD ks i 0)) (λ k. refl),
-        length-select keptV (length (g .points)),
-        count-le keptV (length (g .points)),
-        length-select (keptEdge g) (edgeCount g),
-        count-le (keptEdge g) (edgeCount g),
-        points-count s,
-        edges-count s,
-        M .form .few-vertices,
-        M .form .few-edges,
-      )
-
-  pub mend-sound : Sound PairFits (mend n l s .answer)
-  mend-sound =
-      let g = graph-in in
-      let rest = firstAt 5 (tooFar g) (length (g .points)) ∷ firstAt 7 (noVertex g) (edgeCount g) ∷ given 11 4 (ltb n long) ∷ given 11 5 (ltb (l / entryWidth) listed) ∷ [] in
-      sound-by PairFits (long, listed) (mendFault n l s long listed)
-      (then-fits (formFaults s) rest (form-fits s) (λ k. (
-        place-fits 5 (tooFar g) (length (g .points)) (omega arith) (omega arith) (omega (arith, points-count s, small s k .0)),
-        (
-          place-fits 7 (noVertex g) (edgeCount g) (omega arith) (omega arith) (omega (arith, edges-count s, small s k .1)),
-          (rule-fits 11 4 (ltb n long) (omega arith) (omega arith) (omega arith), (given-fits 11 5 (ltb (l / entryWidth) listed) (omega arith) (omega arith) (omega arith), tt)),
-        ),
-      )))
-      (λ e. let M = fault-is n l s long listed e .0 in (mended-small M, omega (arith, entries-few s M)))
-
 -- ── one number, one answer ──
 
 -- of bonnetewe_check: whatever the two files are
@@ -304,7 +258,3 @@ read-means l k s z p q = told-means _ _ (read-sound l s) (read-sound k z) (sym (
 -- of bonnetewe_write: whatever the counts, the tables and the buffers are
 pub write-means : (n m : ℕ) (c d : Counts) (t u : Tables) {x y : List ℕ} {r : ℕ} → ToldFile (write n c t) x r → ToldFile (write m d u) y r → write n c t .answer ≡ write m d u .answer
 write-means n m c d t u p q = told-length-means _ _ (write-sound n c t) (write-sound m d u) (sym (p .answer) ∙ q .answer)
-
--- of bonnetewe_mend: whatever the files and the room are
-pub mend-means : (n l m k : ℕ) (s z : List ℕ) {f g x y : List ℕ} {r : ℕ} → ToldMending (mend n l s) f x r → ToldMending (mend m k z) g y r → mend n l s .answer ≡ mend m k z .answer
-mend-means n l m k s z p q = told-map-means _ _ (mend-sound n l s) (mend-sound m k z) (sym (p .answer) ∙ q .answer)

@@ -1,16 +1,14 @@
 -- The overlay of the points and pieces in tables: its parts; that it is the overlay of the maps where the tables hold the maps' vertices and edges (`overlay-in`);
 -- and that those of held layers have all that walks, faces and labels ask (`cut-drawable`). Assumes nothing.
-use mathlib.Core.Path.{_≡_, refl, sym, _∙_, ap, subst}
-use Prim.Native.Nat.{_≤_, _<_}
-use native.Mathlib.Omega.{arith}
-use Rattle.seq.specs.Seq.{List, none, some, ℕ, _*_, length, getD}
+use mathlib.Core.Path.{_≡_, refl, sym, subst}
+use Prim.Native.Nat.{_≤_}
+use Rattle.seq.specs.Seq.{List, _*_, length}
 use Rattle.seq.specs.Terms.{Among}
 use Rattle.paper.specs.Limits.{overlayVertices, overlayEdges}
 use Rattle.paper.specs.Plane.{Pt}
-use Rattle.paper.specs.Graph.{Graph, edgeCount, halfCount, even, goesUp}
 use Rattle.paper.specs.Map.{Map}
-use Rattle.paper.specs.Pieces.{layer, verticesOf, graphOf}
-use Rattle.paper.specs.Faces.{Overlay, walksOf, overlayBy, net, sourcesOf, overlayOf}
+use Rattle.paper.specs.Pieces.{verticesOf, graphOf}
+use Rattle.paper.specs.Faces.{walksOf, overlayBy, net, overlayOf}
 use Rattle.laws_overlay.specs.Maps.{AllKeep}
 use Rattle.laws_overlay.specs.Places.{places}
 use Rattle.laws_overlay.specs.Net.{goes-even, sourced}

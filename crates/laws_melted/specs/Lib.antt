@@ -1,0 +1,9 @@
+pub mod Rows
+pub mod Agree
+pub mod Answers
+pub mod Order
+pub mod Kept
+pub mod Keeps
+pub mod MeltedLies
+pub mod MeltedThird
+pub mod Wrong

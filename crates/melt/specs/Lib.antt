@@ -1,0 +1,3 @@
+pub mod Melted
+pub mod Laws
+pub mod Unique
