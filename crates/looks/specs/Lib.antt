@@ -1,5 +1,5 @@
 pub mod Ordering
 pub mod Ordered
-pub mod Reading
-pub mod Labelled
+pub mod Rails
+pub mod Railed
 pub mod Files
