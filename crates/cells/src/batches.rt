@@ -28,39 +28,27 @@ pub struct Next {
 fn next_batch(
     fd: i32,
     zones: &[u8],
-    corners: &[i64],
-    origins: &[u16],
-    carriers: &[i16],
-    sides: &[u16],
-    order: &[u16],
+    rails: &[i16],
+    easts: &[u16],
     blocks: &[u8],
-    corners2: &[i64],
-    origins2: &[u16],
-    carriers2: &[i16],
-    sides2: &[u16],
-    order2: &[u16],
+    rails2: &[i16],
+    easts2: &[u16],
     p: Progress,
     labels: &mut [u16],
     counts: &mut [u32],
 ) -> Next
-    requires { ⌜ Ready (now zones) (now corners) (now origins) (now carriers) (now sides) (now order) ⌝ ∗ ⌜ Ready (now blocks) (now corners2) (now origins2) (now carriers2) (now sides2) (now order2) ⌝ ∗ ⌜ Good (entryRoom pairWidth (roomBy (length (now labels)) (length (now counts)))) (now labels) (now counts) p ⌝ }
+    requires { ⌜ Ready (now zones) (now rails) (now easts) ⌝ ∗ ⌜ Ready (now blocks) (now rails2) (now easts2) ⌝ ∗ ⌜ Good (entryRoom pairWidth (roomBy (length (now labels)) (length (now counts)))) (now labels) (now counts) p ⌝ }
     ensures { λ r. ⌜ Read (bothMaps (now (zones .entry)) (now (blocks .entry))) (entryRoom pairWidth (roomBy (length (now (labels .entry))) (length (now (counts .entry))))) (now (labels .entry)) (now (counts .entry)) p (now (labels .exit)) (now (counts .exit)) (record { soundings = r .soundings; far = r .far; entries = r .entries; read = r .read }) (r .more) ⌝ }
 {
     let mut buf = [0u8; BATCH_BYTES];
     let n = io::read_full(fd, &mut buf);
     let q = go_on(
         zones,
-        corners,
-        origins,
-        carriers,
-        sides,
-        order,
+        rails,
+        easts,
         blocks,
-        corners2,
-        origins2,
-        carriers2,
-        sides2,
-        order2,
+        rails2,
+        easts2,
         &buf[..n],
         p,
         labels,
@@ -79,21 +67,15 @@ fn next_batch(
 pub fn read_batches(
     fd: i32,
     zones: &[u8],
-    corners: &[i64],
-    origins: &[u16],
-    carriers: &[i16],
-    sides: &[u16],
-    order: &[u16],
+    rails: &[i16],
+    easts: &[u16],
     blocks: &[u8],
-    corners2: &[i64],
-    origins2: &[u16],
-    carriers2: &[i16],
-    sides2: &[u16],
-    order2: &[u16],
+    rails2: &[i16],
+    easts2: &[u16],
     labels: &mut [u16],
     counts: &mut [u32],
 ) -> Progress
-    requires { ⌜ Ready (now zones) (now corners) (now origins) (now carriers) (now sides) (now order) ⌝ ∗ ⌜ Ready (now blocks) (now corners2) (now origins2) (now carriers2) (now sides2) (now order2) ⌝ }
+    requires { ⌜ Ready (now zones) (now rails) (now easts) ⌝ ∗ ⌜ Ready (now blocks) (now rails2) (now easts2) ⌝ }
     ensures { λ r. ⌜ Finished (bothMaps (now (zones .entry)) (now (blocks .entry))) (entryRoom pairWidth (roomBy (length (now (labels .entry))) (length (now (counts .entry))))) (now (labels .entry)) (now (counts .entry)) (now (labels .exit)) (now (counts .exit)) r ⌝ }
 {
     let mut p = begin();
@@ -102,17 +84,11 @@ pub fn read_batches(
         let next = next_batch(
             fd,
             zones,
-            corners,
-            origins,
-            carriers,
-            sides,
-            order,
+            rails,
+            easts,
             blocks,
-            corners2,
-            origins2,
-            carriers2,
-            sides2,
-            order2,
+            rails2,
+            easts2,
             p,
             labels,
             counts,

@@ -5,8 +5,6 @@ use crate::words::say_refused;
 use limits::FACES;
 use limits::MAP_CARRIER_CELLS;
 use limits::MAP_EDGES;
-use limits::MAP_HALVES;
-use limits::MAP_POINT_CELLS;
 use limits::PAIR_CELLS;
 use map_file::Check;
 use soundings::close;
@@ -16,19 +14,13 @@ ghost use Rattle.soundings.specs.Laid.{Ready};
 // The list that the third argument names, counted. From one that cannot be opened nothing is read: it is a list of 0 bytes.
 fn count_list(
     zones: &[u8],
-    corners: &[i64],
-    origins: &[u16],
-    carriers: &[i16],
-    sides: &[u16],
-    order: &[u16],
+    rails: &[i16],
+    easts: &[u16],
     blocks: &[u8],
-    corners2: &[i64],
-    origins2: &[u16],
-    carriers2: &[i16],
-    sides2: &[u16],
-    order2: &[u16],
+    rails2: &[i16],
+    easts2: &[u16],
 )
-    requires { ⌜ Ready (now zones) (now corners) (now origins) (now carriers) (now sides) (now order) ⌝ ∗ ⌜ Ready (now blocks) (now corners2) (now origins2) (now carriers2) (now sides2) (now order2) ⌝ }
+    requires { ⌜ Ready (now zones) (now rails) (now easts) ⌝ ∗ ⌜ Ready (now blocks) (now rails2) (now easts2) ⌝ }
 {
     let mut labels = [0u16; PAIR_CELLS];
     let mut counts = [0u32; FACES];
@@ -36,17 +28,11 @@ fn count_list(
     let p = read_batches(
         fd,
         zones,
-        corners,
-        origins,
-        carriers,
-        sides,
-        order,
+        rails,
+        easts,
         blocks,
-        corners2,
-        origins2,
-        carriers2,
-        sides2,
-        order2,
+        rails2,
+        easts2,
         &mut labels,
         &mut counts,
     );
@@ -57,45 +43,20 @@ fn count_list(
 
 // Two map files of any bytes.
 pub fn count(zones: &[u8], blocks: &[u8]) {
-    let mut corners = [0i64; MAP_POINT_CELLS];
-    let mut origins = [0u16; MAP_HALVES];
-    let mut carriers = [0i16; MAP_CARRIER_CELLS];
-    let mut sides = [0u16; MAP_HALVES];
-    let mut order = [0u16; MAP_EDGES as usize];
-    let mut corners2 = [0i64; MAP_POINT_CELLS];
-    let mut origins2 = [0u16; MAP_HALVES];
-    let mut carriers2 = [0i16; MAP_CARRIER_CELLS];
-    let mut sides2 = [0u16; MAP_HALVES];
-    let mut order2 = [0u16; MAP_EDGES as usize];
+    let mut rails = [0i16; MAP_CARRIER_CELLS];
+    let mut easts = [0u16; MAP_EDGES as usize];
+    let mut rails2 = [0i16; MAP_CARRIER_CELLS];
+    let mut easts2 = [0u16; MAP_EDGES as usize];
     let c = lay_both(
         zones,
-        &mut corners,
-        &mut origins,
-        &mut carriers,
-        &mut sides,
-        &mut order,
+        &mut rails,
+        &mut easts,
         blocks,
-        &mut corners2,
-        &mut origins2,
-        &mut carriers2,
-        &mut sides2,
-        &mut order2,
+        &mut rails2,
+        &mut easts2,
     );
     match c {
         Check::Bad(r) => say_refused(r, zones, blocks),
-        Check::Fine => count_list(
-            zones,
-            &corners,
-            &origins,
-            &carriers,
-            &sides,
-            &order,
-            blocks,
-            &corners2,
-            &origins2,
-            &carriers2,
-            &sides2,
-            &order2,
-        ),
+        Check::Fine => count_list(zones, &rails, &easts, blocks, &rails2, &easts2),
     }
 }

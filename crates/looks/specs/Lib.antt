@@ -1,5 +1,6 @@
 pub mod Ordering
 pub mod Ordered
-pub mod Reading
-pub mod Labelled
+pub mod Halved
+pub mod Rails
+pub mod Railed
 pub mod Files

@@ -1,20 +1,16 @@
 // The label of what an ordered look sees, and how many edges it read.
 use super::reading::look_read;
-use graph::Seen;
-use graph::east_side;
-use plane::Point;
 use plane::Vector;
 ghost use mathlib.Core.Path.{_≡_};
-ghost use Prim.Native.Nat.{_*_, _≤_};
-ghost use lib.ListN.{length};
+ghost use Prim.Native.Nat.{_≤_};
+ghost use lib.Dec.{ltb};
+ghost use lib.ListN.{length, getD};
+ghost use Rattle.seq.specs.Seq.{cond};
 ghost use Rattle.paper.specs.Limits.{absent};
-ghost use Rattle.plane.specs.Values.{ptOf, vecOf};
-ghost use Rattle.plane.specs.Bounds.{Direction, Near};
-ghost use Rattle.graph.specs.Flat.{flatGraph, Flat};
-ghost use Rattle.graph.specs.Look.{seenOf, seenLabel};
-ghost use Rattle.looks.specs.Ordering.{EachEnds};
-ghost use Rattle.paper.specs.Reads.{edgesRead};
-ghost use Rattle.looks.specs.Labelled.{Names, eastLabel, Sorted};
+ghost use Rattle.plane.specs.Values.{vecOf};
+ghost use Rattle.plane.specs.Bounds.{Corner};
+ghost use Rattle.graph.specs.Flat.{Carriers};
+ghost use Rattle.looks.specs.Rails.{railsRead, railLabel};
 
 // A label, and the edges read for it.
 pub struct Labelled {
@@ -22,36 +18,27 @@ pub struct Labelled {
     pub read: u16,
 }
 
-// The label at the east side of the edge that is seen, of labels by half-edge; 0 where the outside is seen.
-fn label_seen(points: &[i64], origins: &[u16], labels: &[u16], e: usize, seen: Seen) -> u16
-    requires { ⌜ (2 * e ≤ absent) × (2 * e ≤ length (now labels)) × EachEnds (now points) (now origins) e × Names (seenOf seen) e ⌝ }
-    ensures { λ r. ⌜ r ≡ eastLabel (now (points .entry)) (now (origins .entry)) (now (labels .entry)) (seenOf seen) ⌝ }
+// The label of edge r of e; 0 where the outside is seen.
+fn label_seen(easts: &[u16], e: usize, r: usize) -> u16
+    requires { ⌜ e ≤ length (now easts) ⌝ }
+    ensures { λ l. ⌜ l ≡ cond (ltb r e) (getD (now (easts .entry)) r 0) 0 ⌝ }
 {
-    match seen {
-        Seen::Nothing => 0,
-        Seen::Edge(k) => labels[east_side(points, origins, k as usize)],
+    if r < e {
+        return easts[r];
     }
+    0
 }
 
-// The label of what is seen from p along d, and how many edges were read.
-pub fn label_read(
-    points: &[i64],
-    origins: &[u16],
-    carriers: &[i16],
-    labels: &[u16],
-    order: &[u16],
-    n: usize,
-    e: usize,
-    p: Point,
-    d: Vector,
-) -> Labelled
-    requires { ⌜ Flat (now points) (now origins) (now carriers) n e ⌝ ∗ ⌜ 2 * e ≤ absent ⌝ ∗ ⌜ 2 * e ≤ length (now labels) ⌝ ∗ ⌜ Sorted (now points) (now origins) (now carriers) n e (now order) ⌝ ∗ ⌜ Near (ptOf p) × Direction (vecOf d) ⌝ }
-    ensures same { λ r. ⌜ r .label ≡ seenLabel (flatGraph (now (points .entry)) (now (origins .entry)) (now (carriers .entry)) n e) (now (labels .entry)) (ptOf p) (vecOf d) ⌝ }
-    ensures read { λ r. ⌜ r .read ≡ edgesRead (flatGraph (now (points .entry)) (now (origins .entry)) (now (carriers .entry)) n e) (ptOf p) ⌝ }
+// The label of what is seen from c, of e edges laid for looks, and how many of them were read.
+pub fn label_read(rails: &[i16], easts: &[u16], e: usize, c: Vector) -> Labelled
+    requires { ⌜ Carriers (now rails) e ⌝ ∗ ⌜ e ≤ absent ⌝ ∗ ⌜ e ≤ length (now easts) ⌝ ∗ ⌜ Corner (vecOf c) ⌝ }
+    ensures same { λ r. ⌜ r .label ≡ railLabel (now (rails .entry)) (now (easts .entry)) e (vecOf c) ⌝ }
+    ensures read { λ r. ⌜ r .read ≡ railsRead (now (rails .entry)) e (vecOf c) ⌝ }
 {
-    let looked = look_read(points, origins, carriers, order, n, e, p, d);
-    let read = looked.read;
-    let seen = looked.seen;
-    let label = label_seen(points, origins, labels, e, seen);
-    Labelled { label, read }
+    let looked = look_read(rails, e, c);
+    let label = label_seen(easts, e, looked.rail);
+    Labelled {
+        label,
+        read: looked.read,
+    }
 }

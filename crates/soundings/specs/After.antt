@@ -1,5 +1,5 @@
 -- Where the count stands after some bytes of the list. `After`: by the number of soundings so far one sees whether 12 is due; where it is not, the first that is too far is known, and up to there the
--- tables hold the counts, or there are more pairs than room. Nothing more is kept between batches. `Good` is what the code asks of it, so that no count overflows. Assumes nothing.
+-- tables hold the counts, or there are more pairs than room. Nothing more is kept between batches. `Good` is what the code asks of it, so that no count overflows, and that the pairs stand in order. Assumes nothing.
 use mathlib.Core.Path.{_≡_, refl, sym, _∙_, ap, subst}
 use Prim.Native.Nat.{_≤_, _<_}
 use native.Mathlib.Decide.{decLt}
@@ -7,13 +7,14 @@ use native.Mathlib.Omega.{arith}
 use borrow.Author.Tests.{lt-ltb, le-ltb, ltb-false, ltb-true, eq-eqb, ne-eqb}
 use lib.ListN.{length-append}
 use Rattle.seq.specs.Seq.{Bool, true, false, cond, not, _||_, List, [], _++_, ℕ, _+_, _-_, _*_, _%_, _/_, eqb, ltb, length, least, table}
+use Rattle.seq.specs.Terms.{Ordered}
 use Rattle.seq.specs.Tests.{or-false, clash}
 use Rattle.seq.specs.Table.{length-table}
 use Rattle.seq.specs.Least.{least-le, least-on, least-ext}
 use Rattle.paper.specs.Limits.{listSoundings}
 use Rattle.paper.specs.Map.{Map}
-use Rattle.paper.specs.Soundings.{Entry, tally, tallyFrom, cells, cellOf, soundingsIn, soundingAt, far, badList, readIn}
-use Rattle.laws_soundings.specs.Tally.{total, from-total}
+use Rattle.paper.specs.Soundings.{Entry, lesser, tally, tallyFrom, cells, cellOf, soundingsIn, soundingAt, far, badList, readIn}
+use Rattle.laws_soundings.specs.Tally.{total, from-total, from-ordered}
 use Rattle.laws_soundings.specs.Reads.{readUpto, reads-go-on}
 use Rattle.laws_soundings.specs.Soundings.{counts-go-on, far-before, far-past}
 use Rattle.soundings_count.specs.Entries.{pairWidth, entriesIn, mostTimes}
@@ -25,6 +26,7 @@ pub record Good (room : ℕ) (ls cs : List ℕ) (p : Progress) : Type 0 where
   pub most : p .soundings ≤ listSoundings + 1
   pub read-few : p .read ≤ mostRead * p .soundings
   pub few : p .entries ≤ room → total (entriesIn ls cs (p .entries)) ≤ p .soundings
+  pub sorted : p .entries ≤ room → Ordered lesser (entriesIn ls cs (p .entries))
 
 -- of bytes that 12 does not refuse
 pub record Standing (ms : List Map) (room : ℕ) (s ls cs : List ℕ) (p : Progress) : Type 0 where
@@ -78,7 +80,7 @@ pub begins : (ms : List Map) (room : ℕ) (ls cs : List ℕ) → After ms room [
 begins ms room ls cs = record { over = refl; held = λ e. record { soundings-are = refl; far-is = refl; counts = λ h. record { over = λ q. absurd (omega arith); held = λ q. refl }; reads = λ h q. refl } }
 
 pub begins-good : (room : ℕ) (ls cs : List ℕ) → Good room ls cs (progress 0 0 0 0)
-begins-good room ls cs = record { most = omega arith; read-few = omega arith; few = λ h. omega arith }
+begins-good room ls cs = record { most = omega arith; read-few = omega arith; few = λ h. omega arith; sorted = λ h. tt }
 
 -- ── a batch more ──
 
@@ -137,7 +139,7 @@ module _ (ms : List Map) (room : ℕ) (b ls cs : List ℕ) (p : Progress) where
   -- 12 is due
   pub goes-torn : tornBy (p .soundings) (length b) ≡ true → Good room ls cs p → Went ms room b ls cs p ls cs (progress (listSoundings + 1) (p .far) (p .entries) (p .read))
   goes-torn q g = record {
-    good = record { most = omega arith; read-few = omega (arith, g .read-few, g .most); few = λ l. omega (arith, g .few l, g .most) };
+    good = record { most = omega arith; read-few = omega (arith, g .read-few, g .most); few = λ l. omega (arith, g .few l, g .most); sorted = g .sorted };
     torn = λ l. omega arith;
     after = λ s w A. record {
       over = lt-ltb listSoundings (listSoundings + 1) (omega arith) ∙ sym (sym (torn-is s w A) ∙ q);
@@ -153,7 +155,7 @@ module _ (ms : List Map) (room : ℕ) (b ls cs : List ℕ) (p : Progress) where
     -- one was too far before
     pub goes-far : p .far < p .soundings → Went ms room b ls cs p ls cs (progress (p .soundings + n) (p .far) (p .entries) (p .read))
     goes-far h = record {
-      good = record { most = omega (arith, few-sum); read-few = omega (arith, g .read-few); few = λ l. omega (arith, g .few l) };
+      good = record { most = omega (arith, few-sum); read-few = omega (arith, g .read-few); few = λ l. omega (arith, g .few l); sorted = g .sorted };
       torn = λ l. absurd (omega (arith, few-sum));
       after = λ s w A. record { over = over-both s w A q _ refl; held = λ z. so-far s w A };
     }
@@ -172,7 +174,7 @@ module _ (ms : List Map) (room : ℕ) (b ls cs : List ℕ) (p : Progress) where
             }
 
     pub goes-roomy : pairWidth * room ≤ length ls → room ≤ length cs → Roomy room ls cs (p .entries) n
-    goes-roomy a c = record { labels = a; counts = c; short = omega (arith, few-sum); few = λ l. omega (arith, g .few l, few-sum) }
+    goes-roomy a c = record { labels = a; counts = c; short = omega (arith, few-sum); few = λ l. omega (arith, g .few l, few-sum); sorted = g .sorted }
 
     -- none was: the batch is counted
     module _ (ls′ cs′ : List ℕ) (x : Run) (B : Batched ms b room (p .entries) ls cs ls′ cs′ x) (h : p .soundings ≤ p .far) where
@@ -184,6 +186,15 @@ module _ (ms : List Map) (room : ℕ) (b ls cs : List ℕ) (p : Progress) where
                 let c = B .counts t (counts-own room ls cs (p .entries) (omega arith)) in
                 let f = table (λ i. cellOf ms (soundingAt b i)) (x .far) in
                 omega (arith, ap total (c .held l), from-total t f, length-table (λ i. cellOf ms (soundingAt b i)) (x .far), g .few (omega arith), B .far-is, least-le (far b) n)
+          ]
+
+      still-sorted : x .entries ≤ room → Ordered lesser (entriesIn ls′ cs′ (x .entries))
+      still-sorted l =
+          elim (decLt room (p .entries)) [
+            | yes o ↦ absurd (omega (arith, B .stays o))
+            | no o ↦ let t = entriesIn ls cs (p .entries) in
+                let c = B .counts t (counts-own room ls cs (p .entries) (omega arith)) in
+                subst (Ordered lesser) (sym (c .held l)) (from-ordered t (table (λ i. cellOf ms (soundingAt b i)) (x .far)) (g .sorted (omega arith)))
           ]
 
       -- there was room before
@@ -211,7 +222,7 @@ module _ (ms : List Map) (room : ℕ) (b ls cs : List ℕ) (p : Progress) where
 
       pub goes-counted : Went ms room b ls cs p ls′ cs′ (progress (p .soundings + n) (p .soundings + x .far) (x .entries) (p .read + x .read))
       goes-counted = record {
-        good = record { most = omega (arith, few-sum); read-few = omega (arith, g .read-few, B .read-few, B .far-is, least-le (far b) n); few = still-few };
+        good = record { most = omega (arith, few-sum); read-few = omega (arith, g .read-few, B .read-few, B .far-is, least-le (far b) n); few = still-few; sorted = still-sorted };
         torn = λ l. absurd (omega (arith, few-sum));
         after = λ s w A. record { over = over-both s w A q _ refl; held = λ z. so-counted s w A };
       }

@@ -7,6 +7,7 @@ use native.Mathlib.Decide.{decLt}
 use native.Mathlib.Omega.{arith}
 use borrow.Author.Tests.{ltb-false}
 use Rattle.seq.specs.Seq.{true, false, List, [], _∷_, ℕ, _+_, _*_, length, ltb, natAbs, least, table, insertBy}
+use Rattle.seq.specs.Terms.{Ordered}
 use Rattle.seq.specs.Tests.{or-false}
 use Rattle.seq.specs.Table.{length-table}
 use Rattle.seq.specs.Least.{least-more, least-found}
@@ -16,7 +17,7 @@ use Rattle.paper.specs.Reads.{readFor}
 use Rattle.paper.specs.Plane.{Vec}
 use Rattle.paper.specs.Map.{Map}
 use Rattle.paper.specs.Soundings.{Entry, lesser, added, once, tallyFrom, cellOf, soundingsIn, soundingAt, far}
-use Rattle.laws_soundings.specs.Tally.{total, tally-++, from-total}
+use Rattle.laws_soundings.specs.Tally.{total, tally-++, from-total, from-ordered}
 use Rattle.laws_soundings.specs.Reads.{readUpto, reads-more}
 use Rattle.plane.specs.Bounds.{Corner}
 use Rattle.soundings_count.specs.Entries.{pairWidth, entriesIn, mostTimes, Grown}
@@ -26,12 +27,13 @@ use Rattle.soundings.specs.declared.batch.Run.{Run}
 abbrev pub mostRead : ℕ
 mostRead = pairWidth * mapEdges
 
--- the lent tables have so many rows, and no count of the m pairs overflows where `more` soundings come
+-- the lent tables have so many rows, the pairs stand in order, and no count of the m pairs overflows where `more` soundings come
 pub record Roomy (room : ℕ) (ls cs : List ℕ) (m more : ℕ) : Type 0 where
   pub labels : pairWidth * room ≤ length ls
   pub counts : room ≤ length cs
   pub short : more ≤ listSoundings
   pub few : m ≤ room → total (entriesIn ls cs m) + more ≤ mostTimes
+  pub sorted : m ≤ room → Ordered lesser (entriesIn ls cs m)
 
 -- a sounding with the labels c, unless there are more pairs than room already
 pub record Stepped (room m : ℕ) (c : List ℕ) (ls cs ls′ cs′ : List ℕ) (r : ℕ) : Type 0 where
@@ -107,8 +109,17 @@ module _ (ms : List Map) (s : List ℕ) (room n : ℕ) where
               omega (arith, h (omega arith), ap total (c .held q), from-total t (table cellAt i), length-table cellAt i)
         ]
 
+    count-sorted : (n ≤ room → Ordered lesser (entriesIn ls₀ cs₀ n)) → m ≤ room → Ordered lesser (entriesIn ls cs m)
+    count-sorted h q =
+        elim (decLt room n) [
+          | yes b ↦ absurd (omega (arith, k .stays b))
+          | no b ↦ let t = entriesIn ls₀ cs₀ n in
+              let c = k .counts t (counts-own room ls₀ cs₀ n (omega arith)) in
+              subst (Ordered lesser) (sym (c .held q)) (from-ordered t (table cellAt i) (h (omega arith)))
+        ]
+
     pub count-roomy : Roomy room ls₀ cs₀ n (soundingsIn s) → i < soundingsIn s → Roomy room ls cs m 1
-    count-roomy h l = record { labels = omega (arith, h .labels, k .labels-kept); counts = omega (arith, h .counts, k .counts-kept); short = omega arith; few = count-few (h .few) l }
+    count-roomy h l = record { labels = omega (arith, h .labels, k .labels-kept); counts = omega (arith, h .counts, k .counts-kept); short = omega arith; few = count-few (h .few) l; sorted = count-sorted (h .sorted) }
 
     pub count-turns : (c : Vec) (ls′ cs′ : List ℕ) (r x : ℕ) → i < soundingsIn s → far s i ≡ false → c ≡ soundingAt s i → (m ≤ room → x ≡ readFor ms c) × (x ≤ mostRead) → Stepped room m (cellOf ms c) ls cs ls′ cs′ r → length ls′ ≡ length ls → length cs′ ≡ length cs
         → Counting ls₀ cs₀ ls′ cs′ r (q + x) (i + 1)

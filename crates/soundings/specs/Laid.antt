@@ -1,23 +1,21 @@
--- The map of a file that passes the check stands in tables of its own (`Laid`), with its edges in the order of lower ends beside them (`Ready`); what is seen in it, and how many edges are read. Assumes nothing.
+-- The map of a file that passes the check stands in tables of its own (`Laid`), and from there its edges in the order of lower ends, laid for looks (`Ready`). Assumes nothing.
 use mathlib.Core.Path.{_≡_, refl, sym, _∙_, ap, subst}
-use Prim.Native.Nat.{_≤_, _<_}
+use Prim.Native.Nat.{_≤_}
 use native.Mathlib.Omega.{arith}
-use lib.Seq.{getD-take}
-use Rattle.seq.specs.Seq.{List, [], _∷_, _++_, Option, none, some, ℕ, _*_, length, getD, take, ℤ, orZero}
+use Rattle.seq.specs.Seq.{List, [], _∷_, _++_, Option, none, some, ℕ, _*_, length, getD, take, ℤ, filled, laid}
 use Rattle.paper.specs.Limits.{mapEdges}
-use Rattle.paper.specs.Plane.{Pt, Vec}
-use Rattle.paper.specs.Graph.{Graph, halfCount, west}
+use Rattle.paper.specs.Plane.{Pt}
 use Rattle.paper.specs.Refusal.{Refusal, Answer, done, refused, answer, firstOf, ofMap}
 use Rattle.paper.specs.Map.{label, vertexCount, edgesIn, mapOf, fault, formFaults, partFaults, netFaults}
 use Rattle.laws_refusals.specs.Refusals.{nothing, of-none, first-none}
-use Rattle.laws_graph.specs.West.{look-below}
 use Rattle.laws_graph.specs.Reading.{edges-count}
-use Rattle.graph.specs.Flat.{Flat, flatGraph}
-use Rattle.graph.specs.Look.{seenLabel}
+use Rattle.graph.specs.Flat.{Flat, flatGraph, carrierAt}
+use Rattle.graph.specs.Look.{eastAt}
 use Rattle.paper.specs.Reads.{edgesRead}
-use Rattle.looks.specs.Ordering.{ByLowerEnds}
-use Rattle.looks.specs.Labelled.{Sorted}
-use Rattle.looks.specs.Files.{file-sorted, reads-few}
+use Rattle.looks.specs.Ordering.{edgeIn, ByLowerEnds}
+use Rattle.looks.specs.Rails.{segRow}
+use Rattle.looks.specs.Railed.{Railed, reads-few}
+use Rattle.looks.specs.Files.{file-railed}
 use Rattle.map_check.specs.Held.{MapRoom, MapLaid}
 use Rattle.map_check.specs.Laws.Kept.{Kept}
 use Rattle.map_check.proofs.KeptLaws.{kept}
@@ -30,24 +28,6 @@ pub record Laid (s : List ℕ) (ps : List ℤ) (os : List ℕ) (cs : List ℤ) (
   pub labels-long : 2 * edgesIn s ≤ length ls
   pub graph-is : flatGraph ps os cs (vertexCount s) (edgesIn s) ≡ mapOf s .graph
   pub labels-are : take (2 * edgesIn s) ls ≡ mapOf s .labels
-
-module _ (s : List ℕ) (ps : List ℤ) (os : List ℕ) (cs : List ℤ) (ls : List ℕ) (L : Laid s ps os cs ls) (p : Pt) (d : Vec) where
-  abbrev g : Graph
-  g = mapOf s .graph
-
-  same-label : (o : Option ℕ) → west g p d ≡ o → orZero (λ h. getD ls h 0) o ≡ orZero (label (mapOf s)) o
-  same-label none e = refl
-  same-label (some h) e =
-      let l : h < 2 * edgesIn s = omega (arith, look-below g p d h e, edges-count s) in
-      sym (getD-take (2 * edgesIn s) ls h 0 l) ∙ ap (λ (t : List ℕ). getD t h 0) (L .labels-are)
-
-  -- the label of what is seen in the tables is that of what is seen in the map
-  pub seen-in : seenLabel (flatGraph ps os cs (vertexCount s) (edgesIn s)) ls p d ≡ orZero (label (mapOf s)) (west g p d)
-  seen-in = ap (λ (x : Graph). seenLabel x ls p d) (L .graph-is) ∙ same-label (west g p d) refl
-
--- the tables by their counts, however they were read
-pub flat-of : {s : List ℕ} {ps : List ℤ} {os : List ℕ} {cs : List ℤ} {ls : List ℕ} {n e : ℕ} → Laid s ps os cs ls → n ≡ vertexCount s → e ≡ edgesIn s → Flat ps os cs n e
-flat-of {s} {ps} {os} {cs} {ls} {n} {e} L v w = coe 1 0 (i. Flat ps os cs (v i) (w i)) (L .flat)
 
 -- ── from what the check lays ──
 
@@ -104,15 +84,29 @@ both-none a b e =
 
 -- ── with its edges in order ──
 
-pub record Ready (s : List ℕ) (ps : List ℤ) (os : List ℕ) (cs : List ℤ) (ls xs : List ℕ) : Type 0 where
-  pub laid : Laid s ps os cs ls
-  pub order : ByLowerEnds ps os (edgesIn s) xs
+-- the rows of all edges of a map
+pub record RailRoom (rs : List ℤ) (es : List ℕ) : Type 0 where
+  pub rows : 4 * mapEdges ≤ length rs
+  pub labels : mapEdges ≤ length es
 
--- an ordered look can be taken in the tables
-pub sorted-of : {s : List ℕ} {ps : List ℤ} {os : List ℕ} {cs : List ℤ} {ls xs : List ℕ} {n e : ℕ} → Ready s ps os cs ls xs → n ≡ vertexCount s → e ≡ edgesIn s → Sorted ps os cs n e xs
-sorted-of {s} {ps} {os} {cs} {ls} {xs} {n} {e} R v w =
-    coe 1 0 (i. Sorted ps os cs (v i) (w i) xs) (file-sorted s (R .laid .passes) ps os cs (vertexCount s) (edgesIn s) (R .laid .graph-is) xs (R .order))
+-- the map of a file stands in the tables as looks ask for it
+pub record Ready (s : List ℕ) (rs : List ℤ) (es : List ℕ) : Type 0 where
+  pub few : edgesIn s ≤ mapEdges
+  pub railed : Railed (mapOf s .graph) (label (mapOf s)) (edgesIn s) rs es
 
--- it reads no more than the map's edges
-pub read-few : {s : List ℕ} {ps : List ℤ} {os : List ℕ} {cs : List ℤ} {ls xs : List ℕ} → Ready s ps os cs ls xs → (p : Pt) → edgesRead (mapOf s .graph) p ≤ mapEdges
-read-few {s} R p = omega (arith, reads-few (mapOf s .graph) p, edges-count s, R .laid .few)
+pub is-ready : {s : List ℕ} {ps : List ℤ} {os : List ℕ} {cs : List ℤ} {ls xs : List ℕ} {rs₀ rs : List ℤ} {es₀ es : List ℕ} → Laid s ps os cs ls → ByLowerEnds ps os (edgesIn s) xs → RailRoom rs₀ es₀
+    → rs ≡ laid (edgesIn s) (λ i. segRow (carrierAt cs (edgeIn xs i))) rs₀ → es ≡ filled (edgesIn s) (λ i. getD ls (eastAt ps os (edgeIn xs i)) 0) es₀ → Ready s rs es
+is-ready {s} {ps} {os} {cs} {ls} {xs} {rs₀} {rs} {es₀} {es} L B R p q = record {
+  few = L .few;
+  railed = file-railed s (L .passes) ps os cs ls xs (L .flat) (L .graph-is) (L .labels-are) B rs₀ rs es₀ es (omega (arith, R .rows, L .few)) (omega (arith, R .labels, L .few)) p q;
+}
+
+-- by a count that was read
+pub is-ready-by : {s : List ℕ} {ps : List ℤ} {os : List ℕ} {cs : List ℤ} {ls xs : List ℕ} {rs₀ rs : List ℤ} {es₀ es : List ℕ} {e : ℕ} → e ≡ edgesIn s → Laid s ps os cs ls → ByLowerEnds ps os e xs → RailRoom rs₀ es₀
+    → rs ≡ laid e (λ i. segRow (carrierAt cs (edgeIn xs i))) rs₀ → es ≡ filled e (λ i. getD ls (eastAt ps os (edgeIn xs i)) 0) es₀ → Ready s rs es
+is-ready-by {s} {ps} {os} {cs} {ls} {xs} {rs₀} {rs} {es₀} {es} w L B R p q =
+    is-ready L (subst (λ (k : ℕ). ByLowerEnds ps os k xs) w B) R (p ∙ ap (λ (k : ℕ). laid k (λ i. segRow (carrierAt cs (edgeIn xs i))) rs₀) w) (q ∙ ap (λ (k : ℕ). filled k (λ i. getD ls (eastAt ps os (edgeIn xs i)) 0) es₀) w)
+
+-- a look reads no more than the map's edges
+pub read-few : {s : List ℕ} {rs : List ℤ} {es : List ℕ} → Ready s rs es → (p : Pt) → edgesRead (mapOf s .graph) p ≤ mapEdges
+read-few {s} R p = omega (arith, reads-few (mapOf s .graph) p, edges-count s, R .few)

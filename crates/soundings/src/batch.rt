@@ -31,24 +31,18 @@ pub struct Step {
 // Counts a sounding, unless there are more pairs than room already.
 fn count_one(
     zones: &[u8],
-    corners: &[i64],
-    origins: &[u16],
-    carriers: &[i16],
-    sides: &[u16],
-    order: &[u16],
+    rails: &[i16],
+    easts: &[u16],
     blocks: &[u8],
-    corners2: &[i64],
-    origins2: &[u16],
-    carriers2: &[i16],
-    sides2: &[u16],
-    order2: &[u16],
+    rails2: &[i16],
+    easts2: &[u16],
     c: Vector,
     labels: &mut [u16],
     counts: &mut [u32],
     room: usize,
     m: usize,
 ) -> Step
-    requires { ⌜ Ready (now zones) (now corners) (now origins) (now carriers) (now sides) (now order) ⌝ ∗ ⌜ Ready (now blocks) (now corners2) (now origins2) (now carriers2) (now sides2) (now order2) ⌝ ∗ ⌜ Corner (vecOf c) ⌝ ∗ ⌜ Roomy room (now labels) (now counts) m 1 ⌝ }
+    requires { ⌜ Ready (now zones) (now rails) (now easts) ⌝ ∗ ⌜ Ready (now blocks) (now rails2) (now easts2) ⌝ ∗ ⌜ Corner (vecOf c) ⌝ ∗ ⌜ Roomy room (now labels) (now counts) m 1 ⌝ }
     ensures counted { λ r. ⌜ Stepped room m (cellOf (bothMaps (now (zones .entry)) (now (blocks .entry))) (vecOf c)) (now (labels .entry)) (now (counts .entry)) (now (labels .exit)) (now (counts .exit)) (r .entries) ⌝ }
     ensures read { λ r. ⌜ (m ≤ room → r .read ≡ readFor (bothMaps (now (zones .entry)) (now (blocks .entry))) (vecOf c)) × (r .read ≤ mostRead) ⌝ }
 {
@@ -58,21 +52,7 @@ fn count_one(
             read: 0,
         };
     }
-    let p = cell(
-        zones,
-        corners,
-        origins,
-        carriers,
-        sides,
-        order,
-        blocks,
-        corners2,
-        origins2,
-        carriers2,
-        sides2,
-        order2,
-        c,
-    );
+    let p = cell(zones, rails, easts, blocks, rails2, easts2, c);
     let entries = put_cell(labels, counts, room, m, p.first, p.second);
     Step {
         entries,
@@ -83,24 +63,18 @@ fn count_one(
 // Counts the soundings of a batch into the table of n pairs, up to the first that is too far.
 pub fn count_batch(
     zones: &[u8],
-    corners: &[i64],
-    origins: &[u16],
-    carriers: &[i16],
-    sides: &[u16],
-    order: &[u16],
+    rails: &[i16],
+    easts: &[u16],
     blocks: &[u8],
-    corners2: &[i64],
-    origins2: &[u16],
-    carriers2: &[i16],
-    sides2: &[u16],
-    order2: &[u16],
+    rails2: &[i16],
+    easts2: &[u16],
     list: &[u8],
     labels: &mut [u16],
     counts: &mut [u32],
     room: usize,
     n: usize,
 ) -> Run
-    requires { ⌜ Ready (now zones) (now corners) (now origins) (now carriers) (now sides) (now order) ⌝ ∗ ⌜ Ready (now blocks) (now corners2) (now origins2) (now carriers2) (now sides2) (now order2) ⌝ ∗ ⌜ Roomy room (now labels) (now counts) n (soundingsIn (now list)) ⌝ }
+    requires { ⌜ Ready (now zones) (now rails) (now easts) ⌝ ∗ ⌜ Ready (now blocks) (now rails2) (now easts2) ⌝ ∗ ⌜ Roomy room (now labels) (now counts) n (soundingsIn (now list)) ⌝ }
     ensures { λ r. ⌜ Batched (bothMaps (now (zones .entry)) (now (blocks .entry))) (now (list .entry)) room n (now (labels .entry)) (now (counts .entry)) (now (labels .exit)) (now (counts .exit)) r ⌝ }
 {
     let last = list.len() / SOUNDING_SIZE;
@@ -118,17 +92,11 @@ pub fn count_batch(
         let c = sounding_at(list, i);
         let step = count_one(
             zones,
-            corners,
-            origins,
-            carriers,
-            sides,
-            order,
+            rails,
+            easts,
             blocks,
-            corners2,
-            origins2,
-            carriers2,
-            sides2,
-            order2,
+            rails2,
+            easts2,
             c,
             labels,
             counts,

@@ -12,8 +12,6 @@ use answer::refuse;
 pub use lay::lay_both;
 use limits::MAP_CARRIER_CELLS;
 use limits::MAP_EDGES;
-use limits::MAP_HALVES;
-use limits::MAP_POINT_CELLS;
 use map_file::Check;
 pub use progress::Progress;
 pub use progress::begin;
@@ -31,38 +29,26 @@ ghost use Rattle.soundings.specs.Close.{listed};
 // What is answered for a whole list, where the maps pass: it is one batch.
 fn count_list(
     zones: &[u8],
-    corners: &[i64],
-    origins: &[u16],
-    carriers: &[i16],
-    sides: &[u16],
-    order: &[u16],
+    rails: &[i16],
+    easts: &[u16],
     blocks: &[u8],
-    corners2: &[i64],
-    origins2: &[u16],
-    carriers2: &[i16],
-    sides2: &[u16],
-    order2: &[u16],
+    rails2: &[i16],
+    easts2: &[u16],
     list: &[u8],
     labels: &mut [u16],
     counts: &mut [u32],
 ) -> Counted
-    requires { ⌜ Ready (now zones) (now corners) (now origins) (now carriers) (now sides) (now order) ⌝ ∗ ⌜ Ready (now blocks) (now corners2) (now origins2) (now carriers2) (now sides2) (now order2) ⌝ }
+    requires { ⌜ Ready (now zones) (now rails) (now easts) ⌝ ∗ ⌜ Ready (now blocks) (now rails2) (now easts2) ⌝ }
     ensures { λ a. ⌜ countedOf a (now (labels .exit)) (now (counts .exit)) ≡ listed (roomBy (length (now (labels .entry))) (length (now (counts .entry)))) (bothMaps (now (zones .entry)) (now (blocks .entry))) (now (list .entry)) ⌝ }
 {
     let p = begin();
     let q = go_on(
         zones,
-        corners,
-        origins,
-        carriers,
-        sides,
-        order,
+        rails,
+        easts,
         blocks,
-        corners2,
-        origins2,
-        carriers2,
-        sides2,
-        order2,
+        rails2,
+        easts2,
         list,
         p,
         labels,
@@ -82,45 +68,27 @@ pub fn soundings(
 ) -> Counted
     ensures { λ a. ⌜ countedOf a (now (labels .exit)) (now (counts .exit)) ≡ soundings (roomBy (length (now (labels .entry))) (length (now (counts .entry)))) (now (zones .entry) ∷ now (blocks .entry) ∷ []) (now (list .entry)) ⌝ }
 {
-    let mut corners = [0i64; MAP_POINT_CELLS];
-    let mut origins = [0u16; MAP_HALVES];
-    let mut carriers = [0i16; MAP_CARRIER_CELLS];
-    let mut sides = [0u16; MAP_HALVES];
-    let mut order = [0u16; MAP_EDGES as usize];
-    let mut corners2 = [0i64; MAP_POINT_CELLS];
-    let mut origins2 = [0u16; MAP_HALVES];
-    let mut carriers2 = [0i16; MAP_CARRIER_CELLS];
-    let mut sides2 = [0u16; MAP_HALVES];
-    let mut order2 = [0u16; MAP_EDGES as usize];
+    let mut rails = [0i16; MAP_CARRIER_CELLS];
+    let mut easts = [0u16; MAP_EDGES as usize];
+    let mut rails2 = [0i16; MAP_CARRIER_CELLS];
+    let mut easts2 = [0u16; MAP_EDGES as usize];
     let c = lay_both(
         zones,
-        &mut corners,
-        &mut origins,
-        &mut carriers,
-        &mut sides,
-        &mut order,
+        &mut rails,
+        &mut easts,
         blocks,
-        &mut corners2,
-        &mut origins2,
-        &mut carriers2,
-        &mut sides2,
-        &mut order2,
+        &mut rails2,
+        &mut easts2,
     );
     match c {
         Check::Bad(r) => refuse(r, labels, counts),
         Check::Fine => count_list(
             zones,
-            &corners,
-            &origins,
-            &carriers,
-            &sides,
-            &order,
+            &rails,
+            &easts,
             blocks,
-            &corners2,
-            &origins2,
-            &carriers2,
-            &sides2,
-            &order2,
+            &rails2,
+            &easts2,
             list,
             labels,
             counts,

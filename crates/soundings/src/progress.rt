@@ -57,23 +57,17 @@ fn torn(n: usize, bytes: usize) -> bool
 // One batch more. A batch that is no whole number of soundings is the last: whatever comes after it, the list is refused with 12.
 pub fn go_on(
     zones: &[u8],
-    corners: &[i64],
-    origins: &[u16],
-    carriers: &[i16],
-    sides: &[u16],
-    order: &[u16],
+    rails: &[i16],
+    easts: &[u16],
     blocks: &[u8],
-    corners2: &[i64],
-    origins2: &[u16],
-    carriers2: &[i16],
-    sides2: &[u16],
-    order2: &[u16],
+    rails2: &[i16],
+    easts2: &[u16],
     batch: &[u8],
     p: Progress,
     labels: &mut [u16],
     counts: &mut [u32],
 ) -> Progress
-    requires { ⌜ Ready (now zones) (now corners) (now origins) (now carriers) (now sides) (now order) ⌝ ∗ ⌜ Ready (now blocks) (now corners2) (now origins2) (now carriers2) (now sides2) (now order2) ⌝ ∗ ⌜ Good (entryRoom pairWidth (roomBy (length (now labels)) (length (now counts)))) (now labels) (now counts) p ⌝ }
+    requires { ⌜ Ready (now zones) (now rails) (now easts) ⌝ ∗ ⌜ Ready (now blocks) (now rails2) (now easts2) ⌝ ∗ ⌜ Good (entryRoom pairWidth (roomBy (length (now labels)) (length (now counts)))) (now labels) (now counts) p ⌝ }
     ensures { λ r. ⌜ Went (bothMaps (now (zones .entry)) (now (blocks .entry))) (entryRoom pairWidth (roomBy (length (now (labels .entry))) (length (now (counts .entry))))) (now (batch .entry)) (now (labels .entry)) (now (counts .entry)) p (now (labels .exit)) (now (counts .exit)) r ⌝ }
 {
     if torn(p.soundings, batch.len()) {
@@ -96,17 +90,11 @@ pub fn go_on(
     let room = entry_room(labels.len(), counts.len());
     let run = count_batch(
         zones,
-        corners,
-        origins,
-        carriers,
-        sides,
-        order,
+        rails,
+        easts,
         blocks,
-        corners2,
-        origins2,
-        carriers2,
-        sides2,
-        order2,
+        rails2,
+        easts2,
         batch,
         labels,
         counts,

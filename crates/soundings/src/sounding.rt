@@ -6,9 +6,7 @@ use looks::Labelled;
 use looks::label_read;
 use map_file::edge_count;
 use map_file::i16_at;
-use map_file::vertex_count;
 use plane::Vector;
-use plane::whole;
 ghost use mathlib.Core.Path.{_≡_};
 ghost use mathlib.Core.List.{_∷_, []};
 ghost use Prim.Native.Nat.{_<_};
@@ -54,58 +52,32 @@ pub fn too_far(list: &[u8], i: usize) -> bool
     REACH < magnitude(i16_at(list, at + 2))
 }
 
-// The label of a sounding at c in the map of a file that stands in the tables, "look west with edges through p counted as west", and how many edges that look reads.
-pub fn label_of(
-    file: &[u8],
-    corners: &[i64],
-    origins: &[u16],
-    carriers: &[i16],
-    sides: &[u16],
-    order: &[u16],
-    c: Vector,
-) -> Labelled
-    requires { ⌜ Ready (now file) (now corners) (now origins) (now carriers) (now sides) (now order) ⌝ ∗ ⌜ Corner (vecOf c) ⌝ }
+// The label of a sounding at c in the map of a file that is laid for looks, "look west with edges through p counted as west", and how many edges that look reads.
+pub fn label_of(file: &[u8], rails: &[i16], easts: &[u16], c: Vector) -> Labelled
+    requires { ⌜ Ready (now file) (now rails) (now easts) ⌝ ∗ ⌜ Corner (vecOf c) ⌝ }
     ensures same { λ r. ⌜ r .label ≡ orZero (label (mapOf (now (file .entry)))) (west (mapOf (now (file .entry)) .graph) (whole (vecOf c)) east) ⌝ }
     ensures read { λ r. ⌜ r .read ≡ edgesRead (mapOf (now (file .entry)) .graph) (whole (vecOf c)) ⌝ }
 {
-    let n = vertex_count(file) as usize;
     let e = edge_count(file) as usize;
-    let p = whole(c);
-    label_read(
-        corners,
-        origins,
-        carriers,
-        sides,
-        order,
-        n,
-        e,
-        p,
-        Vector { x: 1, y: 0 },
-    )
+    label_read(rails, easts, e, c)
 }
 
 // The labels of a sounding at c in both maps, and how many edges are read for them.
 pub fn cell(
     zones: &[u8],
-    corners: &[i64],
-    origins: &[u16],
-    carriers: &[i16],
-    sides: &[u16],
-    order: &[u16],
+    rails: &[i16],
+    easts: &[u16],
     blocks: &[u8],
-    corners2: &[i64],
-    origins2: &[u16],
-    carriers2: &[i16],
-    sides2: &[u16],
-    order2: &[u16],
+    rails2: &[i16],
+    easts2: &[u16],
     c: Vector,
 ) -> Labels
-    requires { ⌜ Ready (now zones) (now corners) (now origins) (now carriers) (now sides) (now order) ⌝ ∗ ⌜ Ready (now blocks) (now corners2) (now origins2) (now carriers2) (now sides2) (now order2) ⌝ ∗ ⌜ Corner (vecOf c) ⌝ }
+    requires { ⌜ Ready (now zones) (now rails) (now easts) ⌝ ∗ ⌜ Ready (now blocks) (now rails2) (now easts2) ⌝ ∗ ⌜ Corner (vecOf c) ⌝ }
     ensures labels { λ r. ⌜ labelsOf r ≡ cellOf (mapOf (now (zones .entry)) ∷ mapOf (now (blocks .entry)) ∷ []) (vecOf c) ⌝ }
     ensures read { λ r. ⌜ r .read ≡ readFor (mapOf (now (zones .entry)) ∷ mapOf (now (blocks .entry)) ∷ []) (vecOf c) ⌝ }
 {
-    let a = label_of(zones, corners, origins, carriers, sides, order, c);
-    let b = label_of(blocks, corners2, origins2, carriers2, sides2, order2, c);
+    let a = label_of(zones, rails, easts, c);
+    let b = label_of(blocks, rails2, easts2, c);
     Labels {
         first: a.label,
         second: b.label,

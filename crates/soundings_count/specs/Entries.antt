@@ -1,8 +1,8 @@
 -- The table of pairs with how often they occur: rows of two labels in one table, the counts in the other. What is read of the first n rows is a list of entries. Assumes nothing.
 use mathlib.Core.Path.{_≡_}
-use Prim.Native.Nat.{_≤_}
-use Rattle.seq.specs.Seq.{List, [], _∷_, ℕ, length, getD, cell, table}
-use Rattle.paper.specs.Soundings.{Entry}
+use Prim.Native.Nat.{_≤_, _<_}
+use Rattle.seq.specs.Seq.{true, List, [], _∷_, ℕ, length, getD, cell, table}
+use Rattle.paper.specs.Soundings.{Entry, lessList}
 
 -- "pair": a row has two labels
 abbrev pub pairWidth : ℕ
@@ -30,3 +30,7 @@ mostTimes = 4294967295
 pub record Grown (room : ℕ) (t : List Entry) (ls cs : List ℕ) (m : ℕ) : Type 0 where
   pub entries : m ≡ length t
   pub held : m ≤ room → entriesIn ls cs m ≡ t
+
+-- the labels of the first n rows stand in strict order
+abbrev pub Rows : List ℕ → ℕ → Type 0
+Rows ls n = (i j : ℕ) → i < j → j < n → lessList (labelsAt ls i) (labelsAt ls j) ≡ true

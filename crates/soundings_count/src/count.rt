@@ -12,9 +12,10 @@ ghost use lib.ListN.{length, set};
 ghost use Rattle.seq.specs.Seq.{insertBy, cell, rowStored};
 ghost use Rattle.paper.specs.Soundings.{lessList, lesser, added, once};
 ghost use Rattle.laws_soundings.specs.Tally.{total};
+ghost use Rattle.seq.specs.Terms.{Ordered};
 ghost use Rattle.seq.specs.Placed.{placeBy};
 ghost use Rattle.seq.specs.Lifted.{lifted};
-ghost use Rattle.soundings_count.specs.Entries.{pairWidth, labelsAt, entriesIn, mostTimes, Grown};
+ghost use Rattle.soundings_count.specs.Entries.{pairWidth, labelsAt, entriesIn, mostTimes, Grown, Rows};
 
 // Whether the pair in row r is less than a, b.
 fn less(labels: &[u16], r: usize, a: u16, b: u16) -> bool
@@ -30,20 +31,22 @@ fn less(labels: &[u16], r: usize, a: u16, b: u16) -> bool
     }
 }
 
-// The first of n rows whose pair is not less than a, b, or n.
+// The first of n rows whose pair is not less than a, b, or n: by halves, as the rows stand in order.
 fn place(labels: &[u16], n: usize, a: u16, b: u16) -> usize
-    requires { ⌜ pairWidth * n ≤ length (now labels) ⌝ }
+    requires { ⌜ pairWidth * n ≤ length (now labels) ⌝ ∗ ⌜ Rows (now labels) n ⌝ }
     ensures { λ r. ⌜ r ≡ placeBy lessList (a ∷ b ∷ []) (labelsAt (now (labels .entry))) n ⌝ }
 {
-    let mut k = 0;
-    while k < n {
-        if less(labels, k, a, b) {
-            k += 1;
+    let mut low = 0;
+    let mut high = n;
+    while low < high {
+        let mid = low + (high - low) / 2;
+        if less(labels, mid, a, b) {
+            low = mid + 1;
         } else {
-            return k;
+            high = mid;
         }
     }
-    n
+    low
 }
 
 // Whether row r of n holds the pair a, b.
@@ -80,7 +83,7 @@ fn open_count(counts: &mut [u32], n: usize, r: usize)
     counts[r] = 1;
 }
 
-// Counts the pair a, b into the sorted table of n pairs, which has room for `room`. Answers how many pairs there are; where that is more than the room, the table is not spoken of any more.
+// Counts the pair a, b into the sorted table of n pairs, in strict order, which has room for `room`. Answers how many pairs there are; where that is more than the room, the table is not spoken of any more.
 pub fn put_cell(
     labels: &mut [u16],
     counts: &mut [u32],
@@ -89,7 +92,7 @@ pub fn put_cell(
     a: u16,
     b: u16,
 ) -> usize
-    requires { ⌜ n ≤ room ⌝ ∗ ⌜ pairWidth * room ≤ length (now labels) ⌝ ∗ ⌜ room ≤ length (now counts) ⌝ ∗ ⌜ total (entriesIn (now labels) (now counts) n) < mostTimes ⌝ }
+    requires { ⌜ n ≤ room ⌝ ∗ ⌜ pairWidth * room ≤ length (now labels) ⌝ ∗ ⌜ room ≤ length (now counts) ⌝ ∗ ⌜ total (entriesIn (now labels) (now counts) n) < mostTimes ⌝ ∗ ⌜ Ordered lesser (entriesIn (now labels) (now counts) n) ⌝ }
     ensures { λ m. ⌜ Grown room (insertBy lesser added (once (a ∷ b ∷ [])) (entriesIn (now (labels .entry)) (now (counts .entry)) n)) (now (labels .exit)) (now (counts .exit)) m ⌝ }
 {
     let r = place(labels, n, a, b);

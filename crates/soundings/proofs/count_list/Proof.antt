@@ -14,25 +14,25 @@ use Rattle.soundings.proofs.count_list.Tie as tie
 
 go-on-requires : tie.Need-go-on-requires
 go-on-requires c κs =
-    let b = c .before .before in
-    let s = b .before .before .before .before .before .before .before .before .before .before .before .before in
+    let b : tie.After-begin = search needs in
+    let s : tie.Start = search needs in
     let a = s .args in
     let room = entryRoom pairWidth (roomBy (length (a .labels .now)) (length (a .counts .now))) in
     (s .pre .0, (s .pre .1, subst (Good room (a .labels .now) (a .counts .now)) (sym (b .begin .ensures)) (begins-good room (a .labels .now) (a .counts .now))))
 
 returns : tie.Need-returns
 returns c =
-    let x = c .before .before .before .before in
-    let g = x .before .before .before .before .before .before .before in
-    let b = g .before .before .before in
-    let s = b .before .before .before .before .before .before .before .before .before .before .before .before in
+    let x : tie.After-close = search needs in
+    let g : tie.After-go-on = search needs in
+    let b : tie.After-begin = search needs in
+    let s : tie.Start = search needs in
     let a = s .args in
     let l = roomBy (length (a .labels .now)) (length (a .counts .now)) in
     let ms = bothMaps (a .zones .now) (a .blocks .now) in
-    let k = g .go-on .kept .1 .1 .1 .1 .1 .1 .1 .1 .1 .1 .1 .1 .1 .1 in
+    let k = g .go-on .kept .1 .1 .1 .1 .1 .1 .1 .1 in
     let at = subst (After ms (entryRoom pairWidth l) [] (a .labels .now) (a .counts .now)) (sym (b .begin .ensures)) (begins ms (entryRoom pairWidth l) (a .labels .now) (a .counts .now)) in
     x .close .ensures
-    ∙ (λ i. closedBy (roomBy (k .0 i) (k .1 .0 i)) (g .go-on .last .1 .1 .1 .1 .1 .1 .1 .1 .1 .1 .1 .1 .1 .1 .0) (g .go-on .last .1 .1 .1 .1 .1 .1 .1 .1 .1 .1 .1 .1 .1 .1 .1 .0) (g .go-on .result))
+    ∙ (λ i. closedBy (roomBy (k .0 i) (k .1 .0 i)) (g .go-on .last .1 .1 .1 .1 .1 .1 .1 .1 .0) (g .go-on .last .1 .1 .1 .1 .1 .1 .1 .1 .1 .0) (g .go-on .result))
     ∙ closes l ms (a .list .now) _ _ (g .go-on .result) (g .go-on .ensures .after [] refl at)
 
 pub count-list-spec : {M : Type 1} → statement M

@@ -10,8 +10,8 @@ use Rattle.soundings.proofs.soundings.Tie as tie
 
 count-list-requires : tie.Need-count-list-requires
 count-list-requires c κs =
-    let t = c .before .before .before .before .before .before .before .before .before .before .before .before in
-    let y = t .before .before .before .before .before .before .before .before .before .before .before .before in
+    let t = c .before .before .before .before .before .before in
+    let y = t .before .before .before .before .before .before in
     let none = ap verdict (t .enum-told .given .1) in
     (y .lay-both .ensures .1 none, y .lay-both .ensures .2 none)
 
@@ -19,8 +19,8 @@ returns : tie.Need-returns
 returns c =
     let x = c .before .before .before .before in
     let k = x .before .before .before .before in
-    let y = k .before .before .before .before .before .before .before .before .before .before .before .before in
-    let s = y .before .before .before .before .before .before .before .before .before .before .before .before .before .before .before .before in
+    let y = k .before .before .before .before .before .before in
+    let s = y .before .before .before .before .before .before .before .before .before .before in
     let a = s .args in
     x .refuse .ensures
     ∙ maps-refuse (roomBy (length (a .labels .now)) (length (a .counts .now))) (a .zones .now) (a .blocks .now) (a .list .now) _ (sym (y .lay-both .ensures .0) ∙ ap verdict (k .c .given .1))
@@ -28,9 +28,9 @@ returns c =
 returns-2 : tie.Need-returns-2
 returns-2 c =
     let x = c .before .before .before .before in
-    let t = x .before .before .before .before .before .before .before .before .before .before .before .before .before in
-    let y = t .before .before .before .before .before .before .before .before .before .before .before .before in
-    let s = y .before .before .before .before .before .before .before .before .before .before .before .before .before .before .before .before in
+    let t = x .before .before .before .before .before .before .before in
+    let y = t .before .before .before .before .before .before in
+    let s = y .before .before .before .before .before .before .before .before .before .before in
     let a = s .args in
     x .count-list .ensures
     ∙ maps-pass (roomBy (length (a .labels .now)) (length (a .counts .now))) (a .zones .now) (a .blocks .now) (a .list .now) (sym (y .lay-both .ensures .0) ∙ ap verdict (t .enum-told .given .1))
@@ -43,21 +43,9 @@ soundings-spec =
     (λ c. search needs)
     (λ c. search needs)
     (λ c. search needs)
-    (λ c. search needs)
-    (λ c. search needs)
-    (λ c. search needs)
-    (λ c. search needs)
-    (λ c. search needs)
-    (λ c. search needs)
     (λ c κs. search needs)
     (λ c. search needs)
     (λ c κs. search needs)
-    (λ c. search needs)
-    (λ c. search needs)
-    (λ c. search needs)
-    (λ c. search needs)
-    (λ c. search needs)
-    (λ c. search needs)
     (λ c. search needs)
     (λ c. search needs)
     (λ c. search needs)

@@ -21,11 +21,11 @@ abbrev room : List ℕ → List ℕ → ℕ
 room ls cs = entryRoom pairWidth (roomBy (length ls) (length cs))
 
 abbrev Inv-loop : tie.InvT-loop
-Inv-loop fd zones corners origins carriers sides order blocks corners2 origins2 carriers2 sides2 order2 labels₀ counts₀ p₀ left₀ labels counts p left =
+Inv-loop fd zones rails easts blocks rails2 easts2 labels₀ counts₀ p₀ left₀ labels counts p left =
     Reached (bothMaps zones blocks) (room labels₀ counts₀) labels₀ counts₀ labels counts p × (length labels ≡ length labels₀) × (length counts ≡ length counts₀)
 
 abbrev μ-loop : tie.MeasureT-loop
-μ-loop fd zones corners origins carriers sides order blocks corners2 origins2 carriers2 sides2 order2 labels₀ counts₀ p₀ left₀ labels counts p left = left
+μ-loop fd zones rails easts blocks rails2 easts2 labels₀ counts₀ p₀ left₀ labels counts p left = left
 
 room-is : (ls cs us vs : List ℕ) → length us ≡ length ls → length vs ≡ length cs → room us vs ≡ room ls cs
 room-is ls cs us vs e f = λ i. entryRoom pairWidth (roomBy (e i) (f i))
@@ -45,7 +45,7 @@ loop-holds c = (none-at _ _ _ _ _ (c .begin .ensures), refl, refl)
 next-batch-requires : tie.Need-next-batch-requires Inv-loop μ-loop
 next-batch-requires c κs =
     let l = c .before .before .before in
-    let s = l .before .before .before .before .before .before .before .before .before .before .before .before in
+    let s = l .before .before .before .before .before .before .before .before in
     let v = l .loop .inv in
     (s .pre .0, (s .pre .1, good-at (sym (room-is (s .args .labels .now) (s .args .counts .now) (l .loop .labels) (l .loop .counts) (v .1) (v .2))) (v .0 .good)))
 
@@ -53,7 +53,7 @@ returns : tie.Need-returns Inv-loop μ-loop
 returns c =
     let x = c .before .before .before .before .before .before in
     let l = x .before .before .before .before in
-    let s = l .before .before .before .before .before .before .before .before .before .before .before .before in
+    let s = l .before .before .before .before .before .before .before .before in
     let v = l .loop .inv in
     reached-last _ _ (v .0) (read-at (room-is (s .args .labels .now) (s .args .counts .now) (l .loop .labels) (l .loop .counts) (v .1) (v .2)) (x .next-batch .ensures))
 
@@ -62,9 +62,9 @@ loop-again c =
     let x : tie.After-next-batch Inv-loop μ-loop = search needs in
     let e : tie.Else1 Inv-loop μ-loop = search needs in
     let l = x .before .before .before .before in
-    let s = l .before .before .before .before .before .before .before .before .before .before .before .before in
+    let s = l .before .before .before .before .before .before .before .before in
     let v = l .loop .inv in
-    let k = x .next-batch .kept .1 .1 .1 .1 .1 .1 .1 .1 .1 .1 .1 .1 .1 .1 in
+    let k = x .next-batch .kept .1 .1 .1 .1 .1 .1 .1 .1 in
     (reached-more _ _ (v .0) (read-at (room-is (s .args .labels .now) (s .args .counts .now) (l .loop .labels) (l .loop .counts) (v .1) (v .2)) (x .next-batch .ensures)) (not-false (x .next-batch .result .more) (e .if1 .left)), k .0 ∙ v .1, k .1 .0 ∙ v .2)
 
 pub read-batches-spec : {M : Type 1} → statement M

@@ -7,8 +7,8 @@ use Rattle.cells.proofs.maps.count.Tie as tie
 
 count-list-requires : tie.Need-count-list-requires
 count-list-requires c κs =
-    let t = c .before .before .before .before .before .before .before .before .before .before in
-    let y = t .before .before .before .before .before .before .before .before .before .before .before .before in
+    let t = c .before .before .before .before in
+    let y = t .before .before .before .before .before .before in
     let none = ap verdict (t .enum-told .given .1) in
     (y .lay-both .ensures .1 none, y .lay-both .ensures .2 none)
 
@@ -20,21 +20,9 @@ count-spec =
     (λ c. search needs)
     (λ c. search needs)
     (λ c. search needs)
-    (λ c. search needs)
-    (λ c. search needs)
-    (λ c. search needs)
-    (λ c. search needs)
-    (λ c. search needs)
-    (λ c. search needs)
     (λ c κs. search needs)
     (λ c. search needs)
     (λ c κs. search needs)
-    (λ c. search needs)
-    (λ c. search needs)
-    (λ c. search needs)
-    (λ c. search needs)
-    (λ c. search needs)
-    (λ c. search needs)
     (λ c. search needs)
     (λ c. search needs)
     (λ c. search needs)

@@ -1,143 +1,75 @@
 -- `looks::reading::look_read` meets its contract. Assumes nothing.
-use mathlib.Core.Path.{sym, _∙_, refl}
-use Prim.Native.Nat.{_-_, _≤_, _<_}
-use Rattle.plane.specs.Values.{ptOf, vecOf}
-use Rattle.graph.specs.Heading.{flat-ends, flat-carried}
-use Rattle.looks.specs.Ordering.{edgeIn}
-use Rattle.looks.specs.Reading.{Reading, read-starts, read-le, read-turns, read-ends}
-use borrow.Author.Needs.{needs}
+use mathlib.Core.Path.{refl, sym, _∙_, ap}
+use Prim.Native.Nat.{ℕ, _-_, _<_, _*_}
+use lib.IntN.{ℤ}
+use Rattle.seq.specs.Seq.{List}
 use native.Mathlib.Omega.{arith}
+use Rattle.plane.specs.Values.{vecOf}
+use Rattle.graph.specs.Flat.{Carriers, Carried}
+use Rattle.looks.specs.Rails.{above, Reading, read-starts, read-le, read-turns, read-ends}
+use borrow.Author.Needs.{needs}
 use Rattle.looks.proofs.reading.look_read.Statement.{statement}
 use Rattle.looks.proofs.reading.look_read.Tie as tie
 
 abbrev Inv-loop : tie.InvT-loop
-Inv-loop points origins carriers order n e p d r₀ i₀ r i = Reading points origins carriers e order (ptOf p) (vecOf d) r i
+Inv-loop rails e c r₀ i₀ r i = Reading rails e (vecOf c) r i
 
 abbrev μ-loop : tie.MeasureT-loop
-μ-loop points origins carriers order n e p d r₀ i₀ r i = e - i
+μ-loop rails e c r₀ i₀ r i = e - i
+
+carried : (rs : List ℤ) (e : ℕ) → Carriers rs e → (k : ℕ) → k < e → Carried rs k
+carried rs e C k l = record { row = omega (arith, C .long); near = C .near k l }
 
 loop-holds : tie.Need-loop-holds Inv-loop μ-loop
-loop-holds c =
-    let s = c .before .before in
-    let ps = s .args .points .now in
-    let os = s .args .origins .now in
-    let cs = s .args .carriers .now in
-    let xs = s .args .order .now in
-    let e = s .args .e in
-    let F = s .pre .0 in
-    let N = s .pre .1 .1 .0 in
-    read-starts ps os cs (s .args .n) e F xs N (ptOf (s .args .p)) (s .pre .1 .1 .1 .0) (vecOf (s .args .d))
+loop-holds c = read-starts _ _ _
 
-mul-k : tie.Need-mul-k Inv-loop μ-loop
-mul-k c = search needs
+carrier-at-requires : tie.Need-carrier-at-requires Inv-loop μ-loop
+carrier-at-requires c κs =
+    let s : tie.Start Inv-loop μ-loop = search needs in
+    let l : tie.At-loop Inv-loop μ-loop = search needs in
+    carried (s .args .rails .now) (s .args .e) (s .pre .0) (l .loop .i) (search needs)
 
-shared-slice-read-k : tie.Need-shared-slice-read-k Inv-loop μ-loop
-shared-slice-read-k c = omega (arith, c .before .before .before .before .before .pre .1 .1 .0 .long)
-
-cast-k : tie.Need-cast-k Inv-loop μ-loop
-cast-k c = omega (arith, c .before .before .before .before .before .pre .1 .0, c .before .before .before .before .before .pre .1 .1 .0 .named (c .before .before .loop .i) (c .before .loop-test .taken))
-
-starts-above-requires : tie.Need-starts-above-requires Inv-loop μ-loop
-starts-above-requires c κs =
-    let s = c .before .before .before .before .before in
-    let ps = s .args .points .now in
-    let os = s .args .origins .now in
-    let cs = s .args .carriers .now in
-    let xs = s .args .order .now in
-    let e = s .args .e in
-    let F = s .pre .0 in
-    let N = s .pre .1 .1 .0 in
-    let k = edgeIn xs (c .before .before .loop .i) in
-    let l = N .named (c .before .before .loop .i) (c .before .loop-test .taken) in
-    let ends = flat-ends ps os cs (s .args .n) e F k l in
-    (omega (arith, s .pre .1 .0), ends .0, ends .1, s .pre .1 .1 .1 .0)
-
-seen-by-requires : tie.Need-seen-by-requires Inv-loop μ-loop
-seen-by-requires c κs =
-    let s = c .before .before .before .before .before .before .before in
-    let ps = s .args .points .now in
-    let os = s .args .origins .now in
-    let cs = s .args .carriers .now in
-    let xs = s .args .order .now in
-    let e = s .args .e in
-    let F = s .pre .0 in
-    let N = s .pre .1 .1 .0 in
-    omega (arith, s .pre .1 .0, read-le ps os cs (s .args .n) e F xs N (ptOf (s .args .p)) (s .pre .1 .1 .1 .0) (vecOf (s .args .d)) (c .before .before .before .before .loop .inv))
-
-cast-t19 : tie.Need-cast-t19 Inv-loop μ-loop
-cast-t19 c = omega (arith, c .before .before .before .before .before .before .before .before .pre .1 .0, c .before .before .before .before .before .loop .inv .upto)
+cast-t9 : tie.Need-cast-t9 Inv-loop μ-loop
+cast-t9 c =
+    let s : tie.Start Inv-loop μ-loop = search needs in
+    let l : tie.At-loop Inv-loop μ-loop = search needs in
+    omega (arith, s .pre .1 .0, l .loop .inv .upto)
 
 returns : tie.Need-returns Inv-loop μ-loop
 returns c =
-    let s = c .before .before .before .before .before .before .before .before in
-    let ps = s .args .points .now in
-    let os = s .args .origins .now in
-    let cs = s .args .carriers .now in
-    let xs = s .args .order .now in
-    let e = s .args .e in
-    let F = s .pre .0 in
-    let N = s .pre .1 .1 .0 in
-    read-ends ps os cs (s .args .n) e F xs N (ptOf (s .args .p)) (s .pre .1 .1 .1 .0) (vecOf (s .args .d)) (c .before .before .before .before .before .loop .inv) (λ q. sym (c .before .before .starts-above .ensures) ∙ c .before .if1 .taken) _ (c .seen-by .ensures) refl
+    let s : tie.Start Inv-loop μ-loop = search needs in
+    let l : tie.At-loop Inv-loop μ-loop = search needs in
+    let row : tie.After-carrier-at Inv-loop μ-loop = search needs in
+    let test : tie.After-starts-above Inv-loop μ-loop = search needs in
+    let then : tie.Then1 Inv-loop μ-loop = search needs in
+    read-ends _ _ _ (l .loop .inv) (λ q. sym (sym (then .if1 .taken) ∙ test .starts-above .ensures ∙ ap (above (vecOf (s .args .c))) (row .carrier-at .ensures .0))) _ refl refl
 
 take-requires : tie.Need-take-requires Inv-loop μ-loop
 take-requires c κs =
-    let s = c .before .before .before .before .before .before .before in
-    let ps = s .args .points .now in
-    let os = s .args .origins .now in
-    let cs = s .args .carriers .now in
-    let xs = s .args .order .now in
-    let e = s .args .e in
-    let F = s .pre .0 in
-    let N = s .pre .1 .1 .0 in
-    let k = edgeIn xs (c .before .before .before .before .loop .i) in
-    let l = N .named (c .before .before .before .before .loop .i) (c .before .before .before .loop-test .taken) in
-    let ends = flat-ends ps os cs (s .args .n) e F k l in
-    (omega (arith, s .pre .1 .0), ends .0, ends .1, flat-carried ps os cs (s .args .n) e F k l, (λ q. flat-carried ps os cs (s .args .n) e F (c .before .before .before .before .loop .r) q), read-le ps os cs (s .args .n) e F xs N (ptOf (s .args .p)) (s .pre .1 .1 .1 .0) (vecOf (s .args .d)) (c .before .before .before .before .loop .inv), s .pre .1 .1 .1 .0, s .pre .1 .1 .1 .1)
-
-add-i : tie.Need-add-i Inv-loop μ-loop
-add-i c = search needs
-
-loop-less : tie.Need-loop-less Inv-loop μ-loop
-loop-less c = search needs
+    let s : tie.Start Inv-loop μ-loop = search needs in
+    let l : tie.At-loop Inv-loop μ-loop = search needs in
+    let k = carried (s .args .rails .now) (s .args .e) (s .pre .0) in
+    (k (l .loop .i) (search needs), (λ q. k (l .loop .r) q), read-le _ _ _ (l .loop .inv), s .pre .1 .1)
 
 loop-again : tie.Need-loop-again Inv-loop μ-loop
 loop-again c =
-    let s = c .before .before .before .before .before .before .before .before in
-    let ps = s .args .points .now in
-    let os = s .args .origins .now in
-    let cs = s .args .carriers .now in
-    let xs = s .args .order .now in
-    let e = s .args .e in
-    let F = s .pre .0 in
-    let N = s .pre .1 .1 .0 in
-    read-turns ps os cs (s .args .n) e F xs N (ptOf (s .args .p)) (s .pre .1 .1 .1 .0) (vecOf (s .args .d)) (c .before .before .before .before .before .loop .inv) _ (c .before .before .before .before .loop-test .taken) (sym (c .before .before .starts-above .ensures) ∙ c .before .if1 .left) (c .take .ensures)
+    let s : tie.Start Inv-loop μ-loop = search needs in
+    let l : tie.At-loop Inv-loop μ-loop = search needs in
+    let row : tie.After-carrier-at Inv-loop μ-loop = search needs in
+    let test : tie.After-starts-above Inv-loop μ-loop = search needs in
+    let else : tie.Else1 Inv-loop μ-loop = search needs in
+    read-turns _ _ _ (l .loop .inv) _ (search needs) (sym (sym (else .if1 .left) ∙ test .starts-above .ensures ∙ ap (above (vecOf (s .args .c))) (row .carrier-at .ensures .0))) (c .take .ensures)
 
-seen-by-requires-2 : tie.Need-seen-by-requires-2 Inv-loop μ-loop
-seen-by-requires-2 c κs =
-    let s = c .before .before .before .before in
-    let ps = s .args .points .now in
-    let os = s .args .origins .now in
-    let cs = s .args .carriers .now in
-    let xs = s .args .order .now in
-    let e = s .args .e in
-    let F = s .pre .0 in
-    let N = s .pre .1 .1 .0 in
-    omega (arith, s .pre .1 .0, read-le ps os cs (s .args .n) e F xs N (ptOf (s .args .p)) (s .pre .1 .1 .1 .0) (vecOf (s .args .d)) (c .before .loop .inv))
-
-cast-t20 : tie.Need-cast-t20 Inv-loop μ-loop
-cast-t20 c = omega (arith, c .before .before .before .before .before .pre .1 .0, c .before .before .loop .inv .upto)
+cast-t10 : tie.Need-cast-t10 Inv-loop μ-loop
+cast-t10 c =
+    let s : tie.Start Inv-loop μ-loop = search needs in
+    let l : tie.At-loop Inv-loop μ-loop = search needs in
+    omega (arith, s .pre .1 .0, l .loop .inv .upto)
 
 returns-2 : tie.Need-returns-2 Inv-loop μ-loop
 returns-2 c =
-    let s = c .before .before .before .before .before in
-    let ps = s .args .points .now in
-    let os = s .args .origins .now in
-    let cs = s .args .carriers .now in
-    let xs = s .args .order .now in
-    let e = s .args .e in
-    let F = s .pre .0 in
-    let N = s .pre .1 .1 .0 in
-    read-ends ps os cs (s .args .n) e F xs N (ptOf (s .args .p)) (s .pre .1 .1 .1 .0) (vecOf (s .args .d)) (c .before .before .loop .inv) (λ q. absurd (omega arith)) _ (c .seen-by2 .ensures) refl
+    let l : tie.At-loop Inv-loop μ-loop = search needs in
+    read-ends _ _ _ (l .loop .inv) (λ q. absurd (omega arith)) _ refl refl
 
 pub look-read-spec : {M : Type 1} → statement M
 look-read-spec =
@@ -146,17 +78,13 @@ look-read-spec =
     Inv-loop
     μ-loop
     loop-holds
-    mul-k
-    shared-slice-read-k
-    cast-k
-    starts-above-requires
-    seen-by-requires
-    cast-t19
+    carrier-at-requires
+    (λ c κs. search needs)
+    cast-t9
     returns
     take-requires
-    add-i
-    loop-less
+    (λ c. search needs)
+    (λ c. search needs)
     loop-again
-    seen-by-requires-2
-    cast-t20
+    cast-t10
     returns-2)

@@ -10,11 +10,11 @@ use Rattle.soundings.proofs.batch.count_batch.Statement.{statement}
 use Rattle.soundings.proofs.batch.count_batch.Tie as tie
 
 abbrev Inv-loop : tie.InvT-loop
-Inv-loop zones corners origins carriers sides order blocks corners2 origins2 carriers2 sides2 order2 list labels₀ counts₀ room n last m₀ read₀ i₀ labels counts m read i =
+Inv-loop zones rails easts blocks rails2 easts2 list labels₀ counts₀ room n last m₀ read₀ i₀ labels counts m read i =
     Counting (bothMaps zones blocks) list room n labels₀ counts₀ labels counts m read i
 
 abbrev μ-loop : tie.MeasureT-loop
-μ-loop zones corners origins carriers sides order blocks corners2 origins2 carriers2 sides2 order2 list labels₀ counts₀ room n last m₀ read₀ i₀ labels counts m read i = last - i
+μ-loop zones rails easts blocks rails2 easts2 list labels₀ counts₀ room n last m₀ read₀ i₀ labels counts m read i = last - i
 
 loop-holds : tie.Need-loop-holds Inv-loop μ-loop
 loop-holds c = count-starts _ _ _ _ _ _
@@ -49,7 +49,7 @@ add-read : tie.Need-add-read Inv-loop μ-loop
 add-read c =
     let s : tie.Start Inv-loop μ-loop = search needs in
     let o : tie.After-count-one Inv-loop μ-loop = search needs in
-    let l = o .before .before .before .before .before .before .before in
+    let l : tie.At-loop Inv-loop μ-loop = search needs in
     omega (arith, l .loop .inv .read-few, l .loop .inv .upto, o .count-one .ensures .1 .1, s .pre .1 .1 .short)
 
 loop-again : tie.Need-loop-again Inv-loop μ-loop
@@ -59,7 +59,7 @@ loop-again c =
     let e : tie.Else1 Inv-loop μ-loop = search needs in
     let t : tie.After-sounding-at Inv-loop μ-loop = search needs in
     let o : tie.After-count-one Inv-loop μ-loop = search needs in
-    let k = o .count-one .kept .1 .1 .1 .1 .1 .1 .1 .1 .1 .1 .1 .1 .1 in
+    let k = o .count-one .kept .1 .1 .1 .1 .1 .1 .1 in
     count-turns _ _ _ _ (l .loop .inv) (vecOf (t .sounding-at .result)) _ _ _ _ (search needs) (sym (f .too-far .ensures) ∙ e .if1 .left) (t .sounding-at .ensures) (o .count-one .ensures .1) (o .count-one .ensures .0) (k .0) (k .1 .0)
 
 returns-2 : tie.Need-returns-2 Inv-loop μ-loop

@@ -25,7 +25,7 @@ put-cell-requires c κs =
     let s : tie.Start = search needs in
     let h : s .args .m ≤ s .args .room = omega arith in
     let r = s .pre .1 .1 .1 in
-    (h, (r .labels, (r .counts, omega (arith, r .few h))))
+    (h, (r .labels, (r .counts, (omega (arith, r .few h), r .sorted h))))
 
 returns-2 : tie.Need-returns-2
 returns-2 c =

@@ -10,9 +10,9 @@ use Rattle.soundings.proofs.lay.lay_both.Tie as tie
 
 returns : tie.Need-returns
 returns c =
-    let second = c .before .before .before .before .before .before .before .before .before in
-    let first = second .before .before .before .before .before .before .before .before .before .before .before .before .before .before in
-    let s = first .before .before .before .before .before .before .before .before .before .before .before .before .before .before in
+    let second : tie.After-lay-one2 = search needs in
+    let first : tie.After-lay-one = search needs in
+    let s = c .before .before .before .before .before .before .before .before .before .before .before .before .before .before .before .before .before in
     let a = fault (s .args .zones .now) in
     let b = fault (s .args .blocks .now) in
     let is = c .first .ensures ∙ (λ i. firstOf (first .lay-one .ensures .0 i ∷ second .lay-one2 .ensures .0 i ∷ [])) in (
@@ -28,12 +28,6 @@ lay-both-spec =
     (λ c κs. search needs)
     (λ c κs. search needs)
     (λ c κs. search needs)
-    (λ c. search needs)
-    (λ c. search needs)
-    (λ c. search needs)
-    (λ c. search needs)
-    (λ c. search needs)
-    (λ c. search needs)
     (λ c. search needs)
     (λ c. search needs)
     (λ c. search needs)

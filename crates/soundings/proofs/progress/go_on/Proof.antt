@@ -56,23 +56,19 @@ count-batch-requires c κs =
       ),
     )
 
--- where it started
-abbrev start : tie.Else1 → tie.Start
-start e = e .before .before .before .before .before .before .before .before .before .before .before .before .before
-
-add-far : tie.Need-add-t21
+add-far : tie.Need-add-t15
 add-far c =
-    let b = c .before .before .before .before .before .before in
-    let e = b .before .before .before .before .before .before .before in
-    let s = start e in
+    let b : tie.After-count-batch = search needs in
+    let e : tie.Else1 = search needs in
+    let s = e .before .before .before .before .before .before .before .before .before in
     let a = s .args in
     omega (arith, few-sum (bothMaps (a .zones .now) (a .blocks .now)) (room s) (a .batch .now) (a .labels .now) (a .counts .now) (a .p) (sym (e .before .torn .ensures) ∙ e .if1 .left) (s .pre .1 .1), b .count-batch .ensures .far-is, least-le (far (a .batch .now)) (soundingsIn (a .batch .now)))
 
-add-read : tie.Need-add-t29
+add-read : tie.Need-add-t23
 add-read c =
-    let b = c .before .before .before .before .before .before .before .before in
-    let e = b .before .before .before .before .before .before .before in
-    let s = start e in
+    let b : tie.After-count-batch = search needs in
+    let e : tie.Else1 = search needs in
+    let s = e .before .before .before .before .before .before .before .before .before in
     let a = s .args in
     let B = b .count-batch .ensures in
     let sum = few-sum (bothMaps (a .zones .now) (a .blocks .now)) (room s) (a .batch .now) (a .labels .now) (a .counts .now) (a .p) (sym (e .before .torn .ensures) ∙ e .if1 .left) (s .pre .1 .1) in
@@ -80,11 +76,11 @@ add-read c =
 
 returns-3 : tie.Need-returns-3
 returns-3 c =
-    let b = c .before .before .before .before .before .before .before .before in
-    let r = b .before .before .before in
-    let t = r .before in
-    let e = t .before .before .before in
-    let s = start e in
+    let b : tie.After-count-batch = search needs in
+    let r : tie.After-entry-room = search needs in
+    let t : tie.Else2 = search needs in
+    let e : tie.Else1 = search needs in
+    let s = e .before .before .before .before .before .before .before .before .before in
     let a = s .args in
     went-at (r .entry-room .ensures)
     (goes-counted (bothMaps (a .zones .now) (a .blocks .now)) (r .entry-room .result) (a .batch .now) (a .labels .now) (a .counts .now) (a .p) (sym (e .before .torn .ensures) ∙ e .if1 .left)

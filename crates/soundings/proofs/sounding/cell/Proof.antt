@@ -7,8 +7,8 @@ use Rattle.soundings.specs.Laid.{read-few}
 use Rattle.soundings.proofs.sounding.cell.Statement.{statement}
 use Rattle.soundings.proofs.sounding.cell.Tie as tie
 
-add-t16 : tie.Need-add-t16
-add-t16 c =
+add-t10 : tie.Need-add-t10
+add-t10 c =
     let s : tie.Start = search needs in
     let a : tie.After-label-of = search needs in
     let b : tie.After-label-of2 = search needs in
@@ -21,5 +21,5 @@ cell-spec =
     (tie.spec
     (λ c κs. search needs)
     (λ c κs. search needs)
-    add-t16
+    add-t10
     (λ c. search needs))

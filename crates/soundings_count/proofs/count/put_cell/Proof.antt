@@ -5,13 +5,17 @@ use lib.ListN.{getD}
 use Rattle.laws_soundings.specs.Tally.{total}
 use Rattle.soundings_count.specs.Entries.{entriesIn}
 use Rattle.soundings_count.specs.PutCell.{place-within, stands-there, count-most, count-grows, none-grows, row-grows}
+use Rattle.soundings_count.specs.InOrder.{ordered-rows}
 use native.Mathlib.Omega.{arith}
 use borrow.Author.Needs.{needs}
 use Rattle.soundings_count.proofs.count.put_cell.Statement.{statement}
 use Rattle.soundings_count.proofs.count.put_cell.Tie as tie
 
 place-requires : tie.Need-place-requires
-place-requires c κs = search needs
+place-requires c κs =
+    let s : tie.Start = search needs in
+    let a = s .args in
+    (omega arith, ordered-rows (a .labels .now) (a .counts .now) (a .n) (s .pre .1 .1 .1 .1))
 
 stands-requires : tie.Need-stands-requires
 stands-requires c κs = search needs
