@@ -1,5 +1,6 @@
 //! The commands that count: soundings by cell, and the year.
 
+use crate::levels;
 use crate::make;
 use crate::map::{decode, Map};
 use crate::overlay::Room;
@@ -13,6 +14,7 @@ use std::io::Write;
 pub const USAGE: &str = "
 second cells [--read] ZONES BLOCKS LIST   soundings by cell, and the edges read
 second cells-in FILE.zov LIST             soundings by cell, looked up in the tables of an overlay file
+second levels ZONES BLOCKS LIST RULES A B the water level at each sounding: tide rules, two readings
 second make-list SEED N ZONES BLOCKS OUT  make a list of N soundings over two maps
 second make-cells SEED N FILE             N pairs of maps with a list of soundings in one file
 second cells-answers [--read] FILE        the answer and digest of each case of such a pack
@@ -33,6 +35,9 @@ pub fn run(args: &[&str]) -> Option<Outcome> {
         ["cells", "--read", zones, blocks, list] => Ok(cells([zones, blocks, list], true)),
         ["cells", zones, blocks, list] => Ok(cells([zones, blocks, list], false)),
         ["cells-in", file, list] => Ok(cells_in(file, list)),
+        ["levels", zones, blocks, list, rules, readings @ ..] => {
+            levels_of([zones, blocks, list], rules, readings)
+        }
         ["make-list", seed, n, zones, blocks, out] => make_list(seed, n, [zones, blocks], out),
         ["make-cells", seed, n, out] => make_cells(seed, n, out),
         ["cells-answers", "--read", file] => cells_answers(file, true),
@@ -80,6 +85,24 @@ fn cells_in(file: &str, list: &str) -> String {
         }
         Err(refusal) => format!("{refusal}\n"),
     }
+}
+
+/// A reading in whole millimetres, `-` for a missing one.
+fn reading(word: &str) -> Result<Option<i32>, String> {
+    let held = |n: i64| n.clamp(-1_000_000, 1_000_000) as i32;
+    if word == "-" {
+        Ok(None)
+    } else {
+        number(word).map(held).map(Some)
+    }
+}
+
+fn levels_of(files: [&str; 3], rules: &str, readings: &[&str]) -> Outcome {
+    let [zones, blocks, list] = files.map(bytes);
+    let text = String::from_utf8_lossy(&bytes(rules)).into_owned();
+    let table = levels::rules(&text).map_err(|n| format!("{rules}: line {n} is no rule"))?;
+    let [first, second] = readings else { return Err("two readings".to_string()) };
+    Ok(levels::text([&zones, &blocks], &list, &table, [reading(first)?, reading(second)?]))
 }
 
 fn make_list(seed: &str, n: &str, maps: [&str; 2], out: &str) -> Outcome {

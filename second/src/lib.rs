@@ -8,6 +8,7 @@ pub mod check;
 pub mod counting;
 pub mod graph;
 pub mod import;
+pub mod levels;
 pub mod limits;
 pub mod literal;
 pub mod locate;
