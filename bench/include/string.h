@@ -7,5 +7,7 @@ void *memcpy(void *, const void *, size_t);
 void *memmove(void *, const void *, size_t);
 void *memset(void *, int, size_t);
 int strcmp(const char *, const char *);
+size_t strcspn(const char *, const char *);
 char *strrchr(const char *, int);
+size_t strspn(const char *, const char *);
 #endif
