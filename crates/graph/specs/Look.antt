@@ -54,7 +54,7 @@ nearerAt cs p k r = nearerOf (carrierAt cs k) (carrierAt cs r) p
 abbrev pub eastAt : List ℤ → List ℕ → ℕ → ℕ
 eastAt ps os k = cond (upAt ps os (2 * k)) (2 * k + 1) (2 * k)
 
--- the label of what is seen from p along d, of the labels of half-edges; "or 0 where the outside is seen"
+-- the label of what is seen from p along d, of the labels of half-edges; or 0 "where the outside is seen"
 abbrev pub seenLabel : Graph → List ℕ → Pt → Vec → ℕ
 seenLabel g ls p d = orZero (λ x. getD ls x 0) (west g p d)
 

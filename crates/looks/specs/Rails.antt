@@ -52,7 +52,7 @@ railsRead rs e c = least (aboveAt rs c) e
 abbrev pub railSeen : List ℤ → ℕ → Vec → Option ℕ
 railSeen rs e c = best (passesAt rs c) (closerAt rs c) (railsRead rs e c)
 
--- its label, of labels in the same order; "or 0 where the outside is seen"
+-- its label, of labels in the same order; or 0 "where the outside is seen"
 abbrev pub railLabel : List ℤ → List ℕ → ℕ → Vec → ℕ
 railLabel rs es e c = orZero (λ i. getD es i 0) (railSeen rs e c)
 

@@ -33,7 +33,7 @@ smallestAt ps os nx m h = noneOf (earlierAt ps os h) (walkFrom nx h m (getD nx h
 abbrev pub makesHoleAt : List ℤ → List ℕ → List ℤ → List ℕ → ℕ → ℕ → Bool
 makesHoleAt ps os hs nx m h = not (someBelow (greaterAt os hs h) m) && smallestAt ps os nx m h
 
--- the label of what is seen strictly west of where h starts, "or 0 where the outside is seen"
+-- the label of what is seen strictly west of where h starts, or 0 "where the outside is seen"
 abbrev pub seenWest : List ℤ → List ℕ → List ℤ → List ℕ → ℕ → ℕ → ℕ → ℕ
 seenWest ps os cs ls n e h = seenLabel (flatGraph ps os cs n e) ls (startAt ps os h) nowhere
 

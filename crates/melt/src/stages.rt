@@ -37,8 +37,8 @@ ghost use Rattle.melt.specs.Melted.{meltedIn, FacesIn};
 // the labels of every face, a cell for each map
 const LABEL_CELLS: usize = MAPS * FACES;
 
-// "Every edge with the same pair on both sides is dropped, then vertices left without an edge; what is left is numbered afresh, with followers, walks, faces and
-// least half-edges of its own": of an overlay within the room, with its half-edges, the face of each, and the outer walks.
+// "Every edge with the same pair on both sides is dropped, then vertices left without an edge, and vertices, edges, followers and faces are numbered afresh by 01's
+// rules": of an overlay within the room, with its half-edges, the face of each, and the outer walks.
 fn melt_faces(
     vstarts: &[usize],
     estarts: &[usize],
