@@ -53,11 +53,11 @@ static void widen(const struct file *file, int box[4])
         }
 }
 
-/* The next of a row of numbers that look random, always the same ones. */
+static uint64_t state;
+
+/* The next of a row of numbers that look random, for each sheet the same ones. */
 static uint32_t next(void)
 {
-    static uint64_t state = 1;
-
     state = state * 6364136223846793005u + 1442695040888963407u;
     return state >> 33;
 }
@@ -67,6 +67,7 @@ static void sound(void)
 {
     int box[4] = { 32767, -32768, 32767, -32768 };
 
+    state = 1;
     widen(&zones, box);
     widen(&blocks, box);
     for (int i = 0; i < SOUNDINGS; i++)
