@@ -7,7 +7,7 @@
 
 enum { MOST = 65535 };
 
-static uint8_t zones[MOST], blocks[MOST], list[4 * (MOST + 1)];
+static uint8_t zones[MOST], blocks[MOST], list[4 * (MOST + 2)];
 static uint16_t labels[MOST];
 static uint32_t counts[MOST];
 

@@ -1,10 +1,9 @@
 /* soundings FOLDER...: for each sheet the seconds that 65,535 soundings anywhere in the box round its maps take by the plain C and, built with -DPROVED, by the proved
- * library, and their ratio. Both check the maps, look from each sounding and fill the same tables. The two take turns, five times; the least time of each counts. */
+ * library, the soundings a second of each, and the ratio of the seconds. Both check the maps, look from each sounding and fill the same tables. */
 #include <stdio.h>
-#include <stdlib.h>
 #include <string.h>
-#include <time.h>
 
+#include "clock.h"
 #include "files.h"
 #include "plain/soundings.h"
 
@@ -15,14 +14,6 @@ static uint8_t list[4 * SOUNDINGS];
 static uint16_t labels[2 * ENTRIES];
 static uint32_t counts[ENTRIES];
 static struct plain_cells cells;
-
-static double now(void)
-{
-    struct timespec t;
-
-    clock_gettime(CLOCK_MONOTONIC, &t);
-    return t.tv_sec + t.tv_nsec * 1e-9;
-}
 
 static void plain(void)
 {
@@ -47,20 +38,6 @@ static int agree(void)
 }
 #endif
 
-/* The seconds of one run. */
-static double once(void (*run)(void))
-{
-    double start = now(), end;
-    long runs = 0;
-
-    do {
-        run();
-        runs++;
-        end = now();
-    } while (end - start < 0.1);
-    return (end - start) / runs;
-}
-
 /* Widens a box by the corners of a map file that is sound. */
 static void widen(const struct file *file, int box[4])
 {
@@ -76,11 +53,11 @@ static void widen(const struct file *file, int box[4])
         }
 }
 
-/* The next of a row of numbers that look random, always the same ones. */
+static uint64_t state;
+
+/* The next of a row of numbers that look random, for each sheet the same ones. */
 static uint32_t next(void)
 {
-    static uint64_t state = 1;
-
     state = state * 6364136223846793005u + 1442695040888963407u;
     return state >> 33;
 }
@@ -90,6 +67,7 @@ static void sound(void)
 {
     int box[4] = { 32767, -32768, 32767, -32768 };
 
+    state = 1;
     widen(&zones, box);
     widen(&blocks, box);
     for (int i = 0; i < SOUNDINGS; i++)
@@ -103,36 +81,34 @@ static void sound(void)
 
 int main(int count, char **words)
 {
-    printf("%-12s %8s %10s %14s %14s %7s\n", "sheet", "pairs", "read", "plain C", "proved", "ratio");
-    for (int i = 1; i < count; i++) {
-        double a = 1e9;
 #ifdef PROVED
-        double b = 1e9;
+    void (*const runs[])(void) = { plain, proved };
+#else
+    void (*const runs[])(void) = { plain };
 #endif
+    int ways = sizeof runs / sizeof runs[0];
+
+    printf("%-12s %8s %10s %14s %10s %14s %10s %8s\n", "soundings", "pairs", "read", "plain C", "a second", "proved", "a second", "to plain");
+    for (int i = 1; i < count; i++) {
+        double least[2];
         char *name = strrchr(words[i], '/');
 
         load_sheet(words[i], &zones, &blocks);
         if (zones.length < 13 || blocks.length < 13)
             return 2;
         sound();
-        for (int turn = 0; turn < 5; turn++) {
-            double p = once(plain);
-            a = p < a ? p : a;
+        take_turns(runs, ways, least);
+        printf("%-12s %8d %10u", name ? name + 1 : words[i], cells.entries, cells.read);
+        for (int k = 0; k < ways; k++)
+            printf(" %12.9f s %10.0f", least[k], SOUNDINGS / least[k]);
 #ifdef PROVED
-            double q = once(proved);
-            b = q < b ? q : b;
-#endif
-        }
-        printf("%-12s %8d %10u %12.9f s", name ? name + 1 : words[i], cells.entries, cells.read, a);
-#ifdef PROVED
-        printf(" %12.9f s %7.2f\n", b, b / a);
+        printf(" %8.2f", least[1] / least[0]);
         if (!agree()) {
-            printf("the two differ\n");
+            printf("\nthey differ\n");
             return 1;
         }
-#else
-        printf(" %14s\n", "not built");
 #endif
+        printf("\n");
     }
     return 0;
 }

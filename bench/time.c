@@ -1,106 +1,113 @@
-/* time [--melt] FOLDER...: for each sheet the seconds of one overlay by the plain C and by the proved library, the plain way and by the sweep, and the ratio of each to the plain C. All fill the
- * same tables of full size, with the third map empty; no table is cleared before. They take turns, each for a tenth of a second at least, five times; the least time of each counts. With --melt the same of the
- * overlay melted, by the plain C and by the proved library. */
+/* time [--melt] FOLDER...: for each sheet the seconds of one overlay by the plain C, by the fast C and by the proved library, the plain way and by the sweep, and the ratios of each way to the plain and to the
+ * fast C. All fill the same tables of full size, with the third map empty; no table is cleared before. With --melt the same of the overlay melted, by the plain C and by the proved library. What they
+ * leave in the tables is held to each other. */
 #include <stdio.h>
 #include <string.h>
-#include <time.h>
 
 #include "bonnetewe.h"
+#include "clock.h"
+#include "fast/fast.h"
 #include "files.h"
-#include "plain/plain.h"
 
-static int64_t vertices[BONNETEWE_VERTEX_CELLS];
-static uint16_t halves[BONNETEWE_HALF_CELLS];
-static uint32_t sources[BONNETEWE_SOURCE_CELLS];
-static uint16_t faces[BONNETEWE_FACE_CELLS];
+enum { PLAIN, FAST, PROVED, SWEPT, WAYS };
+
+/* A set of tables for each. */
+static struct {
+    int64_t vertices[BONNETEWE_VERTEX_CELLS];
+    uint32_t sources[BONNETEWE_SOURCE_CELLS];
+    uint16_t halves[BONNETEWE_HALF_CELLS], faces[BONNETEWE_FACE_CELLS];
+    unsigned counted[3];
+} laid[WAYS];
 static struct file zones, blocks;
-static unsigned counted[3];
-static int melts;
 
-static double now(void)
+static void in_c(int way, struct plain_answer (*overlay)(const uint8_t *, size_t, const uint8_t *, size_t, struct plain_tables *))
 {
-    struct timespec t;
+    struct plain_tables tables = { laid[way].vertices, laid[way].halves, laid[way].sources, laid[way].faces, BONNETEWE_VERTEX_CELLS, BONNETEWE_HALF_CELLS,
+                                   BONNETEWE_SOURCE_CELLS, BONNETEWE_FACE_CELLS };
+    struct plain_answer a = overlay(zones.bytes, zones.length, blocks.bytes, blocks.length, &tables);
 
-    clock_gettime(CLOCK_MONOTONIC, &t);
-    return t.tv_sec + t.tv_nsec * 1e-9;
+    laid[way].counted[0] = a.vertices, laid[way].counted[1] = a.edges, laid[way].counted[2] = a.faces;
 }
 
 static void plain(void)
 {
-    struct plain_tables tables = { vertices, halves, sources, faces, BONNETEWE_VERTEX_CELLS, BONNETEWE_HALF_CELLS,
-                                   BONNETEWE_SOURCE_CELLS, BONNETEWE_FACE_CELLS };
-    struct plain_answer a = (melts ? plain_melt : plain_overlay)(zones.bytes, zones.length, blocks.bytes, blocks.length, &tables);
-
-    counted[0] = a.vertices, counted[1] = a.edges, counted[2] = a.faces;
+    in_c(PLAIN, plain_overlay);
 }
 
-static void proved(unsigned way)
+static void fast(void)
 {
-    bonnetewe_answer a = bonnetewe_overlay_by(way, zones.bytes, zones.length, blocks.bytes, blocks.length, bonnetewe_empty,
-                                              sizeof bonnetewe_empty, vertices, BONNETEWE_VERTEX_CELLS, halves,
-                                              BONNETEWE_HALF_CELLS, sources, BONNETEWE_SOURCE_CELLS, faces, BONNETEWE_FACE_CELLS);
+    in_c(FAST, fast_overlay);
+}
 
-    counted[0] = bonnetewe_vertices(a), counted[1] = bonnetewe_edges(a), counted[2] = bonnetewe_faces(a);
+static void plain_melted(void)
+{
+    in_c(PLAIN, plain_melt);
+}
+
+static void count(int way, bonnetewe_answer a)
+{
+    int done = bonnetewe_done(a);
+
+    laid[way].counted[0] = done ? bonnetewe_vertices(a) : 0;
+    laid[way].counted[1] = done ? bonnetewe_edges(a) : 0;
+    laid[way].counted[2] = done ? bonnetewe_faces(a) : 0;
+}
+
+static void proved(int way, unsigned collects)
+{
+    count(way, bonnetewe_overlay_by(collects, zones.bytes, zones.length, blocks.bytes, blocks.length, bonnetewe_empty, sizeof bonnetewe_empty,
+                                    laid[way].vertices, BONNETEWE_VERTEX_CELLS, laid[way].halves, BONNETEWE_HALF_CELLS, laid[way].sources,
+                                    BONNETEWE_SOURCE_CELLS, laid[way].faces, BONNETEWE_FACE_CELLS));
 }
 
 static void proved_plain(void)
 {
-    proved(BONNETEWE_PLAIN);
+    proved(PROVED, BONNETEWE_PLAIN);
 }
 
 static void proved_swept(void)
 {
-    proved(BONNETEWE_SWEPT);
+    proved(SWEPT, BONNETEWE_SWEPT);
 }
 
 static void proved_melted(void)
 {
-    bonnetewe_answer a = bonnetewe_melt(zones.bytes, zones.length, blocks.bytes, blocks.length, bonnetewe_empty, sizeof bonnetewe_empty,
-                                        vertices, BONNETEWE_VERTEX_CELLS, halves, BONNETEWE_HALF_CELLS, sources, BONNETEWE_SOURCE_CELLS,
-                                        faces, BONNETEWE_FACE_CELLS);
-
-    counted[0] = bonnetewe_vertices(a), counted[1] = bonnetewe_edges(a), counted[2] = bonnetewe_faces(a);
+    count(FAST, bonnetewe_melt(zones.bytes, zones.length, blocks.bytes, blocks.length, bonnetewe_empty, sizeof bonnetewe_empty, laid[FAST].vertices,
+                               BONNETEWE_VERTEX_CELLS, laid[FAST].halves, BONNETEWE_HALF_CELLS, laid[FAST].sources, BONNETEWE_SOURCE_CELLS,
+                               laid[FAST].faces, BONNETEWE_FACE_CELLS));
 }
 
-/* The seconds of one run. */
-static double once(void (*run)(void))
+int main(int words_count, char **words)
 {
-    double start = now(), end;
-    long runs = 0;
+    static void (*const overlays[])(void) = { plain, fast, proved_plain, proved_swept };
+    static void (*const melts[])(void) = { plain_melted, proved_melted };
+    int melt = words_count > 1 && strcmp(words[1], "--melt") == 0, ways = melt ? 2 : WAYS;
 
-    do {
-        run();
-        runs++;
-        end = now();
-    } while (end - start < 0.1);
-    return (end - start) / runs;
-}
-
-int main(int count, char **words)
-{
-    void (*runs[3])(void) = { plain, proved_plain, proved_swept };
-    int ways = 3;
-
-    melts = count > 1 && strcmp(words[1], "--melt") == 0;
-    if (melts)
-        runs[1] = proved_melted, ways = 2;
-    printf("%-12s %8s %6s %6s %14s", melts ? "melted" : "sheet", "vertices", "edges", "faces", "plain C");
-    printf(melts ? " %14s %7s\n" : " %14s %7s %14s %7s\n", melts ? "proved" : "proved, plain", "ratio", "proved, swept", "ratio");
-    for (int i = 1 + melts; i < count; i++) {
-        double least[3] = { 1e9, 1e9, 1e9 };
+    printf("%-12s %8s %6s %6s %14s", melt ? "melted" : "sheet", "vertices", "edges", "faces", "plain C");
+    if (melt)
+        printf(" %14s %8s\n", "proved", "to plain");
+    else
+        printf(" %14s %14s %8s %7s %14s %8s %7s\n", "fast C", "proved, plain", "to plain", "to fast", "proved, swept", "to plain", "to fast");
+    for (int i = 1 + melt; i < words_count; i++) {
+        double least[WAYS];
         char *name = strrchr(words[i], '/');
 
         load_sheet(words[i], &zones, &blocks);
-        for (int turn = 0; turn < 5; turn++)
-            for (int k = 0; k < ways; k++) {
-                double t = once(runs[k]);
-
-                least[k] = t < least[k] ? t : least[k];
-            }
-        printf("%-12s %8u %6u %6u %12.9f s", name ? name + 1 : words[i], counted[0], counted[1], counted[2], least[0]);
-        for (int k = 1; k < ways; k++)
-            printf(" %12.9f s %7.2f", least[k], least[k] / least[0]);
+        take_turns(melt ? melts : overlays, ways, least);
+        printf("%-12s %8u %6u %6u", name ? name + 1 : words[i], laid[0].counted[0], laid[0].counted[1], laid[0].counted[2]);
+        for (int k = 0; k < ways; k++) {
+            printf(" %12.9f s", least[k]);
+            if (melt ? k > 0 : k > FAST)
+                printf(" %8.2f", least[k] / least[PLAIN]);
+            if (k > FAST)
+                printf(" %7.2f", least[k] / least[FAST]);
+        }
         printf("\n");
+        for (int k = 1; k < ways; k++)
+            if (memcmp(&laid[k], &laid[0], sizeof laid[0]) != 0) {
+                printf("they differ\n");
+                return 1;
+            }
     }
     return 0;
 }

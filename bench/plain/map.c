@@ -1,3 +1,4 @@
+#include "bytes.h"
 #include "map.h"
 
 static struct plain_answer refuse(int number, int place)
@@ -5,18 +6,12 @@ static struct plain_answer refuse(int number, int place)
     return (struct plain_answer){ .number = number, .place = place };
 }
 
-static int u16_at(const uint8_t *file, size_t at)
-{
-    return file[at] | file[at + 1] << 8;
-}
-
 static int i16_at(const uint8_t *file, size_t at)
 {
     return (int16_t)u16_at(file, at);
 }
 
-/* Rules 1 to 4. */
-static int form_fault(const uint8_t *file, size_t length)
+int form_fault(const uint8_t *file, size_t length)
 {
     if (length < 9 || file[0] != 'Z' || file[1] != 'M' || file[2] != 'P')
         return 1;
@@ -26,11 +21,6 @@ static int form_fault(const uint8_t *file, size_t length)
     if (vertices > MAP_VERTICES || edges > MAP_EDGES)
         return 3;
     return length != 9 + 4 * (size_t)vertices + 8 * (size_t)edges ? 4 : 0;
-}
-
-static bool beyond(int64_t n)
-{
-    return n < -REACH || n > REACH;
 }
 
 /* Rules 5 and 6. */

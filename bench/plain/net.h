@@ -3,16 +3,7 @@
 #define NET_H
 
 #include "geometry.h"
-
-enum {
-    MAP_VERTICES = 200,
-    MAP_EDGES = 300,
-    REACH = 16000,
-    VERTICES = 1000,
-    EDGES = 2000,
-    FACES = 1334,
-    NONE = 65535,
-};
+#include "limits.h"
 
 /* Half-edge 2k runs along edge k one way, 2k + 1 back. */
 struct net {
