@@ -66,7 +66,15 @@ pub record Walked (next pieces : List ℕ) (h : ℕ) : Type 0 where
   pub follows : (x : ℕ) → OnWalk next h x → x < length next
   pub row : (x : ℕ) → OnWalk next h x → pieceWidth * (x / 2) + pieceWidth ≤ length pieces
 
--- and all that its label is found from, with one label along the walk: that of h
+-- x is on the walk of h, and has a source in map i where it is not h itself
+pub record Sourced (pieces next : List ℕ) (i h x : ℕ) : Type 0 where
+  pub on-walk : OnWalk next h x
+  pub sourced : (x ≡ h → ⊥) → 0 < sourceIn pieces (x / 2) i
+
+pub sourced-itself : (pieces next : List ℕ) (i h : ℕ) → Sourced pieces next i h h
+sourced-itself pieces next i h = record { on-walk = (0, refl); sourced = λ away. absurd (away refl) }
+
+-- of each half-edge of the walk of h all that its label in map i is found from, with one label along the walk: that of h
 pub record Agreeing (m : Map) (ps : List ℤ) (os : List ℕ) (cs : List ℤ) (pieces next : List ℕ) (i e h : ℕ) : Type 0 where
   pub walked : Walked next pieces h
   pub labelled : (x : ℕ) → OnWalk next h x → Labelled ps os cs pieces i e x

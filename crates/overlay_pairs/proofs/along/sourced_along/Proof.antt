@@ -4,7 +4,7 @@ use native.Mathlib.Omega.{arith}
 use borrow.Author.Needs.{needs}
 use denote.Ref.{now}
 use lib.ListN.{getD}
-use Rattle.overlay_pairs.specs.Labels.{OnWalk, walk-turns}
+use Rattle.overlay_pairs.specs.Labels.{OnWalk, walk-turns, sourced-itself}
 use Rattle.overlay_pairs.proofs.along.sourced_along.Statement.{statement}
 use Rattle.overlay_pairs.proofs.along.sourced_along.Tie as tie
 
@@ -23,7 +23,7 @@ source-in-requires c κs =
 returns-2 : tie.Need-returns-2 Inv-loop μ-loop
 returns-2 c =
     let at : tie.At-loop Inv-loop μ-loop = search needs in
-    at .loop .inv
+    record { on-walk = at .loop .inv; sourced = λ away. omega (arith, c .if2 .taken, c .before .source-in .ensures) }
 
 shared-slice-read-x : tie.Need-shared-slice-read-x Inv-loop μ-loop
 shared-slice-read-x c =
@@ -56,15 +56,15 @@ sourced-along-spec =
     (tie.spec
     Inv-loop
     μ-loop
-    (λ c. (0, refl))
+    (λ c. sourced-itself _ _ _ _)
     (λ c. (0, refl))
     source-in-requires
     returns-2
     mul-x
     shared-slice-read-x
     cast-x
-    (λ c. (0, refl))
+    (λ c. sourced-itself _ _ _ _)
     (λ c. search needs)
     (λ c. search needs)
     loop-again
-    (λ c. (0, refl)))
+    (λ c. sourced-itself _ _ _ _))

@@ -59,7 +59,7 @@ sourced-along-requires : tie.Need-sourced-along-requires
 sourced-along-requires c κs = (begun (c .before .before .before) .pre .1 .0, agrees (c .before) .walked)
 
 place-of-requires : tie.Need-place-of-requires
-place-of-requires c κs = agrees (c .before .before) .labelled (c .sourced-along .result) (c .sourced-along .ensures) .placed
+place-of-requires c κs = agrees (c .before .before) .labelled (c .sourced-along .result) (c .sourced-along .ensures .on-walk) .placed
 
 label-at-requires : tie.Need-label-at-requires
 label-at-requires c κs =
@@ -68,7 +68,7 @@ label-at-requires c κs =
     let x = c .before .sourced-along in
     let e = c .before .before .before .before .part-of .ensures in (
       part-stands (L s) (s .pre .0) (s .args .m) (s .pre .1 .0) _ e,
-      (omega (arith, p .source-is, agrees (c .before .before .before) .labelled (x .result) (x .ensures) .source-most, part-edges (L s) (s .pre .0) (s .args .m) (s .pre .1 .0) _ e), (p .near, p .direction)),
+      (omega (arith, p .source-is, agrees (c .before .before .before) .labelled (x .result) (x .ensures .on-walk) .source-most, part-edges (L s) (s .pre .0) (s .args .m) (s .pre .1 .0) _ e), (p .near, p .direction)),
     )
 
 returns-2 : tie.Need-returns-2
@@ -80,7 +80,7 @@ returns-2 c =
     let x = c .before .before .sourced-along in
     c .label-at .ensures ∙ ap (λ (y : Map). labelAt y (c .before .place-of .result)) (part-map (L s) (s .pre .0) (a .m) (s .pre .1 .0) _ (c .before .before .before .before .before .part-of .ensures))
     ∙ placed-label (now (a .points)) (now (a .ends)) (now (a .lines)) (now (a .pieces)) (a .m) _ m (x .result) (c .before .place-of .ensures)
-    ∙ agrees (c .before .before .before .before) .same (x .result) (x .ensures)
+    ∙ agrees (c .before .before .before .before) .same (x .result) (x .ensures .on-walk)
     ∙ ap (halfLabel m (now (a .points)) (now (a .ends)) (now (a .lines)) (now (a .pieces)) (a .m)) (h .ensures)
     ∙ inner-label (now (a .points)) (now (a .ends)) (now (a .lines)) (now (a .pieces)) (a .m) (now (a .outers)) m (a .f) (c .before .before .before .before .before .before .if1 .left)
 
