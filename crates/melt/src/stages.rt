@@ -38,7 +38,7 @@ ghost use Rattle.melt.specs.Melted.{meltedIn, FacesIn};
 const LABEL_CELLS: usize = MAPS * FACES;
 
 // "Every edge with the same pair on both sides is dropped, then vertices left without an edge, and vertices, edges, followers and faces are numbered afresh by 01's
-// rules": of an overlay within the room, with its half-edges, the face of each, and the outer walks.
+// rules": of an overlay within the room, with its half-edges, the follower and the face of each, and the outer walks.
 fn melt_faces(
     vstarts: &[usize],
     estarts: &[usize],
@@ -52,6 +52,7 @@ fn melt_faces(
     pieces: &[u16],
     ends: &[u16],
     lines: &[i16],
+    next: &[u16],
     face: &[u16],
     outers: &[u16],
     count: usize,
@@ -60,7 +61,7 @@ fn melt_faces(
     sources: &mut [u32],
     faces: &mut [u16],
 ) -> Answer
-    requires { ⌜ CutOf (heldMaps (layersBy (now vstarts) (now estarts) (now corners) (now origins) (now carriers) (now labels))) (cutBy n (now points) e (now pieces)) ⌝ ∗ ⌜ Outlined (layersBy (now vstarts) (now estarts) (now corners) (now origins) (now carriers) (now labels)) (cutBy n (now points) e (now pieces)) (now ends) (now lines) (now outers) count ⌝ ∗ ⌜ FacesIn (heldMaps (layersBy (now vstarts) (now estarts) (now corners) (now origins) (now carriers) (now labels))) (cutBy n (now points) e (now pieces)) (now face) ⌝ ∗ ⌜ Within (cutBy n (now points) e (now pieces)) (lengthsOf (tablesBy (now vertices) (now halves) (now sources) (now faces))) ⌝ ∗ ⌜ count + 1 ≤ roomIn maps (lengthsOf (tablesBy (now vertices) (now halves) (now sources) (now faces))) .faces ⌝ }
+    requires { ⌜ CutOf (heldMaps (layersBy (now vstarts) (now estarts) (now corners) (now origins) (now carriers) (now labels))) (cutBy n (now points) e (now pieces)) ⌝ ∗ ⌜ Outlined (layersBy (now vstarts) (now estarts) (now corners) (now origins) (now carriers) (now labels)) (cutBy n (now points) e (now pieces)) (now ends) (now lines) (now next) (now outers) count ⌝ ∗ ⌜ FacesIn (heldMaps (layersBy (now vstarts) (now estarts) (now corners) (now origins) (now carriers) (now labels))) (cutBy n (now points) e (now pieces)) (now face) ⌝ ∗ ⌜ Within (cutBy n (now points) e (now pieces)) (lengthsOf (tablesBy (now vertices) (now halves) (now sources) (now faces))) ⌝ ∗ ⌜ count + 1 ≤ roomIn maps (lengthsOf (tablesBy (now vertices) (now halves) (now sources) (now faces))) .faces ⌝ }
     ensures { λ a. ⌜ outcomeOf a (tablesBy (now (vertices .exit)) (now (halves .exit)) (now (sources .exit)) (now (faces .exit))) ≡ doneWith (lengthsOf (tablesBy (now (vertices .entry)) (now (halves .entry)) (now (sources .entry)) (now (faces .entry)))) (countsOf (meltedOf (heldMaps (layersBy (now (vstarts .entry)) (now (estarts .entry)) (now (corners .entry)) (now (origins .entry)) (now (carriers .entry)) (now (labels .entry)))))) (tablesOf (heldMaps (layersBy (now (vstarts .entry)) (now (estarts .entry)) (now (corners .entry)) (now (origins .entry)) (now (carriers .entry)) (now (labels .entry)))) (meltedOf (heldMaps (layersBy (now (vstarts .entry)) (now (estarts .entry)) (now (corners .entry)) (now (origins .entry)) (now (carriers .entry)) (now (labels .entry)))))) ⌝ }
 {
     let mut triples = [0u16; LABEL_CELLS];
@@ -75,6 +76,7 @@ fn melt_faces(
         ends,
         lines,
         pieces,
+        next,
         outers,
         count + 1,
         &mut triples,
@@ -183,6 +185,7 @@ fn melt_cut(
             pieces,
             &ends,
             &lines,
+            &next,
             &face,
             &outers,
             count,

@@ -76,6 +76,7 @@ pub fn fill(
         pieces,
         ends,
         lines,
+        next,
         outers,
         holes,
         count,

@@ -10,8 +10,9 @@ use Rattle.paper.specs.Plane.{Pt}
 use Rattle.paper.specs.Graph.{edgeCount, halfCount, even, goesUp}
 use Rattle.paper.specs.Map.{Map}
 use Rattle.paper.specs.Pieces.{layer, verticesOf, edgesOf, graphOf}
-use Rattle.paper.specs.Faces.{Overlay, walksOf, overlayBy, net, sourcesOf}
+use Rattle.paper.specs.Faces.{Overlay, walksOf, overlayBy, net, sourcesOf, labelsOf}
 use Rattle.laws_graph.specs.Plane.{Plane}
+use Rattle.laws_graph.specs.Walks.{Along}
 use Rattle.plane.specs.Bounds.{Near}
 use Rattle.overlay_cut.specs.Points.{pointsOf}
 use Rattle.overlay_cut.specs.PieceRows.{pieceWidth, piecesIn}
@@ -42,13 +43,14 @@ overlayIn ms c =
     let ps = piecesIn (c .pieces) (c .edges) in
     overlayBy ps (walksOf (graphOf ms (pointsOf (c .points) (c .vertices)) ps))
 
--- what walks, faces and labels of an overlay ask: its graph is plane, "Half-edge 2k goes from lower to upper, 2k+1 back", its points are within 01's bounds, and a
--- source is an edge of its map
+-- what walks, faces and labels of an overlay ask: its graph is plane, "Half-edge 2k goes from lower to upper, 2k+1 back", its points are within 01's bounds, a
+-- source is an edge of its map, and half-edges of one walk have the same labels
 pub record Drawable (ms : List Map) (o : Overlay) : Type 0 where
   pub plane : Plane (net o)
   pub goes : (h : ℕ) → h < halfCount (net o) → goesUp (net o) h ≡ even h
   pub near : (p : Pt) → Among p (net o .points) → Near p
   pub sources : (i k r : ℕ) → i < length ms → k < edgeCount (net o) → getD (sourcesOf o k) i none ≡ some r → r < edgeCount (layer ms i .graph)
+  pub labels : (h k : ℕ) → h < halfCount (net o) → Along (net o) h k → labelsOf ms o h ≡ labelsOf ms o k
 
 -- the points and pieces in c make such an overlay, within 01's limits, and have their rows
 pub record DrawableCut (ms : List Map) (c : Cut) : Type 0 where

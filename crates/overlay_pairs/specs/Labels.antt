@@ -1,9 +1,11 @@
--- The label in a map of a half-edge and of a face of the overlay, from the flat tables that the code has of the overlay; and the place of a half-edge, which is
--- what the code looks up of it. Assumes nothing.
-use mathlib.Core.Path.{_≡_, sym, ap, subst}
+-- The label in a map of a half-edge and of a face of the overlay, from the flat tables that the code has of the overlay; what the code reads along the walk of a
+-- half-edge; and the place of a half-edge, which is what the code looks up of it. Assumes nothing.
+use mathlib.Core.Path.{_≡_, refl, sym, ap, subst}
 use Prim.Native.Nat.{_≤_, _<_}
 use native.Mathlib.Omega.{arith}
 use Rattle.seq.specs.Seq.{List, ℕ, zero, suc, _+_, _*_, _-_, _/_, _%_, length, getD, ℤ}
+use Rattle.seq.specs.Terms.{Reach, step}
+use Rattle.seq.specs.Perm.{reach-trans}
 use Rattle.paper.specs.Limits.{maps, absent}
 use Rattle.paper.specs.Map.{Map}
 use Rattle.plane.specs.Values.{ptOf, vecOf}
@@ -51,14 +53,41 @@ pub record Labelled (ps : List ℤ) (os : List ℕ) (cs : List ℤ) (pieces : Li
   pub placed : Placed ps os cs pieces i h
   pub source-most : sourceIn pieces (h / 2) i ≤ e
 
+-- following from half-edge h comes to x, by the table of followers
+abbrev pub OnWalk : List ℕ → ℕ → ℕ → Type 0
+OnWalk next h x = Reach (step next) h x
+
+-- and on to its follower
+pub walk-turns : (next : List ℕ) (h x : ℕ) → OnWalk next h x → OnWalk next h (getD next x 0)
+walk-turns next h x a = reach-trans (step next) a (1, refl)
+
+-- of each half-edge of the walk of h the follower, and the row of its edge
+pub record Walked (next pieces : List ℕ) (h : ℕ) : Type 0 where
+  pub follows : (x : ℕ) → OnWalk next h x → x < length next
+  pub row : (x : ℕ) → OnWalk next h x → pieceWidth * (x / 2) + pieceWidth ≤ length pieces
+
+-- x is on the walk of h, and has a source in map i where it is not h itself
+pub record Sourced (pieces next : List ℕ) (i h x : ℕ) : Type 0 where
+  pub on-walk : OnWalk next h x
+  pub sourced : (x ≡ h → ⊥) → 0 < sourceIn pieces (x / 2) i
+
+pub sourced-itself : (pieces next : List ℕ) (i h : ℕ) → Sourced pieces next i h h
+sourced-itself pieces next i h = record { on-walk = (0, refl); sourced = λ away. absurd (away refl) }
+
+-- of each half-edge of the walk of h all that its label in map i is found from, with one label along the walk: that of h
+pub record Agreeing (m : Map) (ps : List ℤ) (os : List ℕ) (cs : List ℤ) (pieces next : List ℕ) (i e h : ℕ) : Type 0 where
+  pub walked : Walked next pieces h
+  pub labelled : (x : ℕ) → OnWalk next h x → Labelled ps os cs pieces i e x
+  pub same : (x : ℕ) → OnWalk next h x → halfLabel m ps os cs pieces i x ≡ halfLabel m ps os cs pieces i h
+
 -- of face f its least outer half-edge, where it is not face 0
-abbrev pub Labels : List ℤ → List ℕ → List ℤ → List ℕ → ℕ → ℕ → List ℕ → ℕ → Type 0
-Labels ps os cs pieces i e outers zero = Unit
-Labels ps os cs pieces i e outers (suc f) = (f < length outers) × Labelled ps os cs pieces i e (getD outers f 0)
+abbrev pub Labels : Map → List ℤ → List ℕ → List ℤ → List ℕ → List ℕ → ℕ → ℕ → List ℕ → ℕ → Type 0
+Labels m ps os cs pieces next i e outers zero = Unit
+Labels m ps os cs pieces next i e outers (suc f) = (f < length outers) × Agreeing m ps os cs pieces next i e (getD outers f 0)
 
 -- in map i of those that the layers hold
-abbrev pub Readable : Layers → List ℤ → List ℕ → List ℤ → List ℕ → List ℕ → ℕ → ℕ → Type 0
-Readable l ps os cs pieces outers i f = Labels ps os cs pieces i (edgeStart l (i + 1) - edgeStart l i) outers f
+abbrev pub Readable : Layers → List ℤ → List ℕ → List ℤ → List ℕ → List ℕ → List ℕ → ℕ → ℕ → Type 0
+Readable l ps os cs pieces next outers i f = Labels (heldMap l i) ps os cs pieces next i (edgeStart l (i + 1) - edgeStart l i) outers f
 
 -- ── the place of a half-edge ──
 
@@ -96,8 +125,8 @@ module _ (ps : List ℤ) (os : List ℕ) (cs : List ℤ) (pieces : List ℕ) (i 
   pub inner-label : (m : Map) (f : ℕ) → (f ≡ 0 → ⊥) → halfLabel m ps os cs pieces i (getD outers (f - 1) 0) ≡ faceLabel m ps os cs pieces i outers f
   inner-label m f q = let w : f ≡ suc (f - 1) = omega arith in ap (faceLabel m ps os cs pieces i outers) (sym w)
 
-  pub inner : (e f : ℕ) → (f ≡ 0 → ⊥) → Labels ps os cs pieces i e outers f → (f - 1 < length outers) × Labelled ps os cs pieces i e (getD outers (f - 1) 0)
-  inner e f q l = let w : f ≡ suc (f - 1) = omega arith in subst (Labels ps os cs pieces i e outers) w l
+  pub inner : (m : Map) (next : List ℕ) (e f : ℕ) → (f ≡ 0 → ⊥) → Labels m ps os cs pieces next i e outers f → (f - 1 < length outers) × Agreeing m ps os cs pieces next i e (getD outers (f - 1) 0)
+  inner m next e f q l = let w : f ≡ suc (f - 1) = omega arith in subst (Labels m ps os cs pieces next i e outers) w l
 
 pub outside-outer : (outers : List ℕ) (f : ℕ) → f ≡ 0 → absent ≡ outerOf outers f
 outside-outer outers f q = ap (outerOf outers) (sym q)

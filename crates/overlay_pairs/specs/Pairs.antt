@@ -1,10 +1,11 @@
 -- The labels that the code finds are the definition's: of the half-edges and faces of the overlay of the points and pieces in tables, in the maps that the layers
 -- hold. Assumes nothing.
-use mathlib.Core.Path.{_≡_, refl, sym, _∙_, ap}
+use mathlib.Core.Path.{_≡_, refl, sym, _∙_, ap, subst}
 use Prim.Native.Nat.{_≤_, _<_}
 use native.Mathlib.Omega.{arith}
 use lib.ListN.{length-append}
 use Rattle.seq.specs.Seq.{List, [], _∷_, _++_, Option, none, some, ℕ, zero, suc, _+_, _*_, _-_, _/_, _%_, length, getD, replicate, ℤ, rows, table, cell, select, filled, padded}
+use Rattle.seq.specs.Terms.{Reach}
 use Rattle.seq.specs.Filled.{filled-at}
 use Rattle.seq.specs.Rows.{rows-ext}
 use Rattle.seq.specs.Table.{length-table, table-at, table-ext, table-const}
@@ -12,13 +13,15 @@ use Rattle.seq.specs.Select.{select-from}
 use Rattle.seq.specs.Members.{at-among}
 use Rattle.seq.specs.Wiped.{padded-at}
 use Rattle.paper.specs.Limits.{maps}
-use Rattle.paper.specs.Graph.{Graph, edgeCount, halfCount, start, low, upward}
+use Rattle.paper.specs.Graph.{Graph, edgeCount, halfCount, followers, start, low, upward}
 use Rattle.paper.specs.Map.{Map}
 use Rattle.paper.specs.Pieces.{Piece, layer}
 use Rattle.paper.specs.Faces.{Overlay, labelIn, net, sourcesOf, leadsOuter, holesOf}
 use Rattle.paper.specs.Tables.{faceRow}
 use Rattle.laws_graph.specs.Halves.{even-double, half-first}
 use Rattle.laws_graph.specs.Plane.{up-ends}
+use Rattle.laws_graph.specs.Walks.{Along, along-below}
+use Rattle.laws_file.specs.Agree.{padded-cell}
 use Rattle.graph.specs.Flat.{startAt, carrierAt}
 use Rattle.graph.specs.Laws.Decode.{flat-edges, flat-upward, flat-start}
 use Rattle.graph.specs.Heading.{flat-starts, flat-carried}
@@ -32,24 +35,27 @@ use Rattle.overlay_maps.specs.Layers.{Layers}
 use Rattle.overlay_graph.specs.Laws.Standing.{layer-is, held-edges, held-count}
 use Rattle.overlay_graph.specs.Cut.{Cut, overlayIn, Drawable, DrawableCut}
 use Rattle.overlay_graph.specs.Traced.{NetBy}
-use Rattle.overlay_pairs.specs.Labels.{halfLabel, faceLabel, labelCell, outerOf, Readable}
+use Rattle.overlay_graph.specs.Laws.Tracing.{walked}
+use Rattle.overlay_graph.specs.Laws.Backwards.{padded-long}
+use Rattle.overlay_pairs.specs.Labels.{halfLabel, faceLabel, labelCell, outerOf, Labelled, OnWalk, Agreeing, Readable}
 
 -- the label of face f in map i: "Face 0 is the outside, pair (0, 0)", another has that of its least outer half-edge
 abbrev pub labelOf : List Map → Overlay → ℕ → ℕ → ℕ
 labelOf ms o i zero = 0
 labelOf ms o i (suc f) = let h = getD (o .outers) f 0 in labelIn (layer ms i) (net o) h (getD (sourcesOf o (h / 2)) i none)
 
--- the tables of the overlay of the points and pieces in c, within 01's limits: its net, and its outer walks
-pub record Outlined (l : Layers) (c : Cut) (origins : List ℕ) (carriers : List ℤ) (outers : List ℕ) (count : ℕ) : Type 0 where
+-- the tables of the overlay of the points and pieces in c, within 01's limits: its net, its followers, and its outer walks
+pub record Outlined (l : Layers) (c : Cut) (origins : List ℕ) (carriers : List ℤ) (next outers : List ℕ) (count : ℕ) : Type 0 where
   pub held : Held l
   pub cut : DrawableCut (heldMaps l) c
   pub net-by : NetBy (overlayIn (heldMaps l) c) c origins carriers
+  pub next-is : next ≡ padded 0 halfRows (overlayIn (heldMaps l) c .walks .next)
   pub outers-is : outers ≡ padded 0 halfRows (overlayIn (heldMaps l) c .outers)
   pub count-is : count ≡ length (overlayIn (heldMaps l) c .outers)
 
 -- and the hole walks of each face
-pub record Whole (l : Layers) (c : Cut) (origins : List ℕ) (carriers : List ℤ) (outers holes : List ℕ) (count : ℕ) : Type 0 where
-  pub outlined : Outlined l c origins carriers outers count
+pub record Whole (l : Layers) (c : Cut) (origins : List ℕ) (carriers : List ℤ) (next outers holes : List ℕ) (count : ℕ) : Type 0 where
+  pub outlined : Outlined l c origins carriers next outers count
   pub holes-is : holes ≡ padded 0 (suc halfRows) (table (holesOf (overlayIn (heldMaps l) c)) (suc count))
 
 -- the rows of the first n faces
@@ -73,7 +79,7 @@ at x g n d e f q = ap (λ (y : List ℕ). getD y f 0) e ∙ filled-at g n f d 0 
 
 -- ── half-edges ──
 
-module _ (l : Layers) (c : Cut) (os : List ℕ) (bs : List ℤ) (outers : List ℕ) (count : ℕ) (O : Outlined l c os bs outers count) where
+module _ (l : Layers) (c : Cut) (os : List ℕ) (bs : List ℤ) (next outers : List ℕ) (count : ℕ) (O : Outlined l c os bs next outers count) where
   abbrev ms : List Map
   ms = heldMaps l
 
@@ -121,6 +127,57 @@ module _ (l : Layers) (c : Cut) (os : List ℕ) (bs : List ℤ) (outers : List �
       (λ j. labelBy (sym (layer-is l i b) j) h (low-at k r j) (up-at k r j) (source-stored k r i b j))
       ∙ label-by (layer ms i) (net o) h (getD (sourcesOf o k) i none)
 
+  -- ── along a walk ──
+
+  halves-are : halfCount (net o) ≡ 2 * c .edges
+  halves-are = omega (arith, edges-are)
+
+  -- by the table of followers as by the definition's
+  next-at : (x : ℕ) → getD next x 0 ≡ getD (followers (net o)) x 0
+  next-at x = ap (λ (t : List ℕ). getD t x 0) (O .next-is ∙ ap (padded 0 halfRows) (sym (walked ms c (net o) refl))) ∙ padded-cell 0 halfRows (followers (net o)) x
+
+  next-long : 2 * c .edges ≤ length next
+  next-long = omega (arith, O .cut .few-edges, padded-long halfRows next (o .walks .next) (O .next-is))
+
+  module _ (h : ℕ) (q : h < 2 * c .edges) (x : ℕ) (a : OnWalk next h x) where
+    within-walk : h < halfCount (net o)
+    within-walk = omega (arith, halves-are)
+
+    along : Along (net o) h x
+    along = subst (λ (f : ℕ → ℕ). Reach f h x) (λ j y. next-at y j) a
+
+    walk-below : x < 2 * c .edges
+    walk-below = omega (arith, along-below (net o) (D .plane) within-walk along, halves-are)
+
+    -- "labels agree": the label in map i is one along the walk
+    walk-same : (i : ℕ) → i < maps → halfLabel (heldMap l i) (c .points) os bs (c .pieces) i x ≡ halfLabel (heldMap l i) (c .points) os bs (c .pieces) i h
+    walk-same i b =
+        let of-half : ℕ → ℕ → ℕ = λ y j. labelIn (layer ms j) (net o) y (getD (sourcesOf o (y / 2)) j none) in
+        let li : i < length ms = omega (arith, held-count l) in
+        label-is i x b walk-below ∙ sym (table-at (of-half x) (length ms) i 0 li) ∙ ap (λ (t : List ℕ). getD t i 0) (sym (D .labels h x within-walk along))
+        ∙ table-at (of-half h) (length ms) i 0 li ∙ sym (label-is i h b q)
+
+  labelled-at : (i h : ℕ) → i < maps → h < 2 * c .edges → Labelled (c .points) os bs (c .pieces) i (edgeStart l (i + 1) - edgeStart l i) h
+  labelled-at i h b q =
+      let k : h / 2 < c .edges = omega arith in
+      let F = O .net-by .flat in
+      record {
+        placed = record {
+          of-maps = b;
+          starts = flat-starts (c .points) os bs (c .vertices) (c .edges) F (2 * (h / 2)) (omega arith);
+          carried = flat-carried (c .points) os bs (c .vertices) (c .edges) F (h / 2) k;
+          row = omega (arith, O .cut .pieces-long);
+        };
+        source-most = source-most (h / 2) k i b;
+      }
+
+  agreeing : (i h : ℕ) → i < maps → h < 2 * c .edges → Agreeing (heldMap l i) (c .points) os bs (c .pieces) next i (edgeStart l (i + 1) - edgeStart l i) h
+  agreeing i h b q = record {
+    walked = record { follows = λ x a. omega (arith, walk-below h q x a, next-long); row = λ x a. omega (arith, walk-below h q x a, O .cut .pieces-long) };
+    labelled = λ x a. labelled-at i x b (walk-below h q x a);
+    same = λ x a. walk-same h q x a i b;
+  }
+
   -- ── faces ──
 
   outer-at : (f : ℕ) → f < count → getD outers f 0 ≡ getD (o .outers) f 0
@@ -142,24 +199,9 @@ module _ (l : Layers) (c : Cut) (os : List ℕ) (bs : List ℤ) (outers : List �
   pub outers-long : count ≤ length outers
   outers-long = omega (arith, O .count-is, ap length (O .outers-is), length-append (o .outers) (replicate (halfRows - length (o .outers)) 0))
 
-  pub readable : (i f : ℕ) → i < maps → f < count + 1 → Readable l (c .points) os bs (c .pieces) outers i f
+  pub readable : (i f : ℕ) → i < maps → f < count + 1 → Readable l (c .points) os bs (c .pieces) next outers i f
   readable i zero b q = tt
-  readable i (suc f) b q =
-      let r : f < count = omega arith in
-      let h = getD outers f 0 in
-      let k : h / 2 < c .edges = omega (arith, outer-below f r) in
-      let F = O .net-by .flat in (
-        omega (arith, outers-long),
-        record {
-          placed = record {
-            of-maps = b;
-            starts = flat-starts (c .points) os bs (c .vertices) (c .edges) F (2 * (h / 2)) (omega arith);
-            carried = flat-carried (c .points) os bs (c .vertices) (c .edges) F (h / 2) k;
-            row = omega (arith, O .cut .pieces-long);
-          };
-          source-most = source-most (h / 2) k i b;
-        },
-      )
+  readable i (suc f) b q = let r : f < count = omega arith in (omega (arith, outers-long), agreeing i (getD outers f 0) b (outer-below f r))
 
   label-at : (i f : ℕ) → i < maps → f < count + 1 → faceLabel (heldMap l i) (c .points) os bs (c .pieces) i outers f ≡ labelOf ms o i f
   label-at i zero b q = refl
@@ -179,7 +221,7 @@ module _ (l : Layers) (c : Cut) (os : List ℕ) (bs : List ℤ) (outers : List �
 
 -- ── the rows of the faces ──
 
-module _ (l : Layers) (c : Cut) (os : List ℕ) (bs : List ℤ) (outers holes : List ℕ) (count : ℕ) (W : Whole l c os bs outers holes count) where
+module _ (l : Layers) (c : Cut) (os : List ℕ) (bs : List ℤ) (next outers holes : List ℕ) (count : ℕ) (W : Whole l c os bs next outers holes count) where
   abbrev held : List Map
   held = heldMaps l
 
@@ -203,7 +245,7 @@ module _ (l : Layers) (c : Cut) (os : List ℕ) (bs : List ℤ) (outers holes : 
     counted f q = at counts (λ x. getD holes x 0) (count + 1) d₃ counts-are f q ∙ holes-at f q
 
     labelled : (f : ℕ) → f < count + 1 → (i : ℕ) → i < maps → cell 0 maps labels f i ≡ labelOf held drawn i f
-    labelled = labels-are l c os bs outers count (W .outlined) labels d₁ labels-are-filled
+    labelled = labels-are l c os bs next outers count (W .outlined) labels d₁ labels-are-filled
 
     row-labels : (f : ℕ) → f < count + 1 → table (cell 0 maps labels f) maps ≡ table (λ i. labelOf held drawn i f) maps
     row-labels f q = table-ext (cell 0 maps labels f) (λ i. labelOf held drawn i f) maps (labelled f q)
@@ -213,7 +255,7 @@ module _ (l : Layers) (c : Cut) (os : List ℕ) (bs : List ℤ) (outers holes : 
         let e = at outer (outerOf outers) (count + 1) d₂ outer-is 0 q in
         λ i. (row-labels 0 q ∙ table-const 0 maps ∙ ap (λ (n : ℕ). replicate n 0) (sym (held-count l))) i ++ (e i ∷ counted 0 q i ∷ [])
     row-is (suc f) q =
-        let e = at outer (outerOf outers) (count + 1) d₂ outer-is (suc f) q ∙ outer-at l c os bs outers count (W .outlined) f (omega arith) in
+        let e = at outer (outerOf outers) (count + 1) d₂ outer-is (suc f) q ∙ outer-at l c os bs next outers count (W .outlined) f (omega arith) in
         λ i. (row-labels (suc f) q ∙ ap (table (λ i. labelOf held drawn i (suc f))) (sym (held-count l))) i ++ (e i ∷ counted (suc f) q i ∷ [])
 
     pub rows-are : rows (faceBy labels outer counts) (count + 1) ≡ rows (faceRow held drawn) (count + 1)

@@ -1,4 +1,5 @@
 // "A face holds the pair of its least outer half-edge", with three maps its triple (02, Ask 13): the labels of all faces in every map.
+use crate::along::sourced_along;
 use graph::carrier_at;
 use graph::start;
 use limits::MAPS;
@@ -73,19 +74,21 @@ fn face_label(
     ends: &[u16],
     lines: &[i16],
     pieces: &[u16],
+    next: &[u16],
     outers: &[u16],
     f: usize,
     m: usize,
 ) -> u16
-    requires { ⌜ Held (layersBy (now vstarts) (now estarts) (now corners) (now origins) (now carriers) (now labels)) ⌝ ∗ ⌜ m < maps ⌝ ∗ ⌜ Readable (layersBy (now vstarts) (now estarts) (now corners) (now origins) (now carriers) (now labels)) (now points) (now ends) (now lines) (now pieces) (now outers) m f ⌝ }
+    requires { ⌜ Held (layersBy (now vstarts) (now estarts) (now corners) (now origins) (now carriers) (now labels)) ⌝ ∗ ⌜ m < maps ⌝ ∗ ⌜ Readable (layersBy (now vstarts) (now estarts) (now corners) (now origins) (now carriers) (now labels)) (now points) (now ends) (now lines) (now pieces) (now next) (now outers) m f ⌝ }
     ensures { λ r. ⌜ r ≡ faceLabel (heldMap (layersBy (now (vstarts .entry)) (now (estarts .entry)) (now (corners .entry)) (now (origins .entry)) (now (carriers .entry)) (now (labels .entry))) m) (now (points .entry)) (now (ends .entry)) (now (lines .entry)) (now (pieces .entry)) m (now (outers .entry)) f ⌝ }
 {
     if f == 0 {
         return 0;
     }
-    let h = outer_of(outers, f) as usize;
-    let at = place_of(points, ends, lines, pieces, m, h);
     let part = part_of(vstarts, estarts, m);
+    let h = outer_of(outers, f) as usize;
+    let x = sourced_along(pieces, next, m, part.b - part.a, h);
+    let at = place_of(points, ends, lines, pieces, m, x);
     label_at(corners, origins, carriers, labels, part, at)
 }
 
@@ -101,11 +104,12 @@ pub fn lay_labels(
     ends: &[u16],
     lines: &[i16],
     pieces: &[u16],
+    next: &[u16],
     outers: &[u16],
     n: usize,
     out: &mut [u16],
 )
-    requires { ⌜ Held (layersBy (now vstarts) (now estarts) (now corners) (now origins) (now carriers) (now labels)) ⌝ ∗ ⌜ ((m f : ℕ) → m < maps → f < n → Readable (layersBy (now vstarts) (now estarts) (now corners) (now origins) (now carriers) (now labels)) (now points) (now ends) (now lines) (now pieces) (now outers) m f) ⌝ ∗ ⌜ maps * n ≤ length (now out) ⌝ }
+    requires { ⌜ Held (layersBy (now vstarts) (now estarts) (now corners) (now origins) (now carriers) (now labels)) ⌝ ∗ ⌜ ((m f : ℕ) → m < maps → f < n → Readable (layersBy (now vstarts) (now estarts) (now corners) (now origins) (now carriers) (now labels)) (now points) (now ends) (now lines) (now pieces) (now next) (now outers) m f) ⌝ ∗ ⌜ maps * n ≤ length (now out) ⌝ }
     ensures { λ _. ⌜ now (out .exit) ≡ filled (maps * n) (labelCell (layersBy (now (vstarts .entry)) (now (estarts .entry)) (now (corners .entry)) (now (origins .entry)) (now (carriers .entry)) (now (labels .entry))) (now (points .entry)) (now (ends .entry)) (now (lines .entry)) (now (pieces .entry)) (now (outers .entry))) (now (out .entry)) ⌝ }
 {
     let cells = MAPS * n;
@@ -122,6 +126,7 @@ pub fn lay_labels(
             ends,
             lines,
             pieces,
+            next,
             outers,
             j / MAPS,
             j % MAPS,

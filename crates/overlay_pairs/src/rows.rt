@@ -63,6 +63,7 @@ pub fn rows_in(
     pieces: &[u16],
     ends: &[u16],
     lines: &[i16],
+    next: &[u16],
     outers: &[u16],
     holes: &[u16],
     count: usize,
@@ -70,7 +71,7 @@ pub fn rows_in(
     outer: &mut [u16],
     counts: &mut [u16],
 )
-    requires { ⌜ Whole (layersBy (now vstarts) (now estarts) (now corners) (now origins) (now carriers) (now labels)) (cutBy nv (now points) ne (now pieces)) (now ends) (now lines) (now outers) (now holes) count ⌝ ∗ ⌜ (maps * (count + 1) ≤ length (now triples)) × (count + 1 ≤ length (now outer)) × (count + 1 ≤ length (now counts)) ⌝ }
+    requires { ⌜ Whole (layersBy (now vstarts) (now estarts) (now corners) (now origins) (now carriers) (now labels)) (cutBy nv (now points) ne (now pieces)) (now ends) (now lines) (now next) (now outers) (now holes) count ⌝ ∗ ⌜ (maps * (count + 1) ≤ length (now triples)) × (count + 1 ≤ length (now outer)) × (count + 1 ≤ length (now counts)) ⌝ }
     ensures { λ _. ⌜ rows (faceBy (now (triples .exit)) (now (outer .exit)) (now (counts .exit))) (count + 1) ≡ faceRows (layersBy (now (vstarts .entry)) (now (estarts .entry)) (now (corners .entry)) (now (origins .entry)) (now (carriers .entry)) (now (labels .entry))) (cutBy nv (now (points .entry)) ne (now (pieces .entry))) (count + 1) ⌝ }
 {
     let n = count + 1;
@@ -85,6 +86,7 @@ pub fn rows_in(
         ends,
         lines,
         pieces,
+        next,
         outers,
         n,
         triples,

@@ -1,5 +1,5 @@
 -- What is left of the overlay of maps that keep the rules has all that walks, faces and labels ask (`melted-drawable`): its graph is a part of the overlay's, its
--- points are among the overlay's, and its pieces have their sources. Assumes nothing.
+-- points are among the overlay's, its pieces have their sources, and half-edges of one walk have the same labels. Assumes nothing.
 use mathlib.Core.Path.{sym, _∙_, ap, subst}
 use native.Mathlib.Omega.{arith}
 use lib.ListN.{length-map}
@@ -12,13 +12,14 @@ use Rattle.paper.specs.Graph.{Graph, point}
 use Rattle.paper.specs.Map.{Map}
 use Rattle.paper.specs.Pieces.{Piece, edgeOf, verticesOf, edgesOf}
 use Rattle.paper.specs.Faces.{net, overlayOf}
-use Rattle.paper.specs.Melt.{keptPieces, isEnd, meltedGraph, meltedOf}
+use Rattle.paper.specs.Melt.{keptPieces, isEnd, meltedPieces, meltedGraph, meltedOf}
 use Rattle.plane.specs.Bounds.{Near}
 use Rattle.laws_overlay.specs.Maps.{AllKeep}
 use Rattle.laws_overlay.specs.Places.{places}
 use Rattle.laws_overlay.specs.Net.{sourced}
 use Rattle.laws_overlay.specs.Sources.{sourceAt}
 use Rattle.laws_overlay.specs.Parts.{net-is}
+use Rattle.laws_labels.specs.Drawn.{drawn-walk}
 use Rattle.laws_melt.specs.Thin.{was, was-kept, melted-piece}
 use Rattle.laws_melt.specs.Melts.{melted-drawn}
 use Rattle.overlay_graph.specs.Cut.{Drawable}
@@ -45,4 +46,5 @@ module _ (ms : List Map) (K : AllKeep ms) (near : (p : Pt) → Among p (vertices
     sources = λ i k r li lk e.
         sourced ms K (verticesOf ms) (places ms K) (was ms K k) (omega (arith, was-kept ms K k lk .0, length-map (edgesOf ms (verticesOf ms)) (edgeOf ms))) .from i r
         (sym (ap (λ (p : Piece). sourceAt (p .sources) i) (melted-piece ms K k lk)) ∙ e) .of-map;
+    labels = drawn-walk ms K (meltedPieces ms (overlayOf ms)) s (melted-drawn ms K);
   }

@@ -3,8 +3,7 @@
 use mathlib.Core.Path.{_≡_, sym, _∙_, ap, subst}
 use Prim.Native.Nat.{_≤_, _<_}
 use native.Mathlib.Omega.{arith}
-use lib.ListN.{length-append, length-replicate}
-use Rattle.seq.specs.Seq.{List, ℕ, suc, _+_, _*_, _-_, length, getD, replicate, cell, ℤ, filled}
+use Rattle.seq.specs.Seq.{List, ℕ, suc, _+_, _*_, length, getD, cell, ℤ, filled}
 use Rattle.paper.specs.Limits.{maps}
 use Rattle.paper.specs.Map.{Map}
 use Rattle.paper.specs.Faces.{Overlay, overlayOf}
@@ -18,6 +17,7 @@ use Rattle.overlay_maps.specs.Layers.{Layers}
 use Rattle.overlay_graph.specs.Cut.{Cut, CutOf, overlayIn, Drawable, DrawableCut}
 use Rattle.overlay_graph.specs.Laws.Standing.{keep, held-count, vertex-near}
 use Rattle.overlay_graph.specs.Laws.Drawing.{overlay-in}
+use Rattle.overlay_graph.specs.Laws.Backwards.{padded-long}
 use Rattle.overlay_pairs.specs.Labels.{labelCell}
 use Rattle.overlay_pairs.specs.Pairs.{Outlined, labelOf, labels-are}
 use Rattle.thin.specs.Thinned.{Thinned}
@@ -26,7 +26,7 @@ use Rattle.overlay.specs.Judged.{Within}
 use Rattle.melt.specs.Melted.{FacesIn}
 use Rattle.melt.specs.Laws.Drawn.{melted-drawable}
 
-module _ (l : Layers) (c : Cut) (C : CutOf (heldMaps l) c) (os : List ℕ) (bs : List ℤ) (outers : List ℕ) (count : ℕ) (O : Outlined l c os bs outers count) (face : List ℕ) (F : FacesIn (heldMaps l) c face) where
+module _ (l : Layers) (c : Cut) (C : CutOf (heldMaps l) c) (os : List ℕ) (bs : List ℤ) (next outers : List ℕ) (count : ℕ) (O : Outlined l c os bs next outers count) (face : List ℕ) (F : FacesIn (heldMaps l) c face) where
   abbrev ms : List Map
   ms = heldMaps l
 
@@ -41,14 +41,12 @@ module _ (l : Layers) (c : Cut) (C : CutOf (heldMaps l) c) (os : List ℕ) (bs :
   face-at h = ap (λ (x : List ℕ). getD x h 0) F ∙ padded-cell 0 halfRows (overlayIn ms c .face) h ∙ ap (λ (o : Overlay). getD (o .face) h 0) drawn-is
 
   pub face-long : 2 * c .edges ≤ length face
-  face-long =
-      let faces = overlayIn ms c .face in
-      omega (arith, ap length F, length-append faces (replicate (halfRows - length faces) 0), length-replicate {A = ℕ} (halfRows - length faces) 0, O .cut .few-edges)
+  face-long = omega (arith, padded-long halfRows face (overlayIn ms c .face) F, O .cut .few-edges)
 
   -- with the labels of every face
   module _ (triples d : List ℕ) (e : triples ≡ filled (maps * (count + 1)) (labelCell l (c .points) os bs (c .pieces) outers) d) where
     label-at : (f i : ℕ) → f < count + 1 → i < maps → cell 0 maps triples f i ≡ labelOf ms (overlayOf ms) i f
-    label-at f i q b = labels-are l c os bs outers count O triples d e f q i b ∙ ap (λ (o : Overlay). labelOf ms o i f) drawn-is
+    label-at f i q b = labels-are l c os bs next outers count O triples d e f q i b ∙ ap (λ (o : Overlay). labelOf ms o i f) drawn-is
 
     pub labelled : Labelled (heldMaps l) c face triples
     labelled = record {

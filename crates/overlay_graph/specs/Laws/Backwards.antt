@@ -16,8 +16,9 @@ use Rattle.overlay_graph.specs.Cut.{Cut, overlayIn, DrawableCut}
 use Rattle.overlay_graph.specs.Traced.{NetBy, FacesBy, PrevBy, LeastBy}
 use Rattle.overlay_graph.specs.Laws.Tracing.{walked, net-planar, next-numbers, prev-of, least-of}
 
-long : (n : ℕ) (xs ys : List ℕ) → xs ≡ padded 0 n ys → n ≤ length xs
-long n xs ys e = omega (arith, ap length e, length-append ys (replicate (n - length ys) 0), length-replicate {A = ℕ} (n - length ys) 0)
+-- a padded table has its rows
+pub padded-long : (n : ℕ) (xs ys : List ℕ) → xs ≡ padded 0 n ys → n ≤ length xs
+padded-long n xs ys e = omega (arith, ap length e, length-append ys (replicate (n - length ys) 0), length-replicate {A = ℕ} (n - length ys) 0)
 
 module _ (ms : List Map) (c : Cut) (D : DrawableCut ms c) (os : List ℕ) (bs : List ℤ) (N : NetBy (overlayIn ms c) c os bs) where
   abbrev o : Overlay
@@ -42,4 +43,4 @@ module _ (ms : List Map) (c : Cut) (D : DrawableCut ms c) (os : List ℕ) (bs : 
     prev-by = prev-of ms c D os bs N next next-is
 
     pub face-long : 2 * c .edges ≤ length face
-    face-long = omega (arith, long halfRows face (o .face) (F .face-is), D .few-edges)
+    face-long = omega (arith, padded-long halfRows face (o .face) (F .face-is), D .few-edges)

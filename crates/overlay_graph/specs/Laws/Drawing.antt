@@ -13,6 +13,7 @@ use Rattle.laws_overlay.specs.Maps.{AllKeep}
 use Rattle.laws_overlay.specs.Places.{places}
 use Rattle.laws_overlay.specs.Net.{goes-even, sourced}
 use Rattle.laws_overlay.specs.NetPlane.{net-plane}
+use Rattle.laws_labels.specs.Agree.{walk-labels}
 use Rattle.plane.specs.Bounds.{Near}
 use Rattle.overlay_cut.specs.Points.{pointsOf}
 use Rattle.overlay_cut.specs.PieceRows.{pieceWidth, piecesIn}
@@ -49,6 +50,7 @@ overlay-drawable ms K near = record {
   goes = λ h l. goes-even ms K (verticesOf ms) (places ms K) h l;
   near = near;
   sources = λ i k r li lk e. sourced ms K (verticesOf ms) (places ms K) k lk .from i r e .of-map;
+  labels = walk-labels ms K;
 }
 
 module _ (l : Layers) (H : Held l) (c : Cut) (C : CutOf (heldMaps l) c) where

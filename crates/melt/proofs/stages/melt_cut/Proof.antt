@@ -69,13 +69,13 @@ walk-net-requires c κs =
 
 melt-faces-requires : tie.Need-melt-faces-requires
 melt-faces-requires c κs =
-    let s = c .before .before .before .before .before .before .before .before .before .before .before .before .before .before .before .before .before .before .before .before .before .before .before .before .before .before .before .before .before .before .before .before .before .before .before in
+    let s = c .before .before .before .before .before .before .before .before .before .before .before .before .before .before .before .before .before .before .before .before .before .before .before .before .before .before .before .before .before .before .before .before .before .before .before .before in
     let p = s .pre in
-    let b = c .before .before .before .before .before .before .before .before .before .before .before .before .before .before .before .before .before .before .before .before .before .before .before .before .lay-net in
-    let w = c .before .before .before .before .before .before .before .before .before .before .before .before .before .before .before .walk-net in
-    let room = ap (λ (n : Counts). n .faces) (c .before .before .before .before .before .before .before .before .before .before .room-in .ensures) in
+    let b = c .before .before .before .before .before .before .before .before .before .before .before .before .before .before .before .before .before .before .before .before .before .before .before .before .before .lay-net in
+    let w = c .before .before .before .before .before .before .before .before .before .before .before .before .before .before .before .before .walk-net in
+    let room = ap (λ (n : Counts). n .faces) (c .before .before .before .before .before .before .before .before .before .before .before .room-in .ensures) in
     let f = faced s (b .last .1 .1 .1 .1 .1 .1 .1 .1 .1 .1 .0) (b .last .1 .1 .1 .1 .1 .1 .1 .1 .1 .1 .1 .0) (b .ensures) (w .last .1 .1 .1 .1 .1 .0) (w .last .1 .1 .1 .1 .1 .1 .0) (w .last .1 .1 .1 .1 .1 .1 .1 .0) (w .last .1 .1 .1 .1 .1 .1 .1 .1 .0) (w .result) (w .ensures) in
-    (p .1 .0, (record { held = p .0; cut = p .1 .1 .0; net-by = b .ensures; outers-is = f .outers-is; count-is = f .count-is }, (f .face-is, (p .1 .1 .1, omega (arith, room, c .before .before .before .before .before .before .before .before .if1)))))
+    (p .1 .0, (record { held = p .0; cut = p .1 .1 .0; net-by = b .ensures; next-is = f .next-is; outers-is = f .outers-is; count-is = f .count-is }, (f .face-is, (p .1 .1 .1, omega (arith, room, c .before .before .before .before .before .before .before .before .before .if1)))))
 
 same-length : tie.Need-same-length
 same-length c = c .before .before .before .before .before .before .before .refuse .kept .1 .0
@@ -99,25 +99,25 @@ returns c =
     c .before .before .before .before .before .before .before .refuse .ensures ∙ room-refused (ms s) (lent s) _ (faces-over (ms s) (k s) (s .pre .1 .0) (few s) (short s) (lent s) (s .pre .1 .1 .1) (w .result) (f .count-is) (omega (arith, room, c .before .before .before .before .before .before .before .before .before .before .before .before .if1)))
 
 same-length-5 : tie.Need-same-length-5
-same-length-5 c = c .before .before .before .before .before .before .before .melt-faces .kept .1 .1 .1 .1 .1 .1 .1 .1 .1 .1 .1 .1 .1 .1 .1 .0
+same-length-5 c = c .before .before .before .before .before .before .before .melt-faces .kept .1 .1 .1 .1 .1 .1 .1 .1 .1 .1 .1 .1 .1 .1 .1 .1 .0
 
 same-length-6 : tie.Need-same-length-6
-same-length-6 c = c .before .before .before .before .before .before .before .melt-faces .kept .1 .1 .1 .1 .1 .1 .1 .1 .1 .1 .1 .1 .1 .1 .1 .1 .0
+same-length-6 c = c .before .before .before .before .before .before .before .melt-faces .kept .1 .1 .1 .1 .1 .1 .1 .1 .1 .1 .1 .1 .1 .1 .1 .1 .1 .0
 
 same-length-7 : tie.Need-same-length-7
-same-length-7 c = c .before .before .before .before .before .before .before .melt-faces .kept .1 .1 .1 .1 .1 .1 .1 .1 .1 .1 .1 .1 .1 .1 .1 .1 .1 .0
+same-length-7 c = c .before .before .before .before .before .before .before .melt-faces .kept .1 .1 .1 .1 .1 .1 .1 .1 .1 .1 .1 .1 .1 .1 .1 .1 .1 .1 .0
 
 same-length-8 : tie.Need-same-length-8
-same-length-8 c = c .before .before .before .before .before .before .before .melt-faces .kept .1 .1 .1 .1 .1 .1 .1 .1 .1 .1 .1 .1 .1 .1 .1 .1 .1 .1 .0
+same-length-8 c = c .before .before .before .before .before .before .before .melt-faces .kept .1 .1 .1 .1 .1 .1 .1 .1 .1 .1 .1 .1 .1 .1 .1 .1 .1 .1 .1 .0
 
 returns-2 : tie.Need-returns-2
 returns-2 c =
-    let s = c .before .before .before .before .before .before .before .before .before .before .before .before .before .before .before .before .before .before .before .before .before .before .before .before .before .before .before .before .before .before .before .before .before .before .before .before .before .before .before .before .before .before .before in
-    let b = c .before .before .before .before .before .before .before .before .before .before .before .before .before .before .before .before .before .before .before .before .before .before .before .before .before .before .before .before .before .before .before .before .lay-net in
-    let w = c .before .before .before .before .before .before .before .before .before .before .before .before .before .before .before .before .before .before .before .before .before .before .before .walk-net in
-    let room = ap (λ (n : Counts). n .faces) (c .before .before .before .before .before .before .before .before .before .before .before .before .before .before .before .before .before .before .room-in .ensures) in
+    let s = c .before .before .before .before .before .before .before .before .before .before .before .before .before .before .before .before .before .before .before .before .before .before .before .before .before .before .before .before .before .before .before .before .before .before .before .before .before .before .before .before .before .before .before .before in
+    let b = c .before .before .before .before .before .before .before .before .before .before .before .before .before .before .before .before .before .before .before .before .before .before .before .before .before .before .before .before .before .before .before .before .before .lay-net in
+    let w = c .before .before .before .before .before .before .before .before .before .before .before .before .before .before .before .before .before .before .before .before .before .before .before .before .walk-net in
+    let room = ap (λ (n : Counts). n .faces) (c .before .before .before .before .before .before .before .before .before .before .before .before .before .before .before .before .before .before .before .room-in .ensures) in
     let f = faced s (b .last .1 .1 .1 .1 .1 .1 .1 .1 .1 .1 .0) (b .last .1 .1 .1 .1 .1 .1 .1 .1 .1 .1 .1 .0) (b .ensures) (w .last .1 .1 .1 .1 .1 .0) (w .last .1 .1 .1 .1 .1 .1 .0) (w .last .1 .1 .1 .1 .1 .1 .1 .0) (w .last .1 .1 .1 .1 .1 .1 .1 .1 .0) (w .result) (w .ensures) in
-    c .before .before .before .before .before .before .before .melt-faces .ensures ∙ room-done (ms s) (lent s) (faces-fit (ms s) (k s) (s .pre .1 .0) (few s) (short s) (lent s) (s .pre .1 .1 .1) (w .result) (f .count-is) (omega (arith, room, c .before .before .before .before .before .before .before .before .before .before .before .before .before .before .before .before .if1)))
+    c .before .before .before .before .before .before .before .melt-faces .ensures ∙ room-done (ms s) (lent s) (faces-fit (ms s) (k s) (s .pre .1 .0) (few s) (short s) (lent s) (s .pre .1 .1 .1) (w .result) (f .count-is) (omega (arith, room, c .before .before .before .before .before .before .before .before .before .before .before .before .before .before .before .before .before .if1)))
 
 pub melt-cut-spec : {M : Type 1} → statement M
 melt-cut-spec =
@@ -136,6 +136,7 @@ melt-cut-spec =
     (λ c κs. tt)
     (λ c. search needs)
     (λ c κs. tt)
+    (λ c. search needs)
     (λ c. search needs)
     (λ c. search needs)
     (λ c. search needs)

@@ -35,33 +35,33 @@ module _ (s : tie.Start) where
   abbrev lent : Lengths
   lent = let a = s .args in lengthsOf (tablesBy (now (a .vertices)) (now (a .halves)) (now (a .sources)) (now (a .faces)))
 
-  abbrev O : Outlined L C (now (s .args .ends)) (now (s .args .lines)) (now (s .args .outers)) (s .args .count)
+  abbrev O : Outlined L C (now (s .args .ends)) (now (s .args .lines)) (now (s .args .next)) (now (s .args .outers)) (s .args .count)
   O = s .pre .1 .0
 
 -- the labels of every face are laid
 module _ (c : tie.After-lay-labels) where
   abbrev begun : tie.Start
-  begun = c .before .before .before .before .before .before .before .before .before .before .before .before .before
+  begun = c .before .before .before .before .before .before .before .before .before .before .before .before .before .before
 
   abbrev triples : List ℕ
-  triples = c .lay-labels .last .1 .1 .1 .1 .1 .1 .1 .1 .1 .1 .1 .1 .0
+  triples = c .lay-labels .last .1 .1 .1 .1 .1 .1 .1 .1 .1 .1 .1 .1 .1 .0
 
   known : Labelled (ms begun) (C begun) (now (begun .args .face)) triples
   known =
       let s = begun in
       let a = s .args in
-      labelled (L s) (C s) (s .pre .0) (now (a .ends)) (now (a .lines)) (now (a .outers)) (a .count) (O s) (now (a .face)) (s .pre .1 .1 .0) triples _ (c .lay-labels .ensures)
+      labelled (L s) (C s) (s .pre .0) (now (a .ends)) (now (a .lines)) (now (a .next)) (now (a .outers)) (a .count) (O s) (now (a .face)) (s .pre .1 .1 .0) triples _ (c .lay-labels .ensures)
 
 -- ── the needs ──
 
 add-lay-labels : tie.Need-add-lay-labels
-add-lay-labels c = omega (arith, c .before .before .before .before .before .before .before .before .before .before .before .pre .1 .1 .1 .1)
+add-lay-labels c = omega (arith, c .before .before .before .before .before .before .before .before .before .before .before .before .pre .1 .1 .1 .1)
 
 lay-labels-requires : tie.Need-lay-labels-requires
 lay-labels-requires c κs =
-    let s = c .before .before .before .before .before .before .before .before .before .before .before .before in
+    let s = c .before .before .before .before .before .before .before .before .before .before .before .before .before in
     let a = s .args in
-    (O s .held, (readable (L s) (C s) (now (a .ends)) (now (a .lines)) (now (a .outers)) (a .count) (O s), omega (arith, s .pre .1 .1 .1 .1)))
+    (O s .held, (readable (L s) (C s) (now (a .ends)) (now (a .lines)) (now (a .next)) (now (a .outers)) (a .count) (O s), omega (arith, s .pre .1 .1 .1 .1)))
 
 thin-requires : tie.Need-thin-requires
 thin-requires c κs =
@@ -69,9 +69,9 @@ thin-requires c κs =
     let s = begun r in
     let a = s .args in
     let D = O s .cut in
-    let faces = faces-are (L s) (C s) (s .pre .0) (now (a .ends)) (now (a .lines)) (now (a .outers)) (a .count) (O s) (now (a .face)) (s .pre .1 .1 .0) in
-    let long = face-long (L s) (C s) (s .pre .0) (now (a .ends)) (now (a .lines)) (now (a .outers)) (a .count) (O s) (now (a .face)) (s .pre .1 .1 .0) in (
-      thinnable (ms s) (C s) (now (a .face)) (triples r) (known r) (D .points-long) (D .pieces-long) long (omega (arith, faces, r .lay-labels .kept .1 .1 .1 .1 .1 .1 .1 .1 .1 .1 .1 .1 .0, s .pre .1 .1 .1 .1)),
+    let faces = faces-are (L s) (C s) (s .pre .0) (now (a .ends)) (now (a .lines)) (now (a .next)) (now (a .outers)) (a .count) (O s) (now (a .face)) (s .pre .1 .1 .0) in
+    let long = face-long (L s) (C s) (s .pre .0) (now (a .ends)) (now (a .lines)) (now (a .next)) (now (a .outers)) (a .count) (O s) (now (a .face)) (s .pre .1 .1 .0) in (
+      thinnable (ms s) (C s) (now (a .face)) (triples r) (known r) (D .points-long) (D .pieces-long) long (omega (arith, faces, r .lay-labels .kept .1 .1 .1 .1 .1 .1 .1 .1 .1 .1 .1 .1 .1 .0, s .pre .1 .1 .1 .1)),
       (omega (arith, D .few-vertices), omega (arith, D .few-edges)),
     )
 
@@ -85,9 +85,9 @@ from-cut-requires c κs =
     let D = O s .cut in (
       O s .held,
       (
-        left-drawable (L s) (C s) (s .pre .0) (now (a .ends)) (now (a .lines)) (now (a .outers)) (a .count) (O s) (now (a .face)) (s .pre .1 .1 .0) (triples r) _ (r .lay-labels .ensures) k (t .ensures)
+        left-drawable (L s) (C s) (s .pre .0) (now (a .ends)) (now (a .lines)) (now (a .next)) (now (a .outers)) (a .count) (O s) (now (a .face)) (s .pre .1 .1 .0) (triples r) _ (r .lay-labels .ensures) k (t .ensures)
             (omega (arith, D .few-vertices, t .kept .1 .1 .1 .1 .1 .1 .0)) (omega (arith, D .few-edges, t .kept .1 .1 .1 .1 .1 .1 .1 .0)),
-        left-within (L s) (C s) (s .pre .0) (now (a .ends)) (now (a .lines)) (now (a .outers)) (a .count) (O s) (now (a .face)) (s .pre .1 .1 .0) (triples r) _ (r .lay-labels .ensures) k (t .ensures) (lent s) (s .pre .1 .1 .1 .0),
+        left-within (L s) (C s) (s .pre .0) (now (a .ends)) (now (a .lines)) (now (a .next)) (now (a .outers)) (a .count) (O s) (now (a .face)) (s .pre .1 .1 .0) (triples r) _ (r .lay-labels .ensures) k (t .ensures) (lent s) (s .pre .1 .1 .1 .0),
       ),
     )
 
@@ -112,7 +112,7 @@ returns c =
     let k = cutBy (t .result .vertices) (t .last .1 .1 .1 .1 .1 .1 .0) (t .result .edges) (t .last .1 .1 .1 .1 .1 .1 .1 .0) in
     let D = O s .cut in
     c .before .before .before .before .before .before .before .from-cut .ensures
-    ∙ ap (λ (o : Overlay). laidOut (ms s) o (lent s)) (left-melted (L s) (C s) (s .pre .0) (now (a .ends)) (now (a .lines)) (now (a .outers)) (a .count) (O s) (now (a .face)) (s .pre .1 .1 .0) (triples r) _ (r .lay-labels .ensures) k (t .ensures))
+    ∙ ap (λ (o : Overlay). laidOut (ms s) o (lent s)) (left-melted (L s) (C s) (s .pre .0) (now (a .ends)) (now (a .lines)) (now (a .next)) (now (a .outers)) (a .count) (O s) (now (a .face)) (s .pre .1 .1 .0) (triples r) _ (r .lay-labels .ensures) k (t .ensures))
     ∙ melted-room (ms s) (lent s) (keep (L s) (O s .held))
     (faces-fit (ms s) (C s) (s .pre .0) (D .few-vertices) (D .few-edges) (lent s) (s .pre .1 .1 .1 .0) (a .count) (O s .count-is) (s .pre .1 .1 .1 .1))
 

@@ -38,11 +38,11 @@ few s = s .pre .1 .0 .few-vertices
 short : (s : tie.Start) → s .args .ne ≤ overlayEdges
 short s = s .pre .1 .0 .few-edges
 
-whole : (s : tie.Start) → Whole (L s) (C s) (now (s .args .ends)) (now (s .args .lines)) (now (s .args .outers)) (now (s .args .holes)) (s .args .count)
+whole : (s : tie.Start) → Whole (L s) (C s) (now (s .args .ends)) (now (s .args .lines)) (now (s .args .next)) (now (s .args .outers)) (now (s .args .holes)) (s .args .count)
 whole s =
     let F = s .pre .1 .1 .1 .0 .1 in
     record {
-      outlined = record { held = s .pre .0; cut = s .pre .1 .0; net-by = s .pre .1 .1 .1 .0 .0; outers-is = F .outers-is; count-is = F .count-is };
+      outlined = record { held = s .pre .0; cut = s .pre .1 .0; net-by = s .pre .1 .1 .1 .0 .0; next-is = F .next-is; outers-is = F .outers-is; count-is = F .count-is };
       holes-is = F .holes-is;
     }
 
@@ -114,7 +114,7 @@ store-faces-requires : tie.Need-store-faces-requires
 store-faces-requires c κs =
     let r = begun (c .before .before .before .before .before .before .before .before .before .before .before .before .before .before .before .before .before .before .before .before .before .before .before .before .before .before .before .before .before .before) .pre .1 .1 .1 .1 in
     let kept = c .before .before .before .before .before .before .before .before .before .before .before .before .before .before .before .before .before .before .before .before .rows-in .kept in
-    (omega (arith, r), omega (arith, r, kept .1 .1 .1 .1 .1 .1 .1 .1 .1 .1 .1 .1 .1 .1 .1 .0), omega (arith, r, kept .1 .1 .1 .1 .1 .1 .1 .1 .1 .1 .1 .1 .1 .1 .1 .1 .0), omega (arith, r, kept .1 .1 .1 .1 .1 .1 .1 .1 .1 .1 .1 .1 .1 .1 .1 .1 .1 .0))
+    (omega (arith, r), omega (arith, r, kept .1 .1 .1 .1 .1 .1 .1 .1 .1 .1 .1 .1 .1 .1 .1 .1 .0), omega (arith, r, kept .1 .1 .1 .1 .1 .1 .1 .1 .1 .1 .1 .1 .1 .1 .1 .1 .1 .0), omega (arith, r, kept .1 .1 .1 .1 .1 .1 .1 .1 .1 .1 .1 .1 .1 .1 .1 .1 .1 .1 .0))
 
 same-length : tie.Need-same-length
 same-length c = c .before .before .before .before .before .before .before .before .before .before .before .before .before .before .before .before .before .store-vertices .kept .0
@@ -157,8 +157,8 @@ returns c =
     let k = s r in
     let x = r .rows-in .last in
     let ms = heldMaps (L k) in
-    let counted = counts-are ms (C k) (T r) (traced r) (x .1 .1 .1 .1 .1 .1 .1 .1 .1 .1 .1 .1 .1 .1 .1 .0) (x .1 .1 .1 .1 .1 .1 .1 .1 .1 .1 .1 .1 .1 .1 .1 .1 .0) (x .1 .1 .1 .1 .1 .1 .1 .1 .1 .1 .1 .1 .1 .1 .1 .1 .1 .0) (r .rows-in .ensures) in
-    let stored = stored-is ms (C k) (T r) (traced r) (x .1 .1 .1 .1 .1 .1 .1 .1 .1 .1 .1 .1 .1 .1 .1 .0) (x .1 .1 .1 .1 .1 .1 .1 .1 .1 .1 .1 .1 .1 .1 .1 .1 .0) (x .1 .1 .1 .1 .1 .1 .1 .1 .1 .1 .1 .1 .1 .1 .1 .1 .1 .0) (r .rows-in .ensures) in
+    let counted = counts-are ms (C k) (T r) (traced r) (x .1 .1 .1 .1 .1 .1 .1 .1 .1 .1 .1 .1 .1 .1 .1 .1 .0) (x .1 .1 .1 .1 .1 .1 .1 .1 .1 .1 .1 .1 .1 .1 .1 .1 .1 .0) (x .1 .1 .1 .1 .1 .1 .1 .1 .1 .1 .1 .1 .1 .1 .1 .1 .1 .1 .0) (r .rows-in .ensures) in
+    let stored = stored-is ms (C k) (T r) (traced r) (x .1 .1 .1 .1 .1 .1 .1 .1 .1 .1 .1 .1 .1 .1 .1 .1 .0) (x .1 .1 .1 .1 .1 .1 .1 .1 .1 .1 .1 .1 .1 .1 .1 .1 .1 .0) (x .1 .1 .1 .1 .1 .1 .1 .1 .1 .1 .1 .1 .1 .1 .1 .1 .1 .1 .0) (r .rows-in .ensures) in
     λ i. record {
       answer = done (counted i);
       tables = ((λ j. tablesBy (c .before .before .before .before .before .before .before .before .before .before .before .before .before .before .before .before .before .store-vertices .ensures j) (c .before .before .before .before .before .before .before .before .before .before .before .before .before .store-halves .ensures j) (c .before .before .before .before .before .before .before .before .before .store-sources .ensures j) (c .before .before .store-faces .ensures j)) ∙ ap (paddedTables (lent k)) stored) i;

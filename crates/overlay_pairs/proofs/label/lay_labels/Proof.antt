@@ -11,28 +11,28 @@ use Rattle.overlay_pairs.proofs.label.lay_labels.Statement.{statement}
 use Rattle.overlay_pairs.proofs.label.lay_labels.Tie as tie
 
 abbrev Inv-loop : tie.InvT-loop
-Inv-loop vstarts estarts corners origins carriers labels points ends lines pieces outers n out₀ cells j₀ out j =
+Inv-loop vstarts estarts corners origins carriers labels points ends lines pieces next outers n out₀ cells j₀ out j =
     Filling (labelCell (layersBy vstarts estarts corners origins carriers labels) points ends lines pieces outers) (maps * n) out₀ out j
 
 abbrev μ-loop : tie.MeasureT-loop
-μ-loop vstarts estarts corners origins carriers labels points ends lines pieces outers n out₀ cells j₀ out j = cells - j
+μ-loop vstarts estarts corners origins carriers labels points ends lines pieces next outers n out₀ cells j₀ out j = cells - j
 
 mul-cells : tie.Need-mul-cells Inv-loop μ-loop
-mul-cells c = let s = c .before .before .before .before .before .before .before .before in omega (arith, s .pre .1 .1, s .good .1 .1 .1 .1 .1 .1 .1 .1 .1 .1 .1 .1 .0 .1)
+mul-cells c = let s = c .before .before .before .before .before .before .before .before .before in omega (arith, s .pre .1 .1, s .good .1 .1 .1 .1 .1 .1 .1 .1 .1 .1 .1 .1 .1 .0 .1)
 
 -- cell j is that of face j / maps in map j % maps
 face-label-requires : tie.Need-face-label-requires Inv-loop μ-loop
 face-label-requires c κs =
-    let s = c .before .before .before .before .before .before .before .before .before .before in
+    let s = c .before .before .before .before .before .before .before .before .before .before .before in
     let j = c .before .loop .j in
     let h = c .loop-test .taken in
     (s .pre .0, (omega arith, s .pre .1 .0 (j % maps) (j / maps) (omega arith) (omega (arith, h))))
 
 mul-out : tie.Need-mul-out Inv-loop μ-loop
-mul-out c = let s = c .before .before .before .before .before .before .before .before .before .before .before in omega (arith, c .before .loop-test .taken, s .pre .1 .1, s .good .1 .1 .1 .1 .1 .1 .1 .1 .1 .1 .1 .1 .0 .1)
+mul-out c = let s = c .before .before .before .before .before .before .before .before .before .before .before .before in omega (arith, c .before .loop-test .taken, s .pre .1 .1, s .good .1 .1 .1 .1 .1 .1 .1 .1 .1 .1 .1 .1 .1 .0 .1)
 
 add-j : tie.Need-add-j Inv-loop μ-loop
-add-j c = let s = c .before .before .before .before .before .before .before .before .before .before .before in omega (arith, c .before .loop-test .taken, s .pre .1 .1, s .good .1 .1 .1 .1 .1 .1 .1 .1 .1 .1 .1 .1 .0 .1)
+add-j c = let s = c .before .before .before .before .before .before .before .before .before .before .before .before in omega (arith, c .before .loop-test .taken, s .pre .1 .1, s .good .1 .1 .1 .1 .1 .1 .1 .1 .1 .1 .1 .1 .1 .0 .1)
 
 pub lay-labels-spec : {M : Type 1} → statement M
 lay-labels-spec =
@@ -41,7 +41,7 @@ lay-labels-spec =
     Inv-loop
     μ-loop
     mul-cells
-    (λ c. fill-starts (c .before .before .before .before .before .before .before .before .pre .1 .1))
+    (λ c. fill-starts (c .before .before .before .before .before .before .before .before .before .pre .1 .1))
     face-label-requires
     mul-out
     (λ c. search needs)
