@@ -1,4 +1,5 @@
 // Rules 8 and 9: edges that share more than ends, and vertices without an edge, each a search for its least place.
+use super::pass::all_clear;
 use graph::carrier_at;
 use plane::Seg;
 use plane::boxes_apart;
@@ -8,6 +9,7 @@ ghost use Prim.Native.Nat.{_≤_, _<_};
 ghost use lib.ListN.{length};
 ghost use lib.Signed.{ltZ};
 ghost use Rattle.seq.specs.Seq.{least};
+ghost use Rattle.paper.specs.Limits.{mapEdges};
 ghost use Rattle.paper.specs.Plane.{head, clash};
 ghost use Rattle.plane.specs.Values.{segOf};
 ghost use Rattle.plane.specs.Bounds.{Edge};
@@ -17,7 +19,7 @@ ghost use Rattle.map_check.specs.Net.{clashingAt, startsAt, lonelyAt};
 ghost use Rattle.map_check.specs.Later.{laterAt};
 
 // Whether the upper end of s is lower than the lower end of t: as edges go up, s then lies wholly below t.
-fn lies_under(s: Seg, t: Seg) -> bool
+pub fn lies_under(s: Seg, t: Seg) -> bool
     requires { ⌜ Edge (segOf s) × Edge (segOf t) ⌝ }
     ensures { λ r. ⌜ r ≡ ltZ (head (segOf s) .y) (segOf t .foot .y) ⌝ }
 {
@@ -59,8 +61,8 @@ pub fn first_clash(carriers: &[i16], e: usize, k: usize) -> usize
     e
 }
 
-// 8 "an edge shares with another any point that is not an end of both": the least such edge, or e. It clashes with a later one.
-pub fn first_clashing(carriers: &[i16], e: usize) -> usize
+// The least edge that clashes with a later one, or e: the least that clashes with another.
+fn search_clashing(carriers: &[i16], e: usize) -> usize
     requires { ⌜ Carriers (now carriers) e × Upright (now carriers) e ⌝ }
     ensures { λ r. ⌜ r ≡ least (clashingAt (now (carriers .entry)) e) e ⌝ }
 {
@@ -72,6 +74,18 @@ pub fn first_clashing(carriers: &[i16], e: usize) -> usize
         k += 1;
     }
     e
+}
+
+// 8 "an edge shares with another any point that is not an end of both": the least such edge, or e. It is searched only where the pass from below does not find that there is none.
+pub fn first_clashing(carriers: &[i16], e: usize) -> usize
+    requires { ⌜ Carriers (now carriers) e × Upright (now carriers) e × (e ≤ mapEdges) ⌝ }
+    ensures { λ r. ⌜ r ≡ least (clashingAt (now (carriers .entry)) e) e ⌝ }
+{
+    if all_clear(carriers, e) {
+        e
+    } else {
+        search_clashing(carriers, e)
+    }
 }
 
 // The least of m half-edges that starts from vertex v, or m.
