@@ -86,10 +86,13 @@ fn fork(s: Seg, t: Seg) -> bool
     requires { ⌜ Edge (segOf s) × Edge (segOf t) × UpV (segOf s .up) × UpV (segOf t .up) ⌝ }
     ensures { λ r. ⌜ (r ≡ true → clash (segOf s) (segOf t) ≡ false) ⌝ }
 {
+    if !share_end(s, t) {
+        return false;
+    }
     if cross_of(s.u, s.v, t.u, t.v) == 0 {
         return false;
     }
-    share_end(s, t)
+    true
 }
 
 // Whether s and t have an end in common and nothing else: one ends where the other starts, or they fork.
@@ -106,7 +109,7 @@ fn join(s: Seg, t: Seg) -> bool
     fork(s, t)
 }
 
-// Whether s and t, which go up, do not clash: their boxes are apart, or one lies on one side of the other, or they only join.
+// Whether s and t, which go up, do not clash: their boxes are apart, or they only join, as most of the others do, or one lies on one side of the other.
 pub fn clear(s: Seg, t: Seg) -> bool
     requires { ⌜ Edge (segOf s) × Edge (segOf t) × UpV (segOf s .up) × UpV (segOf t .up) ⌝ }
     ensures { λ r. ⌜ (r ≡ true → clash (segOf s) (segOf t) ≡ false) ⌝ }
@@ -114,11 +117,11 @@ pub fn clear(s: Seg, t: Seg) -> bool
     if boxes_apart(s, t) {
         return true;
     }
+    if join(s, t) {
+        return true;
+    }
     if lies_aside(s, t) {
         return true;
     }
-    if lies_aside(t, s) {
-        return true;
-    }
-    join(s, t)
+    lies_aside(t, s)
 }

@@ -24,21 +24,21 @@ returns c =
     let p = start .pre in
     λ e. boxes-clear s t (p .2) (p .3) (boxes-apart s t (sym (c .before .boxes-apart .ensures) ∙ c .if1 .taken))
 
-returns-2 : tie.Need-returns-2
-returns-2 c =
-    let start : tie.Start = search needs in
-    let s = segOf (start .args .s) in
-    let t = segOf (start .args .t) in
-    let p = start .pre in
-    λ e. aside-clear s t (p .2) (p .3) (sym (c .before .lies-aside .ensures) ∙ c .if2 .taken)
-
 returns-3 : tie.Need-returns-3
 returns-3 c =
     let start : tie.Start = search needs in
     let s = segOf (start .args .s) in
     let t = segOf (start .args .t) in
     let p = start .pre in
-    λ e. clash-swap s t (p .2) (p .3) ∙ aside-clear t s (p .3) (p .2) (sym (c .before .lies-aside2 .ensures) ∙ c .if3 .taken)
+    λ e. aside-clear s t (p .2) (p .3) (sym (c .before .lies-aside .ensures) ∙ c .if3 .taken)
+
+returns-4 : tie.Need-returns-4
+returns-4 c =
+    let start : tie.Start = search needs in
+    let s = segOf (start .args .s) in
+    let t = segOf (start .args .t) in
+    let p = start .pre in
+    λ e. clash-swap s t (p .2) (p .3) ∙ aside-clear t s (p .3) (p .2) (sym (c .lies-aside2 .ensures) ∙ e)
 
 pub clear-spec : {M : Type 1} → statement M
 clear-spec =
@@ -47,8 +47,8 @@ clear-spec =
     (λ c κs. search needs)
     returns
     (λ c κs. search needs)
-    returns-2
+    (λ c. λ e. c .before .join .ensures (c .if2 .taken))
     (λ c κs. search needs)
     returns-3
     (λ c κs. search needs)
-    (λ c. c .join .ensures))
+    returns-4)
