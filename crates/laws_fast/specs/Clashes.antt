@@ -1,6 +1,7 @@
 -- Rule 8 by a pass from below: n edges by rising lower ends, each tested only against those met before whose upper end is not before its lower end (`Passing`). Where no test finds anything no two edges
 -- clash (`pass-no-clash`), so the search for the least edge that clashes finds nothing (`pass-least`, `pass-eight`).
--- `order-least` is the same of any order in which no edge clashes with a later one. The test may be any that is false only of two edges that do not clash: `clash` itself, or `clash` where the boxes meet (`boxed-sound`). The edges are given by their segments: carriers in a table, or of a graph. Assumes nothing.
+-- `order-least` is the same of any order in which no edge clashes with a later one. The test may be any that is false only of two edges that do not clash: `clash` itself,
+-- or `clash` where the boxes meet (`boxed-sound`). The edges are given by their segments: carriers in a table, or of a graph. Assumes nothing.
 use mathlib.Core.Path.{_≡_, refl, sym, _∙_, ap}
 use mathlib.Core.Logic.{⊎-elim, _⊎_}
 use Prim.Native.Nat.{_<_}

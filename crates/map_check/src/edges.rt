@@ -1,4 +1,4 @@
-// Rules 8 and 9: edges that share more than ends, and vertices without an edge, each a search for its least place.
+// Rules 8 and 9: edges that share more than ends, and vertices without an edge, each by its least place.
 use super::pass::all_clear;
 use graph::carrier_at;
 use graph::first_places;

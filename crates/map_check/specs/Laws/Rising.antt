@@ -1,7 +1,7 @@
 -- The pass from below: edges in cells that stand in turn are in the order of their lower ends' heights, each once (`turn-order`); so those from the first that starts above an edge's upper end lie
 -- wholly above it (`above-clear`), and where no edge clashes with one in a later cell the search for the least that clashes finds nothing (`turn-least`). Assumes nothing.
 use mathlib.Core.List.{[], _∷_}
-use mathlib.Core.Path.{_≡_, sym, _∙_, subst}
+use mathlib.Core.Path.{_≡_, subst}
 use Prim.Native.Nat.{_≤_, _<_}
 use native.Mathlib.Decide.{decLt}
 use native.Mathlib.Omega.{arith}

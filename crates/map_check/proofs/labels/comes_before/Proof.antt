@@ -11,7 +11,7 @@ use Rattle.exact.specs.Order.{zomega, sq}
 use Rattle.exact.specs.Tests.{lt-t, t-lt}
 use Rattle.seq.specs.Seq.{true, ℤ, pos, _-ℤ_}
 use Rattle.seq.specs.Tests.{bool-ext}
-use Rattle.paper.specs.Plane.{Pt, Vec, vec, whole, before}
+use Rattle.paper.specs.Plane.{Vec, vec, whole, before}
 use Rattle.laws_plane.specs.Cone.{Up, above, level}
 use Rattle.laws_plane.specs.Ends.{corner-up, up-corner}
 use Rattle.map_check.proofs.labels.comes_before.Statement.{statement}

@@ -1,5 +1,5 @@
 -- `map_check::pairs::fork` meets its contract: two lines that are not parallel have one point in common. Assumes nothing.
-use mathlib.Core.Path.{_≡_, sym, _∙_}
+use mathlib.Core.Path.{_≡_, _∙_}
 use mathlib.Core.Logic.{⊎-elim}
 use borrow.Author.Needs.{needs}
 use mir.Syntax.{w64}

@@ -1,5 +1,5 @@
 -- `map_check::pairs::join` meets its contract. Assumes nothing.
-use mathlib.Core.Path.{_≡_, sym, _∙_, ap, subst}
+use mathlib.Core.Path.{_≡_, sym, _∙_, ap}
 use borrow.Author.Needs.{needs}
 use Rattle.seq.specs.Seq.{false}
 use Rattle.paper.specs.Plane.{Seg, Vec, whole, head, before, clash}

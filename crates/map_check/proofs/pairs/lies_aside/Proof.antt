@@ -2,7 +2,7 @@
 use mathlib.Core.Path.{_≡_, ap, _∙_}
 use borrow.Author.Needs.{needs}
 use Rattle.exact.specs.Mach.{tr, plain}
-use Rattle.paper.specs.Plane.{Vec, whole, head, leftBy}
+use Rattle.paper.specs.Plane.{whole, head, leftBy}
 use Rattle.laws_fast.specs.Sides.{oneSide}
 use Rattle.plane.specs.Values.{segOf}
 use Rattle.plane.proofs.Machine.{back}
