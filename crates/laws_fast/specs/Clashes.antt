@@ -1,6 +1,7 @@
 -- Rule 8 by a pass from below: n edges by rising lower ends, each tested only against those met before whose upper end is not before its lower end (`Passing`). Where no test finds anything no two edges
--- clash (`pass-no-clash`), so the search for the least edge that clashes finds nothing (`pass-least`, `pass-eight`). The test may be any that is false only of two edges that do not clash:
--- `clash` itself, or `clash` where the boxes meet (`boxed-sound`). The edges are given by their segments: carriers in a table, or of a graph. Assumes nothing.
+-- clash (`pass-no-clash`), so the search for the least edge that clashes finds nothing (`pass-least`, `pass-eight`).
+-- `order-least` is the same of any order in which no edge clashes with a later one. The test may be any that is false only of two edges that do not clash: `clash` itself,
+-- or `clash` where the boxes meet (`boxed-sound`). The edges are given by their segments: carriers in a table, or of a graph. Assumes nothing.
 use mathlib.Core.Path.{_≡_, refl, sym, _∙_, ap}
 use mathlib.Core.Logic.{⊎-elim, _⊎_}
 use Prim.Native.Nat.{_<_}
@@ -44,14 +45,8 @@ module _ (seg : ℕ → Seg) (n : ℕ) where
   abbrev pub NoClash : Type 0
   NoClash = (k j : ℕ) → k < n → j < n → (k ≡ j → ⊥) → clash (seg k) (seg j) ≡ false
 
-  module _ (up : AllUp) (f : ℕ → ℕ) (I : Injects f n) (gone : ℕ → ℕ → Bool) (O : Passing seg f gone n) (test : ℕ → ℕ → Bool) (S : Sound test) (e : meets gone f test n ≡ false) where
-    -- in the order of the pass
-    along : (i j : ℕ) → i < j → j < n → clash (seg (f i)) (seg (f j)) ≡ false
-    along i j l h =
-        let a : f i < n = I .into i (omega arith) in
-        let b : f j < n = I .into j h in
-        ⊎-elim (λ q. disjoint-clash (seg (f i)) (seg (f j)) (up (f i) a) (up (f j) b) (O .clear i j l h q)) (λ q. S (f i) (f j) a b q) (pass-clear gone f test n (O .lasts) e i j l h)
-
+  -- n edges that go up, in an order f, of which each clashes with none that comes after it
+  module _ (up : AllUp) (f : ℕ → ℕ) (I : Injects f n) (along : (i j : ℕ) → i < j → j < n → clash (seg (f i)) (seg (f j)) ≡ false) where
     either : (i j : ℕ) → i < n → j < n → (i ≡ j → ⊥) → clash (seg (f i)) (seg (f j)) ≡ false
     either i j li lj d =
         elim (decLt i j) [
@@ -59,9 +54,8 @@ module _ (seg : ℕ → Seg) (n : ℕ) where
           | no l ↦ clash-swap (seg (f i)) (seg (f j)) (up (f i) (I .into i li)) (up (f j) (I .into j lj)) ∙ along j i (omega arith) li
         ]
 
-    -- the pass finds nothing: no two edges clash
-    pub pass-no-clash : NoClash
-    pass-no-clash k j lk lj d =
+    pub order-no-clash : NoClash
+    order-no-clash k j lk lj d =
         let (a, la, p) = onto f n I k lk in
         let (b, lb, q) = onto f n I j lj in
         sym (λ i. clash (seg (p i)) (seg (q i))) ∙ either a b la lb (λ s. d (sym p ∙ ap f s ∙ q))
@@ -70,12 +64,27 @@ module _ (seg : ℕ → Seg) (n : ℕ) where
     one-clear k j lk lj =
         elim (ℕ-discrete k j) [
           | yes q ↦ ap (λ (c : Bool). not c && clash (seg k) (seg j)) (eq-eqb k j q)
-          | no q ↦ (λ i. not (ne-eqb k j q i) && pass-no-clash k j lk lj q i)
+          | no q ↦ (λ i. not (ne-eqb k j q i) && order-no-clash k j lk lj q i)
         ]
 
     -- so the search for the least that does finds nothing
+    pub order-least : least (clashingBy seg n) n ≡ n
+    order-least = least-none (clashingBy seg n) n (λ k lk. no-some (λ j. not (eqb k j) && clash (seg k) (seg j)) n (λ j lj. one-clear k j lk lj))
+
+  module _ (up : AllUp) (f : ℕ → ℕ) (I : Injects f n) (gone : ℕ → ℕ → Bool) (O : Passing seg f gone n) (test : ℕ → ℕ → Bool) (S : Sound test) (e : meets gone f test n ≡ false) where
+    -- in the order of the pass
+    along : (i j : ℕ) → i < j → j < n → clash (seg (f i)) (seg (f j)) ≡ false
+    along i j l h =
+        let a : f i < n = I .into i (omega arith) in
+        let b : f j < n = I .into j h in
+        ⊎-elim (λ q. disjoint-clash (seg (f i)) (seg (f j)) (up (f i) a) (up (f j) b) (O .clear i j l h q)) (λ q. S (f i) (f j) a b q) (pass-clear gone f test n (O .lasts) e i j l h)
+
+    -- the pass finds nothing: no two edges clash
+    pub pass-no-clash : NoClash
+    pass-no-clash = order-no-clash up f I along
+
     pub pass-least : least (clashingBy seg n) n ≡ n
-    pass-least = least-none (clashingBy seg n) n (λ k lk. no-some (λ j. not (eqb k j) && clash (seg k) (seg j)) n (λ j lj. one-clear k j lk lj))
+    pass-least = order-least up f I along
 
 -- ── a test by boxes first ──
 

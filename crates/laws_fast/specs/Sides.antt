@@ -121,7 +121,7 @@ module _ (s t : Seg) (us : UpV (s .up)) (ut : UpV (t .up)) where
 abbrev pub oneSide : ℤ → ℤ → Bool
 oneSide a b = (ltZ (pos 0) a && ltZ (pos 0) b) || (ltZ a (pos 0) && ltZ b (pos 0))
 
-one-is : (a b : ℤ) → oneSide a b ≡ true → OneSide a b
+pub one-is : (a b : ℤ) → oneSide a b ≡ true → OneSide a b
 one-is a b e =
     ⊎-elim (λ f. let r = and-parts (ltZ (pos 0) a) (ltZ (pos 0) b) f in inl (lt-t {a = pos 0} {b = a} (r .0), lt-t {a = pos 0} {b = b} (r .1)))
     (λ f. let r = and-parts (ltZ a (pos 0)) (ltZ b (pos 0)) f in inr (lt-t {a = a} {b = pos 0} (r .0), lt-t {a = b} {b = pos 0} (r .1)))

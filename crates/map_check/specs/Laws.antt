@@ -1,6 +1,7 @@
 -- The laws behind the proofs of this crate: nothing here is cited by a contract.
 pub mod Kept
 pub mod Rows
+pub mod Rising
 pub mod Walking
 pub mod Makers
 pub mod Disagree

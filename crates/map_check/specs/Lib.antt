@@ -1,6 +1,8 @@
 pub mod Parts
 pub mod Net
 pub mod Later
+pub mod Pairs
+pub mod Pass
 pub mod Labels
 pub mod Held
 pub mod Answer

@@ -1,5 +1,8 @@
-// Rules 8 and 9: edges that share more than ends, and vertices without an edge, each a search for its least place.
+// Rules 8 and 9: edges that share more than ends, and vertices without an edge, each by its least place.
+use super::pass::all_clear;
 use graph::carrier_at;
+use graph::first_places;
+use limits::MAP_VERTICES;
 use plane::Seg;
 use plane::boxes_apart;
 use plane::clash_by;
@@ -8,16 +11,17 @@ ghost use Prim.Native.Nat.{_≤_, _<_};
 ghost use lib.ListN.{length};
 ghost use lib.Signed.{ltZ};
 ghost use Rattle.seq.specs.Seq.{least};
+ghost use Rattle.paper.specs.Limits.{absent, mapVertices, mapEdges};
 ghost use Rattle.paper.specs.Plane.{head, clash};
 ghost use Rattle.plane.specs.Values.{segOf};
 ghost use Rattle.plane.specs.Bounds.{Edge};
-ghost use Rattle.graph.specs.Flat.{carrierAt, Carriers};
+ghost use Rattle.graph.specs.Flat.{carrierAt, Carriers, Numbers};
 ghost use Rattle.graph.specs.Upright.{Upright};
 ghost use Rattle.map_check.specs.Net.{clashingAt, startsAt, lonelyAt};
 ghost use Rattle.map_check.specs.Later.{laterAt};
 
 // Whether the upper end of s is lower than the lower end of t: as edges go up, s then lies wholly below t.
-fn lies_under(s: Seg, t: Seg) -> bool
+pub fn lies_under(s: Seg, t: Seg) -> bool
     requires { ⌜ Edge (segOf s) × Edge (segOf t) ⌝ }
     ensures { λ r. ⌜ r ≡ ltZ (head (segOf s) .y) (segOf t .foot .y) ⌝ }
 {
@@ -59,8 +63,8 @@ pub fn first_clash(carriers: &[i16], e: usize, k: usize) -> usize
     e
 }
 
-// 8 "an edge shares with another any point that is not an end of both": the least such edge, or e. It clashes with a later one.
-pub fn first_clashing(carriers: &[i16], e: usize) -> usize
+// The least edge that clashes with a later one, or e: the least that clashes with another.
+fn search_clashing(carriers: &[i16], e: usize) -> usize
     requires { ⌜ Carriers (now carriers) e × Upright (now carriers) e ⌝ }
     ensures { λ r. ⌜ r ≡ least (clashingAt (now (carriers .entry)) e) e ⌝ }
 {
@@ -74,32 +78,39 @@ pub fn first_clashing(carriers: &[i16], e: usize) -> usize
     e
 }
 
-// The least of m half-edges that starts from vertex v, or m.
-fn first_start(origins: &[u16], m: usize, v: usize) -> usize
-    requires { ⌜ m ≤ length (now origins) ⌝ }
-    ensures { λ r. ⌜ r ≡ least (startsAt (now (origins .entry)) v) m ⌝ }
+// 8 "an edge shares with another any point that is not an end of both": the least such edge, or e. It is searched only where the pass from below does not find that there is none.
+pub fn first_clashing(carriers: &[i16], e: usize) -> usize
+    requires { ⌜ Carriers (now carriers) e × Upright (now carriers) e × (e ≤ mapEdges) ⌝ }
+    ensures { λ r. ⌜ r ≡ least (clashingAt (now (carriers .entry)) e) e ⌝ }
 {
-    let mut h = 0;
-    while h < m {
-        if origins[h] as usize == v {
-            return h;
+    if all_clear(carriers, e) {
+        e
+    } else {
+        search_clashing(carriers, e)
+    }
+}
+
+// The least of m cells that holds v, or m.
+fn first_holding(cells: &[u16], m: usize, v: usize) -> usize
+    requires { ⌜ m ≤ length (now cells) ⌝ }
+    ensures { λ r. ⌜ r ≡ least (startsAt (now (cells .entry)) v) m ⌝ }
+{
+    let mut i = 0;
+    while i < m {
+        if cells[i] as usize == v {
+            return i;
         }
-        h += 1;
+        i += 1;
     }
     m
 }
 
-// 9 "a vertex has no edge": the least such vertex of n, or n.
+// 9 "a vertex has no edge": the least such vertex of n, or n. It is the least whose first outgoing half-edge, of m, is m: there is none.
 pub fn first_lonely(origins: &[u16], m: usize, n: usize) -> usize
-    requires { ⌜ m ≤ length (now origins) ⌝ }
+    requires { ⌜ Numbers (now origins) m n × (m ≤ absent) × (n ≤ mapVertices) ⌝ }
     ensures { λ r. ⌜ r ≡ least (lonelyAt (now (origins .entry)) m) n ⌝ }
 {
-    let mut v = 0;
-    while v < n {
-        if first_start(origins, m, v) == m {
-            return v;
-        }
-        v += 1;
-    }
-    n
+    let mut firsts = [0u16; MAP_VERTICES as usize];
+    first_places(origins, m, m as u16, &mut firsts, n);
+    first_holding(&firsts, n, m)
 }

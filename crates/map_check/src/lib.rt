@@ -1,6 +1,8 @@
 // The check of one map (01, "When a map is refused"), and its tables: the file is decoded once, and rules 5 to 10 are found on what it was decoded into.
 mod parts; // rules 5 to 7, and the carriers
 mod edges; // rules 8 and 9
+mod pairs; // two edges that do not clash
+mod pass; // rule 8 by a pass from below
 mod labels; // rule 10
 mod rules; // rules 8 to 10, one after the other
 mod answer; // what is answered

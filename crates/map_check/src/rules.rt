@@ -60,7 +60,7 @@ fn first_by_followers(
     first_disagreeing(points, origins, carriers, labels, &ways, &next, n, e)
 }
 
-// 10 "labels disagree at a half-edge", where rule 8 finds nothing either. The map has the labels of its half-edges, and no more of the table.
+// 10 "labels disagree at a half-edge", where rule 8 finds nothing either. The map has the labels of its half-edges, and no more of the table; without an edge there is nothing to make tables for.
 fn labels_disagree(
     points: &[i64],
     origins: &[u16],
@@ -72,6 +72,9 @@ fn labels_disagree(
     requires { ⌜ Flat (now points) (now origins) (now carriers) n e ⌝ ∗ ⌜ n ≤ mapVertices ⌝ ∗ ⌜ e ≤ mapEdges ⌝ ∗ ⌜ 2 * e ≤ length (now labels) ⌝ ∗ ⌜ Plane (flatGraph (now points) (now origins) (now carriers) n e) ⌝ }
     ensures { λ r. ⌜ verdict r ≡ firstAt 10 (disagrees (flatMap (now (points .entry)) (now (origins .entry)) (now (carriers .entry)) (take (2 * e) (now (labels .entry))) n e) (followers (flatGraph (now (points .entry)) (now (origins .entry)) (now (carriers .entry)) n e))) (halfCount (flatGraph (now (points .entry)) (now (origins .entry)) (now (carriers .entry)) n e)) ⌝ }
 {
+    if e == 0 {
+        return Check::Fine;
+    }
     let m = 2 * e;
     let h = first_by_followers(points, origins, carriers, &labels[0..m], n, e);
     given(10, h as u16, h < m)

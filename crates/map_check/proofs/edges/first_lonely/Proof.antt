@@ -1,43 +1,44 @@
--- `map_check::edges::first_lonely` meets its contract: nothing below the counter has been found. Assumes nothing.
-use mathlib.Core.Path.{ap}
+-- `map_check::edges::first_lonely` meets its contract: a vertex without an edge has no first outgoing half-edge. Assumes nothing.
+use mathlib.Core.Path.{_≡_, refl, ap, _∙_}
+use Prim.Native.Nat.{_≤_}
 use native.Mathlib.Omega.{arith}
 use borrow.Author.Needs.{needs}
-use borrow.Author.Tests.{lt-ltb, le-ltb}
-use Rattle.seq.specs.Seq.{not, _-_, least}
-use Rattle.seq.specs.Least.{least-le}
+use borrow.Author.Tests.{ltb-true, eq-eqb, ne-eqb}
+use Rattle.seq.specs.Filled.{filled-at}
+use Rattle.seq.specs.Least.{least-le, least-ext}
+use Rattle.seq.specs.Seq.{Bool, true, false, cond, not, List, ℕ, eqb, ltb, getD, least, filled}
+use Rattle.graph.specs.Places.{firstPlace}
 use Rattle.map_check.specs.Net.{startsAt, lonelyAt}
 use Rattle.map_check.proofs.edges.first_lonely.Statement.{statement}
 use Rattle.map_check.proofs.edges.first_lonely.Tie as tie
-use Rattle.seq.specs.Loops.Searching.{Searching, search-starts, search-turns, search-finds, search-ends}
 
-abbrev Inv-loop : tie.InvT-loop
-Inv-loop origins m n v₀ v = Searching (lonelyAt origins m) n v
+-- a place up to m, or m where there is none
+place : (h m : ℕ) → h ≤ m → eqb (cond (ltb h m) h m) m ≡ not (ltb h m)
+place h m l = go (ltb h m) refl
+  where
+    go : (b : Bool) → ltb h m ≡ b → eqb (cond b h m) m ≡ not b
+    go true e = ne-eqb h m (λ q. omega (arith, ltb-true h m e))
+    go false e = eq-eqb m m refl
 
-abbrev μ-loop : tie.MeasureT-loop
-μ-loop origins m n v₀ v = n - v
+lonely-least : (os fs d : List ℕ) (m n : ℕ) → fs ≡ filled n (firstPlace os m m) d → least (startsAt fs m) n ≡ least (lonelyAt os m) n
+lonely-least os fs d m n e =
+    least-ext (startsAt fs m) (lonelyAt os m) n
+    (λ v l. ap (λ (x : ℕ). eqb x m) (ap (λ (t : List ℕ). getD t v 0) e ∙ filled-at (firstPlace os m m) n v d 0 l) ∙ place (least (startsAt os v) m) m (least-le (startsAt os v) m))
 
-returns : tie.Need-returns Inv-loop μ-loop
+returns : tie.Need-returns
 returns c =
-    let start : tie.Start Inv-loop μ-loop = search needs in
-    let at : tie.At-loop Inv-loop μ-loop = search needs in
-    search-finds (at .loop .inv) (omega arith) (ap not (le-ltb (least (startsAt (start .args .origins .now) (at .loop .v)) (start .args .m)) (start .args .m) (omega (arith, c .before .first-start .ensures, c .if1 .taken))))
-
-loop-again : tie.Need-loop-again Inv-loop μ-loop
-loop-again c =
-    let start : tie.Start Inv-loop μ-loop = search needs in
-    let at : tie.At-loop Inv-loop μ-loop = search needs in
-    search-turns (at .loop .inv) (omega arith) (ap not (lt-ltb (least (startsAt (start .args .origins .now) (at .loop .v)) (start .args .m)) (start .args .m) (omega (arith, c .before .first-start .ensures, c .if1 .left, least-le (startsAt (start .args .origins .now) (at .loop .v)) (start .args .m)))))
+    let start : tie.Start = search needs in
+    let after : tie.After-first-places = search needs in
+    let a = start .args in
+    c .first-holding .ensures ∙ lonely-least (a .origins .now) _ _ (a .m) (a .n) (after .first-places .ensures)
 
 pub first-lonely-spec : {M : Type 1} → statement M
 first-lonely-spec =
     tie.close
     (tie.spec
-    Inv-loop
-    μ-loop
-    (λ c. search-starts)
+    (λ c. search needs)
+    (λ c. search needs)
     (λ c κs. search needs)
-    returns
     (λ c. search needs)
-    (λ c. search needs)
-    loop-again
-    (λ c. search-ends (c .before .loop .inv) (omega arith)))
+    (λ c κs. search needs)
+    returns)

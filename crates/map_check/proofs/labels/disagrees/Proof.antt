@@ -52,7 +52,7 @@ makes-hole-requires c κs =
     let s : tie.Start = search needs in
     let F = s .pre .0 .flat in
     let starts = flat-starts (s .args .points .now) (s .args .origins .now) (s .args .carriers .now) (s .args .n) (s .args .e) F in
-    (F .origins .long, s .pre .0 .headings, record { starts = starts; next = s .pre .0 .next }, s .pre .1)
+    (F .origins .long, s .pre .0 .headings, record { starts = starts; next = s .pre .0 .next }, s .pre .1, s .pre .0 .few)
 
 returns-2 : tie.Need-returns-2
 returns-2 c =

@@ -10,7 +10,7 @@ use Rattle.map_check.proofs.rules.edges_clash.Tie as tie
 first-clashing-requires : tie.Need-first-clashing-requires
 first-clashing-requires c κs =
     let s : tie.Start = search needs in
-    (s .pre .0, s .pre .2)
+    (s .pre .0, s .pre .2, s .pre .1)
 
 first-clash-requires : tie.Need-first-clash-requires
 first-clash-requires c κs =

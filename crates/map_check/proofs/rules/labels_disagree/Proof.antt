@@ -5,6 +5,7 @@ use borrow.Author.Needs.{needs}
 use lib.Seq.{length-take-le}
 use Rattle.seq.specs.Least.{least-le}
 use Rattle.seq.specs.Seq.{List, ℕ, _*_, _-_, take, least}
+use Rattle.paper.specs.Refusal.{firstAt}
 use Rattle.paper.specs.Graph.{halfCount, followers}
 use Rattle.paper.specs.Map.{disagrees}
 use Rattle.graph.specs.Flat.{flatGraph}
@@ -32,8 +33,18 @@ cast-given c =
     let g = flatGraph (a .points .now) (a .origins .now) (a .carriers .now) (a .n) (a .e) in
     omega (arith, s .pre .1 .1 .0, c .first-by-followers .ensures, least-le (disagrees (flatMap (a .points .now) (a .origins .now) (a .carriers .now) (take (2 * a .e - 0) (a .labels .now)) (a .n) (a .e)) (followers g)) (2 * a .e))
 
+-- without a half-edge
 returns : tie.Need-returns
 returns c =
+    let s : tie.Start = search needs in
+    let a = s .args in
+    let g = flatGraph (a .points .now) (a .origins .now) (a .carriers .now) (a .n) (a .e) in
+    let none = c .if1 .taken in
+    let m = ap (λ (e : ℕ). 2 * e) (sym none) ∙ sym (flat-halves (a .points .now) (a .origins .now) (a .carriers .now) (a .n) (a .e)) in
+    λ i. firstAt 10 (disagrees (flatMap (a .points .now) (a .origins .now) (a .carriers .now) (take (2 * a .e) (a .labels .now)) (a .n) (a .e)) (followers g)) (m i)
+
+returns-2 : tie.Need-returns-2
+returns-2 c =
     let s : tie.Start = search needs in
     let a = s .args in
     let g = flatGraph (a .points .now) (a .origins .now) (a .carriers .now) (a .n) (a .e) in
@@ -46,6 +57,7 @@ pub labels-disagree-spec : {M : Type 1} → statement M
 labels-disagree-spec =
     tie.close
     (tie.spec
+    returns
     (λ c. search needs)
     (λ c. search needs)
     (λ c. search needs)
@@ -53,4 +65,4 @@ labels-disagree-spec =
     first-by-followers-requires
     cast-given
     (λ c κs. search needs)
-    returns)
+    returns-2)

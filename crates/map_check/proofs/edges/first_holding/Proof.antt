@@ -1,21 +1,21 @@
--- `map_check::edges::first_start` meets its contract: nothing below the counter has been found. Assumes nothing.
+-- `map_check::edges::first_holding` meets its contract: nothing below the counter has been found. Assumes nothing.
 use borrow.Author.Tests.{eq-eqb, ne-eqb}
 use Rattle.seq.specs.Seq.{_-_}
 use Rattle.map_check.specs.Net.{startsAt}
 use borrow.Author.Needs.{needs}
 use native.Mathlib.Omega.{arith}
-use Rattle.map_check.proofs.edges.first_start.Statement.{statement}
-use Rattle.map_check.proofs.edges.first_start.Tie as tie
+use Rattle.map_check.proofs.edges.first_holding.Statement.{statement}
+use Rattle.map_check.proofs.edges.first_holding.Tie as tie
 use Rattle.seq.specs.Loops.Searching.{Searching, search-starts, search-turns, search-finds, search-ends}
 
 abbrev Inv-loop : tie.InvT-loop
-Inv-loop origins m v h₀ h = Searching (startsAt origins v) m h
+Inv-loop cells m v i₀ i = Searching (startsAt cells v) m i
 
 abbrev μ-loop : tie.MeasureT-loop
-μ-loop origins m v h₀ h = m - h
+μ-loop cells m v i₀ i = m - i
 
 cast-if1 : tie.Need-cast-if1 Inv-loop μ-loop
-cast-if1 c = omega (arith, c .shared-slice-known .given (c .before .before .loop .h))
+cast-if1 c = omega (arith, c .shared-slice-known .given (c .before .before .loop .i))
 
 returns : tie.Need-returns Inv-loop μ-loop
 returns c =
@@ -27,8 +27,8 @@ loop-again c =
     let at : tie.At-loop Inv-loop μ-loop = search needs in
     search-turns (at .loop .inv) (omega arith) (ne-eqb _ _ (c .if1 .left))
 
-pub first-start-spec : {M : Type 1} → statement M
-first-start-spec =
+pub first-holding-spec : {M : Type 1} → statement M
+first-holding-spec =
     tie.close
     (tie.spec
     Inv-loop
