@@ -1,5 +1,5 @@
 -- Which vertices are on an edge: in rows in point order a point is found by halves, and an edge whose ends stand there has on it those from one end to the other that lie on its
--- line. Before that, how a point is compared with a corner. Assumes nothing.
+-- line. Before that, how a point is compared with a corner and with a line. Assumes nothing.
 use mathlib.Core.Path.{_≡_, refl, sym, _∙_, ap, subst}
 use mathlib.Core.List.{[], _∷_}
 use Prim.Native.Nat.{_≤_, _<_}
@@ -8,6 +8,7 @@ use lib.IntN.{ℤ, pos, _-ℤ_, _*ℤ_}
 use lib.Signed.{ltZ, _<ℤ_}
 use Rattle.exact.specs.Ring.{*ℤ-1}
 use Rattle.exact.specs.Order.{zomega, sq}
+use Rattle.exact.specs.Solve.{ring, reify}
 use Rattle.exact.specs.Sign.{Sign, sgn, isNeg, pick, Sg, is-neg, is-zer, is-plus, sg}
 use Rattle.exact.specs.Tests.{lt-sign}
 use native.Mathlib.Omega.{arith}
@@ -16,7 +17,7 @@ use Rattle.seq.specs.Terms.{Among}
 use Rattle.seq.specs.Table.{table-among}
 use Rattle.seq.specs.Range.{select-none}
 use Rattle.seq.specs.Halves.{Lasts, Rises, reached, place-lasts, place-found}
-use Rattle.paper.specs.Plane.{Pt, Vec, Seg, whole, head, before, onSeg}
+use Rattle.paper.specs.Plane.{Pt, Vec, Seg, whole, head, before, leftBy, onSeg}
 use Rattle.laws_plane.specs.Points.{before-trans, before-asymmetric}
 use Rattle.laws_cut.specs.Between.{onLine, below-off, within-on, along-upto}
 use Rattle.graph.specs.Flat.{Points, pointAt, carrierAt}
@@ -62,6 +63,31 @@ module _ (p : Pt) (a : Vec) where
       go t (is-neg h) = refl
       go t (is-zer h) = absurd (f (zomega (p .Y ∷ (a .y *ℤ p .D) ∷ []) {A = p .Y -ℤ a .y *ℤ p .D ≡ pos 0 → p .Y ≡ a .y *ℤ p .D} (search sq depth 20) (omega arith) h))
       go t (is-plus h) = refl
+
+-- ── a point and a line ──
+
+module _ (s : Seg) (p : Pt) where
+  -- how far along across the direction of s, times the D of p: the point, and the lower end
+  abbrev across : ℤ
+  across = s .up .x *ℤ p .Y -ℤ s .up .y *ℤ p .X
+
+  abbrev level : ℤ
+  level = (s .up .x *ℤ s .foot .y -ℤ s .up .y *ℤ s .foot .x) *ℤ p .D
+
+  by-across : leftBy s p ≡ across -ℤ level
+  by-across = ring (s .foot .x ∷ s .foot .y ∷ s .up .x ∷ s .up .y ∷ p .X ∷ p .Y ∷ p .D ∷ []) (search reify depth 20) tt
+
+  pub line-yes : s .up .x *ℤ p .Y -ℤ s .up .y *ℤ p .X ≡ (s .up .x *ℤ s .foot .y -ℤ s .up .y *ℤ s .foot .x) *ℤ p .D → leftBy s p ≡ pos 0
+  line-yes e = by-across ∙ none across level e
+    where
+      none : (a b : ℤ) → a ≡ b → a -ℤ b ≡ pos 0
+      none a b q = zomega (a ∷ b ∷ []) {A = a ≡ b → a -ℤ b ≡ pos 0} (search sq depth 20) (omega arith) q
+
+  pub line-no : (s .up .x *ℤ p .Y -ℤ s .up .y *ℤ p .X ≡ (s .up .x *ℤ s .foot .y -ℤ s .up .y *ℤ s .foot .x) *ℤ p .D → ⊥) → leftBy s p ≡ pos 0 → ⊥
+  line-no f e = f (some across level (sym by-across ∙ e))
+    where
+      some : (a b : ℤ) → a -ℤ b ≡ pos 0 → a ≡ b
+      some a b q = zomega (a ∷ b ∷ []) {A = a -ℤ b ≡ pos 0 → a ≡ b} (search sq depth 20) (omega arith) q
 
 -- ── a point's place ──
 

@@ -4,13 +4,13 @@ use graph::point_at;
 use plane::Point;
 use plane::Seg;
 use plane::Vector;
-use plane::left_by;
 ghost use mathlib.Core.Path.{_≡_};
+ghost use Rattle.exact.specs.Lowest.{pt};
 ghost use Rattle.seq.specs.Seq.{least};
 ghost use Rattle.seq.specs.Halves.{reached};
 ghost use Rattle.paper.specs.Plane.{before, whole, head};
 ghost use Rattle.plane.specs.Bounds.{Near, Corner, Edge};
-ghost use Rattle.plane.specs.Values.{ptOf, vecOf, segOf};
+ghost use Rattle.plane.specs.Values.{seg, ptOf, vecOf, segOf};
 ghost use Rattle.graph.specs.Flat.{Points, pointAt};
 ghost use Rattle.laws_cut.specs.Between.{onLine};
 ghost use Rattle.overlay_cut.specs.Between.{InRowOrder};
@@ -67,10 +67,22 @@ pub fn place(points: &[i64], n: usize, a: Vector) -> usize
     low
 }
 
+// Whether the point px/d, py/d lies on the line of the edge from x, y along u, v: as far along across its direction as its lower end, which is the same for every point.
+fn across(x: i64, y: i64, u: i64, v: i64, px: i64, py: i64, d: i64) -> bool
+    requires { ⌜ Edge (seg x y u v) × Near (pt px py d) ⌝ }
+    ensures { λ r. ⌜ r ≡ onLine (seg x y u v) (pt px py d) ⌝ }
+{
+    if u * py - v * px == (u * y - v * x) * d {
+        true
+    } else {
+        false
+    }
+}
+
 // Whether p lies on the line of s.
 pub fn on_line(s: Seg, p: Point) -> bool
     requires { ⌜ Edge (segOf s) × Near (ptOf p) ⌝ }
     ensures { λ r. ⌜ r ≡ onLine (segOf s) (ptOf p) ⌝ }
 {
-    if left_by(s, p) == 0 { true } else { false }
+    across(s.x, s.y, s.u, s.v, p.x, p.y, p.d)
 }

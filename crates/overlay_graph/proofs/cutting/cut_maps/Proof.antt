@@ -27,7 +27,7 @@ pieces-requires c κs =
     let v = c .before .before .before .before .vertices-by in
     let few = c .before .before .if1 .left in (
       (ordered-near (l s) (s .pre .0) (v .last .1 .1 .1 .1 .1 .1 .1 .0) (v .result) (v .ensures) few (omega (arith, few, s .pre .1 .0, v .kept .1 .1 .1 .1 .1 .1 .1 .0)), omega (arith, few), ordered-rise (l s) (s .pre .0) (v .last .1 .1 .1 .1 .1 .1 .1 .0) (v .result) (v .ensures) few),
-      ((starts (l s) (s .pre .0), ordered-ended (l s) (s .pre .0) (v .last .1 .1 .1 .1 .1 .1 .1 .0) (v .result) (v .ensures) few), record { long = s .pre .1 .1; within = omega arith }),
+      ((starts (l s) (s .pre .0), ordered-ended (l s) (s .pre .0) (v .last .1 .1 .1 .1 .1 .1 .1 .0) (v .result) (v .ensures) few), s .pre .1 .1),
     )
 
 returns-2 : tie.Need-returns-2
