@@ -8,3 +8,6 @@ pub mod Joining
 pub mod Agreeing
 pub mod Keys
 pub mod Room
+pub mod Chains
+pub mod Apart
+pub mod Laying

@@ -1,114 +1,131 @@
--- Which vertices may be on an edge: of rows in strict order those before the place of its lower end are not on it, and those past the place of its upper end are not; so that the
--- vertices on it are found between the two. Whether the ends themselves stand in the table is not asked. Assumes nothing.
-use mathlib.Core.Path.{_≡_, refl, sym, subst}
+-- Which vertices are on an edge: in rows in point order a point is found by halves, and an edge whose ends stand there has on it those from one end to the other that lie on its
+-- line. Before that, how a point is compared with a corner and with a line. Assumes nothing.
+use mathlib.Core.Path.{_≡_, refl, sym, _∙_, ap, subst}
+use mathlib.Core.List.{[], _∷_}
 use Prim.Native.Nat.{_≤_, _<_}
-use native.Mathlib.Nat.{not-suc-le-zero}
-use native.Mathlib.Decide.{decLt}
+use native.Mathlib.Numerals.{add-one}
+use lib.IntN.{ℤ, pos, _-ℤ_, _*ℤ_}
+use lib.Signed.{ltZ, _<ℤ_}
+use Rattle.exact.specs.Ring.{*ℤ-1}
+use Rattle.exact.specs.Order.{zomega, sq}
+use Rattle.exact.specs.Solve.{ring, reify}
+use Rattle.exact.specs.Sign.{Sign, sgn, isNeg, pick, Sg, is-neg, is-zer, is-plus, sg}
+use Rattle.exact.specs.Tests.{lt-sign}
 use native.Mathlib.Omega.{arith}
-use lib.IntN.{ℤ, pos}
-use lib.Signed.{_<ℤ_}
-use Rattle.seq.specs.Seq.{Bool, true, false, List, [], ℕ, _+_, _-_, least, select}
-use Rattle.seq.specs.Tests.{clash, not-true, was-false, was-true}
-use Rattle.seq.specs.Least.{least-holds, least-min}
-use Rattle.seq.specs.Halves.{Lasts, Rises, reached, place-lasts}
-use Rattle.seq.specs.Range.{select-upto, select-none}
-use Rattle.paper.specs.Plane.{Pt, Seg, whole, head, before, onSeg}
-use Rattle.laws_plane.specs.Points.{before-trans, le-before}
-use Rattle.laws_plane.specs.Ends.{0<1}
-use Rattle.laws_plane.specs.Edges.{on-is}
-use Rattle.graph.specs.Flat.{Points, pointAt}
+use Rattle.seq.specs.Seq.{List, ℕ, _+_, least, select}
+use Rattle.seq.specs.Terms.{Among}
+use Rattle.seq.specs.Table.{table-among}
+use Rattle.seq.specs.Range.{select-none}
+use Rattle.seq.specs.Halves.{Lasts, Rises, reached, place-lasts, place-found}
+use Rattle.paper.specs.Plane.{Pt, Vec, Seg, whole, head, before, leftBy, onSeg}
+use Rattle.laws_plane.specs.Points.{before-trans, before-asymmetric}
+use Rattle.laws_cut.specs.Between.{onLine, below-off, within-on, along-upto}
+use Rattle.graph.specs.Flat.{Points, pointAt, carrierAt}
+use Rattle.overlay_cut.specs.Points.{pointsOf}
 
 -- the first n rows stand in point order
 pub record InRowOrder (ps : List ℤ) (n : ℕ) : Type 0 where
   pub rises : Rises before (pointAt ps) n
 
--- where a test says so
-pub record InOrderIf (b : Bool) (ps : List ℤ) (n : ℕ) : Type 0 where
-  pub if-so : b ≡ true → InRowOrder ps n
+-- both ends of s stand there
+pub record EndsIn (ps : List ℤ) (n : ℕ) (s : Seg) : Type 0 where
+  pub low : Among (whole (s .foot)) (pointsOf ps n)
+  pub high : Among (whole (head s)) (pointsOf ps n)
 
--- none of the rows below r is on s
-pub record NoneBelow (ps : List ℤ) (s : Seg) (r : ℕ) : Type 0 where
-  pub off : (v : ℕ) → v < r → onSeg s (pointAt ps v) ≡ false
+-- the lower in row a and the upper in row z
+pub record Span (ps : List ℤ) (n : ℕ) (s : Seg) (a z : ℕ) : Type 0 where
+  pub low : a < n
+  pub high : z < n
+  pub foot-at : pointAt ps a ≡ whole (s .foot)
+  pub head-at : pointAt ps z ≡ whole (head s)
 
--- none of the n rows from r on is
-pub record NonePast (ps : List ℤ) (n : ℕ) (s : Seg) (r : ℕ) : Type 0 where
-  pub within : r ≤ n
-  pub off : (v : ℕ) → r ≤ v → v < n → onSeg s (pointAt ps v) ≡ false
+-- those of e edges do
+pub record Ended (ps : List ℤ) (n : ℕ) (cs : List ℤ) (e : ℕ) : Type 0 where
+  pub ends : (k : ℕ) → k < e → EndsIn ps n (carrierAt cs k)
 
-pub order-known : {ps : List ℤ} {n : ℕ} → InRowOrder ps n → InOrderIf true ps n
-order-known r = record { if-so = λ e. r }
+-- ── a point and a corner ──
 
-pub order-unknown : (ps : List ℤ) (n : ℕ) → InOrderIf false ps n
-order-unknown ps n = record { if-so = λ e. absurd (clash e refl) }
-
-module _ (ps : List ℤ) (n : ℕ) (near : Points ps n) where
-  positive : (v : ℕ) → v < n → pos 0 <ℤ pointAt ps v .D
-  positive v h = near .near v h .positive
-
-  -- ── rows that rise, one more at a time ──
-
-  pub rises-one : InRowOrder ps 1
-  rises-one = record { rises = λ i j s k. absurd (omega arith) }
-
-  pub rises-few : {k : ℕ} → InRowOrder ps k → n ≤ k → InRowOrder ps n
-  rises-few r h = record { rises = λ i j s l. r .rises i j s (omega arith) }
-
-  pub rises-more : {k : ℕ} → InRowOrder ps k → 0 < k → k < n → before (pointAt ps (k - 1)) (pointAt ps k) ≡ true → InRowOrder ps (k + 1)
-  rises-more {k} r h l e = record { rises = all }
+module _ (p : Pt) (a : Vec) where
+  -- as high as the corner, and not
+  pub corner-level : p .Y ≡ a .y *ℤ p .D → ltZ (p .X) (a .x *ℤ p .D) ≡ before p (whole a)
+  corner-level e = go (p .Y *ℤ pos 1 -ℤ a .y *ℤ p .D) zero
     where
-      last : (i : ℕ) → i < k → before (pointAt ps i) (pointAt ps k) ≡ true
-      last i s =
-          elim (decLt i (k - 1)) [
-            | yes q ↦ before-trans (pointAt ps i) (pointAt ps (k - 1)) (pointAt ps k) (positive i (omega arith)) (positive (k - 1) (omega arith)) (positive k l) (r .rises i (k - 1) q (omega arith)) e
-            | no q ↦ let f : k - 1 ≡ i = omega arith in subst (λ (j : ℕ). before (pointAt ps j) (pointAt ps k) ≡ true) f e
-          ]
+      zero : p .Y *ℤ pos 1 -ℤ a .y *ℤ p .D ≡ pos 0
+      zero = ap (λ (z : ℤ). z -ℤ a .y *ℤ p .D) (*ℤ-1 (p .Y) ∙ e) ∙ zomega ((a .y *ℤ p .D) ∷ []) {A = a .y *ℤ p .D -ℤ a .y *ℤ p .D ≡ pos 0} (search sq depth 20) (omega arith)
 
-      all : (i j : ℕ) → i < j → j < k + 1 → before (pointAt ps i) (pointAt ps j) ≡ true
-      all i j s q =
-          elim (decLt j k) [
-            | yes t ↦ r .rises i j s t
-            | no t ↦ let f : k ≡ j = omega arith in subst (λ (x : ℕ). before (pointAt ps i) (pointAt ps x) ≡ true) f (last i (omega arith))
-          ]
+      go : (z : ℤ) → z ≡ pos 0 → ltZ (p .X) (a .x *ℤ p .D) ≡ isNeg (pick (sgn z) (sgn (p .X *ℤ pos 1 -ℤ a .x *ℤ p .D)))
+      go z q = lt-sign (p .X) (a .x *ℤ p .D) ∙ (λ i. isNeg (pick (sgn (sym q i)) (sgn (sym (*ℤ-1 (p .X)) i -ℤ a .x *ℤ p .D))))
 
-  module _ (R : InRowOrder ps n) where
-    -- so that a place is found by halves
-    pub place-last : (p : Pt) → pos 0 <ℤ p .D → Lasts (reached before (pointAt ps) p) n
-    place-last p h = place-lasts before (pointAt ps) n p (R .rises) (λ q. pos 0 <ℤ q .D) (λ a b c x y z. before-trans a b c x y z) positive h
+  pub corner-apart : (p .Y ≡ a .y *ℤ p .D → ⊥) → ltZ (p .Y) (a .y *ℤ p .D) ≡ before p (whole a)
+  corner-apart f = lt-sign (p .Y) (a .y *ℤ p .D) ∙ go (sgn (p .X *ℤ pos 1 -ℤ a .x *ℤ p .D)) (sg (p .Y -ℤ a .y *ℤ p .D)) ∙ (λ i. isNeg (pick (sgn (sym (*ℤ-1 (p .Y)) i -ℤ a .y *ℤ p .D)) (sgn (p .X *ℤ pos 1 -ℤ a .x *ℤ p .D))))
+    where
+      go : {s : Sign} (t : Sign) → Sg (p .Y -ℤ a .y *ℤ p .D) s → isNeg s ≡ isNeg (pick s t)
+      go t (is-neg h) = refl
+      go t (is-zer h) = absurd (f (zomega (p .Y ∷ (a .y *ℤ p .D) ∷ []) {A = p .Y -ℤ a .y *ℤ p .D ≡ pos 0 → p .Y ≡ a .y *ℤ p .D} (search sq depth 20) (omega arith) h))
+      go t (is-plus h) = refl
 
-    module _ (s : Seg) (r : ℕ) where
-      -- a row before the lower end is not on it
-      pub foot-below : r ≡ least (reached before (pointAt ps) (whole (s .foot))) n → NoneBelow ps s r
-      foot-below e = record {
-        off = λ v h.
-            not-true (onSeg s (pointAt ps v))
-            (λ on. clash (was-true (before (pointAt ps v) (whole (s .foot))) (least-min (reached before (pointAt ps) (whole (s .foot))) n v (subst (λ (k : ℕ). v < k) e h))) (on-is s (pointAt ps v) on .low));
-      }
+-- ── a point and a line ──
 
-      -- nor one past the row where the upper end has its place
-      pub head-past : r ≡ least (reached before (pointAt ps) (whole (head s))) n → r < n → NonePast ps n s (r + 1)
-      head-past e l = record { within = omega arith; off = off }
-        where
-          at : before (pointAt ps r) (whole (head s)) ≡ false
-          at =
-              was-false (before (pointAt ps r) (whole (head s)))
-              (subst (λ (k : ℕ). reached before (pointAt ps) (whole (head s)) k ≡ true) (sym e) (least-holds (reached before (pointAt ps) (whole (head s))) n (subst (λ (k : ℕ). k < n) e l)))
+module _ (s : Seg) (p : Pt) where
+  -- how far along across the direction of s, times the D of p: the point, and the lower end
+  abbrev across : ℤ
+  across = s .up .x *ℤ p .Y -ℤ s .up .y *ℤ p .X
 
-          off : (v : ℕ) → r + 1 ≤ v → v < n → onSeg s (pointAt ps v) ≡ false
-          off v q k =
-              not-true (onSeg s (pointAt ps v))
-              (λ on. clash (le-before (whole (head s)) (pointAt ps r) (pointAt ps v) 0<1 (positive r l) (positive v k) at (R .rises r v (omega arith) k)) (on-is s (pointAt ps v) on .high))
+  abbrev level : ℤ
+  level = (s .up .x *ℤ s .foot .y -ℤ s .up .y *ℤ s .foot .x) *ℤ p .D
 
--- where nothing is known of the rows
-pub below-none : (ps : List ℤ) (s : Seg) → NoneBelow ps s 0
-below-none ps s = record { off = λ v h. absurd (not-suc-le-zero h) }
+  by-across : leftBy s p ≡ across -ℤ level
+  by-across = ring (s .foot .x ∷ s .foot .y ∷ s .up .x ∷ s .up .y ∷ p .X ∷ p .Y ∷ p .D ∷ []) (search reify depth 20) tt
 
-pub past-none : (ps : List ℤ) (n : ℕ) (s : Seg) → NonePast ps n s n
-past-none ps n s = record { within = omega arith; off = λ v h k. absurd (omega arith) }
+  pub line-yes : s .up .x *ℤ p .Y -ℤ s .up .y *ℤ p .X ≡ (s .up .x *ℤ s .foot .y -ℤ s .up .y *ℤ s .foot .x) *ℤ p .D → leftBy s p ≡ pos 0
+  line-yes e = by-across ∙ none across level e
+    where
+      none : (a b : ℤ) → a ≡ b → a -ℤ b ≡ pos 0
+      none a b q = zomega (a ∷ b ∷ []) {A = a ≡ b → a -ℤ b ≡ pos 0} (search sq depth 20) (omega arith) q
 
--- ── the vertices on an edge ──
+  pub line-no : (s .up .x *ℤ p .Y -ℤ s .up .y *ℤ p .X ≡ (s .up .x *ℤ s .foot .y -ℤ s .up .y *ℤ s .foot .x) *ℤ p .D → ⊥) → leftBy s p ≡ pos 0 → ⊥
+  line-no f e = f (some across level (sym by-across ∙ e))
+    where
+      some : (a b : ℤ) → a -ℤ b ≡ pos 0 → a ≡ b
+      some a b q = zomega (a ∷ b ∷ []) {A = a -ℤ b ≡ pos 0 → a ≡ b} (search sq depth 20) (omega arith) q
 
-pub on-upto : {ps : List ℤ} {n : ℕ} {s : Seg} {r : ℕ} → NonePast ps n s r → select (λ v. onSeg s (pointAt ps v)) n ≡ select (λ v. onSeg s (pointAt ps v)) r
-on-upto {ps} {n} {s} {r} h = select-upto (λ v. onSeg s (pointAt ps v)) r n (h .within) (h .off)
+-- ── a point's place ──
 
-pub on-none : {ps : List ℤ} {s : Seg} {r : ℕ} → NoneBelow ps s r → (v : ℕ) → v ≤ r → select (λ v. onSeg s (pointAt ps v)) v ≡ []
-on-none {ps} {s} {r} h v l = select-none (λ v. onSeg s (pointAt ps v)) v (λ k q. h .off k (omega arith))
+module _ (ps : List ℤ) (n : ℕ) (R : InRowOrder ps n) where
+  -- found by halves
+  pub place-last : Points ps n → (p : Pt) → pos 0 <ℤ p .D → Lasts (reached before (pointAt ps) p) n
+  place-last near p h = place-lasts before (pointAt ps) n p (R .rises) (λ q. pos 0 <ℤ q .D) (λ a b c x y z. before-trans a b c x y z) (λ v l. near .near v l .positive) h
+
+  -- a point that stands in the rows stands there
+  pub stands-at : (p : Pt) → Among p (pointsOf ps n) → (r : ℕ) → r ≡ least (reached before (pointAt ps) p) n → (r < n) × (pointAt ps r ≡ p)
+  stands-at p i r e =
+      let (k, l, f) = table-among (pointAt ps) n p i in
+      let q : k ≡ r = sym (e ∙ place-found before (pointAt ps) n p (R .rises) before-asymmetric k l f) in
+      (subst (λ (j : ℕ). j < n) q l, ap (pointAt ps) (sym q) ∙ f)
+
+  -- the rows of an edge's ends
+  pub spans : (s : Seg) → EndsIn ps n s → (a z : ℕ) (u w : Vec) → a ≡ least (reached before (pointAt ps) (whole u)) n → u ≡ s .foot → z ≡ least (reached before (pointAt ps) (whole w)) n → w ≡ head s → Span ps n s a z
+  spans s E a z u w e f g h =
+      let (l, p) = stands-at (whole (s .foot)) (E .low) a (e ∙ ap (λ (q : Vec). least (reached before (pointAt ps) (whole q)) n) f) in
+      let (k, q) = stands-at (whole (head s)) (E .high) z (g ∙ ap (λ (q : Vec). least (reached before (pointAt ps) (whole q)) n) h) in
+      record { low = l; high = k; foot-at = p; head-at = q }
+
+  -- ── the vertices on an edge ──
+
+  module _ {s : Seg} {a z : ℕ} (S : Span ps n s a z) where
+    pub span-upto : select (λ v. onSeg s (pointAt ps v)) n ≡ select (λ v. onSeg s (pointAt ps v)) (z + 1)
+    span-upto =
+        along-upto (pointAt ps) n (R .rises) s a z (S .low) (S .high) (S .foot-at) (S .head-at)
+        ∙ ap (select (λ v. onSeg s (pointAt ps v))) (sym (add-one z))
+
+    pub span-none : (v : ℕ) → v ≤ a → select (λ v. onSeg s (pointAt ps v)) v ≡ []
+    span-none v l =
+        select-none (λ v. onSeg s (pointAt ps v)) v
+        (λ k q. below-off (pointAt ps) n (R .rises) s a z (S .low) (S .high) (S .foot-at) (S .head-at) k (omega arith))
+
+    pub span-line : (v : ℕ) → a ≤ v → v < z + 1 → onSeg s (pointAt ps v) ≡ onLine s (pointAt ps v)
+    span-line v l k = within-on (pointAt ps) n (R .rises) s a z (S .low) (S .high) (S .foot-at) (S .head-at) v l (omega arith)
+
+-- fewer edges
+pub ended-part : {ps : List ℤ} {n : ℕ} {cs : List ℤ} {e : ℕ} → Ended ps n cs e → (d : ℕ) → d ≤ e → Ended ps n cs d
+ended-part E d l = record { ends = λ k h. E .ends k (omega arith) }

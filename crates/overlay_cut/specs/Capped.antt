@@ -85,10 +85,6 @@ module _ {A : Type 0} (b : A → A → Bool) (join : A → A → A) where
     putAll-++ l [] qs = refl
     putAll-++ l (p ∷ ps) qs = ap (λ (t : List A). capped cap (insertBy b join p) t) (putAll-++ l ps qs)
 
-    pub putAll-le : (l ps : List A) → length l ≤ cap → length (putAll l ps) ≤ cap
-    putAll-le l [] h = h
-    putAll-le l (p ∷ ps) h = capped-le cap (insertBy b join p) (insert-slow p) (putAll l ps) (putAll-le l ps h)
-
     pub putAll-cap : (ps : List A) → Cap cap (putAll [] ps) (inOrderBy b join ps)
     putAll-cap [] = whole refl (omega arith)
     putAll-cap (p ∷ ps) = capped-step cap (insertBy b join p) (insert-slow p) (putAll [] ps) (inOrderBy b join ps) (putAll-cap ps)

@@ -4,13 +4,11 @@ use mathlib.Core.Path.{_≡_, ap}
 use Prim.Native.Nat.{_≤_, _<_}
 use native.Mathlib.Omega.{arith}
 use lib.IntN.{ℤ}
-use Rattle.seq.specs.Seq.{List, ℕ, zero, suc, _+_, _*_, _-_, length, getD, select, rows}
+use Rattle.seq.specs.Seq.{List, ℕ, zero, suc, _+_, _-_, length, getD, select, rows}
 use Rattle.paper.specs.Limits.{maps, absent}
 use Rattle.paper.specs.Plane.{Seg, onSeg}
 use Rattle.paper.specs.Pieces.{Piece, only, links}
 use Rattle.graph.specs.Flat.{pointAt, carrierAt, Carriers}
-use Rattle.overlay_cut.specs.Rooms.{edgeRows}
-use Rattle.overlay_cut.specs.PieceRows.{pieceWidth}
 
 -- the vertices on an edge, of the first n
 abbrev pub onEdge : List ℤ → ℕ → Seg → List ℕ
@@ -63,8 +61,3 @@ pub part-carried : {st : List ℕ} {cs : List ℤ} → Starts st cs → (m : ℕ
 part-carried {st} r m h =
     let l = part-within r m h in
     record { long = omega (arith, r .carried .long); near = λ k q. r .carried .near k (omega arith) }
-
--- a table of pieces with c of them
-pub record PieceTable (t : List ℕ) (c : ℕ) : Type 0 where
-  pub long : pieceWidth * edgeRows ≤ length t
-  pub within : c ≤ edgeRows

@@ -5,12 +5,10 @@ use mathlib.Core.List.{append-assoc, append-nil}
 use Prim.Native.Nat.{_≤_, _<_}
 use native.Mathlib.Omega.{arith}
 use borrow.Author.Tests.{lt-ltb, le-ltb}
-use Rattle.seq.specs.Seq.{Bool, true, false, cond, List, [], _∷_, _++_, Option, ℕ, suc, _-_, ltb, length, select, rows, insertBy}
-use Rattle.seq.specs.Table.{length-table}
+use Rattle.seq.specs.Seq.{Bool, true, false, cond, List, [], _∷_, _++_, Option, ℕ, suc, _-_, ltb, select, rows, insertBy}
 use Rattle.paper.specs.Pieces.{Piece, links, linksFrom, earlier, joined}
-use Rattle.overlay_cut.specs.Capped.{capped, putAll, putAll-++, putAll-le}
-use Rattle.overlay_cut.specs.PieceRows.{pieceAt, piecesIn}
-use Rattle.overlay_cut.specs.PieceOrder.{InPieceOrder, order-kept}
+use Rattle.overlay_cut.specs.Capped.{capped, putAll, putAll-++}
+use Rattle.overlay_cut.specs.Links.{pieced}
 
 -- pieces put into a table with room for cap of them
 abbrev pub puts : ℕ → List Piece → List Piece → List Piece
@@ -39,31 +37,22 @@ module _ (cap n next v : ℕ) (s : List (Option ℕ)) (l : List Piece) where
   pub link-one : next < n → capped cap (insertBy earlier joined (record { lo = v; hi = next; sources = s })) l ≡ puts cap l (linksFrom s v (upper n next))
   link-one h = sym (rw (lt-ltb next n h))
 
--- a count stays within the room
-pub count-within : (cap : ℕ) (t u : List ℕ) (c d : ℕ) (ps : List Piece) → c ≤ cap → piecesIn u d ≡ puts cap (piecesIn t c) ps → d ≤ cap
-count-within cap t u c d ps h e =
-    omega (arith, putAll-le earlier joined cap (piecesIn t c) ps (omega (arith, length-table (pieceAt t) c)), ap length e, length-table (pieceAt u) d)
-
 -- ── an edge: vertices that are on it from the last down; `next` is the one above, or n ──
 
 pub record Linking (cap n : ℕ) (on : ℕ → Bool) (s : List (Option ℕ)) (total : List Piece) (t : List ℕ) (c v next : ℕ) : Type 0 where
   pub low : v ≤ n
   pub above : next ≤ n
-  pub within : c ≤ cap
-  pub ordered : InPieceOrder t c
-  pub is : puts cap (piecesIn t c) (links s (select on v ++ upper n next)) ≡ total
+  pub is : puts cap (pieced t c) (links s (select on v ++ upper n next)) ≡ total
 
 module _ (cap n : ℕ) (on : ℕ → Bool) (s : List (Option ℕ)) where
   -- from the row on from which none is on it
-  pub link-starts : (t : List ℕ) (c r : ℕ) → c ≤ cap → InPieceOrder t c → r ≤ n → select on n ≡ select on r → Linking cap n on s (puts cap (piecesIn t c) (links s (select on n))) t c r n
-  link-starts t c r h o l q =
+  pub link-starts : (t : List ℕ) (c r : ℕ) → r ≤ n → select on n ≡ select on r → Linking cap n on s (puts cap (pieced t c) (links s (select on n))) t c r n
+  link-starts t c r l q =
       let e : select on r ++ upper n n ≡ select on n = rw (le-ltb n n (omega arith)) (append-nil (select on r) ∙ sym q) in
       record {
         low = l;
         above = omega arith;
-        within = h;
-        ordered = o;
-        is = ap (λ (l : List ℕ). puts cap (piecesIn t c) (links s l)) e;
+        is = ap (λ (l : List ℕ). puts cap (pieced t c) (links s l)) e;
       }
 
   module _ {total : List Piece} {t : List ℕ} {c v next : ℕ} (r : Linking cap n on s total t c v next) where
@@ -75,13 +64,11 @@ module _ (cap n : ℕ) (on : ℕ → Bool) (s : List (Option ℕ)) where
         record {
           low = omega (arith, r .low);
           above = r .above;
-          within = r .within;
-          ordered = r .ordered;
-          is = ap (λ (l : List ℕ). puts cap (piecesIn t c) (links s (l ++ upper n next))) (sym f ∙ ap (select on) q) ∙ r .is;
+          is = ap (λ (l : List ℕ). puts cap (pieced t c) (links s (l ++ upper n next))) (sym f ∙ ap (select on) q) ∙ r .is;
         }
 
     -- one that is, linked to the one above
-    pub link-turns : (u : List ℕ) (d : ℕ) → 0 < v → on (v - 1) ≡ true → piecesIn u d ≡ puts cap (piecesIn t c) (linksFrom s (v - 1) (upper n next))
+    pub link-turns : (u : List ℕ) (d : ℕ) → 0 < v → on (v - 1) ≡ true → pieced u d ≡ puts cap (pieced t c) (linksFrom s (v - 1) (upper n next))
         → Linking cap n on s total u d (v - 1) (v - 1)
     link-turns u d h e k =
         let q : suc (v - 1) ≡ v = omega arith in
@@ -92,19 +79,17 @@ module _ (cap n : ℕ) (on : ℕ → Bool) (s : List (Option ℕ)) where
         record {
           low = omega (arith, r .low);
           above = omega (arith, r .low);
-          within = count-within cap t u c d (linksFrom s (v - 1) (upper n next)) (r .within) k;
-          ordered = order-kept cap t u c d (linksFrom s (v - 1) (upper n next)) (r .ordered) k;
-          is = ap (λ (l : List ℕ). puts cap (piecesIn u d) (links s (select on (v - 1) ++ l))) g
+          is = ap (λ (l : List ℕ). puts cap (pieced u d) (links s (select on (v - 1) ++ l))) g
               ∙ ap (λ (l : List Piece). puts cap l (links s (select on (v - 1) ++ ((v - 1) ∷ [])))) k
-              ∙ sym (putAll-++ earlier joined cap (piecesIn t c) (links s (select on (v - 1) ++ ((v - 1) ∷ []))) (linksFrom s (v - 1) (upper n next)))
-              ∙ ap (puts cap (piecesIn t c)) (sym (links-join s (select on (v - 1)) (v - 1) (upper n next)) ∙ ap (links s) (sym a)) ∙ r .is;
+              ∙ sym (putAll-++ earlier joined cap (pieced t c) (links s (select on (v - 1) ++ ((v - 1) ∷ []))) (linksFrom s (v - 1) (upper n next)))
+              ∙ ap (puts cap (pieced t c)) (sym (links-join s (select on (v - 1)) (v - 1) (upper n next)) ∙ ap (links s) (sym a)) ∙ r .is;
         }
 
     -- down to the row below which none is
-    pub link-ends : select on v ≡ [] → piecesIn t c ≡ total
+    pub link-ends : select on v ≡ [] → pieced t c ≡ total
     link-ends h =
-        ap (puts cap (piecesIn t c)) (sym (one (ltb next n)))
-        ∙ ap (λ (l : List ℕ). puts cap (piecesIn t c) (links s (l ++ upper n next))) (sym h) ∙ r .is
+        ap (puts cap (pieced t c)) (sym (one (ltb next n)))
+        ∙ ap (λ (l : List ℕ). puts cap (pieced t c) (links s (l ++ upper n next))) (sym h) ∙ r .is
       where
         one : (b : Bool) → links s (cond b (next ∷ []) []) ≡ []
         one true = refl
@@ -113,24 +98,20 @@ module _ (cap n : ℕ) (on : ℕ → Bool) (s : List (Option ℕ)) where
 -- ── rows of pieces, the last row first ──
 
 pub record Cutting (cap : ℕ) (f : ℕ → List Piece) (total : List Piece) (t : List ℕ) (c k : ℕ) : Type 0 where
-  pub within : c ≤ cap
-  pub ordered : InPieceOrder t c
-  pub is : puts cap (piecesIn t c) (rows f k) ≡ total
+  pub is : puts cap (pieced t c) (rows f k) ≡ total
 
 module _ (cap : ℕ) (f : ℕ → List Piece) where
-  pub cut-starts : (t : List ℕ) (c k : ℕ) → c ≤ cap → InPieceOrder t c → Cutting cap f (puts cap (piecesIn t c) (rows f k)) t c k
-  cut-starts t c k h o = record { within = h; ordered = o; is = refl }
+  pub cut-starts : (t : List ℕ) (c k : ℕ) → Cutting cap f (puts cap (pieced t c) (rows f k)) t c k
+  cut-starts t c k = record { is = refl }
 
   module _ {total : List Piece} {t : List ℕ} {c k : ℕ} (r : Cutting cap f total t c k) where
-    pub cut-turns : (u : List ℕ) (d : ℕ) → 0 < k → piecesIn u d ≡ puts cap (piecesIn t c) (f (k - 1)) → Cutting cap f total u d (k - 1)
+    pub cut-turns : (u : List ℕ) (d : ℕ) → 0 < k → pieced u d ≡ puts cap (pieced t c) (f (k - 1)) → Cutting cap f total u d (k - 1)
     cut-turns u d h e =
         let q : suc (k - 1) ≡ k = omega arith in
         record {
-          within = count-within cap t u c d (f (k - 1)) (r .within) e;
-          ordered = order-kept cap t u c d (f (k - 1)) (r .ordered) e;
-          is = ap (λ (l : List Piece). puts cap l (rows f (k - 1))) e ∙ sym (putAll-++ earlier joined cap (piecesIn t c) (rows f (k - 1)) (f (k - 1)))
-              ∙ ap (λ (j : ℕ). puts cap (piecesIn t c) (rows f j)) q ∙ r .is;
+          is = ap (λ (l : List Piece). puts cap l (rows f (k - 1))) e ∙ sym (putAll-++ earlier joined cap (pieced t c) (rows f (k - 1)) (f (k - 1)))
+              ∙ ap (λ (j : ℕ). puts cap (pieced t c) (rows f j)) q ∙ r .is;
         }
 
-    pub cut-ends : k ≤ 0 → piecesIn t c ≡ total
-    cut-ends h = let q : 0 ≡ k = omega arith in ap (λ (j : ℕ). puts cap (piecesIn t c) (rows f j)) q ∙ r .is
+    pub cut-ends : k ≤ 0 → pieced t c ≡ total
+    cut-ends h = let q : 0 ≡ k = omega arith in ap (λ (j : ℕ). puts cap (pieced t c) (rows f j)) q ∙ r .is

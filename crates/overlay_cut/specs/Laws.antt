@@ -1,7 +1,8 @@
 -- The laws behind the proofs of this crate: nothing here is cited by a contract.
 pub mod Ordered
-pub mod Compared
-pub mod PutTable
+pub mod LinkedRows
+pub mod NewRow
+pub mod LaidRows
 pub mod Holds
 pub mod CrossedAre
 pub mod VerticesAre

@@ -2,9 +2,8 @@ pub mod Points
 pub mod Between
 pub mod Capped
 pub mod PieceRows
-pub mod Put
-pub mod PieceOrder
 pub mod Rooms
+pub mod Links
 pub mod Cutting
 pub mod Cuts
 pub mod Collecting

@@ -5,10 +5,10 @@ use Prim.Native.Nat.{_≤_, _<_}
 use native.Mathlib.Decide.{ℕ-discrete}
 use native.Mathlib.Omega.{arith}
 use borrow.Author.Tests.{eq-eqb, ne-eqb}
-use lib.ListN.{set, length-set}
-use lib.Seq.{getD-set-same, getD-set-other, ext-getD}
+use lib.ListN.{set}
+use lib.Seq.{getD-set-same, getD-set-other}
 use Rattle.seq.specs.Seq.{Bool, true, false, cond, List, [], _∷_, _++_, Option, none, some, ℕ, zero, suc, _+_, _*_, eqb, length, getD, cell, table}
-use Rattle.seq.specs.Table.{length-table, table-at, table-ext}
+use Rattle.seq.specs.Table.{length-table, table-ext}
 use Rattle.paper.specs.Limits.{maps}
 use Rattle.paper.specs.Pieces.{Piece, only, merged, joined}
 
@@ -97,16 +97,3 @@ module _ (t : List ℕ) (r m k : ℕ) (h : m < maps) (room : pieceWidth * r + pi
 
   pub source-other : (i : ℕ) → (i ≡ r → ⊥) → pieceAt sourced i ≡ pieceAt t i
   source-other i q = read-ext (λ j. cell 0 pieceWidth sourced i j) (λ j. cell 0 pieceWidth t i j) (λ j l. cell-other i j l (λ e. q (omega arith)))
-
-  -- the list of pieces
-  pub source-stored : (n : ℕ) → r < n → piecesIn sourced n ≡ set (piecesIn t n) r new
-  source-stored n l =
-      ext-getD noPiece (piecesIn sourced n) (set (piecesIn t n) r new) (length-table (pieceAt sourced) n ∙ sym (length-set (piecesIn t n) r new ∙ length-table (pieceAt t) n))
-      (λ i q. let b : i < n = omega (arith, length-table (pieceAt sourced) n) in table-at (pieceAt sourced) n i noPiece b ∙ at i b)
-    where
-      at : (i : ℕ) → i < n → pieceAt sourced i ≡ getD (set (piecesIn t n) r new) i noPiece
-      at i b =
-          elim (ℕ-discrete i r) [
-            | yes q ↦ ap (pieceAt sourced) q ∙ source-same ∙ sym (ap (λ (j : ℕ). getD (set (piecesIn t n) r new) j noPiece) q ∙ getD-set-same (piecesIn t n) r new noPiece (omega (arith, length-table (pieceAt t) n)))
-            | no q ↦ source-other i q ∙ sym (getD-set-other (piecesIn t n) r i new noPiece q ∙ table-at (pieceAt t) n i noPiece b)
-          ]

@@ -1,70 +1,64 @@
-// Which vertices may be on an edge: of rows in point order none before its lower end, and none past its upper end. Where the rows are not in order, all.
+// Which vertices may be on an edge: of rows in point order none before the place of its lower end, and none past the place of its upper end. An end is a corner, so that a
+// vertex is compared with it by one product, or two where it stands as high.
 use graph::point_at;
 use plane::Point;
 use plane::Seg;
-use plane::before;
+use plane::Vector;
 ghost use mathlib.Core.Path.{_≡_};
-ghost use Prim.Native.Nat.{_≤_};
+ghost use Rattle.exact.specs.Lowest.{pt};
 ghost use Rattle.seq.specs.Seq.{least};
 ghost use Rattle.seq.specs.Halves.{reached};
 ghost use Rattle.paper.specs.Plane.{before, whole, head};
-ghost use Rattle.plane.specs.Bounds.{Near, Edge};
-ghost use Rattle.plane.specs.Values.{ptOf, segOf};
+ghost use Rattle.plane.specs.Bounds.{Near, Corner, Edge};
+ghost use Rattle.plane.specs.Values.{seg, ptOf, vecOf, segOf};
 ghost use Rattle.graph.specs.Flat.{Points, pointAt};
-ghost use Rattle.overlay_cut.specs.Between.{InOrderIf, InRowOrder, NoneBelow, NonePast};
+ghost use Rattle.laws_cut.specs.Between.{onLine};
+ghost use Rattle.overlay_cut.specs.Between.{InRowOrder};
 
 // An edge's lower end.
-fn foot(s: Seg) -> Point
+pub fn foot(s: Seg) -> Vector
     requires { ⌜ Edge (segOf s) ⌝ }
-    ensures is { λ r. ⌜ ptOf r ≡ whole (segOf s .foot) ⌝ }
-    ensures near { λ r. ⌜ Near (ptOf r) ⌝ }
+    ensures is { λ r. ⌜ vecOf r ≡ segOf s .foot ⌝ }
+    ensures near { λ r. ⌜ Corner (vecOf r) ⌝ }
 {
-    Point {
-        x: s.x,
-        y: s.y,
-        d: 1,
-    }
+    Vector { x: s.x, y: s.y }
 }
 
 // Its upper end.
-fn head(s: Seg) -> Point
+pub fn head(s: Seg) -> Vector
     requires { ⌜ Edge (segOf s) ⌝ }
-    ensures is { λ r. ⌜ ptOf r ≡ whole (head (segOf s)) ⌝ }
-    ensures near { λ r. ⌜ Near (ptOf r) ⌝ }
+    ensures is { λ r. ⌜ vecOf r ≡ head (segOf s) ⌝ }
+    ensures near { λ r. ⌜ Corner (vecOf r) ⌝ }
 {
-    Point {
+    Vector {
         x: s.x + s.u,
         y: s.y + s.v,
-        d: 1,
     }
 }
 
-// Whether each of n rows comes before the next: then they stand in point order.
-pub fn rise(points: &[i64], n: usize) -> bool
-    requires { ⌜ Points (now points) n ⌝ }
-    ensures { λ r. ⌜ InOrderIf r (now (points .entry)) n ⌝ }
+// Whether p comes before the corner a.
+fn before_corner(p: Point, a: Vector) -> bool
+    requires { ⌜ Near (ptOf p) × Corner (vecOf a) ⌝ }
+    ensures { λ r. ⌜ r ≡ before (ptOf p) (whole (vecOf a)) ⌝ }
 {
-    let mut k = 1;
-    while k < n {
-        if before(point_at(points, k - 1), point_at(points, k)) {
-            k += 1;
-        } else {
-            return false;
-        }
+    let level = a.y * p.d;
+    if p.y == level {
+        p.x < a.x * p.d
+    } else {
+        p.y < level
     }
-    true
 }
 
-// The first of n rows in point order that does not come before p, or n: by halves.
-fn place(points: &[i64], n: usize, p: Point) -> usize
-    requires { ⌜ Points (now points) n ⌝ ∗ ⌜ Near (ptOf p) ⌝ ∗ ⌜ InRowOrder (now points) n ⌝ }
-    ensures { λ r. ⌜ r ≡ least (reached before (pointAt (now (points .entry))) (ptOf p)) n ⌝ }
+// The first of n rows in point order that does not come before the corner a, or n: by halves.
+pub fn place(points: &[i64], n: usize, a: Vector) -> usize
+    requires { ⌜ Points (now points) n ⌝ ∗ ⌜ Corner (vecOf a) ⌝ ∗ ⌜ InRowOrder (now points) n ⌝ }
+    ensures { λ r. ⌜ r ≡ least (reached before (pointAt (now (points .entry))) (whole (vecOf a))) n ⌝ }
 {
     let mut low = 0;
     let mut high = n;
     while low < high {
         let middle = low + (high - low) / 2;
-        if before(point_at(points, middle), p) {
+        if before_corner(point_at(points, middle), a) {
             low = middle + 1;
         } else {
             high = middle;
@@ -73,23 +67,22 @@ fn place(points: &[i64], n: usize, p: Point) -> usize
     low
 }
 
-// The first of n rows that may be on s.
-pub fn first_on(points: &[i64], n: usize, sorted: bool, s: Seg) -> usize
-    requires { ⌜ Points (now points) n ⌝ ∗ ⌜ InOrderIf sorted (now points) n ⌝ ∗ ⌜ Edge (segOf s) ⌝ }
-    ensures { λ r. ⌜ NoneBelow (now (points .entry)) (segOf s) r ⌝ }
+// Whether the point px/d, py/d lies on the line of the edge from x, y along u, v: as far along across its direction as its lower end, which is the same for every point.
+fn across(x: i64, y: i64, u: i64, v: i64, px: i64, py: i64, d: i64) -> bool
+    requires { ⌜ Edge (seg x y u v) × Near (pt px py d) ⌝ }
+    ensures { λ r. ⌜ r ≡ onLine (seg x y u v) (pt px py d) ⌝ }
 {
-    if sorted { place(points, n, foot(s)) } else { 0 }
+    if u * py - v * px == (u * y - v * x) * d {
+        true
+    } else {
+        false
+    }
 }
 
-// The row from which on none of n is on s.
-pub fn past_on(points: &[i64], n: usize, sorted: bool, s: Seg) -> usize
-    requires { ⌜ Points (now points) n ⌝ ∗ ⌜ InOrderIf sorted (now points) n ⌝ ∗ ⌜ Edge (segOf s) ⌝ }
-    ensures { λ r. ⌜ NonePast (now (points .entry)) n (segOf s) r ⌝ }
+// Whether p lies on the line of s.
+pub fn on_line(s: Seg, p: Point) -> bool
+    requires { ⌜ Edge (segOf s) × Near (ptOf p) ⌝ }
+    ensures { λ r. ⌜ r ≡ onLine (segOf s) (ptOf p) ⌝ }
 {
-    if sorted {
-        let at = place(points, n, head(s));
-        if at < n { at + 1 } else { n }
-    } else {
-        n
-    }
+    across(s.x, s.y, s.u, s.v, p.x, p.y, p.d)
 }

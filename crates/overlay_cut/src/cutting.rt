@@ -1,32 +1,38 @@
-// "Edges are the pieces of input edges between neighbouring overlay vertices on them": each edge's pieces put in order into a table, from the last map, edge and
-// vertex down, so that each turn does what the definition does.
-use crate::between::first_on;
-use crate::between::past_on;
-use crate::between::rise;
+// "Edges are the pieces of input edges between neighbouring overlay vertices on them": each edge's pieces put into a table, from the last map, edge and
+// vertex down, so that each turn does what the definition does; then all in order.
+use crate::between::foot;
+use crate::between::head;
+use crate::between::on_line;
+use crate::between::place;
+use crate::laying::lay;
 use crate::put::put;
 use graph::carrier_at;
 use graph::point_at;
+use limits::EDGE_ROWS;
 use limits::MAPS;
+use limits::PIECE_CELLS;
+use limits::VERTEX_ROWS;
 use plane::Seg;
-use plane::on_seg;
 ghost use mathlib.Core.Path.{_≡_};
 ghost use mathlib.Core.List.{[]};
-ghost use Prim.Native.Nat.{_+_, _≤_, _<_};
+ghost use Prim.Native.Nat.{_+_, _*_, _≤_, _<_};
+ghost use lib.ListN.{length};
 ghost use Rattle.paper.specs.Limits.{maps, absent};
 ghost use Rattle.paper.specs.Pieces.{only, linksFrom};
 ghost use Rattle.plane.specs.Bounds.{Edge};
 ghost use Rattle.plane.specs.Values.{segOf};
 ghost use Rattle.graph.specs.Flat.{Points, Carriers};
 ghost use Rattle.overlay_cut.specs.Rooms.{vertexRows, edgeRows};
-ghost use Rattle.overlay_cut.specs.PieceRows.{piecesIn};
-ghost use Rattle.overlay_cut.specs.PieceOrder.{InPieceOrder};
+ghost use Rattle.overlay_cut.specs.PieceRows.{pieceWidth, piecesIn};
+ghost use Rattle.overlay_cut.specs.Links.{pieced, Linked};
 ghost use Rattle.overlay_cut.specs.Cutting.{puts, upper};
-ghost use Rattle.overlay_cut.specs.Between.{InOrderIf};
-ghost use Rattle.overlay_cut.specs.Cuts.{PieceTable, Starts, cutEdge, cutMap, cutAll};
+ghost use Rattle.overlay_cut.specs.Between.{InRowOrder, EndsIn, Ended};
+ghost use Rattle.overlay_cut.specs.Cuts.{startOf, Starts, cutEdge, cutMap, cutAll};
 
 // Puts in the piece from v to the vertex above it, where there is one: `next` is n where there is none.
 fn link(
-    pieces: &mut [u16],
+    rows: &mut [u16],
+    links: &mut [u16],
     count: usize,
     v: usize,
     next: usize,
@@ -34,37 +40,38 @@ fn link(
     m: usize,
     number: u16,
 ) -> usize
-    requires { ⌜ PieceTable (now pieces) count × InPieceOrder (now pieces) count ⌝ ∗ ⌜ v < vertexRows ⌝ ∗ ⌜ n ≤ vertexRows ⌝ ∗ ⌜ m < maps ⌝ ∗ ⌜ number < absent ⌝ }
-    ensures { λ r. ⌜ piecesIn (now (pieces .exit)) r ≡ puts edgeRows (piecesIn (now (pieces .entry)) count) (linksFrom (only maps m number) v (upper n next)) ⌝ }
+    requires { ⌜ Linked (now rows) (now links) n count ⌝ ∗ ⌜ v < n ⌝ ∗ ⌜ n ≤ vertexRows ⌝ ∗ ⌜ m < maps ⌝ ∗ ⌜ number < absent ⌝ }
+    ensures { λ r. ⌜ Linked (now (rows .exit)) (now (links .exit)) n r × (pieced (now (rows .exit)) r ≡ puts edgeRows (pieced (now (rows .entry)) count) (linksFrom (only maps m number) v (upper n next))) ⌝ }
 {
     if n <= next {
         return count;
     }
-    put(pieces, count, v as u16, next as u16, m, number)
+    put(rows, links, n, count, v as u16, next as u16, m, number)
 }
 
-// Puts in the pieces of the edge s, which is edge `number` of map m: of the rows between its ends, where they stand in order.
+// Puts in the pieces of the edge s, which is edge `number` of map m: its ends stand in the table, and of the rows from one to the other those on its line are on it.
 fn cut_edge(
     points: &[i64],
     n: usize,
-    sorted: bool,
     s: Seg,
     m: usize,
     number: u16,
-    pieces: &mut [u16],
+    rows: &mut [u16],
+    links: &mut [u16],
     count: usize,
 ) -> usize
-    requires { ⌜ PieceTable (now pieces) count × InPieceOrder (now pieces) count ⌝ ∗ ⌜ Points (now points) n × (n ≤ vertexRows) × InOrderIf sorted (now points) n ⌝ ∗ ⌜ Edge (segOf s) ⌝ ∗ ⌜ m < maps ⌝ ∗ ⌜ number < absent ⌝ }
-    ensures { λ r. ⌜ piecesIn (now (pieces .exit)) r ≡ puts edgeRows (piecesIn (now (pieces .entry)) count) (cutEdge (now (points .entry)) n (segOf s) m number) ⌝ }
+    requires { ⌜ Linked (now rows) (now links) n count ⌝ ∗ ⌜ Points (now points) n × (n ≤ vertexRows) × InRowOrder (now points) n ⌝ ∗ ⌜ Edge (segOf s) × EndsIn (now points) n (segOf s) ⌝ ∗ ⌜ m < maps ⌝ ∗ ⌜ number < absent ⌝ }
+    ensures { λ r. ⌜ Linked (now (rows .exit)) (now (links .exit)) n r × (pieced (now (rows .exit)) r ≡ puts edgeRows (pieced (now (rows .entry)) count) (cutEdge (now (points .entry)) n (segOf s) m number)) ⌝ }
 {
-    let first = first_on(points, n, sorted, s);
+    let first = place(points, n, foot(s));
+    let top = place(points, n, head(s));
     let mut total = count;
     let mut next = n;
-    let mut v = past_on(points, n, sorted, s);
+    let mut v = top + 1;
     while first < v {
         v -= 1;
-        if on_seg(s, point_at(points, v)) {
-            total = link(pieces, total, v, next, n, m, number);
+        if on_line(s, point_at(points, v)) {
+            total = link(rows, links, total, v, next, n, m, number);
             next = v;
         }
     }
@@ -75,23 +82,46 @@ fn cut_edge(
 fn cut_map(
     points: &[i64],
     n: usize,
-    sorted: bool,
     carriers: &[i16],
     from: usize,
     e: usize,
     m: usize,
-    pieces: &mut [u16],
+    rows: &mut [u16],
+    links: &mut [u16],
     count: usize,
 ) -> usize
-    requires { ⌜ PieceTable (now pieces) count × InPieceOrder (now pieces) count ⌝ ∗ ⌜ Points (now points) n × (n ≤ vertexRows) × InOrderIf sorted (now points) n ⌝ ∗ ⌜ Carriers (now carriers) (from + e) ⌝ ∗ ⌜ m < maps ⌝ ∗ ⌜ e < absent ⌝ }
-    ensures { λ r. ⌜ piecesIn (now (pieces .exit)) r ≡ puts edgeRows (piecesIn (now (pieces .entry)) count) (cutMap (now (points .entry)) n (now (carriers .entry)) from m e) ⌝ }
+    requires { ⌜ Linked (now rows) (now links) n count ⌝ ∗ ⌜ Points (now points) n × (n ≤ vertexRows) × InRowOrder (now points) n ⌝ ∗ ⌜ Carriers (now carriers) (from + e) × Ended (now points) n (now carriers) (from + e) ⌝ ∗ ⌜ m < maps ⌝ ∗ ⌜ e < absent ⌝ }
+    ensures { λ r. ⌜ Linked (now (rows .exit)) (now (links .exit)) n r × (pieced (now (rows .exit)) r ≡ puts edgeRows (pieced (now (rows .entry)) count) (cutMap (now (points .entry)) n (now (carriers .entry)) from m e)) ⌝ }
 {
     let mut total = count;
     let mut k = e;
     while 0 < k {
         k -= 1;
         let s = carrier_at(carriers, from + k);
-        total = cut_edge(points, n, sorted, s, m, k as u16, pieces, total);
+        total = cut_edge(points, n, s, m, k as u16, rows, links, total);
+    }
+    total
+}
+
+// Puts in the pieces of all edges.
+fn cut_all(
+    points: &[i64],
+    n: usize,
+    carriers: &[i16],
+    starts: &[usize],
+    rows: &mut [u16],
+    links: &mut [u16],
+) -> usize
+    requires { ⌜ Points (now points) n × (n ≤ vertexRows) × InRowOrder (now points) n ⌝ ∗ ⌜ Starts (now starts) (now carriers) × Ended (now points) n (now carriers) (startOf (now starts) maps) ⌝ ∗ ⌜ Linked (now rows) (now links) n 0 ⌝ }
+    ensures { λ r. ⌜ Linked (now (rows .exit)) (now (links .exit)) n r × (pieced (now (rows .exit)) r ≡ puts edgeRows [] (cutAll (now (points .entry)) n (now (carriers .entry)) (now (starts .entry)))) ⌝ }
+{
+    let mut total = 0;
+    let mut m = MAPS;
+    while 0 < m {
+        m -= 1;
+        let from = starts[m];
+        let e = starts[m + 1] - from;
+        total = cut_map(points, n, carriers, from, e, m, rows, links, total);
     }
     total
 }
@@ -104,17 +134,11 @@ pub fn pieces(
     starts: &[usize],
     out: &mut [u16],
 ) -> usize
-    requires { ⌜ Points (now points) n × (n ≤ vertexRows) ⌝ ∗ ⌜ Starts (now starts) (now carriers) ⌝ ∗ ⌜ PieceTable (now out) 0 ⌝ }
+    requires { ⌜ Points (now points) n × (n ≤ vertexRows) × InRowOrder (now points) n ⌝ ∗ ⌜ Starts (now starts) (now carriers) × Ended (now points) n (now carriers) (startOf (now starts) maps) ⌝ ∗ ⌜ pieceWidth * edgeRows ≤ length (now out) ⌝ }
     ensures { λ r. ⌜ piecesIn (now (out .exit)) r ≡ puts edgeRows [] (cutAll (now (points .entry)) n (now (carriers .entry)) (now (starts .entry))) ⌝ }
 {
-    let sorted = rise(points, n);
-    let mut total = 0;
-    let mut m = MAPS;
-    while 0 < m {
-        m -= 1;
-        let from = starts[m];
-        let e = starts[m + 1] - from;
-        total = cut_map(points, n, sorted, carriers, from, e, m, out, total);
-    }
-    total
+    let mut rows = [0u16; PIECE_CELLS];
+    let mut links = [0u16; VERTEX_ROWS + EDGE_ROWS];
+    let count = cut_all(points, n, carriers, starts, &mut rows, &mut links);
+    lay(&rows, &links, n, count, out)
 }

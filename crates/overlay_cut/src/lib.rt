@@ -2,7 +2,8 @@
 mod collecting; // corners and crossings, each point once
 mod ordering; // points put in order, by halves
 mod between; // which vertices may be on an edge
-mod put; // a piece put in order
+mod put; // a piece put into a table
+mod laying; // the table laid in order
 mod cutting; // the edges cut into pieces
 mod edges; // the overlay's graph in tables
 

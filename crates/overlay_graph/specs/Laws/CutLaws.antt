@@ -1,24 +1,31 @@
 -- The points that are collected from held layers, put in order, are the overlay's vertices; the pieces between these, however they were collected, are its edges.
 -- Assumes nothing.
-use mathlib.Core.Path.{_≡_, _∙_}
+use mathlib.Core.Path.{_≡_, sym, _∙_, ap, subst}
 use Prim.Native.Nat.{_≤_, _<_}
 use native.Mathlib.Omega.{arith}
 use Rattle.seq.specs.Seq.{List, [], _++_, ℕ, _*_, length, ℤ}
+use Rattle.seq.specs.Terms.{Among}
 use Rattle.paper.specs.Limits.{maps}
-use Rattle.paper.specs.Pieces.{inOrder, verticesOf}
-use Rattle.graph.specs.Flat.{Points}
+use Rattle.paper.specs.Plane.{whole, head}
+use Rattle.paper.specs.Graph.{edge}
+use Rattle.paper.specs.Pieces.{layer, inOrder, verticesOf}
+use Rattle.laws_overlay.specs.Vertices.{foot-there, head-there}
+use Rattle.laws_cut.specs.Between.{vertices-rise}
+use Rattle.graph.specs.Flat.{pointAt, carrierAt, Points}
 use Rattle.overlay_cut.specs.Rooms.{vertexRows, edgeRows}
 use Rattle.overlay_cut.specs.Points.{pointsOf, Once}
 use Rattle.overlay_cut.specs.Collecting.{gathered}
 use Rattle.overlay_cut.specs.Crossed.{crossAll}
+use Rattle.overlay_cut.specs.Between.{InRowOrder, EndsIn, Ended}
 use Rattle.overlay_cut.specs.Cuts.{cutAll}
 use Rattle.overlay_cut.specs.PieceRows.{piecesIn}
 use Rattle.overlay_cut.specs.Cutting.{puts}
+use Rattle.overlay_cut.specs.Laws.Holds.{owner}
 use Rattle.overlay_cut.specs.Laws.VerticesAre.{Vertices, vertices-are, vertices-over}
 use Rattle.overlay_cut.specs.Laws.EdgesAre.{edges-are, edges-over}
-use Rattle.overlay_maps.specs.Held.{vertexStart, heldMaps, Held}
+use Rattle.overlay_maps.specs.Held.{vertexStart, edgeStart, heldMaps, Held}
 use Rattle.overlay_maps.specs.Layers.{Layers}
-use Rattle.overlay_graph.specs.Laws.Standing.{keep, holds, vertices-near, unordered-near}
+use Rattle.overlay_graph.specs.Laws.Standing.{keep, holds, held-count, vertices-near, unordered-near}
 use Rattle.overlay_graph.specs.Collected.{CollectedOf}
 use Rattle.overlay_graph.specs.Cut.{cutBy, CutOf}
 
@@ -52,6 +59,23 @@ module _ (l : Layers) (H : Held l) (ps : List ℤ) (n : ℕ) (v : CollectedOf (h
   module _ (few : n < vertexRows) where
     pub ordered-near : 4 * n ≤ length ps → Points ps n
     ordered-near h = vertices-near l H ps n h (v .vertices-are (omega arith))
+
+    -- they stand in point order, and the ends of all edges among them
+    pub ordered-rise : InRowOrder ps n
+    ordered-rise = record { rises = vertices-rise (heldMaps l) (keep l H) (pointAt ps) n (v .vertices-are (omega arith)) }
+
+    pub ordered-ended : Ended ps n (l .carriers) (edgeStart l maps)
+    ordered-ended = record {
+      ends = λ k h.
+          let o = owner (holds l H) maps k (omega arith) h in
+          let i : o .map < length (heldMaps l) = omega (arith, o .earlier, held-count l) in
+          let e : carrierAt (l .carriers) k ≡ edge (layer (heldMaps l) (o .map) .graph) (o .number) .carrier = ap (carrierAt (l .carriers)) (o .is) ∙ holds l H .carriers-are (o .map) (o .number) (o .earlier) (o .below) in
+          subst (EndsIn ps n) (sym e)
+          (record {
+            low = subst (Among (whole (edge (layer (heldMaps l) (o .map) .graph) (o .number) .carrier .foot))) (sym (v .vertices-are (omega arith))) (foot-there (heldMaps l) (keep l H) (o .map) (o .number) i (o .below));
+            high = subst (Among (whole (head (edge (layer (heldMaps l) (o .map) .graph) (o .number) .carrier)))) (sym (v .vertices-are (omega arith))) (head-there (heldMaps l) (keep l H) (o .map) (o .number) i (o .below));
+          });
+    }
 
     pub cut-is : (rows : List ℕ) (r : ℕ) → piecesIn rows r ≡ puts edgeRows [] (cutAll ps n (l .carriers) (l .edges)) → CutOf (heldMaps l) (cutBy n ps r rows)
     cut-is rows r p = record {

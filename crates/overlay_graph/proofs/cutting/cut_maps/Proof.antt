@@ -4,7 +4,7 @@ use borrow.Author.Needs.{needs}
 use denote.Ref.{now}
 use Rattle.overlay_maps.specs.Layers.{Layers, layersBy}
 use Rattle.overlay_graph.specs.Laws.Standing.{starts}
-use Rattle.overlay_graph.specs.Laws.CutLaws.{ordered-near, cut-is, cut-over}
+use Rattle.overlay_graph.specs.Laws.CutLaws.{ordered-near, ordered-rise, ordered-ended, cut-is, cut-over}
 use Rattle.overlay_graph.proofs.cutting.cut_maps.Statement.{statement}
 use Rattle.overlay_graph.proofs.cutting.cut_maps.Tie as tie
 
@@ -26,8 +26,8 @@ pieces-requires c κs =
     let s = c .before .before .before .before .before .before .before .before .before .before .before in
     let v = c .before .before .before .before .vertices-by in
     let few = c .before .before .if1 .left in (
-      (ordered-near (l s) (s .pre .0) (v .last .1 .1 .1 .1 .1 .1 .1 .0) (v .result) (v .ensures) few (omega (arith, few, s .pre .1 .0, v .kept .1 .1 .1 .1 .1 .1 .1 .0)), omega (arith, few)),
-      (starts (l s) (s .pre .0), record { long = s .pre .1 .1; within = omega arith }),
+      (ordered-near (l s) (s .pre .0) (v .last .1 .1 .1 .1 .1 .1 .1 .0) (v .result) (v .ensures) few (omega (arith, few, s .pre .1 .0, v .kept .1 .1 .1 .1 .1 .1 .1 .0)), omega (arith, few), ordered-rise (l s) (s .pre .0) (v .last .1 .1 .1 .1 .1 .1 .1 .0) (v .result) (v .ensures) few),
+      ((starts (l s) (s .pre .0), ordered-ended (l s) (s .pre .0) (v .last .1 .1 .1 .1 .1 .1 .1 .0) (v .result) (v .ensures) few), s .pre .1 .1),
     )
 
 returns-2 : tie.Need-returns-2
