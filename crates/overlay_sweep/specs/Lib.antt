@@ -1,5 +1,6 @@
 pub mod Sides
 pub mod Numbers
+pub mod Falling
 pub mod Queue
 pub mod Splice
 pub mod Fans

@@ -1,26 +1,25 @@
--- `overlay_sweep::queue::queue_place` meets its contract. Assumes nothing.
+-- `overlay_sweep::queue::place_in` meets its contract. Assumes nothing.
 use mathlib.Core.Path.{sym, _∙_, ap, subst}
 use Prim.Native.Nat.{_-_}
 use native.Mathlib.Omega.{arith}
 use borrow.Author.Needs.{needs}
-use Rattle.seq.specs.Seq.{_+_, _/_, not}
+use Rattle.seq.specs.Seq.{_+_, _/_}
 use Rattle.paper.specs.Plane.{Pt, before}
 use Rattle.plane.specs.Bounds.{Near}
 use Rattle.plane.specs.Values.{ptOf}
-use Rattle.seq.specs.Halves.{Halving, halve-starts, halve-up, halve-down}
-use Rattle.seq.specs.Search.{steady-lasts, halve-stops}
-use Rattle.overlay_sweep.specs.Queue.{beforeAt}
-use Rattle.overlay_sweep.proofs.queue.queue_place.Statement.{statement}
-use Rattle.overlay_sweep.proofs.queue.queue_place.Tie as tie
+use Rattle.seq.specs.Halves.{Halving, halve-up, halve-down}
+use Rattle.overlay_sweep.specs.Queue.{beforeAt, place-by}
+use Rattle.overlay_sweep.proofs.queue.place_in.Statement.{statement}
+use Rattle.overlay_sweep.proofs.queue.place_in.Tie as tie
 
 abbrev Inv-loop : tie.InvT-loop
-Inv-loop points n p a₀ b₀ a b = Halving (λ i. not (beforeAt points (ptOf p) i)) n a b
+Inv-loop points n from to p a₀ b₀ a b = Halving (beforeAt points (ptOf p)) n a b
 
 abbrev μ-loop : tie.MeasureT-loop
-μ-loop points n p a₀ b₀ a b = b - a
+μ-loop points n from to p a₀ b₀ a b = b - a
 
 loop-holds : tie.Need-loop-holds Inv-loop μ-loop
-loop-holds c = halve-starts _ _
+loop-holds c = let s : tie.Start Inv-loop μ-loop = search needs in s .pre .1 .1 .1
 
 point-at-requires : tie.Need-point-at-requires Inv-loop μ-loop
 point-at-requires c κs = omega (arith, c .before .loop .inv .within, c .before .before .pre .0 .long)
@@ -34,20 +33,20 @@ before-requires c κs =
 loop-again : tie.Need-loop-again Inv-loop μ-loop
 loop-again c =
     let s : tie.Start Inv-loop μ-loop = search needs in
-    halve-up _ (c .before .before .before .before .loop .inv) _ (omega arith) (omega arith) (steady-lasts _ _ (s .pre .1 .1))
-    (ap not (sym (c .before .before2 .ensures ∙ ap (λ (q : Pt). before q (ptOf (s .args .p))) (c .before .before .point-at .ensures)) ∙ c .if1 .taken))
+    halve-down _ (c .before .before .before .before .loop .inv) _ (omega arith) (omega arith)
+    (sym (c .before .before2 .ensures ∙ ap (λ (q : Pt). before q (ptOf (s .args .p))) (c .before .before .point-at .ensures)) ∙ c .if1 .taken)
 
 loop-again-2 : tie.Need-loop-again-2 Inv-loop μ-loop
 loop-again-2 c =
     let s : tie.Start Inv-loop μ-loop = search needs in
-    halve-down _ (c .before .before .before .before .loop .inv) _ (omega arith) (omega arith)
-    (ap not (sym (c .before .before2 .ensures ∙ ap (λ (q : Pt). before q (ptOf (s .args .p))) (c .before .before .point-at .ensures)) ∙ c .if1 .left))
+    halve-up _ (c .before .before .before .before .loop .inv) _ (omega arith) (omega arith) (s .pre .1 .1 .0)
+    (sym (c .before .before2 .ensures ∙ ap (λ (q : Pt). before q (ptOf (s .args .p))) (c .before .before .point-at .ensures)) ∙ c .if1 .left)
 
 returns : tie.Need-returns Inv-loop μ-loop
-returns c = halve-stops _ _ (c .before .loop .inv) (search needs)
+returns c = let s : tie.Start Inv-loop μ-loop = search needs in place-by _ _ _ (s .pre .1 .1 .0) (c .before .loop .inv) (search needs)
 
-pub queue-place-spec : {M : Type 1} → statement M
-queue-place-spec =
+pub place-in-spec : {M : Type 1} → statement M
+place-in-spec =
     tie.close
     (tie.spec
     Inv-loop
@@ -58,8 +57,8 @@ queue-place-spec =
     point-at-requires
     before-requires
     (λ c. search needs)
-    (λ c. search needs)
     loop-again
+    (λ c. search needs)
     (λ c. search needs)
     loop-again-2
     returns)
