@@ -5,17 +5,13 @@ use Prim.Native.Nat.{_≤_, _<_}
 use native.Mathlib.Decide.{decLt}
 use native.Mathlib.Omega.{arith}
 use Rattle.exact.specs.Lowest.{Pt}
-use Rattle.seq.specs.Seq.{Bool, true, false, cond, List, [], _∷_, _++_, Option, none, ℕ, ℤ, _+_, _-_, _*_, least, ltb, eqb, length, getD, optional, insertBy}
+use Rattle.seq.specs.Seq.{Bool, true, false, cond, List, [], _∷_, _++_, ℕ, ℤ, _+_, _-_, _*_, least, ltb, eqb, length, optional, insertBy}
 use Rattle.seq.specs.Terms.{Among, Rising, Ordered, Transitive}
 use Rattle.seq.specs.Members.{in-every}
 use Rattle.seq.specs.Sorted.{insert-ordered, ordered-rising, rising-ordered}
-use Rattle.seq.specs.Tests.{clash, not-true}
 use Rattle.laws_plane.specs.Points.{before-trans}
 use Rattle.seq.specs.Inserted.{kept-from}
-use Rattle.exact.specs.Sign.{sgn, isZer}
-use Rattle.paper.specs.Plane.{Seg, cross, before, crossing}
-use Rattle.paper.specs.Meeting.{Meeting, meeting, pointOf}
-use Rattle.laws_meet.specs.Uses.{crossing-meeting}
+use Rattle.paper.specs.Plane.{Seg, before, crossing}
 use Rattle.plane.specs.Bounds.{Near}
 use Rattle.graph.specs.Flat.{Points, pointAt, carrierAt}
 use Rattle.overlay_cut.specs.Capped.{capped-less, capped-full, putAll, putAll-++, insert-slow}
@@ -117,15 +113,6 @@ module _ (t u : List ℤ) (n r : ℕ) (q : Pt) (h : Room t n) (near : Near q) (k
 module _ (p : Pt) (s t : Seg) where
   abbrev pub crossAhead : List Pt
   crossAhead = kept (before p) (optional (crossing s t))
-
-  -- parallel edges have none; of others it is the point of their meeting
-  pub ahead-parallel : isZer (sgn (cross (s .up) (t .up))) ≡ true → crossAhead ≡ []
-  ahead-parallel h = ap (λ (o : Option Pt). kept (before p) (optional o)) (crossing-meeting s t ∙ ap (λ (b : Bool). cond b none (pointOf (meeting s t))) h)
-
-  pub ahead-met : isZer (sgn (cross (s .up) (t .up))) ≡ false → (m : Meeting) → m ≡ meeting s t → kept (before p) (optional (pointOf m)) ≡ crossAhead
-  ahead-met h m e =
-      ap (λ (w : Meeting). kept (before p) (optional (pointOf w))) e
-      ∙ ap (λ (o : Option Pt). kept (before p) (optional o)) (sym (crossing-meeting s t ∙ ap (λ (b : Bool). cond b none (pointOf (meeting s t))) h))
 
 pub ahead-same : (p : Pt) (e f : Strand) → eqb (e .of) (f .of) ≡ true → ahead p e f ≡ []
 ahead-same p e f h = ap (λ (b : Bool). cond b [] (crossAhead p (e .seg) (f .seg))) h

@@ -13,7 +13,7 @@ falling f zero = []
 falling f (suc n) = f n ∷ falling f n
 
 module _ {A : Type 0} where
-  pub falling-more : (f : ℕ → A) (n : ℕ) → falling f (n + 1) ≡ f n ∷ falling f n
+  falling-more : (f : ℕ → A) (n : ℕ) → falling f (n + 1) ≡ f n ∷ falling f n
   falling-more f n = ap (falling f) (add-one n)
 
   -- the first of them is the last value

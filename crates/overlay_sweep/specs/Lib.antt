@@ -1,3 +1,5 @@
+pub mod First
+pub mod Heights
 pub mod Sides
 pub mod Numbers
 pub mod Falling

@@ -16,7 +16,7 @@ use Rattle.overlay_cut.specs.Capped.{capped, capped-less, capped-full}
 use Rattle.seq.specs.Loops.Lifting.{lifted}
 use Rattle.seq.specs.RowInserted.{cell-below, cell-new, cell-moved}
 use Rattle.overlay_cut.specs.Points.{read-ext}
-use Rattle.overlay_sweep.specs.Falling.{falling, length-falling, falling-more, falling-insert, falling-old}
+use Rattle.overlay_sweep.specs.Falling.{falling, length-falling, falling-insert, falling-old}
 
 -- the points in n rows, the last first
 abbrev pub queueOf : List ℤ → ℕ → List Pt

@@ -1,13 +1,13 @@
 // The crossing of two neighbours of the status, if it is still ahead, put into the queue.
+use crate::earlier::earlier;
 use crate::queue::crossing_in;
 use graph::carrier_at;
 use limits::MAPS;
-use plane::Meeting;
+use plane::Cross;
 use plane::Point;
 use plane::Seg;
-use plane::before;
-use plane::cross_of;
-use plane::meeting;
+use plane::crossing_over;
+use plane::over;
 ghost use mathlib.Core.Path.{_≡_};
 ghost use mathlib.Core.Bool.{cond};
 ghost use mathlib.Core.List.{[], _∷_};
@@ -52,7 +52,7 @@ fn ahead_in(p: Point, q: Point, points: &mut [i64], n: usize, guess: i64) -> usi
     requires { ⌜ Near (ptOf p) × Near (ptOf q) ⌝ ∗ ⌜ Room (now points) n ⌝ }
     ensures { λ r. ⌜ Queued (cond (before (ptOf p) (ptOf q)) (ptOf q ∷ []) []) (now (points .entry)) n (now (points .exit)) r ⌝ }
 {
-    if before(p, q) {
+    if earlier(p, q) {
         crossing_in(points, n, q, guess)
     } else {
         n
@@ -64,14 +64,9 @@ fn cross_in(s: Seg, t: Seg, p: Point, points: &mut [i64], n: usize, guess: i64) 
     requires { ⌜ Edge (segOf s) × Edge (segOf t) ⌝ ∗ ⌜ Near (ptOf p) ⌝ ∗ ⌜ Room (now points) n ⌝ }
     ensures { λ r. ⌜ Queued (crossAhead (ptOf p) (segOf s) (segOf t)) (now (points .entry)) n (now (points .exit)) r ⌝ }
 {
-    if cross_of(s.u, s.v, t.u, t.v) == 0 {
-        return n;
-    }
-    match meeting(s, t) {
-        Meeting::Apart => n,
-        Meeting::Touching(q) => ahead_in(p, q, points, n, guess),
-        Meeting::Crossing(q) => ahead_in(p, q, points, n, guess),
-        Meeting::Sharing => n,
+    match crossing_over(s, t, over(s, t)) {
+        Cross::Nothing => n,
+        Cross::At(q) => ahead_in(p, q, points, n, guess),
     }
 }
 

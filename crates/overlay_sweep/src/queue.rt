@@ -1,10 +1,10 @@
 // The queue: points in falling order, each once, so that the next stop of the line is the last row, and a crossing that is found moves only the points before it. The spare cell
 // of a row has where the line is to look for the point in its status, which is a guess.
+use crate::earlier::earlier;
 use graph::point_at;
 use limits::POINT_WIDTH;
 use limits::VERTEX_ROWS;
 use plane::Point;
-use plane::before;
 use seq::store4_i64;
 ghost use mathlib.Core.Path.{_≡_};
 ghost use Prim.Native.Nat.{_+_, _*_, _≤_, _<_};
@@ -26,7 +26,7 @@ fn place_in(points: &[i64], n: usize, from: usize, to: usize, p: Point) -> usize
     let mut b = to;
     while a < b {
         let h = a + (b - a) / 2;
-        if before(point_at(points, h), p) {
+        if earlier(point_at(points, h), p) {
             b = h;
         } else {
             a = h + 1;
@@ -43,7 +43,7 @@ fn place_near(points: &[i64], n: usize, p: Point) -> usize
     let mut b = n;
     let mut s = 1;
     while s <= b {
-        if before(point_at(points, b - s), p) {
+        if earlier(point_at(points, b - s), p) {
             b -= s;
             s = 2 * s;
         } else {
@@ -59,7 +59,7 @@ fn stands_at(points: &[i64], n: usize, a: usize, p: Point) -> bool
     ensures { λ b. ⌜ Stands (now (points .entry)) a (ptOf p) b ⌝ }
 {
     if 0 < a {
-        !before(p, point_at(points, a - 1))
+        !earlier(p, point_at(points, a - 1))
     } else {
         false
     }

@@ -17,17 +17,17 @@ crossing-in-requires c κs =
 returns : tie.Need-returns
 returns c =
     let start : tie.Start = search needs in
-    let first : tie.After-before2 = search needs in
+    let first : tie.After-earlier = search needs in
     let a = start .args in
     let i = c .before .crossing-in in
-    requeued (ap (λ (b : Bool). cond b (ptOf (a .q) ∷ []) []) (sym (sym (first .before2 .ensures) ∙ c .before .before .before .if1 .taken)))
+    requeued (ap (λ (b : Bool). cond b (ptOf (a .q) ∷ []) []) (sym (sym (first .earlier .ensures) ∙ c .before .before .before .if1 .taken)))
     (queued-one (a .points .now) (i .last .0) (a .n) (i .result) (ptOf (a .q)) (start .pre .1) (start .pre .0 .1) (i .kept .0) (i .ensures))
 
 returns-2 : tie.Need-returns-2
 returns-2 c =
     let start : tie.Start = search needs in
     let a = start .args in
-    requeued (ap (λ (b : Bool). cond b (ptOf (a .q) ∷ []) []) (sym (sym (c .before .before2 .ensures) ∙ c .if1 .left))) (queued-none (a .points .now) (a .n) (start .pre .1))
+    requeued (ap (λ (b : Bool). cond b (ptOf (a .q) ∷ []) []) (sym (sym (c .before .earlier .ensures) ∙ c .if1 .left))) (queued-none (a .points .now) (a .n) (start .pre .1))
 
 pub ahead-in-spec : {M : Type 1} → statement M
 ahead-in-spec = tie.close (tie.spec (λ c κs. search needs) crossing-in-requires (λ c. search needs) returns returns-2)

@@ -24,8 +24,8 @@ loop-holds c = let s : tie.Start Inv-loop μ-loop = search needs in s .pre .1 .1
 point-at-requires : tie.Need-point-at-requires Inv-loop μ-loop
 point-at-requires c κs = omega (arith, c .before .loop .inv .within, c .before .before .pre .0 .long)
 
-before-requires : tie.Need-before-requires Inv-loop μ-loop
-before-requires c κs =
+earlier-requires : tie.Need-earlier-requires Inv-loop μ-loop
+earlier-requires c κs =
     let s : tie.Start Inv-loop μ-loop = search needs in
     let l = c .before .before .loop in
     (subst Near (sym (c .point-at .ensures)) (s .pre .0 .near (l .a + (l .b - l .a) / 2) (omega (arith, l .inv .within))), s .pre .1 .0)
@@ -34,13 +34,13 @@ loop-again : tie.Need-loop-again Inv-loop μ-loop
 loop-again c =
     let s : tie.Start Inv-loop μ-loop = search needs in
     halve-down _ (c .before .before .before .before .loop .inv) _ (omega arith) (omega arith)
-    (sym (c .before .before2 .ensures ∙ ap (λ (q : Pt). before q (ptOf (s .args .p))) (c .before .before .point-at .ensures)) ∙ c .if1 .taken)
+    (sym (c .before .earlier .ensures ∙ ap (λ (q : Pt). before q (ptOf (s .args .p))) (c .before .before .point-at .ensures)) ∙ c .if1 .taken)
 
 loop-again-2 : tie.Need-loop-again-2 Inv-loop μ-loop
 loop-again-2 c =
     let s : tie.Start Inv-loop μ-loop = search needs in
     halve-up _ (c .before .before .before .before .loop .inv) _ (omega arith) (omega arith) (s .pre .1 .1 .0)
-    (sym (c .before .before2 .ensures ∙ ap (λ (q : Pt). before q (ptOf (s .args .p))) (c .before .before .point-at .ensures)) ∙ c .if1 .left)
+    (sym (c .before .earlier .ensures ∙ ap (λ (q : Pt). before q (ptOf (s .args .p))) (c .before .before .point-at .ensures)) ∙ c .if1 .left)
 
 returns : tie.Need-returns Inv-loop μ-loop
 returns c = let s : tie.Start Inv-loop μ-loop = search needs in place-by _ _ _ (s .pre .1 .1 .0) (c .before .loop .inv) (search needs)
@@ -55,7 +55,7 @@ place-in-spec =
     (λ c. search needs)
     (λ c. search needs)
     point-at-requires
-    before-requires
+    earlier-requires
     (λ c. search needs)
     loop-again
     (λ c. search needs)

@@ -28,8 +28,8 @@ point-at-requires c κs =
     let l = c .before .loop in
     omega (arith, s .pre .0 .0 .long, l .inv .0 .within, l .inv .1)
 
-before-requires : tie.Need-before-requires Inv-loop μ-loop
-before-requires c κs =
+earlier-requires : tie.Need-earlier-requires Inv-loop μ-loop
+earlier-requires c κs =
     let s : tie.Start Inv-loop μ-loop = search needs in
     let l = c .before .before .loop in
     (subst Near (sym (c .point-at .ensures)) (s .pre .0 .0 .near (l .b - l .s) (omega (arith, l .inv .0 .within, l .inv .1))), s .pre .1 .0)
@@ -54,7 +54,7 @@ loop-again c =
     let l = then .before .before .before .before .loop in
     let t = then .before .before .before .loop-test .taken in (
       halve-down _ (l .inv .0) (l .b - l .s) (omega (arith, l .inv .1, t)) (omega arith)
-          (sym (then .before .before2 .ensures ∙ ap (λ (q : Pt). before q (ptOf (s .args .p))) (then .before .before .point-at .ensures)) ∙ then .if1 .taken),
+          (sym (then .before .earlier .ensures ∙ ap (λ (q : Pt). before q (ptOf (s .args .p))) (then .before .before .point-at .ensures)) ∙ then .if1 .taken),
       omega (arith, l .inv .1),
       omega (arith, s .pre .0 .1, l .inv .0 .within, t),
     )
@@ -78,7 +78,7 @@ place-in-requires c κs =
         (
           s .pre .1 .1,
           halve-up _ (l .inv .0) (l .b - l .s) (omega (arith, l .inv .1, t)) (omega arith) (s .pre .1 .1)
-              (sym (else .before .before2 .ensures ∙ ap (λ (q : Pt). before q (ptOf (s .args .p))) (else .before .before .point-at .ensures)) ∙ else .if1 .left),
+              (sym (else .before .earlier .ensures ∙ ap (λ (q : Pt). before q (ptOf (s .args .p))) (else .before .before .point-at .ensures)) ∙ else .if1 .left),
         ),
       ),
     )
@@ -102,7 +102,7 @@ place-near-spec =
     μ-loop
     loop-holds
     point-at-requires
-    before-requires
+    earlier-requires
     mul-s
     loop-less
     loop-again

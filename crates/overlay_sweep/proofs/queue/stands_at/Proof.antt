@@ -14,8 +14,8 @@ use Rattle.overlay_sweep.proofs.queue.stands_at.Tie as tie
 point-at-requires : tie.Need-point-at-requires
 point-at-requires c κs = let s : tie.Start = search needs in omega (arith, s .pre .0 .0 .long, s .pre .0 .1)
 
-before-requires : tie.Need-before-requires
-before-requires c κs =
+earlier-requires : tie.Need-earlier-requires
+earlier-requires c κs =
     let s : tie.Start = search needs in
     (s .pre .1, subst Near (sym (c .point-at .ensures)) (s .pre .0 .0 .near (s .args .a - 1) (omega (arith, s .pre .0 .1))))
 
@@ -23,7 +23,7 @@ returns : tie.Need-returns
 returns c =
     let s : tie.Start = search needs in
     let a = s .args in
-    stands-by (a .points .now) (a .a) (ptOf (a .p)) (search needs) _ (ap not (c .before2 .ensures ∙ ap (before (ptOf (a .p))) (c .before .point-at .ensures)))
+    stands-by (a .points .now) (a .a) (ptOf (a .p)) (search needs) _ (ap not (c .earlier .ensures ∙ ap (before (ptOf (a .p))) (c .before .point-at .ensures)))
 
 pub stands-at-spec : {M : Type 1} → statement M
-stands-at-spec = tie.close (tie.spec (λ c. search needs) point-at-requires before-requires returns (λ c. not-there (λ h. absurd (omega arith))))
+stands-at-spec = tie.close (tie.spec (λ c. search needs) point-at-requires earlier-requires returns (λ c. not-there (λ h. absurd (omega arith))))
