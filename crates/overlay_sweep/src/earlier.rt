@@ -2,7 +2,6 @@
 use plane::Point;
 use plane::before;
 ghost use mathlib.Core.Path.{_≡_};
-ghost use mathlib.Core.Bool.{true};
 ghost use Rattle.paper.specs.Plane.{before};
 ghost use Rattle.plane.specs.Bounds.{Near, middling};
 ghost use Rattle.plane.specs.Values.{ptOf};
@@ -22,22 +21,6 @@ fn middling(n: i64, d: i64) -> bool
     }
 }
 
-// Whether q comes before p, whose heights are so small.
-fn by_height(q: Point, p: Point) -> bool
-    requires { ⌜ Near (ptOf q) × Near (ptOf p) ⌝ ∗ ⌜ (middling (ptOf q .Y) (ptOf q .D) ≡ true) × (middling (ptOf p .Y) (ptOf p .D) ≡ true) ⌝ }
-    ensures { λ r. ⌜ r ≡ before (ptOf q) (ptOf p) ⌝ }
-{
-    let a = q.y * p.d;
-    let b = p.y * q.d;
-    if a < b {
-        return true;
-    }
-    if b < a {
-        return false;
-    }
-    before(q, p)
-}
-
 // Whether q comes before p.
 pub fn earlier(q: Point, p: Point) -> bool
     requires { ⌜ Near (ptOf q) × Near (ptOf p) ⌝ }
@@ -45,9 +28,15 @@ pub fn earlier(q: Point, p: Point) -> bool
 {
     if middling(q.y, q.d) {
         if middling(p.y, p.d) {
-            return by_height(q, p);
+            let a = q.y * p.d;
+            let b = p.y * q.d;
+            if a < b {
+                return true;
+            }
+            if b < a {
+                return false;
+            }
         }
-        return before(q, p);
     }
     before(q, p)
 }
