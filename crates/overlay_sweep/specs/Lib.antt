@@ -1,5 +1,8 @@
+pub mod First
+pub mod Heights
 pub mod Sides
 pub mod Numbers
+pub mod Falling
 pub mod Queue
 pub mod Splice
 pub mod Fans

@@ -31,14 +31,15 @@ use Rattle.overlay_sweep.specs.Neighbours.{jointAt}
 abbrev pub fanRoom : ℕ
 fanRoom = maps * mapEdges
 
--- the first c cells of st are the edges that the line cuts, and those from w on of ws wait
-pub record Ready (cs : List ℤ) (e : ℕ) (starts ws st : List ℕ) (c w : ℕ) : Type 0 where
+-- the first c cells of st are the edges that the line cuts, those from w on of ws wait, and a fan has room
+pub record Ready (cs : List ℤ) (e : ℕ) (starts ws st fan : List ℕ) (c w : ℕ) : Type 0 where
   pub carriers : Carriers cs e
   pub waits : Numbers ws e e
   pub named : Numbers st c e
   pub fewer : c ≤ w
   pub started : w ≤ e
   pub room : e ≤ length st
+  pub fan-room : e ≤ length fan
   pub starts-long : maps < length starts
   pub few : e ≤ fanRoom
 
@@ -243,7 +244,7 @@ module _ (cs : List ℤ) (starts : List ℕ) (p : Pt) where
             pub cut-named : cut ≤ length st′ → Numbers st′ cut e
             cut-named long = record { long = long; named = λ i l. below (getD st′ i 0) (subst (Among (getD st′ i 0)) E (among-table (λ i. getD st′ i 0) cut i l)) }
 
-          module _ (R : Ready cs e starts ws st c w) (few : h ≤ b - a) (kept : length st′ ≡ length st) where
+          module _ {fan : List ℕ} (R : Ready cs e starts ws st fan c w) (few : h ≤ b - a) (kept : length st′ ≡ length st) where
             fits : cut ≤ s
             fits = omega (arith, ab, bc, wS, R .fewer)
 

@@ -1,13 +1,13 @@
 // The crossing of two neighbours of the status, if it is still ahead, put into the queue.
-use crate::queue::queue_in;
+use crate::earlier::earlier;
+use crate::queue::crossing_in;
 use graph::carrier_at;
 use limits::MAPS;
-use plane::Meeting;
+use plane::Cross;
 use plane::Point;
 use plane::Seg;
-use plane::before;
-use plane::cross_of;
-use plane::meeting;
+use plane::crossing_over;
+use plane::over;
 ghost use mathlib.Core.Path.{_≡_};
 ghost use mathlib.Core.Bool.{cond};
 ghost use mathlib.Core.List.{[], _∷_};
@@ -48,31 +48,31 @@ fn one_map(starts: &[usize], k: usize, l: usize) -> bool
 }
 
 // Puts q, if it comes after p, among n points. Answers how many there are then.
-fn ahead_in(p: Point, q: Point, points: &mut [i64], n: usize) -> usize
+fn ahead_in(p: Point, q: Point, points: &mut [i64], n: usize, guess: i64) -> usize
     requires { ⌜ Near (ptOf p) × Near (ptOf q) ⌝ ∗ ⌜ Room (now points) n ⌝ }
     ensures { λ r. ⌜ Queued (cond (before (ptOf p) (ptOf q)) (ptOf q ∷ []) []) (now (points .entry)) n (now (points .exit)) r ⌝ }
 {
-    if before(p, q) {
-        queue_in(points, n, q)
+    if earlier(p, q) {
+        crossing_in(points, n, q, guess)
     } else {
         n
     }
 }
 
 // Puts the crossing of s and t, if there is one after p, among n points. Parallel edges have none.
-fn cross_in(s: Seg, t: Seg, p: Point, points: &mut [i64], n: usize) -> usize
+fn cross_in(s: Seg, t: Seg, p: Point, points: &mut [i64], n: usize, guess: i64) -> usize
     requires { ⌜ Edge (segOf s) × Edge (segOf t) ⌝ ∗ ⌜ Near (ptOf p) ⌝ ∗ ⌜ Room (now points) n ⌝ }
     ensures { λ r. ⌜ Queued (crossAhead (ptOf p) (segOf s) (segOf t)) (now (points .entry)) n (now (points .exit)) r ⌝ }
 {
-    if cross_of(s.u, s.v, t.u, t.v) == 0 {
-        return n;
+    match crossing_over(s, t, over(s, t)) {
+        Cross::Nothing => n,
+        Cross::At(q) => ahead_in(p, q, points, n, guess),
     }
-    match meeting(s, t) {
-        Meeting::Apart => n,
-        Meeting::Touching(q) => ahead_in(p, q, points, n),
-        Meeting::Crossing(q) => ahead_in(p, q, points, n),
-        Meeting::Sharing => n,
-    }
+}
+
+// What is told of the place of a crossing in the status, where it is found in cell j. Nothing rests on it.
+fn guess_of(j: usize) -> i64 {
+    if j < 65536 { j as i64 } else { 0 }
 }
 
 // The same of the edges in the cells j and j + 1 of c in the status, if they are of different maps.
@@ -101,6 +101,7 @@ fn tested(
         p,
         points,
         n,
+        guess_of(j),
     )
 }
 

@@ -1,33 +1,36 @@
-// An edge's ends, as points.
+// Which of two points comes first, where one of them is the end of an edge: a corner, whose numbers are small, so that no test of their range is needed.
 use plane::Point;
-use plane::Seg;
 ghost use mathlib.Core.Path.{_≡_};
-ghost use Rattle.paper.specs.Plane.{whole, head};
-ghost use Rattle.plane.specs.Bounds.{Near, Edge};
-ghost use Rattle.plane.specs.Values.{ptOf, segOf};
+ghost use Rattle.paper.specs.Plane.{vec, whole, before};
+ghost use Rattle.plane.specs.Bounds.{Near, Corner};
+ghost use Rattle.plane.specs.Values.{ptOf};
+ghost use Rattle.overlay_sweep.specs.First.{first};
 
-// The lower end of s, which goes up.
-pub fn foot(s: Seg) -> Point
-    requires { ⌜ Edge (segOf s) ⌝ }
-    ensures is { λ r. ⌜ ptOf r ≡ whole (segOf s .foot) ⌝ }
-    ensures near { λ r. ⌜ Near (ptOf r) ⌝ }
+// Whether x, y comes before u, v: "smaller y first, then smaller x".
+pub fn first_of(x: i64, y: i64, u: i64, v: i64) -> bool
+    ensures { λ r. ⌜ r ≡ first x y u v ⌝ }
 {
-    Point {
-        x: s.x,
-        y: s.y,
-        d: 1,
+    if y < v {
+        return true;
     }
+    if v < y {
+        return false;
+    }
+    x < u
 }
 
-// The upper end.
-pub fn head(s: Seg) -> Point
-    requires { ⌜ Edge (segOf s) ⌝ }
-    ensures is { λ r. ⌜ ptOf r ≡ whole (head (segOf s)) ⌝ }
-    ensures near { λ r. ⌜ Near (ptOf r) ⌝ }
+// Whether the corner x, y comes before p.
+pub fn corner_before(x: i64, y: i64, p: Point) -> bool
+    requires { ⌜ Corner (vec x y) ⌝ ∗ ⌜ Near (ptOf p) ⌝ }
+    ensures { λ r. ⌜ r ≡ before (whole (vec x y)) (ptOf p) ⌝ }
 {
-    Point {
-        x: s.x + s.u,
-        y: s.y + s.v,
-        d: 1,
-    }
+    first_of(x * p.d, y * p.d, p.x, p.y)
+}
+
+// Whether p comes before the corner x, y.
+pub fn before_corner(p: Point, x: i64, y: i64) -> bool
+    requires { ⌜ Corner (vec x y) ⌝ ∗ ⌜ Near (ptOf p) ⌝ }
+    ensures { λ r. ⌜ r ≡ before (ptOf p) (whole (vec x y)) ⌝ }
+{
+    first_of(p.x, p.y, x * p.d, y * p.d)
 }

@@ -4,6 +4,7 @@ use graph::carrier_at;
 use plane::Point;
 use plane::left_by;
 ghost use mathlib.Core.Path.{_≡_};
+ghost use mathlib.Core.Bool.{true};
 ghost use Prim.Native.Nat.{_≤_, _<_};
 ghost use Rattle.graph.specs.Flat.{Carriers, Numbers};
 ghost use Rattle.plane.specs.Bounds.{Near};
@@ -21,11 +22,39 @@ fn is_right(carriers: &[i16], e: usize, status: &[u16], n: usize, i: usize, p: P
     left_by(s, p) < 0
 }
 
-// How many of the first n edges of the status have p on their right.
-pub fn west_of(carriers: &[i16], e: usize, status: &[u16], n: usize, p: Point) -> usize
+// Whether the first g edges of the status, some and not all, are those that have p on their right: by the two edges there.
+fn parts_at(carriers: &[i16], e: usize, status: &[u16], n: usize, p: Point, g: usize) -> bool
+    requires { ⌜ Carriers (now carriers) e ⌝ ∗ ⌜ Numbers (now status) n e ⌝ ∗ ⌜ Near (ptOf p) ⌝ ∗ ⌜ Steady (rightAt (now carriers) (now status) (ptOf p)) n ⌝ }
+    ensures { λ r. ⌜ (r ≡ true → Stop (rightAt (now (carriers .entry)) (now (status .entry)) (ptOf p)) n g) ⌝ }
+{
+    if g < 1 {
+        return false;
+    }
+    if n <= g {
+        return false;
+    }
+    if is_right(carriers, e, status, n, g - 1, p) {
+        !is_right(carriers, e, status, n, g, p)
+    } else {
+        false
+    }
+}
+
+// How many of the first n edges of the status have p on their right: as many as is guessed, if that is so, or by halves.
+pub fn west_of(
+    carriers: &[i16],
+    e: usize,
+    status: &[u16],
+    n: usize,
+    p: Point,
+    guess: usize,
+) -> usize
     requires { ⌜ Carriers (now carriers) e ⌝ ∗ ⌜ Numbers (now status) n e ⌝ ∗ ⌜ Near (ptOf p) ⌝ ∗ ⌜ Steady (rightAt (now carriers) (now status) (ptOf p)) n ⌝ }
     ensures { λ r. ⌜ Stop (rightAt (now (carriers .entry)) (now (status .entry)) (ptOf p)) n r ⌝ }
 {
+    if parts_at(carriers, e, status, n, p, guess) {
+        return guess;
+    }
     let mut a = 0;
     let mut b = n;
     while a < b {

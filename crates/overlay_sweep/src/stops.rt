@@ -1,16 +1,34 @@
 // All stops of the line.
 use crate::corners::corners_in;
 use crate::slots::by_lower_end;
-use crate::turn::EDGES;
 use crate::turn::turn;
+use exact::magnitude;
+use graph::point_at;
+use limits::MAP_EDGES;
 use limits::MAPS;
+use limits::POINT_CELLS;
+use limits::POINT_WIDTH;
 use limits::VERTEX_ROWS;
+use seq::store4_i64;
+ghost use Prim.Native.Nat.{_+_, _*_, _≤_};
+ghost use lib.ListN.{length};
 ghost use Rattle.paper.specs.Limits.{maps};
 ghost use Rattle.overlay_cut.specs.Cuts.{startOf};
 ghost use Rattle.overlay_sweep.specs.Between.{Outcome};
 ghost use Rattle.overlay_sweep.specs.Loop.{Given, Begun, stopsIn};
 
-// From the first stop on: how many there are, or VERTEX_ROWS where there are more than the overlay may have. The corners stand in the first k of `rows`.
+// The edges of all maps, at most.
+const EDGES: usize = MAPS * MAP_EDGES as usize;
+
+// What is told of the place of the point in row n in the status. Nothing rests on it.
+fn guess_at(points: &[i64], n: usize) -> usize
+    requires { ⌜ 4 * n + 4 ≤ length (now points) ⌝ }
+{
+    magnitude(points[POINT_WIDTH * n + 3]) as usize
+}
+
+// From the first stop on: how many there are, or VERTEX_ROWS where there are more than the overlay may have. The corners stand in the first k of `rows`, and the first
+// `known` of `points` are the queue.
 fn all_turns(
     rows: &[i64],
     k: usize,
@@ -19,27 +37,45 @@ fn all_turns(
     starts: &[usize],
     waits: &[u16],
     status: &mut [u16],
+    fan: &mut [u16],
     points: &mut [i64],
+    out: &mut [i64],
     known: usize,
 ) -> usize
-    requires { ⌜ Begun (now carriers) e (now starts) (now rows) k (now waits) (now status) (now points) known ⌝ }
-    ensures { λ r. ⌜ Outcome (stopsIn (now (carriers .entry)) e (now (starts .entry)) (now (rows .entry)) k) (now (points .exit)) r ⌝ }
+    requires { ⌜ Begun (now carriers) e (now starts) (now rows) k (now waits) (now status) (now fan) (now points) (now out) known ⌝ }
+    ensures { λ r. ⌜ Outcome (stopsIn (now (carriers .entry)) e (now (starts .entry)) (now (rows .entry)) k) (now (out .exit)) r ⌝ }
 {
     let mut c = 0;
     let mut w = 0;
     let mut n = known;
     let mut i = 0;
-    while i < n {
-        if VERTEX_ROWS <= n {
+    while 0 < n {
+        if VERTEX_ROWS <= n + i {
             return VERTEX_ROWS;
         }
-        let l = turn(carriers, e, starts, waits, status, points, i, c, w, n);
+        let p = point_at(points, n - 1);
+        let g = guess_at(points, n - 1);
+        store4_i64(out, i, p.x, p.y, p.d, 0);
+        let l = turn(
+            carriers,
+            e,
+            starts,
+            waits,
+            status,
+            fan,
+            points,
+            p,
+            g,
+            c,
+            w,
+            n - 1,
+        );
         c = l.cut;
         w = l.started;
         n = l.known;
         i += 1;
     }
-    n
+    i
 }
 
 // The corners and the crossings in point order, each once: how many there are, or VERTEX_ROWS where there are more than the overlay may have. The corners stand in the first k of
@@ -51,7 +87,21 @@ pub fn sweep(rows: &[i64], k: usize, carriers: &[i16], starts: &[usize], out: &m
     let e = starts[MAPS];
     let mut waits = [0u16; EDGES];
     let mut status = [0u16; EDGES];
+    let mut fan = [0u16; EDGES];
+    let mut points = [0i64; POINT_CELLS];
     by_lower_end(carriers, e, &mut waits);
-    let n = corners_in(rows, k, out);
-    all_turns(rows, k, carriers, e, starts, &waits, &mut status, out, n)
+    let n = corners_in(rows, k, &mut points);
+    all_turns(
+        rows,
+        k,
+        carriers,
+        e,
+        starts,
+        &waits,
+        &mut status,
+        &mut fan,
+        &mut points,
+        out,
+        n,
+    )
 }

@@ -6,18 +6,13 @@ use crate::fans::starting;
 use crate::search::through_to;
 use crate::search::west_of;
 use crate::splice::splice;
-use graph::point_at;
-use limits::MAP_EDGES;
-use limits::MAPS;
-ghost use Prim.Native.Nat.{_<_};
-ghost use Rattle.graph.specs.Flat.{pointAt};
+use plane::Point;
+ghost use Rattle.plane.specs.Bounds.{Near};
+ghost use Rattle.plane.specs.Values.{ptOf};
 ghost use Rattle.seq.specs.Search.{Steady};
 ghost use Rattle.overlay_sweep.specs.Sides.{rightAt};
 ghost use Rattle.overlay_sweep.specs.Ahead.{Room};
 ghost use Rattle.overlay_sweep.specs.Turned.{Ready, Turned};
-
-// The edges of all maps, at most.
-pub const EDGES: usize = MAPS * MAP_EDGES as usize;
 
 // How many edges the line cuts, how many have started, how many points are known.
 pub struct Line {
@@ -26,31 +21,31 @@ pub struct Line {
     pub known: usize,
 }
 
-// The line goes on to row i of the points.
+// The line goes on to p, for which `guess` edges of the status may be in the west. n points are left in the queue.
 pub fn turn(
     carriers: &[i16],
     e: usize,
     starts: &[usize],
     waits: &[u16],
     status: &mut [u16],
+    fan: &mut [u16],
     points: &mut [i64],
-    i: usize,
+    p: Point,
+    guess: usize,
     c: usize,
     w: usize,
     n: usize,
 ) -> Line
-    requires { ⌜ Ready (now carriers) e (now starts) (now waits) (now status) c w ⌝ ∗ ⌜ Room (now points) n ⌝ ∗ ⌜ i < n ⌝ ∗ ⌜ Steady (rightAt (now carriers) (now status) (pointAt (now points) i)) c ⌝ }
-    ensures { λ r. ⌜ Turned (now (carriers .entry)) e (now (starts .entry)) (pointAt (now (points .entry)) i) (now (waits .entry)) (now (status .entry)) c w (now (points .entry)) n (now (status .exit)) (r .cut) (r .started) (now (points .exit)) (r .known) ⌝ }
+    requires { ⌜ Ready (now carriers) e (now starts) (now waits) (now status) (now fan) c w ⌝ ∗ ⌜ Room (now points) n ⌝ ∗ ⌜ Near (ptOf p) ⌝ ∗ ⌜ Steady (rightAt (now carriers) (now status) (ptOf p)) c ⌝ }
+    ensures { λ r. ⌜ Turned (now (carriers .entry)) e (now (starts .entry)) (ptOf p) (now (waits .entry)) (now (status .entry)) c w (now (points .entry)) n (now (status .exit)) (r .cut) (r .started) (now (points .exit)) (r .known) ⌝ }
 {
-    let p = point_at(points, i);
-    let mut fan = [0u16; EDGES];
-    let a = west_of(carriers, e, status, c, p);
+    let a = west_of(carriers, e, status, c, p, guess);
     let b = through_to(carriers, e, status, c, a, p);
-    let g = going_on(carriers, e, status, a, b, p, &mut fan);
+    let g = going_on(carriers, e, status, a, b, p, fan);
     let s = start_to(carriers, waits, e, w, p);
-    starting(carriers, waits, e, w, s, &mut fan, g);
+    starting(carriers, waits, e, w, s, fan, g);
     let m = g + (s - w);
-    let cut = splice(status, c, a, b, &fan, m);
+    let cut = splice(status, c, a, b, fan, m);
     let east = joined(carriers, e, starts, status, cut, a, a + m, p, points, n);
     let known = joined(carriers, e, starts, status, cut, 0, a, p, points, east);
     Line {

@@ -10,7 +10,7 @@ use Rattle.graph.specs.Flat.{pointAt}
 use Rattle.plane.specs.Bounds.{Near}
 use Rattle.overlay_cut.specs.Rooms.{vertexRows}
 use Rattle.overlay_cut.specs.Points.{pointsOf, noPoint}
-use Rattle.overlay_sweep.specs.Queue.{queued}
+use Rattle.overlay_sweep.specs.Queue.{queueOf, queued}
 use Rattle.overlay_sweep.specs.Ahead.{Queued, queued-none, queued-one, queued-on, requeued}
 
 -- t is what the loop has made of t₀ where it is down to row v
@@ -28,7 +28,7 @@ module _ {cr : List ℤ} {c : ℕ} {t₀ : List ℤ} where
         (queued-none t₀ 0 (record { points = record { long = omega arith; near = λ v l. absurd (omega arith) }; room = h; rising = tt }));
   }
 
-  pub cornered-turns : {t u : List ℤ} {n v r : ℕ} (q : Pt) → Cornered cr c t₀ t n v → 0 < v → q ≡ pointAt cr (v - 1) → Near q → length u ≡ length t → pointsOf u r ≡ queued vertexRows q (pointsOf t n) → Cornered cr c t₀ u r (v - 1)
+  pub cornered-turns : {t u : List ℤ} {n v r : ℕ} (q : Pt) → Cornered cr c t₀ t n v → 0 < v → q ≡ pointAt cr (v - 1) → Near q → length u ≡ length t → queueOf u r ≡ queued vertexRows q (queueOf t n) → Cornered cr c t₀ u r (v - 1)
   cornered-turns {t} {u} {n} {v} {r} q C h e near k f =
       let within = C .within in
       let s : suc (v - 1) ≡ v = omega arith in

@@ -1,18 +1,15 @@
--- The line between two stops, by tables: the sides of the next stop rise along the status, so that the search by halves may be made (`right-steady`); what is put into the queue stands behind
--- what has been met (`past-met`). Assumes nothing.
+-- The line between two stops, by tables: the sides of the next stop rise along the status, so that the search by halves may be made (`right-steady`). Assumes nothing.
 use mathlib.Core.Path.{_≡_, refl, sym, _∙_, ap, subst}
-use mathlib.Core.Logic.{inl, inr}
 use Prim.Native.Nat.{_<_}
 use native.Mathlib.Omega.{arith}
 use Rattle.exact.specs.Sign.{Sign, neg, zer, plus, isNeg}
-use Rattle.seq.specs.Seq.{Bool, true, false, cond, List, [], _∷_, _++_, ℤ, ℕ, getD, table, insertBy}
-use Rattle.seq.specs.Terms.{Among, Pairs}
+use Rattle.seq.specs.Seq.{true, false, List, _∷_, ℤ, ℕ, getD, table}
+use Rattle.seq.specs.Terms.{Pairs}
 use Rattle.seq.specs.Table.{length-table, table-at, table-map}
 use Rattle.seq.specs.Tests.{never}
-use Rattle.paper.specs.Plane.{Pt, before}
-use Rattle.laws_plane.specs.Points.{before-asym}
+use Rattle.paper.specs.Plane.{Pt}
 use Rattle.laws_sweep.specs.Gap.{atMost}
-use Rattle.laws_sweep.specs.Sweep.{Strand, right, put}
+use Rattle.laws_sweep.specs.Sweep.{Strand, right}
 use Rattle.seq.specs.Pairs.{pairs-map}
 use Rattle.seq.specs.Search.{Steady, steady-by}
 use Rattle.laws_sweep.specs.Scene.{Scene, State}
@@ -44,21 +41,3 @@ right-steady cs starts st c es corners stops S p v vs queue I i j h l f =
   where
     at : (k : ℕ) → k < c → right v (getD (table (λ k. strandAt cs starts (getD st k 0)) c) k (strandAt cs starts 0)) ≡ rightAt cs st v k
     at k q = ap (right v) (table-at (λ k. strandAt cs starts (getD st k 0)) c k (strandAt cs starts 0) q)
-
--- ── behind what has been met ──
-
-abbrev into : Pt → List Pt → List Pt
-into x l = insertBy before (λ p r. r) x l
-
-pub insert-past : (x : Pt) (met l : List Pt) → ((z : Pt) → Among z met → before z x ≡ true) → into x (met ++ l) ≡ met ++ into x l
-insert-past x [] l h = refl
-insert-past x (y ∷ ys) l h =
-    step (before x y) (before y x) (before-asym y x (h y (inl refl))) (h y (inl refl)) (insert-past x ys l (λ z i. h z (inr i)))
-  where
-    step : (b c : Bool) → b ≡ false → c ≡ true → into x (ys ++ l) ≡ ys ++ into x l → cond b (x ∷ y ∷ (ys ++ l)) (cond c (y ∷ into x (ys ++ l)) (y ∷ (ys ++ l))) ≡ y ∷ (ys ++ into x l)
-    step b c e f g = (λ i. cond (e i) (x ∷ y ∷ (ys ++ l)) (cond (f i) (y ∷ into x (ys ++ l)) (y ∷ (ys ++ l)))) ∙ ap (λ (k : List Pt). y ∷ k) g
-
--- each of xs comes after all of met
-pub past-met : (xs met l : List Pt) → ((x z : Pt) → Among x xs → Among z met → before z x ≡ true) → put xs (met ++ l) ≡ met ++ put xs l
-past-met [] met l h = refl
-past-met (x ∷ xs) met l h = ap (into x) (past-met xs met l (λ y z i j. h y z (inr i) j)) ∙ insert-past x met (put xs l) (λ z i. h x z (inl refl) i)

@@ -1,101 +1,68 @@
--- `overlay_sweep::ahead::cross_in` meets its contract: parallel edges, and every answer of `meeting`. Assumes nothing.
+-- `overlay_sweep::ahead::cross_in` meets its contract, whatever the answer of `crossing_over`. Assumes nothing.
 use mathlib.Core.Path.{_≡_, sym, _∙_, ap, subst}
-use lib.IntN.{pos}
-use mir.Syntax.{w64}
-use Rattle.exact.specs.Mach.{trbits, eq-yes, eq-no}
+use mathlib.Core.Option.{Option}
+use Prim.Native.Nat.{_≤_}
+use lib.IntN.{ℤ, natAbs}
 use Rattle.seq.specs.Seq.{optional}
 use Rattle.seq.specs.Kept.{kept}
-use Rattle.paper.specs.Plane.{cross, before}
-use Rattle.paper.specs.Meeting.{pointOf}
+use Rattle.paper.specs.Limits.{denominators}
+use Rattle.paper.specs.Plane.{Pt, before}
 use Rattle.plane.specs.Bounds.{NearIf}
-use Rattle.plane.specs.Values.{ptOf, segOf, meetingOf}
-use Rattle.plane.specs.declared.kinds.Meeting.{Meeting}
-use Rattle.plane.proofs.Signs.{zer-yes, zer-no}
-use Rattle.plane.proofs.Machine.{vec-back}
-use Rattle.overlay_sweep.specs.Ahead.{queued-none, requeued, crossAhead, ahead-parallel, ahead-met}
+use Rattle.plane.specs.Values.{ptOf, segOf, crossOf}
+use Rattle.plane.specs.declared.crossings.Cross.{Cross}
+use Rattle.plane.proofs.Machine.{number-back}
+use Rattle.overlay_sweep.specs.Ahead.{queued-none, requeued, crossAhead}
 use borrow.Author.Needs.{needs}
 use Rattle.overlay_sweep.proofs.ahead.cross_in.Statement.{statement}
 use Rattle.overlay_sweep.proofs.ahead.cross_in.Tie as tie
 
--- the cross product
-told : (c : tie.After-cross-of) → let start : tie.Start = search needs in c .cross-of .result ≡ cross (segOf (start .args .s) .up) (segOf (start .args .t) .up)
-told c =
+crossing-over-requires : tie.Need-crossing-over-requires
+crossing-over-requires c κs =
     let start : tie.Start = search needs in
-    let s = start .args .s in
-    let t = start .args .t in
-    c .cross-of .ensures .0 ∙ (λ i. cross (vec-back (s .u) (s .v) (start .pre .0 .0 .up-is) i) (vec-back (t .u) (t .v) (start .pre .0 .1 .up-is) i))
+    let d : tie.After-over = search needs in
+    let m = d .over in
+    let b = number-back (m .result) (m .ensures .1) in
+    (start .pre .0 .0, start .pre .0 .1, b ∙ m .ensures .0 .0, subst (λ (z : ℤ). natAbs z ≤ denominators) (sym b) (m .ensures .1))
 
-returns : tie.Need-returns
-returns c =
-    let start : tie.Start = search needs in
-    let a = start .args in
-    let zero : c .before .cross-of .result ≡ pos 0 = eq-yes w64 (c .if1 .taken) (search trbits depth 20) (search trbits depth 20) tt in
-    requeued (sym (ahead-parallel (ptOf (a .p)) (segOf (a .s)) (segOf (a .t)) (zer-yes (cross (segOf (a .s) .up) (segOf (a .t) .up)) (sym (told (c .before)) ∙ zero)))) (queued-none (a .points .now) (a .n) (start .pre .1 .1))
+-- what the call of `crossing_over` told, of each way
+module _ (c : tie.After-crossing-over) where
+  abbrev start : tie.Start
+  start = search needs
 
--- what the call of `meeting` told, of each way
-module _ (c : tie.After-meeting) where
-  abbrev args : tie.Start
-  args = search needs
+  told : (r : Cross) → c .crossing-over .result ≡ r → kept (before (ptOf (start .args .p))) (optional (crossOf r)) ≡ crossAhead (ptOf (start .args .p)) (segOf (start .args .s)) (segOf (start .args .t))
+  told r e = ap (λ (o : Option Pt). kept (before (ptOf (start .args .p))) (optional o)) (sym (ap crossOf e) ∙ c .crossing-over .ensures .0)
 
-  told-by : (m : Meeting) → c .meeting .result ≡ m → kept (before (ptOf (args .args .p))) (optional (pointOf (meetingOf m))) ≡ crossAhead (ptOf (args .args .p)) (segOf (args .args .s)) (segOf (args .args .t))
-  told-by m e =
-      let a = args .args in
-      let off : c .before .before .cross-of .result ≡ pos 0 → ⊥ = eq-no w64 (c .before .if1 .left) (search trbits depth 20) (search trbits depth 20) tt in
-      ahead-met (ptOf (a .p)) (segOf (a .s)) (segOf (a .t)) (zer-no (cross (segOf (a .s) .up) (segOf (a .t) .up)) (λ z. off (told (c .before .before) ∙ z))) (meetingOf m) (sym (ap meetingOf e) ∙ c .meeting .ensures .0)
-
-  near : (m : Meeting) → c .meeting .result ≡ m → NearIf (pointOf (meetingOf m))
-  near m e = subst (λ (x : Meeting). NearIf (pointOf (meetingOf x))) e (c .meeting .ensures .1)
+  near : (r : Cross) → c .crossing-over .result ≡ r → NearIf (crossOf r)
+  near r e = subst (λ (x : Cross). NearIf (crossOf x)) e (c .crossing-over .ensures .1)
 
 ahead-in-requires : tie.Need-ahead-in-requires
 ahead-in-requires c κs =
-    let start : tie.Start = search needs in
-    let after-meeting : tie.After-meeting = search needs in
-    ((start .pre .1 .0, near after-meeting _ (c .before .before .q .given .1)), start .pre .1 .1)
+    let met : tie.After-crossing-over = search needs in
+    let q : tie.After-q = search needs in
+    ((start met .pre .1 .0, near met _ (q .q .given .1)), start met .pre .1 .1)
 
-ahead-in-requires-2 : tie.Need-ahead-in-requires-2
-ahead-in-requires-2 c κs =
-    let start : tie.Start = search needs in
-    let after-meeting : tie.After-meeting = search needs in
-    ((start .pre .1 .0, near after-meeting _ (c .before .before .q2 .given .1)), start .pre .1 .1)
+returns : tie.Need-returns
+returns c =
+    let met : tie.After-crossing-over = search needs in
+    let s = start met in
+    requeued (told met _ (c .enum-told .given .1)) (queued-none (s .args .points .now) (s .args .n) (s .pre .1 .1))
 
 returns-2 : tie.Need-returns-2
 returns-2 c =
-    let start : tie.Start = search needs in
-    requeued (told-by (c .before .before) _ (c .enum-told .given .1)) (queued-none (start .args .points .now) (start .args .n) (start .pre .1 .1))
-
-returns-3 : tie.Need-returns-3
-returns-3 c =
-    let after-meeting : tie.After-meeting = search needs in
-    let after-q : tie.After-q = search needs in
-    requeued (told-by after-meeting _ (after-q .q .given .1)) (c .before .ahead-in .ensures)
-
-returns-4 : tie.Need-returns-4
-returns-4 c =
-    let after-meeting : tie.After-meeting = search needs in
-    let after-q : tie.After-q2 = search needs in
-    requeued (told-by after-meeting _ (after-q .q2 .given .1)) (c .before .ahead-in2 .ensures)
-
-returns-5 : tie.Need-returns-5
-returns-5 c =
-    let start : tie.Start = search needs in
-    requeued (told-by (c .before .before) _ (c .enum-told2 .given .1)) (queued-none (start .args .points .now) (start .args .n) (start .pre .1 .1))
+    let met : tie.After-crossing-over = search needs in
+    let q : tie.After-q = search needs in
+    let put : tie.After-ahead-in = search needs in
+    requeued (told met _ (q .q .given .1)) (put .ahead-in .ensures)
 
 pub cross-in-spec : {M : Type 1} → statement M
 cross-in-spec =
     tie.close
     (tie.spec
     (λ c κs. search needs)
-    returns
-    (λ c κs. search needs)
+    crossing-over-requires
     (λ c. search needs)
     (λ c. search needs)
     ahead-in-requires
+    returns
     (λ c. search needs)
-    ahead-in-requires-2
-    (λ c. search needs)
-    returns-2
-    (λ c. search needs)
-    returns-3
-    (λ c. search needs)
-    returns-4
-    returns-5)
+    returns-2)

@@ -38,16 +38,21 @@ carrier-at-requires-2 c κs = let s : tie.Start = search needs in carried (s .pr
 cross-in-requires : tie.Need-cross-in-requires
 cross-in-requires c κs =
     let s : tie.Start = search needs in
-    ((c .before .before .carrier-at .ensures .1, c .before .carrier-at2 .ensures .1), (s .pre .1 .1 .0, s .pre .1 .1 .1))
+    let x : tie.After-carrier-at = search needs in
+    let y : tie.After-carrier-at2 = search needs in
+    ((x .carrier-at .ensures .1, y .carrier-at2 .ensures .1), (s .pre .1 .1 .0, s .pre .1 .1 .1))
 
 returns-2 : tie.Need-returns-2
 returns-2 c =
     let s : tie.Start = search needs in
     let a = s .args in
-    let x = c .before .before .before .before .carrier-at in
-    let y = c .before .before .before .carrier-at2 in
-    let other = ahead-other (ptOf (a .p)) (strandAt (a .carriers .now) (a .starts .now) (getD (a .status .now) (a .j) 0)) (strandAt (a .carriers .now) (a .starts .now) (getD (a .status .now) (a .j + 1) 0)) (sym (c .before .before .before .before .before .before .one-map .ensures) ∙ c .before .before .before .before .before .if1 .left) in
-    requeued ((λ i. crossAhead (ptOf (a .p)) (x .ensures .0 i) (y .ensures .0 i)) ∙ sym other) (c .before .cross-in .ensures)
+    let one : tie.After-one-map = search needs in
+    let else : tie.Else1 = search needs in
+    let x : tie.After-carrier-at = search needs in
+    let y : tie.After-carrier-at2 = search needs in
+    let z : tie.After-cross-in = search needs in
+    let other = ahead-other (ptOf (a .p)) (strandAt (a .carriers .now) (a .starts .now) (getD (a .status .now) (a .j) 0)) (strandAt (a .carriers .now) (a .starts .now) (getD (a .status .now) (a .j + 1) 0)) (sym (one .one-map .ensures) ∙ else .if1 .left) in
+    requeued ((λ i. crossAhead (ptOf (a .p)) (x .carrier-at .ensures .0 i) (y .carrier-at2 .ensures .0 i)) ∙ sym other) (z .cross-in .ensures)
 
 pub tested-spec : {M : Type 1} → statement M
 tested-spec =
@@ -64,6 +69,7 @@ tested-spec =
     returns
     carrier-at-requires
     carrier-at-requires-2
+    (λ c κs. tt)
     cross-in-requires
     (λ c. search needs)
     returns-2)

@@ -12,10 +12,16 @@ use Rattle.overlay_sweep.proofs.search.west_of.Statement.{statement}
 use Rattle.overlay_sweep.proofs.search.west_of.Tie as tie
 
 abbrev Inv-loop : tie.InvT-loop
-Inv-loop carriers e status n p a₀ b₀ a b = Halving (λ i. not (rightAt carriers status (ptOf p) i)) n a b
+Inv-loop carriers e status n p guess a₀ b₀ a b = Halving (λ i. not (rightAt carriers status (ptOf p) i)) n a b
 
 abbrev μ-loop : tie.MeasureT-loop
-μ-loop carriers e status n p a₀ b₀ a b = b - a
+μ-loop carriers e status n p guess a₀ b₀ a b = b - a
+
+parts-at-requires : tie.Need-parts-at-requires Inv-loop μ-loop
+parts-at-requires c κs = let s : tie.Start Inv-loop μ-loop = search needs in s .pre
+
+returns : tie.Need-returns Inv-loop μ-loop
+returns c = c .before .parts-at .ensures (c .if1 .taken)
 
 loop-holds : tie.Need-loop-holds Inv-loop μ-loop
 loop-holds c = halve-starts _ _
@@ -28,14 +34,14 @@ is-right-requires c κs =
 loop-again : tie.Need-loop-again Inv-loop μ-loop
 loop-again c =
     let s : tie.Start Inv-loop μ-loop = search needs in
-    halve-up _ (c .before .before .before .loop .inv) _ (omega arith) (omega arith) (steady-lasts _ _ (s .pre .1 .1 .1)) (ap not (sym (c .before .is-right .ensures) ∙ c .if1 .taken))
+    halve-up _ (c .before .before .before .loop .inv) _ (omega arith) (omega arith) (steady-lasts _ _ (s .pre .1 .1 .1)) (ap not (sym (c .before .is-right .ensures) ∙ c .if2 .taken))
 
 loop-again-2 : tie.Need-loop-again-2 Inv-loop μ-loop
 loop-again-2 c =
-    halve-down _ (c .before .before .before .loop .inv) _ (omega arith) (omega arith) (ap not (sym (c .before .is-right .ensures) ∙ c .if1 .left))
+    halve-down _ (c .before .before .before .loop .inv) _ (omega arith) (omega arith) (ap not (sym (c .before .is-right .ensures) ∙ c .if2 .left))
 
-returns : tie.Need-returns Inv-loop μ-loop
-returns c = halve-stops _ _ (c .before .loop .inv) (search needs)
+returns-2 : tie.Need-returns-2 Inv-loop μ-loop
+returns-2 c = halve-stops _ _ (c .before .loop .inv) (search needs)
 
 pub west-of-spec : {M : Type 1} → statement M
 west-of-spec =
@@ -43,6 +49,8 @@ west-of-spec =
     (tie.spec
     Inv-loop
     μ-loop
+    parts-at-requires
+    returns
     loop-holds
     (λ c. search needs)
     (λ c. search needs)
@@ -52,4 +60,4 @@ west-of-spec =
     loop-again
     (λ c. search needs)
     loop-again-2
-    returns)
+    returns-2)

@@ -1,67 +1,43 @@
 -- `overlay_sweep::turn::turn` meets its contract. Assumes nothing.
-use mathlib.Core.Path.{sym, subst}
 use native.Mathlib.Omega.{arith}
-use Rattle.exact.specs.Lowest.{Pt}
-use Rattle.plane.specs.Bounds.{Near}
 use Rattle.plane.specs.Values.{ptOf}
 use Rattle.graph.specs.Flat.{Numbers}
-use Rattle.seq.specs.Search.{Steady}
-use Rattle.overlay_sweep.specs.Sides.{rightAt}
-use Rattle.overlay_sweep.specs.Turned.{numbers-fewer, turned-at, cut-at, turn-at}
+use Rattle.overlay_sweep.specs.Turned.{numbers-fewer, cut-at, turn-at}
 use borrow.Author.Needs.{needs}
 use Rattle.overlay_sweep.proofs.turn.turn.Statement.{statement}
 use Rattle.overlay_sweep.proofs.turn.turn.Tie as tie
 
-point-at-requires : tie.Need-point-at-requires
-point-at-requires c κs =
-    let start : tie.Start = search needs in
-    omega (arith, start .pre .1 .0 .points .long, start .pre .1 .1 .0)
-
-near : (c : tie.After-point-at) → Near (ptOf (c .point-at .result))
-near c =
-    let start : tie.Start = search needs in
-    subst Near (sym (c .point-at .ensures)) (start .pre .1 .0 .points .near (start .args .i) (start .pre .1 .1 .0))
-
 west-of-requires : tie.Need-west-of-requires
 west-of-requires c κs =
     let start : tie.Start = search needs in
-    let point : tie.After-point-at = search needs in
-    let a = start .args in
     let r = start .pre .0 in
-    (r .carriers, (r .named, (near point, subst (λ (x : Pt). Steady (rightAt (a .carriers .now) (a .status .now) x) (a .c)) (sym (point .point-at .ensures)) (start .pre .1 .1 .1))))
+    (r .carriers, (r .named, (start .pre .1 .1 .0, start .pre .1 .1 .1)))
 
 through-to-requires : tie.Need-through-to-requires
 through-to-requires c κs =
     let start : tie.Start = search needs in
-    let point : tie.After-point-at = search needs in
+    let west : tie.After-west-of = search needs in
     let r = start .pre .0 in
-    (r .carriers, (r .named, (c .before .west-of .ensures .within, near point)))
-
-slice-aggregate-going-on : tie.Need-slice-aggregate-going-on
-slice-aggregate-going-on c = search needs
+    (r .carriers, (r .named, (west .west-of .ensures .within, start .pre .1 .1 .0)))
 
 going-on-requires : tie.Need-going-on-requires
 going-on-requires c κs =
     let start : tie.Start = search needs in
-    let point : tie.After-point-at = search needs in
+    let through : tie.After-through-to = search needs in
     let r = start .pre .0 in
-    let b = c .before .before .through-to .ensures .scan in
-    (r .carriers, (numbers-fewer (r .named) (b .within), (b .low, (near point, omega (arith, slice-aggregate-going-on c, b .within, r .fewer, r .started, r .few)))))
+    let b = through .through-to .ensures .scan in
+    (r .carriers, (numbers-fewer (r .named) (b .within), (b .low, (start .pre .1 .1 .0, omega (arith, b .within, r .fewer, r .started, r .fan-room)))))
 
 start-to-requires : tie.Need-start-to-requires
 start-to-requires c κs =
     let start : tie.Start = search needs in
-    let point : tie.After-point-at = search needs in
     let r = start .pre .0 in
-    (r .carriers, (r .waits, (r .started, near point)))
+    (r .carriers, (r .waits, (r .started, start .pre .1 .1 .0)))
 
 -- the places before the fan is whole, and what is known there of the counts
 module _ (c : tie.After-start-to) where
   abbrev start : tie.Start
   start = search needs
-
-  abbrev point : tie.After-point-at
-  point = search needs
 
   abbrev west : tie.After-west-of
   west = search needs
@@ -72,17 +48,14 @@ module _ (c : tie.After-start-to) where
   abbrev going : tie.After-going-on
   going = search needs
 
-slice-aggregate-starting : tie.Need-slice-aggregate-starting
-slice-aggregate-starting c = search needs
-
 starting-requires : tie.Need-starting-requires
 starting-requires c κs =
-    let l = c .before in
+    let l : tie.After-start-to = search needs in
     let r = start l .pre .0 in
     let b = through l .through-to .ensures .scan .within in
     let g = going l .going-on .ensures in
     let s = l .start-to .ensures .scan in
-    (r .carriers, (r .waits, ((omega (arith, g .1, b, r .fewer), s .low, s .within), (g .0 .named, omega (arith, slice-aggregate-starting c, g .1, b, r .fewer, r .started, r .few)))))
+    (r .carriers, (r .waits, ((omega (arith, g .1, b, r .fewer), s .low, s .within), (g .0 .named, omega (arith, going l .going-on .kept, g .1, b, r .fewer, r .started, r .fan-room)))))
 
 sub-m : tie.Need-sub-m
 sub-m c =
@@ -94,17 +67,15 @@ add-m c =
     let l : tie.After-start-to = search needs in
     omega (arith, l .start-to .ensures .scan .low, going l .going-on .ensures .1, through l .through-to .ensures .scan .within, start l .pre .0 .fewer)
 
-slice-aggregate-splice : tie.Need-slice-aggregate-splice
-slice-aggregate-splice c = search needs
-
 splice-requires : tie.Need-splice-requires
 splice-requires c κs =
     let l : tie.After-start-to = search needs in
+    let f : tie.After-starting = search needs in
     let r = start l .pre .0 in
     let b = through l .through-to .ensures .scan in
     let g = going l .going-on .ensures .1 in
     let s = l .start-to .ensures .scan in
-    (b .low, (b .within, (r .named .long, (omega (arith, b .low, b .within, g, s .low, s .within, r .fewer, r .room), omega (arith, slice-aggregate-splice c, b .within, g, s .low, s .within, r .fewer, r .few)))))
+    (b .low, (b .within, (r .named .long, (omega (arith, b .low, b .within, g, s .low, s .within, r .fewer, r .room), omega (arith, going l .going-on .kept, f .starting .kept, b .within, g, s .low, s .within, r .fewer, r .fan-room)))))
 
 -- after the splice
 module _ (c : tie.After-splice) where
@@ -122,7 +93,7 @@ module _ (c : tie.After-splice) where
       let g = going line .going-on in
       let s = line .start-to in
       let x = c .splice in
-      cut-at (a .carriers .now) (a .starts .now) (ptOf (point line .point-at .result)) (a .status .now) (a .c) (w .result) (t .result) (w .ensures) (t .ensures)
+      cut-at (a .carriers .now) (a .starts .now) (ptOf (a .p)) (a .status .now) (a .c) (w .result) (t .result) (w .ensures) (t .ensures)
       (a .waits .now) (a .e) (a .w) (s .result) (s .ensures) _ _ (g .result) (g .ensures .0) (fan .starting .ensures) (x .last .0) (x .ensures .1) (start line .pre .0) (g .ensures .1) (x .kept .0) (x .result) (x .ensures .0)
 
 add-joined : tie.Need-add-joined
@@ -135,14 +106,14 @@ joined-requires : tie.Need-joined-requires
 joined-requires c κs =
     let x : tie.After-splice = search needs in
     let s = start (line x) in
-    ((s .pre .0 .carriers, s .pre .0 .starts-long), (numbers x, (near (point (line x)), s .pre .1 .0)))
+    ((s .pre .0 .carriers, s .pre .0 .starts-long), (numbers x, (s .pre .1 .1 .0, s .pre .1 .0)))
 
 joined-requires-2 : tie.Need-joined-requires-2
 joined-requires-2 c κs =
     let x : tie.After-splice = search needs in
     let east : tie.After-joined = search needs in
     let s = start (line x) in
-    ((s .pre .0 .carriers, s .pre .0 .starts-long), (numbers x, (near (point (line x)), east .joined .ensures .rows)))
+    ((s .pre .0 .carriers, s .pre .0 .starts-long), (numbers x, (s .pre .1 .1 .0, east .joined .ensures .rows)))
 
 same-length : tie.Need-same-length
 same-length c =
@@ -160,30 +131,26 @@ returns c =
     let g = going l .going-on in
     let s = l .start-to in
     let x = z .splice in
-    turned-at (point l .point-at .ensures)
-    (turn-at (a .carriers .now) (a .starts .now) (ptOf (point l .point-at .result)) (a .status .now) (a .c) (w .result) (t .result) (w .ensures) (t .ensures)
+    turn-at (a .carriers .now) (a .starts .now) (ptOf (a .p)) (a .status .now) (a .c) (w .result) (t .result) (w .ensures) (t .ensures)
     (a .waits .now) (a .e) (a .w) (s .result) (s .ensures) _ _ (g .result) (g .ensures .0) (fan z .starting .ensures) (x .last .0) (x .ensures .1) (start l .pre .0) (g .ensures .1) (x .kept .0) (x .result) (x .ensures .0)
-    (east .joined .ensures) (c .before .joined2 .ensures))
+    (east .joined .ensures) (c .before .joined2 .ensures)
 
 pub turn-spec : {M : Type 1} → statement M
 turn-spec =
     tie.close
     (tie.spec
-    point-at-requires
     west-of-requires
     through-to-requires
-    slice-aggregate-going-on
     going-on-requires
     start-to-requires
-    slice-aggregate-starting
     starting-requires
     sub-m
     add-m
-    slice-aggregate-splice
     splice-requires
     add-joined
     joined-requires
     joined-requires-2
     same-length
+    (λ c. search needs)
     (λ c. search needs)
     returns)
