@@ -4,6 +4,6 @@ pub mod Places
 pub mod Heading
 pub mod Pick
 pub mod Follow
-pub mod Chains
+pub mod Stars
 pub mod Look
 pub mod Laws

@@ -1,7 +1,7 @@
 // Followers and looks of a graph in flat tables.
 mod places; // the first place of each number in a table
 mod heading; // which way a half-edge goes
-mod chains; // the half-edges out of each vertex
+mod stars; // the half-edges out of each vertex by falling angle
 mod followers; // the follower of every half-edge
 mod look; // looking west
 
@@ -22,3 +22,4 @@ pub use look::seen_half;
 pub use look::seen_label;
 pub use places::fill;
 pub use places::first_places;
+pub use stars::follow_stars;

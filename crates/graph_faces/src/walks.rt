@@ -1,10 +1,8 @@
 // Walks: the least half-edge of each, its smallest vertex, hole walk or outer walk.
 use graph::fill;
-use graph::heading_at;
 use graph::start;
 use limits::ABSENT;
 use plane::before;
-use plane::less_angle;
 ghost use mathlib.Core.Path.{_≡_};
 ghost use Prim.Native.Nat.{ℕ, _≤_, _<_};
 ghost use lib.ListN.{length, getD, take};
@@ -12,9 +10,8 @@ ghost use Rattle.seq.specs.Seq.{walk, leader, filled};
 ghost use Rattle.paper.specs.Limits.{absent};
 ghost use Rattle.graph.specs.Flat.{Numbers, Starts};
 ghost use Rattle.graph.specs.Pick.{better};
-ghost use Rattle.graph.specs.Follow.{Headed, Headings};
 ghost use Rattle.graph_faces.specs.Lead.{marks, Permutes};
-ghost use Rattle.graph_faces.specs.Turns.{greaterAt, greatestAt, earlierAt, lowAt, topAt};
+ghost use Rattle.graph_faces.specs.Turns.{earlierAt, lowAt, topAt};
 
 // Stores h at each half-edge of its walk.
 fn mark(next: &[u16], m: usize, h: usize, lead: &mut [u16])
@@ -45,36 +42,6 @@ pub fn leads(next: &[u16], m: usize, lead: &mut [u16])
         if lead[h] == ABSENT {
             mark(next, m, h, lead);
         }
-        h += 1;
-    }
-}
-
-// With r the half-edge of greatest angle so far, ABSENT where there is none yet: h too.
-fn greater(headings: &[i16], h: usize, r: u16) -> u16
-    requires { ⌜ (h < absent) × Headed (now headings) h × ((r ≡ absent → ⊥) → Headed (now headings) r) ⌝ }
-    ensures { λ s. ⌜ s ≡ better (greaterAt (now (headings .entry))) absent h r ⌝ }
-{
-    if r == ABSENT {
-        return h as u16;
-    }
-    if less_angle(heading_at(headings, r as usize), heading_at(headings, h)) {
-        h as u16
-    } else {
-        r
-    }
-}
-
-// "the half-edge of greatest angle out of" every vertex, of m half-edges and n vertices; ABSENT where none leaves it.
-pub fn greatest(origins: &[u16], headings: &[i16], m: usize, out: &mut [u16], n: usize)
-    requires { ⌜ Numbers (now origins) m n ⌝ ∗ ⌜ m ≤ absent ⌝ ∗ ⌜ Headings (now headings) m ⌝ ∗ ⌜ n ≤ length (now out) ⌝ }
-    ensures { λ _. ⌜ now (out .exit) ≡ filled n (greatestAt (now (origins .entry)) (now (headings .entry)) m) (now (out .entry)) ⌝ }
-{
-    fill(out, n, ABSENT);
-    let mut h = 0;
-    while h < m {
-        let v = origins[h] as usize;
-        let r = out[v];
-        out[v] = greater(headings, h, r);
         h += 1;
     }
 }
