@@ -1,5 +1,6 @@
 pub mod Flat
 pub mod Upright
+pub mod Rising
 pub mod Places
 pub mod Heading
 pub mod Pick

@@ -101,44 +101,46 @@ module _ (s : tie.Start) where
 
 -- ── the needs ──
 
-headings-requires : tie.Need-headings-requires
-headings-requires c κs = let s : tie.Start = search needs in (F s, (omega (arith, small s), omega (arith, small s)))
+headings-by-requires : tie.Need-headings-by-requires
+headings-by-requires c κs =
+    let s = c .before .before .before .before .before .before in
+    (F s, (c .before .rise .ensures .0, (big s, omega (arith, small s))))
 
 follow-stars-requires : tie.Need-follow-stars-requires
 follow-stars-requires c κs =
-    let s = c .before .before .before .before .before .before .before .before .before .before in
-    let W = c .before .before .before .before .headings in
-    roomy s (W .last .1 .1 .1 .1 .1 .0) (W .ensures) _ (omega (arith, s .pre .1 .0))
+    let s = c .before .before .before .before .before .before .before .before .before .before .before in
+    let W = c .before .before .before .before .headings-by in
+    roomy s (W .last .1 .1 .1 .1 .1 .1 .0) (W .ensures) _ (omega (arith, s .pre .1 .0))
 
 leads-requires : tie.Need-leads-requires
 leads-requires c κs =
-    let s = c .before .before .before .before .before .before .before .before .before .before .before .before .before .before .before .before in
-    let W = c .before .before .before .before .before .before .before .before .before .before .headings in
+    let s = c .before .before .before .before .before .before .before .before .before .before .before .before .before .before .before .before .before in
+    let W = c .before .before .before .before .before .before .before .before .before .before .headings-by in
     let N = c .before .before .before .before .before .follow-stars in
     let next = N .last .1 .1 .1 .1 .1 .0 in
-    (next-permuted (ps s) (os s) (cs s) (n s) (e s) (F s) (P s) next (nexts s (W .last .1 .1 .1 .1 .1 .0) (W .ensures) next (N .ensures .1)), (big s, s .pre .1 .1 .1 .1 .1))
+    (next-permuted (ps s) (os s) (cs s) (n s) (e s) (F s) (P s) next (nexts s (W .last .1 .1 .1 .1 .1 .1 .0) (W .ensures) next (N .ensures .1)), (big s, s .pre .1 .1 .1 .1 .1))
 
 lows-requires : tie.Need-lows-requires
 lows-requires c κs =
-    let s = c .before .before .before .before .before .before .before .before .before .before .before .before .before .before .before .before .before .before .before .before .before in
-    let W = c .before .before .before .before .before .before .before .before .before .before .before .before .before .before .before .headings in
+    let s = c .before .before .before .before .before .before .before .before .before .before .before .before .before .before .before .before .before .before .before .before .before .before in
+    let W = c .before .before .before .before .before .before .before .before .before .before .before .before .before .before .before .headings-by in
     let N = c .before .before .before .before .before .before .before .before .before .before .follow-stars in
     let L = c .before .before .before .before .leads in
     let lead = L .last .1 .1 .0 in
-    let led = leads s (W .last .1 .1 .1 .1 .1 .0) (W .ensures) (N .last .1 .1 .1 .1 .1 .0) (N .ensures .1) lead (L .ensures) in
-    (flat-starts (ps s) (os s) (cs s) (n s) (e s) (F s), (lead-numbers (ps s) (os s) (cs s) (n s) (e s) (F s) (P s) lead led, (big s, omega (arith, small s))))
+    let led = leads s (W .last .1 .1 .1 .1 .1 .1 .0) (W .ensures) (N .last .1 .1 .1 .1 .1 .0) (N .ensures .1) lead (L .ensures) in
+    (flat-starts (ps s) (os s) (cs s) (n s) (e s) (F s), (lead-numbers (ps s) (os s) (cs s) (n s) (e s) (F s) (P s) lead led, (big s, (omega (arith, small s), (c .before .before .before .before .before .before .before .before .before .before .before .before .before .before .before .before .before .rise .ensures .0, F s .origins)))))
 
 tops-requires : tie.Need-tops-requires
 tops-requires c κs =
-    let s = c .before .before .before .before .before .before .before .before .before .before .before .before .before .before .before .before .before .before .before .before .before .before .before .before .before .before .before in
-    let W = c .before .before .before .before .before .before .before .before .before .before .before .before .before .before .before .before .before .before .before .before .before .headings in
+    let s = c .before .before .before .before .before .before .before .before .before .before .before .before .before .before .before .before .before .before .before .before .before .before .before .before .before .before .before .before in
+    let W = c .before .before .before .before .before .before .before .before .before .before .before .before .before .before .before .before .before .before .before .before .before .headings-by in
     let N = c .before .before .before .before .before .before .before .before .before .before .before .before .before .before .before .before .follow-stars in
     let L = c .before .before .before .before .before .before .before .before .before .before .leads in
     let B = c .before .before .before .before .before .lows in
-    let ways = W .last .1 .1 .1 .1 .1 .0 in
+    let ways = W .last .1 .1 .1 .1 .1 .1 .0 in
     let next = N .last .1 .1 .1 .1 .1 .0 in
     let lead = L .last .1 .1 .0 in
-    let low = B .last .1 .1 .1 .1 .0 in
+    let low = B .last .1 .1 .1 .1 .1 .1 .0 in
     let led = leads s ways (W .ensures) next (N .ensures .1) lead (L .ensures) in
     let below = lows s ways (W .ensures) next (N .ensures .1) lead (L .ensures) low (B .ensures) in
     let out = outs s ways (W .ensures) (N .last .1 .1 .1 .1 .0) (N .ensures .0) in (
@@ -148,16 +150,16 @@ tops-requires c κs =
 
 returns : tie.Need-returns
 returns c =
-    let s = c .before .before .before .before .before .before .before .before .before .before .before .before .before .before .before .before .before .before .before .before .before .before .before .before .before .before .before .before .before .before in
-    let W = c .before .before .before .before .before .before .before .before .before .before .before .before .before .before .before .before .before .before .before .before .before .before .before .before .headings in
+    let s = c .before .before .before .before .before .before .before .before .before .before .before .before .before .before .before .before .before .before .before .before .before .before .before .before .before .before .before .before .before .before .before in
+    let W = c .before .before .before .before .before .before .before .before .before .before .before .before .before .before .before .before .before .before .before .before .before .before .before .before .headings-by in
     let N = c .before .before .before .before .before .before .before .before .before .before .before .before .before .before .before .before .before .before .before .follow-stars in
     let L = c .before .before .before .before .before .before .before .before .before .before .before .before .before .leads in
     let B = c .before .before .before .before .before .before .before .before .lows in
     let T = c .before .before .tops in
-    let ways = W .last .1 .1 .1 .1 .1 .0 in
+    let ways = W .last .1 .1 .1 .1 .1 .1 .0 in
     let next = N .last .1 .1 .1 .1 .1 .0 in
     let lead = L .last .1 .1 .0 in
-    let low = B .last .1 .1 .1 .1 .0 in
+    let low = B .last .1 .1 .1 .1 .1 .1 .0 in
     let top = T .last .1 .1 .1 .1 .1 .0 in
     let led = leads s ways (W .ensures) next (N .ensures .1) lead (L .ensures) in
     let below = lows s ways (W .ensures) next (N .ensures .1) lead (L .ensures) low (B .ensures) in
@@ -173,8 +175,9 @@ link-spec =
     tie.close
     (tie.spec
     (λ c. search needs)
+    (λ c κs. let s = c .before .before .before .before in F s .points)
     (λ c. search needs)
-    headings-requires
+    headings-by-requires
     (λ c. search needs)
     (λ c. search needs)
     follow-stars-requires
