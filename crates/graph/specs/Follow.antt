@@ -2,10 +2,8 @@
 use mathlib.Core.Path.{_≡_, refl, sym, _∙_, ap, subst}
 use Prim.Native.Nat.{_≤_, _<_}
 use native.Mathlib.Omega.{arith}
-use borrow.Author.Tests.{eq-eqb}
 use Rattle.seq.specs.Seq.{Bool, true, false, cond, not, _&&_, List, Option, Option·getD, ℕ, _+_, _*_, _/_, eqb, length, getD, ℤ, pos, best, cell, laid, filled}
 use Rattle.exact.specs.Mach.{tru, atmost}
-use Rattle.seq.specs.Tests.{clash, and-parts}
 use Rattle.seq.specs.BestLoop.{best-ext}
 use Rattle.seq.specs.Filled.{filled-ext}
 use Rattle.seq.specs.Laid.{length-laid, laid-at}
@@ -15,7 +13,7 @@ use Rattle.plane.specs.Bounds.{Direction}
 use Rattle.graph.specs.Flat.{originAt, carrierAt, flatGraph, Flat, EdgeAt}
 use Rattle.graph.specs.Laws.Decode.{flat-halves, flat-origin}
 use Rattle.graph.specs.Heading.{upAt, row, vecAt, twin-under, flat-heading}
-use Rattle.seq.specs.Pick.{pick, better, Away, pick-turn, pick-below}
+use Rattle.seq.specs.Pick.{pick, pick-below}
 
 -- ── a table of headings ──
 
@@ -48,30 +46,6 @@ besides os t x = eqb (originAt os x) (originAt os t) && not (eqb x t)
 
 abbrev pub followerAt : List ℕ → List ℤ → ℕ → ℕ → ℕ
 followerAt os hs m h = let t = twin h in pick (besides os t) (soonerAt hs t) t m
-
--- t itself is no candidate
-pub besides-away : (os : List ℕ) (b : ℕ → ℕ → Bool) (t n : ℕ) → Away (besides os t) b t n
-besides-away os b t n k h e =
-    let r = and-parts (eqb (originAt os k) (originAt os t)) (not (eqb k t)) (h .has) in
-    clash (r .1) (ap not (eq-eqb k t e))
-
--- ── a turn of the search ──
-
-cond-not : (c : Bool) (x y : ℕ) → cond (not c) x y ≡ cond c y x
-cond-not true x y = refl
-cond-not false x y = refl
-
-module _ (os : List ℕ) (hs : List ℤ) (t : ℕ) where
-  abbrev pub firstFrom : ℕ → ℕ
-  firstFrom n = pick (besides os t) (soonerAt hs t) t n
-
-  -- x leaves from where t does
-  pub turn-out : (x r s : ℕ) → originAt os x ≡ originAt os t → r ≡ firstFrom x → s ≡ cond (eqb x t) r (better (soonerAt hs t) t x r) → s ≡ firstFrom (x + 1)
-  turn-out x r s o e f =
-      let b = soonerAt hs t in
-      f ∙ ap (λ (y : ℕ). cond (eqb x t) y (better b t x y)) e ∙ sym (cond-not (eqb x t) (better b t x (firstFrom x)) (firstFrom x))
-      ∙ ap (λ (c : Bool). cond (c && not (eqb x t)) (better b t x (firstFrom x)) (firstFrom x)) (sym (eq-eqb (originAt os x) (originAt os t) o))
-      ∙ sym (pick-turn (besides os t) b t x (besides-away os b t x))
 
 -- a follower is one of the half-edges
 pub follower-under : (os : List ℕ) (hs : List ℤ) (e h : ℕ) → h < 2 * e → followerAt os hs (2 * e) h < 2 * e

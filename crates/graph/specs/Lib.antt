@@ -1,9 +1,10 @@
 pub mod Flat
 pub mod Upright
+pub mod Rising
 pub mod Places
 pub mod Heading
 pub mod Pick
 pub mod Follow
-pub mod Chains
+pub mod Stars
 pub mod Look
 pub mod Laws

@@ -1,4 +1,6 @@
 // Which way a half-edge goes.
+use super::rising::rise;
+use super::rising::starts_first;
 use limits::CARRIER_WIDTH;
 use limits::HEADING_WIDTH;
 use limits::POINT_WIDTH;
@@ -17,7 +19,8 @@ ghost use Rattle.paper.specs.Plane.{opposite};
 ghost use Rattle.paper.specs.Graph.{twin, heading};
 ghost use Rattle.plane.specs.Values.{ptOf, vecOf, segOf};
 ghost use Rattle.plane.specs.Bounds.{Direction, Near, Edge};
-ghost use Rattle.graph.specs.Flat.{pointAt, carrierAt, startAt, flatGraph, Flat, Starts, Carried};
+ghost use Rattle.graph.specs.Flat.{pointAt, carrierAt, originAt, startAt, flatGraph, Flat, Starts, Carried};
+ghost use Rattle.graph.specs.Rising.{RisesIf};
 ghost use Rattle.graph.specs.Heading.{upAt, headingAt, row};
 
 // The other half-edge of its edge.
@@ -97,15 +100,23 @@ fn opposite(u: Vector) -> Vector
     Vector { x: -u.x, y: -u.y }
 }
 
-// The direction in which half-edge h goes.
-pub fn heading(points: &[i64], origins: &[u16], carriers: &[i16], h: usize) -> Vector
-    requires { ⌜ (h ≤ absent) × Starts (now points) (now origins) h × Starts (now points) (now origins) (twin h) × Carried (now carriers) (h / 2) ⌝ }
+// The direction in which half-edge h goes, of a graph of n vertices; `rising` says that their points rise.
+fn heading(
+    points: &[i64],
+    origins: &[u16],
+    carriers: &[i16],
+    n: usize,
+    rising: bool,
+    h: usize,
+) -> Vector
+    requires { ⌜ (h ≤ absent) × Starts (now points) (now origins) h × Starts (now points) (now origins) (twin h) × Carried (now carriers) (h / 2) ⌝ ∗ ⌜ RisesIf rising (now points) n ⌝ ∗ ⌜ (originAt (now origins) h < n) × (originAt (now origins) (twin h) < n) ⌝ }
     ensures is { λ r. ⌜ vecOf r ≡ headingAt (now (points .entry)) (now (origins .entry)) (now (carriers .entry)) h ⌝ }
     ensures near { λ r. ⌜ Direction (vecOf r) ⌝ }
 {
     let s = carrier_at(carriers, h / 2);
     let u = Vector { x: s.u, y: s.v };
-    if goes_up(points, origins, h) {
+    let t = twin(h);
+    if starts_first(points, origins, n, rising, h, t) {
         u
     } else {
         opposite(u)
@@ -124,6 +135,27 @@ fn store(out: &mut [i16], h: usize, u: Vector)
     out[at + 1] = y;
 }
 
+// The heading of every half-edge, a row each; `rising` says that the points rise.
+pub fn headings_by(
+    points: &[i64],
+    origins: &[u16],
+    carriers: &[i16],
+    n: usize,
+    rising: bool,
+    e: usize,
+    out: &mut [i16],
+)
+    requires { ⌜ Flat (now points) (now origins) (now carriers) n e ⌝ ∗ ⌜ RisesIf rising (now points) n ⌝ ∗ ⌜ 2 * e ≤ absent ⌝ ∗ ⌜ 2 * (2 * e) ≤ length (now out) ⌝ }
+    ensures { λ _. ⌜ now (out .exit) ≡ laid (2 * e) (λ h. row (heading (flatGraph (now (points .entry)) (now (origins .entry)) (now (carriers .entry)) n e) h)) (now (out .entry)) ⌝ }
+{
+    let m = 2 * e;
+    let mut h = 0;
+    while h < m {
+        store(out, h, heading(points, origins, carriers, n, rising, h));
+        h += 1;
+    }
+}
+
 // The heading of every half-edge, a row each.
 pub fn headings(
     points: &[i64],
@@ -136,10 +168,6 @@ pub fn headings(
     requires { ⌜ Flat (now points) (now origins) (now carriers) n e ⌝ ∗ ⌜ 2 * e ≤ absent ⌝ ∗ ⌜ 2 * (2 * e) ≤ length (now out) ⌝ }
     ensures { λ _. ⌜ now (out .exit) ≡ laid (2 * e) (λ h. row (heading (flatGraph (now (points .entry)) (now (origins .entry)) (now (carriers .entry)) n e) h)) (now (out .entry)) ⌝ }
 {
-    let m = 2 * e;
-    let mut h = 0;
-    while h < m {
-        store(out, h, heading(points, origins, carriers, h));
-        h += 1;
-    }
+    let rising = rise(points, n);
+    headings_by(points, origins, carriers, n, rising, e, out);
 }

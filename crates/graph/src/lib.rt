@@ -1,7 +1,8 @@
 // Followers and looks of a graph in flat tables.
 mod places; // the first place of each number in a table
 mod heading; // which way a half-edge goes
-mod chains; // the half-edges out of each vertex
+mod rising; // points in their order
+mod stars; // the half-edges out of each vertex by falling angle
 mod followers; // the follower of every half-edge
 mod look; // looking west
 
@@ -9,6 +10,7 @@ pub use followers::follow;
 pub use followers::heading_at;
 pub use heading::carrier_at;
 pub use heading::headings;
+pub use heading::headings_by;
 pub use heading::point_at;
 pub use heading::start;
 pub use heading::store_carrier;
@@ -22,3 +24,6 @@ pub use look::seen_half;
 pub use look::seen_label;
 pub use places::fill;
 pub use places::first_places;
+pub use rising::rise;
+pub use rising::starts_first;
+pub use stars::follow_stars;

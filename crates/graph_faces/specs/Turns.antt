@@ -1,19 +1,10 @@
--- The half-edge of greatest angle out of each vertex, a half-edge out of each walk's smallest vertex, and from both the half-edge of greatest angle out of the
--- smallest vertex of each half-edge's walk: what the code computes, over tables. Assumes nothing.
+-- A half-edge out of each walk's smallest vertex, and from it and the half-edge of greatest angle out of each vertex the one out of the smallest vertex of each
+-- half-edge's walk: what the code computes, over tables. Assumes nothing.
 use Rattle.seq.specs.Seq.{Bool, List, ℕ, getD, ℤ}
 use Rattle.seq.specs.Loops.Choosing.{chosenOr}
 use Rattle.paper.specs.Limits.{absent}
-use Rattle.paper.specs.Plane.{lessAngle, before}
+use Rattle.paper.specs.Plane.{before}
 use Rattle.graph.specs.Flat.{originAt, startAt}
-use Rattle.graph.specs.Heading.{vecAt}
-
--- the angle of h is greater than that of r
-abbrev pub greaterAt : List ℤ → ℕ → ℕ → Bool
-greaterAt hs h r = lessAngle (vecAt hs r) (vecAt hs h)
-
--- "the half-edge of greatest angle out of" the vertex v, among m half-edges
-abbrev pub greatestAt : List ℕ → List ℤ → ℕ → ℕ → ℕ
-greatestAt os hs m v = chosenOr (λ h. originAt os h) (greaterAt hs) absent m v
 
 -- h starts before r
 abbrev pub earlierAt : List ℤ → List ℕ → ℕ → ℕ → Bool

@@ -29,7 +29,8 @@ use Rattle.graph.specs.Laws.Decode.{flat-points, flat-halves, flat-origin, flat
 use Rattle.seq.specs.Filled.{Holds, front-table}
 use Rattle.graph.specs.Follow.{Heads}
 use Rattle.graph_faces.specs.Lead.{Permutes}
-use Rattle.graph_faces.specs.Turns.{greaterAt, greatestAt, earlierAt, lowAt, topAt}
+use Rattle.graph.specs.Stars.{greaterAt, greatestAt}
+use Rattle.graph_faces.specs.Turns.{earlierAt, lowAt, topAt}
 
 -- the half-edge of greatest angle out of the smallest vertex of h's walk
 abbrev pub topOf : Graph → ℕ → ℕ

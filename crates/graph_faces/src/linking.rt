@@ -4,12 +4,12 @@ use super::numbering::holes;
 use super::numbering::number;
 use super::numbering::outers;
 use super::numbering::sees;
-use super::walks::greatest;
 use super::walks::leads;
 use super::walks::lows;
 use super::walks::tops;
-use graph::follow;
-use graph::headings;
+use graph::follow_stars;
+use graph::headings_by;
+use graph::rise;
 use limits::HALVES;
 use limits::HEADING_CELLS;
 use limits::VERTICES;
@@ -37,13 +37,13 @@ pub fn link(
 {
     let m = 2 * e;
     let mut ways = [0i16; HEADING_CELLS];
-    headings(points, origins, carriers, n, e, &mut ways);
-    follow(origins, &ways, n, e, next);
-    leads(next, m, lead);
+    let rising = rise(points, n);
+    headings_by(points, origins, carriers, n, rising, e, &mut ways);
     let mut out = [0u16; VERTICES];
-    greatest(origins, &ways, m, &mut out, n);
+    follow_stars(origins, &ways, n, e, &mut out, next);
+    leads(next, m, lead);
     let mut low = [0u16; HALVES];
-    lows(points, origins, lead, m, &mut low);
+    lows(points, origins, n, rising, lead, m, &mut low);
     tops(origins, lead, &low, &out, m, top);
 }
 

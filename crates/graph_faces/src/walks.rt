@@ -1,20 +1,17 @@
 // Walks: the least half-edge of each, its smallest vertex, hole walk or outer walk.
 use graph::fill;
-use graph::heading_at;
-use graph::start;
+use graph::starts_first;
 use limits::ABSENT;
-use plane::before;
-use plane::less_angle;
 ghost use mathlib.Core.Path.{_≡_};
 ghost use Prim.Native.Nat.{ℕ, _≤_, _<_};
 ghost use lib.ListN.{length, getD, take};
 ghost use Rattle.seq.specs.Seq.{walk, leader, filled};
 ghost use Rattle.paper.specs.Limits.{absent};
-ghost use Rattle.graph.specs.Flat.{Numbers, Starts};
+ghost use Rattle.graph.specs.Flat.{originAt, Numbers, Starts};
+ghost use Rattle.graph.specs.Rising.{RisesIf};
 ghost use Rattle.graph.specs.Pick.{better};
-ghost use Rattle.graph.specs.Follow.{Headed, Headings};
 ghost use Rattle.graph_faces.specs.Lead.{marks, Permutes};
-ghost use Rattle.graph_faces.specs.Turns.{greaterAt, greatestAt, earlierAt, lowAt, topAt};
+ghost use Rattle.graph_faces.specs.Turns.{earlierAt, lowAt, topAt};
 
 // Stores h at each half-edge of its walk.
 fn mark(next: &[u16], m: usize, h: usize, lead: &mut [u16])
@@ -49,57 +46,32 @@ pub fn leads(next: &[u16], m: usize, lead: &mut [u16])
     }
 }
 
-// With r the half-edge of greatest angle so far, ABSENT where there is none yet: h too.
-fn greater(headings: &[i16], h: usize, r: u16) -> u16
-    requires { ⌜ (h < absent) × Headed (now headings) h × ((r ≡ absent → ⊥) → Headed (now headings) r) ⌝ }
-    ensures { λ s. ⌜ s ≡ better (greaterAt (now (headings .entry))) absent h r ⌝ }
-{
-    if r == ABSENT {
-        return h as u16;
-    }
-    if less_angle(heading_at(headings, r as usize), heading_at(headings, h)) {
-        h as u16
-    } else {
-        r
-    }
-}
-
-// "the half-edge of greatest angle out of" every vertex, of m half-edges and n vertices; ABSENT where none leaves it.
-pub fn greatest(origins: &[u16], headings: &[i16], m: usize, out: &mut [u16], n: usize)
-    requires { ⌜ Numbers (now origins) m n ⌝ ∗ ⌜ m ≤ absent ⌝ ∗ ⌜ Headings (now headings) m ⌝ ∗ ⌜ n ≤ length (now out) ⌝ }
-    ensures { λ _. ⌜ now (out .exit) ≡ filled n (greatestAt (now (origins .entry)) (now (headings .entry)) m) (now (out .entry)) ⌝ }
-{
-    fill(out, n, ABSENT);
-    let mut h = 0;
-    while h < m {
-        let v = origins[h] as usize;
-        let r = out[v];
-        out[v] = greater(headings, h, r);
-        h += 1;
-    }
-}
-
 // With r the half-edge of the smallest start so far, ABSENT where there is none yet: h too.
-fn earlier(points: &[i64], origins: &[u16], h: usize, r: u16) -> u16
-    requires { ⌜ (h < absent) × Starts (now points) (now origins) h × ((r ≡ absent → ⊥) → Starts (now points) (now origins) r) ⌝ }
+fn earlier(points: &[i64], origins: &[u16], n: usize, rising: bool, h: usize, r: u16) -> u16
+    requires { ⌜ (h < absent) × Starts (now points) (now origins) h × ((r ≡ absent → ⊥) → Starts (now points) (now origins) r) ⌝ ∗ ⌜ RisesIf rising (now points) n ⌝ ∗ ⌜ (originAt (now origins) h < n) × ((r ≡ absent → ⊥) → originAt (now origins) r < n) ⌝ }
     ensures { λ s. ⌜ s ≡ better (earlierAt (now (points .entry)) (now (origins .entry))) absent h r ⌝ }
 {
     if r == ABSENT {
         return h as u16;
     }
-    if before(
-        start(points, origins, h),
-        start(points, origins, r as usize),
-    ) {
+    if starts_first(points, origins, n, rising, h, r as usize) {
         h as u16
     } else {
         r
     }
 }
 
-// For each least half-edge of a walk, of m half-edges, one that starts at the walk's smallest vertex; ABSENT for the others.
-pub fn lows(points: &[i64], origins: &[u16], lead: &[u16], m: usize, out: &mut [u16])
-    requires { ⌜ ((h : ℕ) → h < m → Starts (now points) (now origins) h) ⌝ ∗ ⌜ Numbers (now lead) m m ⌝ ∗ ⌜ m ≤ absent ⌝ ∗ ⌜ m ≤ length (now out) ⌝ }
+// For each least half-edge of a walk, of m half-edges and n vertices, whose points rise where `rising` says so, one that starts at the walk's smallest vertex; ABSENT for the others.
+pub fn lows(
+    points: &[i64],
+    origins: &[u16],
+    n: usize,
+    rising: bool,
+    lead: &[u16],
+    m: usize,
+    out: &mut [u16],
+)
+    requires { ⌜ ((h : ℕ) → h < m → Starts (now points) (now origins) h) ⌝ ∗ ⌜ Numbers (now lead) m m ⌝ ∗ ⌜ m ≤ absent ⌝ ∗ ⌜ m ≤ length (now out) ⌝ ∗ ⌜ RisesIf rising (now points) n × Numbers (now origins) m n ⌝ }
     ensures { λ _. ⌜ now (out .exit) ≡ filled m (lowAt (now (points .entry)) (now (origins .entry)) (now (lead .entry)) m) (now (out .entry)) ⌝ }
 {
     fill(out, m, ABSENT);
@@ -107,7 +79,7 @@ pub fn lows(points: &[i64], origins: &[u16], lead: &[u16], m: usize, out: &mut [
     while h < m {
         let l = lead[h] as usize;
         let r = out[l];
-        out[l] = earlier(points, origins, h, r);
+        out[l] = earlier(points, origins, n, rising, h, r);
         h += 1;
     }
 }

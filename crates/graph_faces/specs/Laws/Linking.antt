@@ -16,7 +16,8 @@ use Rattle.graph.specs.Laws.Decode.{flat-halves}
 use Rattle.graph.specs.Heading.{row}
 use Rattle.graph.specs.Follow.{Headings, Heads, followerAt, heads-laid, headings-laid, followers-flat}
 use Rattle.graph_faces.specs.Lead.{Permutes}
-use Rattle.graph_faces.specs.Turns.{greatestAt, lowAt, topAt}
+use Rattle.graph.specs.Stars.{greatestAt, Apart, flat-apart}
+use Rattle.graph_faces.specs.Turns.{lowAt, topAt}
 use Rattle.graph_faces.specs.Linked.{Linked, Led}
 use Rattle.graph_faces.specs.Walked.{topOf, next-permutes, front-leader, flat-greatest, flat-top, low-cell}
 
@@ -42,6 +43,9 @@ module _ (ps : List ℤ) (os : List ℕ) (cs : List ℤ) (n e : ℕ) (F : Flat p
 
     pub ways-near : Headings ways (2 * e)
     ways-near = headings-laid ps os cs n e ways (replicate k (pos 0)) wide is F
+
+    pub ways-apart : Apart os ways (2 * e)
+    ways-apart = flat-apart ps os cs n e P ways ways-heads
 
   -- what a loop over m cells fills holds
   pub made : (f : ℕ → ℕ) (m k : ℕ) (t : List ℕ) → m ≤ k → t ≡ filled m f (replicate k 0) → Holds f t m

@@ -13,6 +13,7 @@ use Rattle.laws_graph.specs.Plane.{Plane}
 use Rattle.graph.specs.Flat.{flatGraph, Flat, Numbers}
 use Rattle.graph.specs.Heading.{row}
 use Rattle.graph.specs.Follow.{Headings, followerAt, follower-under, flat-follower, heads-laid, headings-laid}
+use Rattle.graph.specs.Stars.{Apart, flat-apart}
 use Rattle.map_check.specs.Labels.{disagreesAt, Linked}
 use Rattle.map_check.specs.Held.{flatMap}
 use Rattle.map_check.specs.Laws.Disagree.{flat-disagrees}
@@ -24,6 +25,9 @@ module _ {ps : List ℤ} {os : List ℕ} {cs : List ℤ} {n e : ℕ} (F : Flat p
   module _ (hs dh : List ℤ) (roomy : 2 * (2 * e) ≤ length dh) (made : hs ≡ laid (2 * e) (λ h. row (heading g h)) dh) where
     pub made-headings : Headings hs (2 * e)
     made-headings = headings-laid ps os cs n e hs dh roomy made F
+
+    pub made-apart : Plane g → Apart os hs (2 * e)
+    made-apart P = flat-apart ps os cs n e P hs (heads-laid ps os cs n e hs dh roomy made)
 
     module _ (nx dn : List ℕ) (room : 2 * e ≤ length dn) (is : nx ≡ filled (2 * e) (followerAt os hs (2 * e)) dn) where
       next-at : (h : ℕ) → h < 2 * e → getD nx h 0 ≡ followerAt os hs (2 * e) h

@@ -4,7 +4,7 @@ use Prim.Native.Nat.{_≤_}
 use native.Mathlib.Omega.{arith}
 use borrow.Author.Needs.{needs}
 use denote.Ref.{now}
-use Rattle.seq.specs.Seq.{List, Option·getD, ℕ, _*_, take, replicate, leader, filled, laid, ℤ, pos}
+use Rattle.seq.specs.Seq.{List, Option·getD, ℕ, _*_, take, replicate, leader, length, filled, laid, ℤ, pos}
 use Rattle.seq.specs.Filled.{Holds}
 use Rattle.paper.specs.Limits.{overlayEdges, absent}
 use Rattle.paper.specs.Graph.{Graph, follower, heading, greatestOut}
@@ -13,8 +13,9 @@ use Rattle.laws_graph.specs.Plane.{Plane}
 use Rattle.graph.specs.Flat.{flatGraph, Flat}
 use Rattle.graph.specs.Heading.{row, flat-starts}
 use Rattle.graph.specs.Follow.{Headings, Heads, followerAt}
-use Rattle.graph_faces.specs.Turns.{greatestAt, lowAt}
-use Rattle.graph_faces.specs.Laws.Linking.{ways-heads, ways-near, next-filled, next-holds, next-permuted, lead-filled, lead-holds, lead-numbers, greatest-holds, low-holds, low-cells, top-filled, over-is, leads-over}
+use Rattle.graph.specs.Stars.{greatestAt, Roomy}
+use Rattle.graph_faces.specs.Turns.{lowAt}
+use Rattle.graph_faces.specs.Laws.Linking.{ways-heads, ways-near, ways-apart, next-filled, next-holds, next-permuted, lead-filled, lead-holds, lead-numbers, greatest-holds, low-holds, low-cells, top-filled, over-is, leads-over}
 use Rattle.graph_faces.specs.Walked.{topOf}
 use Rattle.graph_faces.proofs.linking.link.Statement.{statement}
 use Rattle.graph_faces.proofs.linking.link.Tie as tie
@@ -68,6 +69,16 @@ module _ (s : tie.Start) where
     near : Headings ways (2 * e)
     near = ways-near ps os cs n e F P 8000 (omega (arith, small)) ways W
 
+    roomy : (out : List ℕ) → n ≤ length out → Roomy os ways e n out next₀
+    roomy out l = record {
+      origins = F .origins;
+      headings = near;
+      apart = ways-apart ps os cs n e F P 8000 (omega (arith, small)) ways W;
+      small = big;
+      long-heads = l;
+      long-next = s .pre .1 .1 .1 .1 .0;
+    }
+
     outs : (out : List ℕ) → out ≡ filled n (greatestAt os ways (2 * e)) (replicate 1000 0) → Holds (λ v. Option·getD (greatestOut g v) absent) out n
     outs out O = greatest-holds ps os cs n e F P ways heads 1000 (s .pre .1 .0) out O
 
@@ -90,80 +101,73 @@ module _ (s : tie.Start) where
 
 -- ── the needs ──
 
-headings-requires : tie.Need-headings-requires
-headings-requires c κs = let s : tie.Start = search needs in (F s, (omega (arith, small s), omega (arith, small s)))
+headings-by-requires : tie.Need-headings-by-requires
+headings-by-requires c κs =
+    let s = c .before .before .before .before .before .before in
+    (F s, (c .before .rise .ensures .0, (big s, omega (arith, small s))))
 
-follow-requires : tie.Need-follow-requires
-follow-requires c κs =
-    let s : tie.Start = search needs in
-    let after-headings : tie.After-headings = search needs in
-    let W = after-headings .headings in
-    (F s .origins, (s .pre .1 .0, (small s, (near s (W .last .1 .1 .1 .1 .1 .0) (W .ensures), s .pre .1 .1 .1 .1 .0))))
+follow-stars-requires : tie.Need-follow-stars-requires
+follow-stars-requires c κs =
+    let s = c .before .before .before .before .before .before .before .before .before .before .before in
+    let W = c .before .before .before .before .headings-by in
+    roomy s (W .last .1 .1 .1 .1 .1 .1 .0) (W .ensures) _ (omega (arith, s .pre .1 .0))
 
 leads-requires : tie.Need-leads-requires
 leads-requires c κs =
-    let s = c .before .before .before .before .before .before .before .before .before .before .before .before .before .before in
-    let W = c .before .before .before .before .before .before .before .before .headings in
-    let N = c .before .before .before .before .follow in
-    let next = N .last .1 .1 .1 .1 .0 in
-    (next-permuted (ps s) (os s) (cs s) (n s) (e s) (F s) (P s) next (nexts s (W .last .1 .1 .1 .1 .1 .0) (W .ensures) next (N .ensures)), (big s, s .pre .1 .1 .1 .1 .1))
-
-greatest-requires : tie.Need-greatest-requires
-greatest-requires c κs =
-    let s = c .before .before .before .before .before .before .before .before .before .before .before .before .before .before .before .before .before .before .before in
-    let W = c .before .before .before .before .before .before .before .before .before .before .before .before .before .headings in
-    (F s .origins, (big s, (near s (W .last .1 .1 .1 .1 .1 .0) (W .ensures), s .pre .1 .0)))
+    let s = c .before .before .before .before .before .before .before .before .before .before .before .before .before .before .before .before .before in
+    let W = c .before .before .before .before .before .before .before .before .before .before .headings-by in
+    let N = c .before .before .before .before .before .follow-stars in
+    let next = N .last .1 .1 .1 .1 .1 .0 in
+    (next-permuted (ps s) (os s) (cs s) (n s) (e s) (F s) (P s) next (nexts s (W .last .1 .1 .1 .1 .1 .1 .0) (W .ensures) next (N .ensures .1)), (big s, s .pre .1 .1 .1 .1 .1))
 
 lows-requires : tie.Need-lows-requires
 lows-requires c κs =
-    let s = c .before .before .before .before .before .before .before .before .before .before .before .before .before .before .before .before .before .before .before .before .before .before .before in
-    let W = c .before .before .before .before .before .before .before .before .before .before .before .before .before .before .before .before .before .headings in
-    let N = c .before .before .before .before .before .before .before .before .before .before .before .before .before .follow in
-    let L = c .before .before .before .before .before .before .before .before .leads in
+    let s = c .before .before .before .before .before .before .before .before .before .before .before .before .before .before .before .before .before .before .before .before .before .before in
+    let W = c .before .before .before .before .before .before .before .before .before .before .before .before .before .before .before .headings-by in
+    let N = c .before .before .before .before .before .before .before .before .before .before .follow-stars in
+    let L = c .before .before .before .before .leads in
     let lead = L .last .1 .1 .0 in
-    let led = leads s (W .last .1 .1 .1 .1 .1 .0) (W .ensures) (N .last .1 .1 .1 .1 .0) (N .ensures) lead (L .ensures) in
-    (flat-starts (ps s) (os s) (cs s) (n s) (e s) (F s), (lead-numbers (ps s) (os s) (cs s) (n s) (e s) (F s) (P s) lead led, (big s, omega (arith, small s))))
+    let led = leads s (W .last .1 .1 .1 .1 .1 .1 .0) (W .ensures) (N .last .1 .1 .1 .1 .1 .0) (N .ensures .1) lead (L .ensures) in
+    (flat-starts (ps s) (os s) (cs s) (n s) (e s) (F s), (lead-numbers (ps s) (os s) (cs s) (n s) (e s) (F s) (P s) lead led, (big s, (omega (arith, small s), (c .before .before .before .before .before .before .before .before .before .before .before .before .before .before .before .before .before .rise .ensures .0, F s .origins)))))
 
 tops-requires : tie.Need-tops-requires
 tops-requires c κs =
-    let s = c .before .before .before .before .before .before .before .before .before .before .before .before .before .before .before .before .before .before .before .before .before .before .before .before .before .before .before .before .before in
-    let W = c .before .before .before .before .before .before .before .before .before .before .before .before .before .before .before .before .before .before .before .before .before .before .before .headings in
-    let N = c .before .before .before .before .before .before .before .before .before .before .before .before .before .before .before .before .before .before .before .follow in
-    let L = c .before .before .before .before .before .before .before .before .before .before .before .before .before .before .leads in
-    let O = c .before .before .before .before .before .before .before .before .before .greatest in
+    let s = c .before .before .before .before .before .before .before .before .before .before .before .before .before .before .before .before .before .before .before .before .before .before .before .before .before .before .before .before in
+    let W = c .before .before .before .before .before .before .before .before .before .before .before .before .before .before .before .before .before .before .before .before .before .headings-by in
+    let N = c .before .before .before .before .before .before .before .before .before .before .before .before .before .before .before .before .follow-stars in
+    let L = c .before .before .before .before .before .before .before .before .before .before .leads in
     let B = c .before .before .before .before .before .lows in
-    let ways = W .last .1 .1 .1 .1 .1 .0 in
-    let next = N .last .1 .1 .1 .1 .0 in
+    let ways = W .last .1 .1 .1 .1 .1 .1 .0 in
+    let next = N .last .1 .1 .1 .1 .1 .0 in
     let lead = L .last .1 .1 .0 in
-    let low = B .last .1 .1 .1 .1 .0 in
-    let led = leads s ways (W .ensures) next (N .ensures) lead (L .ensures) in
-    let below = lows s ways (W .ensures) next (N .ensures) lead (L .ensures) low (B .ensures) in
-    let out = outs s ways (W .ensures) (O .last .1 .1 .1 .0) (O .ensures) in (
+    let low = B .last .1 .1 .1 .1 .1 .1 .0 in
+    let led = leads s ways (W .ensures) next (N .ensures .1) lead (L .ensures) in
+    let below = lows s ways (W .ensures) next (N .ensures .1) lead (L .ensures) low (B .ensures) in
+    let out = outs s ways (W .ensures) (N .last .1 .1 .1 .1 .0) (N .ensures .0) in (
       lead-numbers (ps s) (os s) (cs s) (n s) (e s) (F s) (P s) lead led,
       (below .long, (low-cells (ps s) (os s) (cs s) (n s) (e s) (F s) (P s) lead low led below, (record { long = F s .origins .long; named = λ i l. omega (arith, F s .origins .named i l, out .long) }, s .pre .1 .1 .1 .1 .2))),
     )
 
 returns : tie.Need-returns
 returns c =
-    let s = c .before .before .before .before .before .before .before .before .before .before .before .before .before .before .before .before .before .before .before .before .before .before .before .before .before .before .before .before .before .before .before .before in
-    let W = c .before .before .before .before .before .before .before .before .before .before .before .before .before .before .before .before .before .before .before .before .before .before .before .before .before .before .headings in
-    let N = c .before .before .before .before .before .before .before .before .before .before .before .before .before .before .before .before .before .before .before .before .before .before .follow in
-    let L = c .before .before .before .before .before .before .before .before .before .before .before .before .before .before .before .before .before .leads in
-    let O = c .before .before .before .before .before .before .before .before .before .before .before .before .greatest in
+    let s = c .before .before .before .before .before .before .before .before .before .before .before .before .before .before .before .before .before .before .before .before .before .before .before .before .before .before .before .before .before .before .before in
+    let W = c .before .before .before .before .before .before .before .before .before .before .before .before .before .before .before .before .before .before .before .before .before .before .before .before .headings-by in
+    let N = c .before .before .before .before .before .before .before .before .before .before .before .before .before .before .before .before .before .before .before .follow-stars in
+    let L = c .before .before .before .before .before .before .before .before .before .before .before .before .before .leads in
     let B = c .before .before .before .before .before .before .before .before .lows in
     let T = c .before .before .tops in
-    let ways = W .last .1 .1 .1 .1 .1 .0 in
-    let next = N .last .1 .1 .1 .1 .0 in
+    let ways = W .last .1 .1 .1 .1 .1 .1 .0 in
+    let next = N .last .1 .1 .1 .1 .1 .0 in
     let lead = L .last .1 .1 .0 in
-    let low = B .last .1 .1 .1 .1 .0 in
+    let low = B .last .1 .1 .1 .1 .1 .1 .0 in
     let top = T .last .1 .1 .1 .1 .1 .0 in
-    let led = leads s ways (W .ensures) next (N .ensures) lead (L .ensures) in
-    let below = lows s ways (W .ensures) next (N .ensures) lead (L .ensures) low (B .ensures) in
-    let out = outs s ways (W .ensures) (O .last .1 .1 .1 .0) (O .ensures) in
+    let led = leads s ways (W .ensures) next (N .ensures .1) lead (L .ensures) in
+    let below = lows s ways (W .ensures) next (N .ensures .1) lead (L .ensures) low (B .ensures) in
+    let out = outs s ways (W .ensures) (N .last .1 .1 .1 .1 .0) (N .ensures .0) in
     record {
-      next-is = over-is (ps s) (os s) (cs s) (n s) (e s) (F s) (P s) (follower (g s)) (next₀ s) next (next-at s ways (W .ensures) next (N .ensures));
-      lead-is = leads-over (ps s) (os s) (cs s) (n s) (e s) (F s) (P s) (lead₀ s) lead (lead-at s ways (W .ensures) next (N .ensures) lead (L .ensures));
-      top-is = over-is (ps s) (os s) (cs s) (n s) (e s) (F s) (P s) (topOf (g s)) (top₀ s) top (top-filled (ps s) (os s) (cs s) (n s) (e s) (F s) (P s) lead low led below (O .last .1 .1 .1 .0) out (top₀ s) top (T .ensures));
+      next-is = over-is (ps s) (os s) (cs s) (n s) (e s) (F s) (P s) (follower (g s)) (next₀ s) next (next-at s ways (W .ensures) next (N .ensures .1));
+      lead-is = leads-over (ps s) (os s) (cs s) (n s) (e s) (F s) (P s) (lead₀ s) lead (lead-at s ways (W .ensures) next (N .ensures .1) lead (L .ensures));
+      top-is = over-is (ps s) (os s) (cs s) (n s) (e s) (F s) (P s) (topOf (g s)) (top₀ s) top (top-filled (ps s) (os s) (cs s) (n s) (e s) (F s) (P s) lead low led below (N .last .1 .1 .1 .1 .0) out (top₀ s) top (T .ensures));
     }
 
 pub link-spec : {M : Type 1} → statement M
@@ -171,14 +175,13 @@ link-spec =
     tie.close
     (tie.spec
     (λ c. search needs)
+    (λ c κs. let s = c .before .before .before .before in F s .points)
     (λ c. search needs)
-    headings-requires
+    headings-by-requires
     (λ c. search needs)
-    follow-requires
+    (λ c. search needs)
+    follow-stars-requires
     leads-requires
-    (λ c. search needs)
-    (λ c. search needs)
-    greatest-requires
     (λ c. search needs)
     lows-requires
     (λ c. search needs)

@@ -1,5 +1,5 @@
 -- `graph_faces::walks::lows` meets its contract. Assumes nothing.
-use mathlib.Core.Path.{refl}
+use mathlib.Core.Path.{_≡_, refl}
 use Prim.Native.Nat.{_<_}
 use native.Mathlib.Omega.{arith}
 use borrow.Author.Needs.{needs}
@@ -11,10 +11,10 @@ use Rattle.graph_faces.proofs.walks.lows.Statement.{statement}
 use Rattle.graph_faces.proofs.walks.lows.Tie as tie
 
 abbrev Inv-loop : tie.InvT-loop
-Inv-loop points origins lead m out₀ h₀ out h = Choosing (λ k. getD lead k 0) (earlierAt points origins) absent m m out₀ out h
+Inv-loop points origins n rising lead m out₀ h₀ out h = Choosing (λ k. getD lead k 0) (earlierAt points origins) absent m m out₀ out h
 
 abbrev μ-loop : tie.MeasureT-loop
-μ-loop points origins lead m out₀ h₀ out h = m - h
+μ-loop points origins n rising lead m out₀ h₀ out h = m - h
 
 abbrev started : tie.In-loop Inv-loop μ-loop → tie.Start Inv-loop μ-loop
 started c = search needs
@@ -26,7 +26,7 @@ fits c = omega (arith, started c .pre .1 .0 .named (c .before .loop .h) (c .loop
 loop-holds : tie.Need-loop-holds Inv-loop μ-loop
 loop-holds c =
     let s : tie.Start Inv-loop μ-loop = search needs in
-    choose-starts (s .args .out .now) (s .pre .1 .1 .1) (c .before .before .fill .ensures)
+    choose-starts (s .args .out .now) (s .pre .1 .1 .1 .0) (c .before .before .fill .ensures)
 
 earlier-requires : tie.Need-earlier-requires Inv-loop μ-loop
 earlier-requires c κs =
@@ -36,7 +36,9 @@ earlier-requires c κs =
     let b = c .before .before .loop-test .taken in
     let v = getD (s .args .lead .now) (l .h) 0 in
     let r = getD (l .out) v 0 in
-    (omega (arith, s .pre .1 .1 .0), s .pre .0 (l .h) b, λ f. s .pre .0 r (omega (arith, choose-has (l .inv) v (s .pre .1 .0 .named (l .h) b) f .0)))
+    let O = s .pre .1 .1 .1 .1 .1 in
+    let below : (r ≡ absent → ⊥) → r < s .args .m = λ f. omega (arith, choose-has (l .inv) v (s .pre .1 .0 .named (l .h) b) f .0) in
+    ((omega (arith, s .pre .1 .1 .0), s .pre .0 (l .h) b, λ f. s .pre .0 r (below f)), (s .pre .1 .1 .1 .1 .0, (O .named (l .h) b, λ f. O .named r (below f))))
 
 loop-again : tie.Need-loop-again Inv-loop μ-loop
 loop-again c =
@@ -51,7 +53,7 @@ returns : tie.Need-returns Inv-loop μ-loop
 returns c =
     let after-fill : tie.After-fill Inv-loop μ-loop = search needs in
     let s : tie.Start Inv-loop μ-loop = search needs in
-    choose-ends (c .before .loop .inv) (s .args .out .now) (omega arith) (s .pre .1 .1 .1) (after-fill .fill .ensures)
+    choose-ends (c .before .loop .inv) (s .args .out .now) (omega arith) (s .pre .1 .1 .1 .0) (after-fill .fill .ensures)
 
 pub lows-spec : {M : Type 1} → statement M
 lows-spec =

@@ -1,5 +1,5 @@
 -- `map_check::rules::first_by_followers` meets its contract. Assumes nothing.
-use Rattle.map_check.specs.Laws.LinkedLaws.{made-headings, made-linked, found-disagrees}
+use Rattle.map_check.specs.Laws.LinkedLaws.{made-headings, made-apart, made-linked, found-disagrees}
 use native.Mathlib.Omega.{arith}
 use borrow.Author.Needs.{needs}
 use Rattle.map_check.proofs.rules.first_by_followers.Statement.{statement}
@@ -10,7 +10,8 @@ follow-requires c κs =
     let start : tie.Start = search needs in
     let after-headings : tie.After-headings = search needs in
     let p = start .pre in
-    (p .0 .origins, (omega (arith, p .1 .0), (omega (arith, p .1 .1 .0), (made-headings (p .0) (p .1 .1 .0) _ _ (omega (arith, p .1 .1 .0)) (after-headings .headings .ensures), omega (arith, p .1 .1 .0)))))
+    let ways = after-headings .headings .ensures in
+    (p .0 .origins, (omega (arith, p .1 .0), (omega (arith, p .1 .1 .0), (made-headings (p .0) (p .1 .1 .0) _ _ (omega (arith, p .1 .1 .0)) ways, (omega (arith, p .1 .1 .0), made-apart (p .0) (p .1 .1 .0) _ _ (omega (arith, p .1 .1 .0)) ways (p .1 .1 .1 .1))))))
 
 first-disagreeing-requires : tie.Need-first-disagreeing-requires
 first-disagreeing-requires c κs =
