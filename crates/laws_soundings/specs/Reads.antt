@@ -15,7 +15,7 @@ use Rattle.paper.specs.Reads.{edgesRead, readFor}
 use Rattle.paper.specs.Soundings.{soundingsIn, soundingAt, readIn}
 use Rattle.laws_soundings.specs.Soundings.{in-first, in-both, sounding-before, at-past}
 
-total-++ : {A : Type 0} (f : A → ℕ) (xs ys : List A) → total f (xs ++ ys) ≡ total f xs + total f ys
+pub total-++ : {A : Type 0} (f : A → ℕ) (xs ys : List A) → total f (xs ++ ys) ≡ total f xs + total f ys
 total-++ f [] ys = omega arith
 total-++ f (x ∷ xs) ys = omega (arith, total-++ f xs ys)
 
@@ -34,7 +34,7 @@ reads-go-on a b n w ms =
     ap (λ (k : ℕ). total (readFor ms) (table (soundingAt (a ++ b)) k)) (in-both a b n w)
     ∙ ap (total (readFor ms)) (table-+ (soundingAt (a ++ b)) n (soundingsIn b))
     ∙ total-++ (readFor ms) (table (soundingAt (a ++ b)) n) (table (λ i. soundingAt (a ++ b) (n + i)) (soundingsIn b))
-    ∙ (λ t. total (readFor ms) ((table-ext (soundingAt (a ++ b)) (soundingAt a) n (sounding-before a b n w) ∙ ap (table (soundingAt a)) (sym (in-first a b n w))) t)
+    ∙ (λ t. total (readFor ms) ((table-ext (soundingAt (a ++ b)) (soundingAt a) n (sounding-before a b n (omega arith)) ∙ ap (table (soundingAt a)) (sym (in-first a b n w))) t)
     + total (readFor ms) (table-ext (λ i. soundingAt (a ++ b) (n + i)) (soundingAt b) (soundingsIn b) (λ i l. at-past a b n w i) t))
 
 -- ── the ceiling ──

@@ -1,7 +1,7 @@
 -- Lists of soundings end to end (02, Ask 3): cutting the list after a whole number of soundings cuts the soundings (`cells-++`), so that counts go on from batch to batch (`counts-go-on`), as do
 -- the soundings that lie too far (`far-before`, `far-past`); and the counts add up (`counts-add-up`). Over any number of maps. Assumes nothing.
 use mathlib.Core.Path.{_≡_, sym, _∙_, ap}
-use Prim.Native.Nat.{_<_}
+use Prim.Native.Nat.{_<_, _≤_}
 use native.Mathlib.Omega.{arith}
 use lib.ListN.{length-append, List·getD-append}
 use lib.Seq.{getD-append-add}
@@ -35,7 +35,15 @@ module _ (a b : List ℕ) where
       next : suc (length a + i) ≡ length a + suc i
       next = omega arith
 
-  -- ── a holds n whole soundings ──
+  -- ── a holds n soundings ──
+
+  pub sounding-before : (n : ℕ) → 4 * n ≤ length a → (i : ℕ) → i < n → soundingAt (a ++ b) i ≡ soundingAt a i
+  sounding-before n h i l = λ t. vec (signed-before (4 * i) (omega arith) t) (signed-before (4 * i + 2) (omega arith) t)
+
+  pub far-before : (n : ℕ) → 4 * n ≤ length a → (i : ℕ) → i < n → far (a ++ b) i ≡ far a i
+  far-before n h i l = ap (λ (c : Vec). ltb reach (natAbs (c .x)) || ltb reach (natAbs (c .y))) (sounding-before n h i l)
+
+  -- ── and nothing more ──
 
   module _ (n : ℕ) (w : length a ≡ 4 * n) where
     pub in-first : soundingsIn a ≡ n
@@ -44,9 +52,6 @@ module _ (a b : List ℕ) where
     pub in-both : soundingsIn (a ++ b) ≡ n + soundingsIn b
     in-both = omega (arith, length-append a b)
 
-    pub sounding-before : (i : ℕ) → i < n → soundingAt (a ++ b) i ≡ soundingAt a i
-    sounding-before i l = λ t. vec (signed-before (4 * i) (omega arith) t) (signed-before (4 * i + 2) (omega arith) t)
-
     pub at-past : (i : ℕ) → soundingAt (a ++ b) (n + i) ≡ soundingAt b i
     at-past i = λ t. vec (signed-past (4 * i) (4 * (n + i)) (omega arith) t) (signed-past (4 * i + 2) (4 * (n + i) + 2) (omega arith) t)
 
@@ -54,15 +59,12 @@ module _ (a b : List ℕ) where
     cells-++ ms =
         ap (table (λ i. cellOf ms (soundingAt (a ++ b) i))) in-both
         ∙ table-+ (λ i. cellOf ms (soundingAt (a ++ b) i)) n (soundingsIn b)
-        ∙ (λ t. (table-ext (λ i. cellOf ms (soundingAt (a ++ b) i)) (λ i. cellOf ms (soundingAt a i)) n (λ i l. ap (cellOf ms) (sounding-before i l)) ∙ ap (table (λ i. cellOf ms (soundingAt a i))) (sym in-first)) t
+        ∙ (λ t. (table-ext (λ i. cellOf ms (soundingAt (a ++ b) i)) (λ i. cellOf ms (soundingAt a i)) n (λ i l. ap (cellOf ms) (sounding-before n (omega arith) i l)) ∙ ap (table (λ i. cellOf ms (soundingAt a i))) (sym in-first)) t
         ++ table-ext (λ i. cellOf ms (soundingAt (a ++ b) (n + i))) (λ i. cellOf ms (soundingAt b i)) (soundingsIn b) (λ i l. ap (cellOf ms) (at-past i)) t)
 
     -- the counts of both go on from those of the first
     pub counts-go-on : (ms : List Map) → tally (cells ms (a ++ b)) ≡ tallyFrom (tally (cells ms a)) (cells ms b)
     counts-go-on ms = ap tally (cells-++ ms) ∙ tally-++ [] (cells ms a) (cells ms b)
-
-    pub far-before : (i : ℕ) → i < n → far (a ++ b) i ≡ far a i
-    far-before i l = ap (λ (c : Vec). ltb reach (natAbs (c .x)) || ltb reach (natAbs (c .y))) (sounding-before i l)
 
     pub far-past : (i : ℕ) → far (a ++ b) (n + i) ≡ far b i
     far-past i = ap (λ (c : Vec). ltb reach (natAbs (c .x)) || ltb reach (natAbs (c .y))) (at-past i)
