@@ -11,7 +11,7 @@ use Rattle.paper.specs.Limits.{overlayFaces, listSoundings}
 use Rattle.paper.specs.Plane.{Vec}
 use Rattle.paper.specs.Soundings.{Entry, lesser, added, once, soundingAt, far}
 use Rattle.laws_soundings.specs.Tally.{total, insert-total, from-ordered}
-use Rattle.laws_soundings.specs.Run.{Look, Tallied, Going, Run, halted, going, goingBy, twelve, starts, capped, countIn, withSounding, withByte, next}
+use Rattle.laws_soundings.specs.Run.{Look, Tallied, Going, Run, halted, going, goingBy, twelve, capped, countIn, withSounding, withByte, next}
 
 -- what is counted, where n soundings were: most is the most edges that are read for one
 pub record Held (most n : ℕ) (t : Tallied) : Type 0 where
@@ -33,9 +33,6 @@ pub record Fit (most : ℕ) (g : Going) : Type 0 where
 abbrev pub FitRun : ℕ → Run → Type 0
 FitRun most (halted r) = Unit
 FitRun most (going g) = Fit most g
-
-pub fit-start : (most : ℕ) (m : Look) → ((c : Vec) → m .read c ≤ most) → FitRun most (starts m)
-fit-start most m h = record { looks-few = h; soundings-few = omega arith; far-within = omega arith; held = record { sorted = tt; few = omega arith; read-few = omega arith }; rest-short = omega arith }
 
 module _ (most : ℕ) where
   held-more : (n : ℕ) (t : Option Tallied) → HeldIf most n t → HeldIf most (suc n) t
