@@ -270,6 +270,40 @@ bonnetewe_answer bonnetewe_soundings(const uint8_t *zones, size_t zones_length, 
                                      const uint8_t *list, size_t list_length, uint16_t *labels, size_t label_cells,
                                      uint32_t *counts, size_t count_cells, uint32_t *read, size_t read_cells);
 
+/* The same in three steps, for a list that comes in batches: where the count stands goes in and comes back by value. The maps are checked once, at the beginning. A batch is any bytes, of any length: four bytes that
+ * are parted by a cut are one sounding. Whatever the cuts, bonnetewe_soundings_close answers what bonnetewe_soundings answers for all batches end to end, and leaves the same in the lent tables; all refusals are told there. A count that no
+ * such calls gave is told as 12, place 0, unless it says that it is refused already. */
+struct bonnetewe_progress {
+    size_t soundings;
+    size_t far;
+    size_t entries;
+    size_t rest;
+    uint32_t read;
+    uint16_t bad;
+    uint16_t number;
+    uint16_t map;
+    uint16_t place;
+    uint16_t other;
+};
+
+struct bonnetewe_count {
+    int16_t rails[4 * 300];
+    int16_t rails2[4 * 300];
+    uint16_t easts[300];
+    uint16_t easts2[300];
+    uint16_t labels[2 * 1334];
+    uint32_t counts[1334];
+    uint8_t bytes[4];
+    size_t edges;
+    size_t edges2;
+    struct bonnetewe_progress progress;
+};
+
+struct bonnetewe_count bonnetewe_soundings_begin(const uint8_t *zones, size_t zones_length, const uint8_t *blocks, size_t blocks_length);
+struct bonnetewe_count bonnetewe_soundings_add(struct bonnetewe_count count, const uint8_t *batch, size_t batch_length);
+bonnetewe_answer bonnetewe_soundings_close(struct bonnetewe_count count, uint16_t *labels, size_t label_cells,
+                                           uint32_t *counts, size_t count_cells, uint32_t *read, size_t read_cells);
+
 /* The year, in three steps: the state goes in and comes back by value. In its table are rows of zone, block, sheets, faces and the last file's number, by pair. */
 struct bonnetewe_sums {
     size_t pairs;

@@ -1,9 +1,16 @@
--- Soundings by cell, for C: one number, the lent tables of pairs and counts, and the edges that the looks read in a lent table of any length. Assumes nothing.
-use mathlib.Core.Path.{_≡_, refl, sym, _∙_, ap}
+-- Soundings by cell, for C: one number, the lent tables of pairs and counts, and the edges that the looks read in a lent table of any length; and that in batches the same is told (`told-batches`). Assumes nothing.
+use mathlib.Core.Path.{_≡_, refl, sym, _∙_, ap, subst}
 use Rattle.seq.specs.Seq.{List, [], _∷_, ℕ, table, getD}
 use Rattle.paper.specs.Refusal.{Answer, done, refused}
 use Rattle.paper.specs.Soundings as paper
+use Rattle.laws_soundings.specs.Run.{closed}
+use Rattle.laws_soundings.specs.RunAfter.{endToEnd}
+use Rattle.laws_soundings.specs.RunClosed.{all-answer}
+use Rattle.soundings_count.specs.Entries.{pairWidth}
 use Rattle.soundings.specs.Answer.{countedOf}
+use Rattle.soundings.specs.State.{runOf}
+use Rattle.soundings.specs.Unique.{After}
+use Rattle.soundings.specs.declared.state.Count.{Count}
 use Rattle.soundings.specs.declared.answer.Counted.{Counted}
 use Rattle.soundings.specs.declared.answer.Counted.the-variants.{Done, Refused}
 use Rattle.bonnetewe.specs.Told.{four}
@@ -68,3 +75,8 @@ told-cells o a {ls} {cs} {q} {n} {k} {r} e f g h = record {
 -- no second number and tables tell it
 pub told-cells-once : {o : paper.Counted} {n : ℕ} {ls cs q us vs w : List ℕ} {r x : ℕ} → ToldCells o n ls cs q r → ToldCells o n us vs w x → (ls ≡ us) × (cs ≡ vs) × (q ≡ w) × (r ≡ x)
 told-cells-once a b = (a .labels ∙ sym (b .labels), a .counts ∙ sym (b .counts), a .read ∙ sym (b .read), a .answer ∙ sym (b .answer))
+
+-- in batches: after `bonnetewe_soundings_begin`, and `bonnetewe_soundings_add` for each of the batches in turn, whatever their lengths, what is told is what is told of the whole list
+pub told-batches : (l : paper.CountRoom) (x y : List ℕ) (bs : List (List ℕ)) (c : Count) {n : ℕ} {ls cs q : List ℕ} {r : ℕ} → After (x ∷ y ∷ []) bs c → ToldCells (closed pairWidth l (runOf c)) n ls cs q r
+    → ToldCells (paper.soundings l (x ∷ y ∷ []) (endToEnd bs)) n ls cs q r
+told-batches l x y bs c {n} {ls} {cs} {q} {r} h t = subst (λ (o : paper.Counted). ToldCells o n ls cs q r) (ap (closed pairWidth l) h ∙ all-answer l (x ∷ y ∷ []) bs) t

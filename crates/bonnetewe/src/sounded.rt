@@ -1,12 +1,17 @@
-// Soundings by cell for C: the pairs and their counts in lent tables, the edges that the looks read in a third.
+// Soundings by cell for C: the pairs and their counts in lent tables, the edges that the looks read in a third. The whole list at once, or in three steps: where the count stands goes in and comes back by value.
 use crate::answer::join;
+use soundings::Count;
 use soundings::Counted;
 ghost use mathlib.Core.Path.{_≡_};
 ghost use mathlib.Core.List.{[], _∷_};
 ghost use lib.ListN.{length};
 ghost use Rattle.seq.specs.Seq.{table};
 ghost use Rattle.paper.specs.Soundings.{soundings};
+ghost use Rattle.laws_soundings.specs.Run.{next, closed};
+ghost use Rattle.laws_soundings.specs.RunClosed.{started};
+ghost use Rattle.soundings_count.specs.Entries.{pairWidth};
 ghost use Rattle.soundings.specs.Answer.{roomBy};
+ghost use Rattle.soundings.specs.State.{runOf};
 ghost use Rattle.bonnetewe.specs.Sounded.{toldCounted, readOf, readCell, ToldCells};
 
 // The pairs and the soundings above a 0, or the refusal. Both fit 16 bits.
@@ -64,6 +69,37 @@ pub extern "C" fn bonnetewe_soundings(
     ensures { λ r. ⌜ ToldCells (soundings (roomBy (length (now (labels .entry))) (length (now (counts .entry)))) (now (zones .entry) ∷ now (blocks .entry) ∷ []) (now (list .entry))) (length (now (read .entry))) (now (labels .exit)) (now (counts .exit)) (now (read .exit)) r ⌝ }
 {
     let answer = soundings::soundings(zones, blocks, list, labels, counts);
+    lay_read(read_of(answer), read);
+    of_counted(answer)
+}
+
+// No byte of the list yet: two map files of any bytes, checked and laid for looks once.
+#[no_mangle]
+pub extern "C" fn bonnetewe_soundings_begin(zones: &[u8], blocks: &[u8]) -> Count
+    ensures { λ r. ⌜ runOf r ≡ started (now (zones .entry) ∷ now (blocks .entry) ∷ []) ⌝ }
+{
+    soundings::begin(zones, blocks)
+}
+
+// One batch more, of any bytes.
+#[no_mangle]
+pub extern "C" fn bonnetewe_soundings_add(count: Count, batch: &[u8]) -> Count
+    ensures { λ r. ⌜ runOf r ≡ next (runOf count) (now (batch .entry)) ⌝ }
+{
+    soundings::add(count, batch)
+}
+
+// What comes of the batches: what the whole list gives.
+#[no_mangle]
+pub extern "C" fn bonnetewe_soundings_close(
+    count: Count,
+    labels: &mut [u16],
+    counts: &mut [u32],
+    read: &mut [u32],
+) -> u64
+    ensures { λ r. ⌜ ToldCells (closed pairWidth (roomBy (length (now (labels .entry))) (length (now (counts .entry)))) (runOf count)) (length (now (read .entry))) (now (labels .exit)) (now (counts .exit)) (now (read .exit)) r ⌝ }
+{
+    let answer = soundings::close(count, labels, counts);
     lay_read(read_of(answer), read);
     of_counted(answer)
 }

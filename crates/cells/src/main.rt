@@ -2,7 +2,7 @@
 // of at most 4,096 soundings; one that cannot be opened is a list of 0 bytes.
 mod words; // what is printed
 mod batches; // the list, batch by batch
-mod maps; // the two maps, laid in tables
+mod maps; // the two maps, and what is answered
 
 // The buffers are longer than the longest map, so that a longer file is refused as the whole of it would be.
 fn count_args() {

@@ -41,7 +41,7 @@ fn say_read(read: u32) {
 }
 
 // The line of 01, and then a sentence; of refusal 8 how the two edges of that file meet.
-pub fn say_refused(r: Refusal, zones: &[u8], blocks: &[u8]) {
+fn say_refused(r: Refusal, zones: &[u8], blocks: &[u8]) {
     console::say_refused(r.number, r.map, r.place);
     if r.number != 8 {
         console::say_sentence(r.number, r.map, r.place);
@@ -52,15 +52,13 @@ pub fn say_refused(r: Refusal, zones: &[u8], blocks: &[u8]) {
     }
 }
 
-pub fn say_answer(answer: Counted, labels: &[u16], counts: &[u32]) {
+// The pairs, or the refusal of these maps or their list.
+pub fn say_answer(answer: Counted, labels: &[u16], counts: &[u32], zones: &[u8], blocks: &[u8]) {
     match answer {
         Counted::Done(c) => {
             say_rows(labels, counts, c.entries);
             say_read(c.read);
         }
-        Counted::Refused(r) => {
-            console::say_refused(r.number, r.map, r.place);
-            console::say_sentence(r.number, r.map, r.place);
-        }
+        Counted::Refused(r) => say_refused(r, zones, blocks),
     }
 }

@@ -3,3 +3,7 @@ pub mod Tally
 pub mod Soundings
 pub mod Reads
 pub mod Told
+pub mod Run
+pub mod RunAfter
+pub mod RunClosed
+pub mod RunFit

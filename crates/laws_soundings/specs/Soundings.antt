@@ -1,18 +1,18 @@
--- Lists of soundings end to end (02, Ask 3): cutting the list after a whole number of soundings cuts the soundings (`cells-++`), so that counts go on from batch to batch (`counts-go-on`), as do
--- the soundings that lie too far (`far-before`, `far-past`); and the counts add up (`counts-add-up`). Over any number of maps. Assumes nothing.
+-- Lists of soundings end to end (02, Ask 3): cutting the list after a whole number of soundings cuts the soundings (`sounding-before`, `at-past`), and so those that lie too far (`far-before`,
+-- `far-past`); and the counts add up (`counts-add-up`). Over any number of maps. Assumes nothing.
 use mathlib.Core.Path.{_≡_, sym, _∙_, ap}
-use Prim.Native.Nat.{_<_}
+use Prim.Native.Nat.{_<_, _≤_}
 use native.Mathlib.Omega.{arith}
-use lib.ListN.{length-append, List·getD-append}
+use lib.ListN.{List·getD-append}
 use lib.Seq.{getD-append-add}
-use Rattle.seq.specs.Seq.{cond, _||_, List, _++_, ℕ, suc, _+_, _*_, _-_, _/_, _^_, ltb, length, natAbs, ℤ, pos, negsuc, table, []}
-use Rattle.seq.specs.Table.{length-table, table-+, table-ext}
+use Rattle.seq.specs.Seq.{cond, _||_, List, _++_, ℕ, suc, _+_, _*_, _-_, _/_, _^_, ltb, length, natAbs, ℤ, pos, negsuc}
+use Rattle.seq.specs.Table.{length-table}
 use Rattle.paper.specs.Limits.{reach}
 use Rattle.paper.specs.Plane.{Vec, vec}
 use Rattle.paper.specs.Bytes.{byteAt, signedAt}
 use Rattle.paper.specs.Map.{Map}
-use Rattle.paper.specs.Soundings.{soundingsIn, soundingAt, cellOf, cells, far, tally, tallyFrom}
-use Rattle.laws_soundings.specs.Tally.{total, tally-++, tally-total}
+use Rattle.paper.specs.Soundings.{soundingsIn, soundingAt, cellOf, cells, far, tally}
+use Rattle.laws_soundings.specs.Tally.{total, tally-total}
 
 -- ── bytes of two lists end to end ──
 
@@ -35,34 +35,19 @@ module _ (a b : List ℕ) where
       next : suc (length a + i) ≡ length a + suc i
       next = omega arith
 
-  -- ── a holds n whole soundings ──
+  -- ── a holds n soundings ──
+
+  pub sounding-before : (n : ℕ) → 4 * n ≤ length a → (i : ℕ) → i < n → soundingAt (a ++ b) i ≡ soundingAt a i
+  sounding-before n h i l = λ t. vec (signed-before (4 * i) (omega arith) t) (signed-before (4 * i + 2) (omega arith) t)
+
+  pub far-before : (n : ℕ) → 4 * n ≤ length a → (i : ℕ) → i < n → far (a ++ b) i ≡ far a i
+  far-before n h i l = ap (λ (c : Vec). ltb reach (natAbs (c .x)) || ltb reach (natAbs (c .y))) (sounding-before n h i l)
+
+  -- ── and nothing more ──
 
   module _ (n : ℕ) (w : length a ≡ 4 * n) where
-    pub in-first : soundingsIn a ≡ n
-    in-first = omega arith
-
-    pub in-both : soundingsIn (a ++ b) ≡ n + soundingsIn b
-    in-both = omega (arith, length-append a b)
-
-    pub sounding-before : (i : ℕ) → i < n → soundingAt (a ++ b) i ≡ soundingAt a i
-    sounding-before i l = λ t. vec (signed-before (4 * i) (omega arith) t) (signed-before (4 * i + 2) (omega arith) t)
-
     pub at-past : (i : ℕ) → soundingAt (a ++ b) (n + i) ≡ soundingAt b i
     at-past i = λ t. vec (signed-past (4 * i) (4 * (n + i)) (omega arith) t) (signed-past (4 * i + 2) (4 * (n + i) + 2) (omega arith) t)
-
-    pub cells-++ : (ms : List Map) → cells ms (a ++ b) ≡ cells ms a ++ cells ms b
-    cells-++ ms =
-        ap (table (λ i. cellOf ms (soundingAt (a ++ b) i))) in-both
-        ∙ table-+ (λ i. cellOf ms (soundingAt (a ++ b) i)) n (soundingsIn b)
-        ∙ (λ t. (table-ext (λ i. cellOf ms (soundingAt (a ++ b) i)) (λ i. cellOf ms (soundingAt a i)) n (λ i l. ap (cellOf ms) (sounding-before i l)) ∙ ap (table (λ i. cellOf ms (soundingAt a i))) (sym in-first)) t
-        ++ table-ext (λ i. cellOf ms (soundingAt (a ++ b) (n + i))) (λ i. cellOf ms (soundingAt b i)) (soundingsIn b) (λ i l. ap (cellOf ms) (at-past i)) t)
-
-    -- the counts of both go on from those of the first
-    pub counts-go-on : (ms : List Map) → tally (cells ms (a ++ b)) ≡ tallyFrom (tally (cells ms a)) (cells ms b)
-    counts-go-on ms = ap tally (cells-++ ms) ∙ tally-++ [] (cells ms a) (cells ms b)
-
-    pub far-before : (i : ℕ) → i < n → far (a ++ b) i ≡ far a i
-    far-before i l = ap (λ (c : Vec). ltb reach (natAbs (c .x)) || ltb reach (natAbs (c .y))) (sounding-before i l)
 
     pub far-past : (i : ℕ) → far (a ++ b) (n + i) ≡ far b i
     far-past i = ap (λ (c : Vec). ltb reach (natAbs (c .x)) || ltb reach (natAbs (c .y))) (at-past i)

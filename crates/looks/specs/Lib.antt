@@ -4,3 +4,4 @@ pub mod Halved
 pub mod Rails
 pub mod Railed
 pub mod Files
+pub mod Straying

@@ -10,6 +10,7 @@ use Rattle.paper.specs.Refusal.{Refusal, done, refused}
 use Rattle.paper.specs.Soundings as paper
 use Rattle.paper.specs.Soundings.{Entry, CountRoom, labelRows, times, counted}
 use Rattle.map_file.specs.Verdict.{refusalOf}
+use Rattle.laws_soundings.specs.Run.{cellsBy}
 use Rattle.soundings_count.specs.Entries.{pairWidth, entryAt, entriesIn}
 use Rattle.soundings.specs.declared.answer.Cells.{Cells}
 use Rattle.soundings.specs.declared.answer.Counted.{Counted}
@@ -17,9 +18,6 @@ use Rattle.soundings.specs.declared.answer.Counted.the-variants.{Done, R
 
 abbrev pub roomBy : ℕ → ℕ → CountRoom
 roomBy l c = record { labels = l; counts = c }
-
-abbrev pub cellsBy : ℕ → ℕ → ℕ → paper.Cells
-cellsBy n k q = record { entries = n; soundings = k; read = q }
 
 abbrev pub countedOf : Counted → List ℕ → List ℕ → paper.Counted
 countedOf (Done c) ls cs = record { answer = done (cellsBy (c .entries) (c .soundings) (c .read)); labels = ls; counts = cs }

@@ -4,17 +4,14 @@ use Prim.Native.Nat.{_≤_}
 use native.Mathlib.Omega.{arith}
 use Rattle.seq.specs.Seq.{List, [], _∷_, _++_, Option, none, some, ℕ, _*_, length, getD, take, ℤ, filled, laid}
 use Rattle.paper.specs.Limits.{mapEdges}
-use Rattle.paper.specs.Plane.{Pt}
 use Rattle.paper.specs.Refusal.{Refusal, Answer, done, refused, answer, firstOf, ofMap}
 use Rattle.paper.specs.Map.{label, vertexCount, edgesIn, mapOf, fault, formFaults, partFaults, netFaults}
 use Rattle.laws_refusals.specs.Refusals.{nothing, of-none, first-none}
-use Rattle.laws_graph.specs.Reading.{edges-count}
 use Rattle.graph.specs.Flat.{Flat, flatGraph, carrierAt}
 use Rattle.graph.specs.Look.{eastAt}
-use Rattle.paper.specs.Reads.{edgesRead}
 use Rattle.looks.specs.Ordering.{edgeIn, ByLowerEnds}
 use Rattle.looks.specs.Rails.{segRow}
-use Rattle.looks.specs.Railed.{Railed, reads-few}
+use Rattle.looks.specs.Railed.{Railed}
 use Rattle.looks.specs.Files.{file-railed}
 use Rattle.map_check.specs.Held.{MapRoom, MapLaid}
 use Rattle.map_check.specs.Laws.Kept.{Kept}
@@ -106,7 +103,3 @@ pub is-ready-by : {s : List ℕ} {ps : List ℤ} {os : List ℕ} {cs : List ℤ}
     → rs ≡ laid e (λ i. segRow (carrierAt cs (edgeIn xs i))) rs₀ → es ≡ filled e (λ i. getD ls (eastAt ps os (edgeIn xs i)) 0) es₀ → Ready s rs es
 is-ready-by {s} {ps} {os} {cs} {ls} {xs} {rs₀} {rs} {es₀} {es} w L B R p q =
     is-ready L (subst (λ (k : ℕ). ByLowerEnds ps os k xs) w B) R (p ∙ ap (λ (k : ℕ). laid k (λ i. segRow (carrierAt cs (edgeIn xs i))) rs₀) w) (q ∙ ap (λ (k : ℕ). filled k (λ i. getD ls (eastAt ps os (edgeIn xs i)) 0) es₀) w)
-
--- a look reads no more than the map's edges
-pub read-few : {s : List ℕ} {rs : List ℤ} {es : List ℕ} → Ready s rs es → (p : Pt) → edgesRead (mapOf s .graph) p ≤ mapEdges
-read-few {s} R p = omega (arith, reads-few (mapOf s .graph) p, edges-count s, R .few)

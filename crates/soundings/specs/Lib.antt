@@ -1,9 +1,10 @@
 pub mod Laid
 pub mod Labels
-pub mod Batch
+pub mod Rows
+pub mod Sound
+pub mod State
+pub mod Fits
+pub mod Step
 pub mod Answer
-pub mod After
-pub mod Close
-pub mod Whole
-pub mod Ran
+pub mod Closing
 pub mod Unique

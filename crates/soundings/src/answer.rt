@@ -14,7 +14,8 @@ ghost use Rattle.paper.specs.Limits.{overlayFaces, listSoundings};
 ghost use Rattle.paper.specs.Soundings.{entryRoom, counted};
 ghost use Rattle.map_file.specs.Verdict.{refusalOf};
 ghost use Rattle.soundings_count.specs.Entries.{pairWidth, entriesIn};
-ghost use Rattle.soundings.specs.Answer.{roomBy, cellsBy, countedOf, refusedWith};
+ghost use Rattle.laws_soundings.specs.Run.{cellsBy};
+ghost use Rattle.soundings.specs.Answer.{roomBy, countedOf, refusedWith};
 
 // How many different pairs occur, how many soundings there are, and how many edges their looks read.
 pub struct Cells {

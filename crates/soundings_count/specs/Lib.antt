@@ -1,3 +1,4 @@
 pub mod Entries
 pub mod PutCell
 pub mod InOrder
+pub mod Handed

@@ -18,7 +18,7 @@ ghost use Rattle.seq.specs.Lifted.{lifted};
 ghost use Rattle.soundings_count.specs.Entries.{pairWidth, labelsAt, entriesIn, mostTimes, Grown, Rows};
 
 // Whether the pair in row r is less than a, b.
-fn less(labels: &[u16], r: usize, a: u16, b: u16) -> bool
+pub fn less(labels: &[u16], r: usize, a: u16, b: u16) -> bool
     requires { ⌜ pairWidth * r + pairWidth ≤ length (now labels) ⌝ }
     ensures { λ c. ⌜ c ≡ lessList (labelsAt (now (labels .entry)) r) (a ∷ b ∷ []) ⌝ }
 {

@@ -1,60 +1,32 @@
--- `soundings::soundings` meets its contract: the maps refuse, or the list is answered. Assumes nothing.
-use mathlib.Core.Path.{sym, _∙_, ap}
+-- `soundings::soundings` meets its contract: the whole list is one batch. Assumes nothing.
+use mathlib.Core.Path.{_∙_, ap}
+use mathlib.Core.List.{[], _∷_, append-nil}
 use lib.ListN.{length}
-use borrow.Author.Needs.{needs}
-use Rattle.map_file.specs.Verdict.{verdict}
+use Rattle.paper.specs.Soundings.{soundings}
+use Rattle.laws_soundings.specs.Run.{Run, next}
 use Rattle.soundings.specs.Answer.{roomBy}
-use Rattle.soundings.specs.Whole.{maps-refuse, maps-pass}
+use Rattle.soundings.specs.Unique.{run-answer}
+use borrow.Author.Needs.{needs}
 use Rattle.soundings.proofs.soundings.Statement.{statement}
 use Rattle.soundings.proofs.soundings.Tie as tie
 
-count-list-requires : tie.Need-count-list-requires
-count-list-requires c κs =
-    let t = c .before .before .before .before .before .before in
-    let y = t .before .before .before .before .before .before in
-    let none = ap verdict (t .enum-told .given .1) in
-    (y .lay-both .ensures .1 none, y .lay-both .ensures .2 none)
-
 returns : tie.Need-returns
 returns c =
-    let x = c .before .before .before .before in
-    let k = x .before .before .before .before in
-    let y = k .before .before .before .before .before .before in
-    let s = y .before .before .before .before .before .before .before .before .before .before in
-    let a = s .args in
-    x .refuse .ensures
-    ∙ maps-refuse (roomBy (length (a .labels .now)) (length (a .counts .now))) (a .zones .now) (a .blocks .now) (a .list .now) _ (sym (y .lay-both .ensures .0) ∙ ap verdict (k .c .given .1))
-
-returns-2 : tie.Need-returns-2
-returns-2 c =
-    let x = c .before .before .before .before in
-    let t = x .before .before .before .before .before .before .before in
-    let y = t .before .before .before .before .before .before in
-    let s = y .before .before .before .before .before .before .before .before .before .before in
-    let a = s .args in
-    x .count-list .ensures
-    ∙ maps-pass (roomBy (length (a .labels .now)) (length (a .counts .now))) (a .zones .now) (a .blocks .now) (a .list .now) (sym (y .lay-both .ensures .0) ∙ ap verdict (t .enum-told .given .1))
+    let a = c .before .before .before .before .before .before .before .before .before .before .before .before .before .before .args in
+    let l = roomBy (length (a .labels .now)) (length (a .counts .now)) in
+    let s = a .list .now in
+    let x = c .before .before .before .before .before .before .before .add in
+    let y = c .before .before .before .before .close in
+    run-answer l (a .zones .now) (a .blocks .now) (s ∷ []) (x .result) (y .result) (y .last .1 .0) (y .last .1 .1 .0) (x .ensures ∙ ap (λ (r : Run). next r s) (c .before .before .before .before .before .before .before .before .begin .ensures)) (y .ensures)
+    ∙ ap (soundings l (a .zones .now ∷ a .blocks .now ∷ [])) (append-nil s)
 
 pub soundings-spec : {M : Type 1} → statement M
 soundings-spec =
     tie.close
     (tie.spec
-    (λ c. search needs)
-    (λ c. search needs)
-    (λ c. search needs)
-    (λ c. search needs)
     (λ c κs. search needs)
-    (λ c. search needs)
     (λ c κs. search needs)
-    (λ c. search needs)
-    (λ c. search needs)
-    (λ c. search needs)
-    (λ c. search needs)
-    (λ c. search needs)
-    count-list-requires
-    (λ c. search needs)
-    (λ c. search needs)
-    returns
-    (λ c. search needs)
-    (λ c. search needs)
-    returns-2)
+    (λ c κs. search needs)
+    (λ c. c .before .before .before .before .close .kept .1 .0)
+    (λ c. c .before .before .before .before .close .kept .1 .1 .0)
+    returns)

@@ -7,35 +7,16 @@ use Rattle.seq.specs.Seq.{ltb, natAbs}
 use Rattle.paper.specs.Limits.{reach}
 use Rattle.map_check.proofs.PartsLaws.{beyond, within}
 use Rattle.paper.specs.Soundings.{soundingAt}
-use native.Mathlib.Omega.{arith}
 use borrow.Author.Needs.{needs}
 use Rattle.soundings.proofs.sounding.too_far.Statement.{statement}
 use Rattle.soundings.proofs.sounding.too_far.Tie as tie
-
-mul-at : tie.Need-mul-at
-mul-at c = search needs
-
-i16-at-requires : tie.Need-i16-at-requires
-i16-at-requires c κs = search needs
-
-magnitude-requires : tie.Need-magnitude-requires
-magnitude-requires c κs = search needs
 
 returns : tie.Need-returns
 returns c =
     let a = c .before .before .before .before .args in
     let x = c .before .magnitude .ensures ∙ ap natAbs (toZ-ofZ w64 _ (record { sfits = c .before .before .i16-at .ok }) ∙ c .before .before .i16-at .ensures) in
-    let s = soundingAt (now (a .list)) (a .i) in
+    let s = soundingAt (now (a .bytes)) 0 in
     beyond reach (natAbs (s .x)) (ltb reach (natAbs (s .y))) (rw x at (c .if1 .taken))
-
-add-i16-at : tie.Need-add-i16-at
-add-i16-at c = search needs
-
-i16-at-requires-2 : tie.Need-i16-at-requires-2
-i16-at-requires-2 c κs = search needs
-
-magnitude-requires-2 : tie.Need-magnitude-requires-2
-magnitude-requires-2 c κs = search needs
 
 returns-2 : tie.Need-returns-2
 returns-2 c =
@@ -43,18 +24,16 @@ returns-2 c =
     let a = d .before .before .before .args in
     let x = d .magnitude .ensures ∙ ap natAbs (toZ-ofZ w64 _ (record { sfits = d .before .i16-at .ok }) ∙ d .before .i16-at .ensures) in
     let y = c .magnitude2 .ensures ∙ ap natAbs (toZ-ofZ w64 _ (record { sfits = c .before .i16-at2 .ok }) ∙ c .before .i16-at2 .ensures) in
-    let s = soundingAt (now (a .list)) (a .i) in
+    let s = soundingAt (now (a .bytes)) 0 in
     ap (ltb reach) y ∙ within reach (natAbs (s .x)) (ltb reach (natAbs (s .y))) (rw x at (c .before .before .if1 .left))
 
 pub too-far-spec : {M : Type 1} → statement M
 too-far-spec =
     tie.close
     (tie.spec
-    mul-at
-    i16-at-requires
-    magnitude-requires
+    (λ c κs. search needs)
+    (λ c κs. search needs)
     returns
-    add-i16-at
-    i16-at-requires-2
-    magnitude-requires-2
+    (λ c κs. search needs)
+    (λ c κs. search needs)
     returns-2)
