@@ -149,7 +149,7 @@ module _ (l : Layers) (c : Cut) (os : List ℕ) (bs : List ℤ) (next outers : L
     walk-below : x < 2 * c .edges
     walk-below = omega (arith, along-below (net o) (D .plane) within-walk along, halves-are)
 
-    -- "labels agree": the label in map i is one along the walk
+    -- the label in map i is one along the walk
     walk-same : (i : ℕ) → i < maps → halfLabel (heldMap l i) (c .points) os bs (c .pieces) i x ≡ halfLabel (heldMap l i) (c .points) os bs (c .pieces) i h
     walk-same i b =
         let of-half : ℕ → ℕ → ℕ = λ y j. labelIn (layer ms j) (net o) y (getD (sourcesOf o (y / 2)) j none) in
