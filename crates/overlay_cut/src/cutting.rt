@@ -1,36 +1,30 @@
 // "Edges are the pieces of input edges between neighbouring overlay vertices on them": each edge's pieces put into a table, from the last map, edge and
-// vertex down, so that each turn does what the definition does; then all in order.
+// vertex down, so that each turn does what the definition does. Which vertices are on an edge is tested.
 use crate::between::foot;
 use crate::between::head;
 use crate::between::on_line;
 use crate::between::place;
-use crate::laying::lay;
 use crate::put::put;
 use graph::carrier_at;
 use graph::point_at;
-use limits::EDGE_ROWS;
 use limits::MAPS;
-use limits::PIECE_CELLS;
-use limits::VERTEX_ROWS;
 use plane::Seg;
 ghost use mathlib.Core.Path.{_≡_};
 ghost use mathlib.Core.List.{[]};
-ghost use Prim.Native.Nat.{_+_, _*_, _≤_, _<_};
-ghost use lib.ListN.{length};
+ghost use Prim.Native.Nat.{_+_, _≤_, _<_};
 ghost use Rattle.paper.specs.Limits.{maps, absent};
 ghost use Rattle.paper.specs.Pieces.{only, linksFrom};
 ghost use Rattle.plane.specs.Bounds.{Edge};
 ghost use Rattle.plane.specs.Values.{segOf};
 ghost use Rattle.graph.specs.Flat.{Points, Carriers};
 ghost use Rattle.overlay_cut.specs.Rooms.{vertexRows, edgeRows};
-ghost use Rattle.overlay_cut.specs.PieceRows.{pieceWidth, piecesIn};
 ghost use Rattle.overlay_cut.specs.Links.{pieced, Linked};
 ghost use Rattle.overlay_cut.specs.Cutting.{puts, upper};
 ghost use Rattle.overlay_cut.specs.Between.{InRowOrder, EndsIn, Ended};
 ghost use Rattle.overlay_cut.specs.Cuts.{startOf, Starts, cutEdge, cutMap, cutAll};
 
 // Puts in the piece from v to the vertex above it, where there is one: `next` is n where there is none.
-fn link(
+pub fn link(
     rows: &mut [u16],
     links: &mut [u16],
     count: usize,
@@ -104,7 +98,7 @@ fn cut_map(
 }
 
 // Puts in the pieces of all edges.
-fn cut_all(
+pub fn cut_all(
     points: &[i64],
     n: usize,
     carriers: &[i16],
@@ -124,21 +118,4 @@ fn cut_all(
         total = cut_map(points, n, carriers, from, e, m, rows, links, total);
     }
     total
-}
-
-// The pieces of all edges, in order: how many there are, or EDGE_ROWS where there are more than the overlay may have.
-pub fn pieces(
-    points: &[i64],
-    n: usize,
-    carriers: &[i16],
-    starts: &[usize],
-    out: &mut [u16],
-) -> usize
-    requires { ⌜ Points (now points) n × (n ≤ vertexRows) × InRowOrder (now points) n ⌝ ∗ ⌜ Starts (now starts) (now carriers) × Ended (now points) n (now carriers) (startOf (now starts) maps) ⌝ ∗ ⌜ pieceWidth * edgeRows ≤ length (now out) ⌝ }
-    ensures { λ r. ⌜ piecesIn (now (out .exit)) r ≡ puts edgeRows [] (cutAll (now (points .entry)) n (now (carriers .entry)) (now (starts .entry))) ⌝ }
-{
-    let mut rows = [0u16; PIECE_CELLS];
-    let mut links = [0u16; VERTEX_ROWS + EDGE_ROWS];
-    let count = cut_all(points, n, carriers, starts, &mut rows, &mut links);
-    lay(&rows, &links, n, count, out)
 }
