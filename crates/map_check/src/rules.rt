@@ -3,10 +3,11 @@ use super::edges::first_clash;
 use super::edges::first_clashing;
 use super::edges::first_lonely;
 use super::labels::first_disagreeing;
-use graph::follow;
+use graph::follow_stars;
 use graph::headings;
 use limits::MAP_HALVES;
 use limits::MAP_HEADING_CELLS;
+use limits::MAP_VERTICES;
 use map_file::Check;
 use map_file::beside;
 use map_file::first;
@@ -41,7 +42,7 @@ fn edges_clash(carriers: &[i16], e: usize) -> Check
     }
 }
 
-// The least half-edge of a map in tables at which labels disagree, or the number of half-edges: first the headings, then the followers.
+// The least half-edge of a map in tables at which labels disagree, or the number of half-edges: first the headings, then the followers and the half-edge of greatest angle out of each vertex.
 fn first_by_followers(
     points: &[i64],
     origins: &[u16],
@@ -55,9 +56,10 @@ fn first_by_followers(
 {
     let mut ways = [0i16; MAP_HEADING_CELLS];
     headings(points, origins, carriers, n, e, &mut ways);
+    let mut heads = [0u16; MAP_VERTICES as usize];
     let mut next = [0u16; MAP_HALVES];
-    follow(origins, &ways, n, e, &mut next);
-    first_disagreeing(points, origins, carriers, labels, &ways, &next, n, e)
+    follow_stars(origins, &ways, n, e, &mut heads, &mut next);
+    first_disagreeing(points, origins, carriers, labels, &heads, &next, n, e)
 }
 
 // 10 "labels disagree at a half-edge", where rule 8 finds nothing either. The map has the labels of its half-edges, and no more of the table; without an edge there is nothing to make tables for.
