@@ -110,6 +110,18 @@ pub const HEADING_CELLS: usize = HEADING_WIDTH * HALVES;
 // a face for each half-edge and face 0: as many as could be numbered
 pub const FACE_ROWS: usize = HALVES + 1;
 
+// small sheets: tables of an eighth
+
+pub const SMALL_VERTICES: usize = 125;
+
+pub const SMALL_EDGES: usize = 250;
+
+pub const SMALL_HALVES: usize = 500;
+
+pub const SMALL_FACES: usize = 251;
+
+pub const SMALL_HEADING_CELLS: usize = HEADING_WIDTH * SMALL_HALVES;
+
 // Lengths of the tables of one map.
 
 pub const MAP_HALVES: usize = 2 * MAP_EDGES as usize;

@@ -1,3 +1,4 @@
 pub mod Stored
 pub mod Judged
+pub mod Small
 pub mod Unique

@@ -1,5 +1,5 @@
 -- `melt::stages::melt_cut` meets its contract. First what is known from the start; then the needs, call by call. Assumes nothing.
-use mathlib.Core.Path.{_∙_, ap}
+use mathlib.Core.Path.{refl, _∙_, ap}
 use Prim.Native.Nat.{_≤_}
 use native.Mathlib.Omega.{arith}
 use borrow.Author.Needs.{needs}
@@ -16,13 +16,16 @@ use Rattle.tables.specs.Values.{tablesBy}
 use Rattle.overlay_maps.specs.Layers.{Layers, layersBy}
 use Rattle.overlay_maps.specs.Held.{heldMaps}
 use Rattle.overlay_graph.specs.Cut.{Cut, cutBy, overlayIn}
-use Rattle.overlay_graph.specs.Traced.{NetBy, FacesOver, FacesBy}
+use Rattle.overlay_graph.specs.Traced.{Blank, NetBy, FacesOver, FacesBy}
 use Rattle.overlay_graph.specs.Laws.Tracing.{net-planar, faces-by}
 use Rattle.melt.specs.Laws.Judged.{room-refused, room-done, faces-over, faces-fit}
 use Rattle.melt.proofs.stages.melt_cut.Statement.{statement}
 use Rattle.melt.proofs.stages.melt_cut.Tie as tie
 
 -- ── what is known ──
+
+blank : (n : ℕ) → Blank n (replicate n 0)
+blank n = record { cells = n; room = omega arith; is = refl }
 
 module _ (s : tie.Start) where
   abbrev l : Layers
@@ -49,7 +52,9 @@ module _ (s : tie.Start) where
 
     -- followers and faces, in tables that were zero
     faced : (next face outers holes : List ℕ) (n : ℕ) → FacesOver (facesOf (flatGraph (k .points) os bs (k .vertices) (k .edges))) (replicate halfRows 0) (replicate halfRows 0) (replicate halfRows 0) (replicate (suc halfRows) 0) next face outers holes n → FacesBy (overlayIn ms k) next face outers holes n
-    faced = faces-by ms k (s .pre .1 .1 .0) os bs N
+    faced =
+        faces-by ms k (s .pre .1 .1 .0) os bs N (replicate halfRows 0) (replicate halfRows 0) (replicate halfRows 0) (replicate (suc halfRows) 0) halfRows halfRows halfRows (suc halfRows)
+        (blank halfRows) (blank halfRows) (blank halfRows) (blank (suc halfRows))
 
 -- ── the needs ──
 
