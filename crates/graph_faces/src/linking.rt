@@ -2,33 +2,21 @@
 use super::links::link_in;
 use super::numbering::settle;
 use super::numbering::tell;
+use graph::is_small;
 use graph::rise;
 use limits::HALVES;
 use limits::HEADING_CELLS;
-use limits::MAP_HALVES;
 use limits::SMALL_EDGES;
+use limits::SMALL_HALVES;
 use limits::SMALL_HEADING_CELLS;
 use limits::SMALL_VERTICES;
 use limits::VERTICES;
-ghost use mathlib.Core.Bool.{true};
-ghost use mathlib.Core.Path.{_≡_};
 ghost use Prim.Native.Nat.{_*_, _≤_, _<_};
 ghost use lib.ListN.{length};
 ghost use Rattle.paper.specs.Limits.{overlayVertices, overlayEdges};
 ghost use Rattle.laws_graph.specs.Plane.{Plane};
 ghost use Rattle.graph.specs.Flat.{flatGraph, Flat};
 ghost use Rattle.graph_faces.specs.Linked.{Linked, Led, Numbered};
-
-// Whether n vertices and e edges have room in small tables.
-fn is_small(n: usize, e: usize) -> bool
-    ensures { λ r. ⌜ (r ≡ true → (n ≤ 125) × (e ≤ 250)) ⌝ }
-{
-    if e <= SMALL_EDGES {
-        n <= SMALL_VERTICES
-    } else {
-        false
-    }
-}
 
 // "A walk is what following gives." Of each half-edge its follower, the least half-edge of its walk, and the half-edge of greatest angle out of the smallest vertex of
 // its walk. A small graph is linked in small tables: less to clear.
@@ -114,7 +102,7 @@ fn enclose_in(
 }
 
 // "Each outer walk makes one face"; a hole "belongs to the face of the half-edge seen, or to face 0". Of each half-edge its face; the least half-edge of each outer
-// walk, and how many there are; of each face its hole walks. A graph of no more edges than a map may have takes a table of that size.
+// walk, and how many there are; of each face its hole walks. A small graph takes a small table.
 pub fn enclose(
     points: &[i64],
     origins: &[u16],
@@ -130,8 +118,8 @@ pub fn enclose(
     requires { ⌜ Flat (now points) (now origins) (now carriers) n e ⌝ ∗ ⌜ e ≤ overlayEdges ⌝ ∗ ⌜ Plane (flatGraph (now points) (now origins) (now carriers) n e) ⌝ ∗ ⌜ Led (flatGraph (now points) (now origins) (now carriers) n e) (now lead) (now top) ⌝ ∗ ⌜ (2 * e ≤ length (now face)) × (2 * e ≤ length (now leaders)) × (2 * e < length (now inside)) ⌝ }
     ensures { λ r. ⌜ Numbered (flatGraph (now (points .entry)) (now (origins .entry)) (now (carriers .entry)) n e) (now (face .entry)) (now (leaders .entry)) (now (inside .entry)) (now (face .exit)) (now (leaders .exit)) (now (inside .exit)) r ⌝ }
 {
-    if 2 * e <= MAP_HALVES {
-        let mut known = [0u16; MAP_HALVES];
+    if e <= SMALL_EDGES {
+        let mut known = [0u16; SMALL_HALVES];
         enclose_in(
             points,
             origins,

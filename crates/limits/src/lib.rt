@@ -110,17 +110,29 @@ pub const HEADING_CELLS: usize = HEADING_WIDTH * HALVES;
 // a face for each half-edge and face 0: as many as could be numbered
 pub const FACE_ROWS: usize = HALVES + 1;
 
-// small sheets: tables of an eighth
+// Small sheets: tables of a twenty-fifth.
 
-pub const SMALL_VERTICES: usize = 125;
+pub const SMALL_VERTICES: usize = VERTICES / 25;
 
-pub const SMALL_EDGES: usize = 250;
+pub const SMALL_EDGES: usize = EDGES / 25;
 
-pub const SMALL_HALVES: usize = 500;
+pub const SMALL_HALVES: usize = 2 * SMALL_EDGES;
+// a face for each edge, and face 0
+pub const SMALL_FACES: usize = SMALL_EDGES + 1;
+// one row more, as above
+pub const SMALL_VERTEX_ROWS: usize = SMALL_VERTICES + 1;
 
-pub const SMALL_FACES: usize = 251;
+pub const SMALL_EDGE_ROWS: usize = SMALL_EDGES + 1;
+
+pub const SMALL_POINT_CELLS: usize = POINT_WIDTH * SMALL_VERTEX_ROWS;
+
+pub const SMALL_PIECE_CELLS: usize = PIECE_WIDTH * SMALL_EDGE_ROWS;
+
+pub const SMALL_CARRIER_CELLS: usize = CARRIER_WIDTH * SMALL_EDGES;
 
 pub const SMALL_HEADING_CELLS: usize = HEADING_WIDTH * SMALL_HALVES;
+// with so many input edges small tables are tried
+pub const FEW_EDGES: usize = 24;
 
 // Lengths of the tables of one map.
 

@@ -31,7 +31,6 @@ pub enclose-spec : {M : Type 1} → statement M
 enclose-spec =
     tie.close
     (tie.spec
-    (λ c. let s : tie.Start = search needs in omega (arith, s .pre .1 .0))
     (λ c. search needs)
     enclose-in-requires
     (λ c. search needs)
