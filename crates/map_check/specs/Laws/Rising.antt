@@ -1,5 +1,6 @@
 -- The pass from below: edges in cells that stand in turn are in the order of their lower ends, each once (`turn-order`); so those from the first that starts where an edge ends, or after, do not
--- clash with it (`above-clear`), and where no edge clashes with one in a later cell the search for the least that clashes finds nothing (`turn-least`). Assumes nothing.
+-- clash with it (`above-clear`), and where no edge clashes with one in a later cell the search for the least that clashes finds nothing (`turn-least`). The same of edges in their own order
+-- (`pairs-least`). Assumes nothing.
 use mathlib.Core.Path.{_≡_, sym, _∙_, subst}
 use Prim.Native.Nat.{_≤_, _<_}
 use native.Mathlib.Decide.{decLt}
@@ -15,7 +16,7 @@ use Rattle.laws_fast.specs.Sides.{end-to-end}
 use Rattle.graph.specs.Flat.{carrierAt, Carriers}
 use Rattle.graph.specs.Upright.{Upright}
 use Rattle.map_check.specs.Net.{clashingAt}
-use Rattle.map_check.specs.Pass.{lowKey, base, cellOf, cellAt, edgeIn, InTurn, ClearAbove}
+use Rattle.map_check.specs.Pass.{lowKey, base, cellOf, cellAt, edgeIn, InTurn, ClearAfter, ClearAbove}
 
 -- what holds below n, and of n
 pub one-more : {P : ℕ → Type 0} {n : ℕ} → ((k : ℕ) → k < n → P k) → P n → (k : ℕ) → k < n + 1 → P k
@@ -66,3 +67,8 @@ module _ (cs : List ℤ) (ds : List ℕ) (e : ℕ) (few : e ≤ base) (T : InTur
 
     pub turn-least : ((i : ℕ) → i < e → ClearAbove cs ds e i) → least (clashingAt cs e) e ≡ e
     turn-least f = order-least (carrierAt cs) e (U .up) (edgeIn ds) (turn-order .each) (λ i j l h. f i (omega arith) j l h)
+
+-- ── in their own order ──
+
+pub pairs-least : (cs : List ℤ) (e : ℕ) → Upright cs e → ((i : ℕ) → i < e → ClearAfter (carrierAt cs) e i) → least (clashingAt cs e) e ≡ e
+pairs-least cs e U f = order-least (carrierAt cs) e (U .up) (λ k. k) (record { into = λ i l. l; once = λ i j li lj q. q }) (λ i j l h. f i (omega arith) j l h)
