@@ -5,7 +5,7 @@ ghost use mathlib.Core.Path.{_≡_};
 ghost use mathlib.Core.List.{[]};
 ghost use Prim.Native.Nat.{_+_, _≤_, _<_};
 ghost use Rattle.paper.specs.Limits.{maps, absent};
-ghost use Rattle.overlay_cut.specs.Rooms.{vertexRows, edgeRows};
+ghost use Rattle.overlay_cut.specs.Rooms.{vertexRows};
 ghost use Rattle.overlay_cut.specs.Links.{pieced, Linked};
 ghost use Rattle.overlay_cut.specs.Cutting.{puts};
 ghost use Rattle.overlay_cut.specs.Cuts.{startOf};
@@ -21,16 +21,17 @@ fn cut_thread(
     rows: &mut [u16],
     links: &mut [u16],
     count: usize,
+    room: usize,
 ) -> usize
-    requires { ⌜ Linked (now rows) (now links) n count ⌝ ∗ ⌜ Thread (now nodes) x n × (n ≤ vertexRows) ⌝ ∗ ⌜ m < maps ⌝ ∗ ⌜ number < absent ⌝ }
-    ensures { λ r. ⌜ Linked (now (rows .exit)) (now (links .exit)) n r × (pieced (now (rows .exit)) r ≡ puts edgeRows (pieced (now (rows .entry)) count) (strung m number (thread (now (nodes .entry)) x))) ⌝ }
+    requires { ⌜ Linked room (now rows) (now links) n count ⌝ ∗ ⌜ Thread (now nodes) x n × (n ≤ vertexRows) ⌝ ∗ ⌜ m < maps ⌝ ∗ ⌜ number < absent ⌝ }
+    ensures { λ r. ⌜ Linked room (now (rows .exit)) (now (links .exit)) n r × (pieced (now (rows .exit)) r ≡ puts room (pieced (now (rows .entry)) count) (strung m number (thread (now (nodes .entry)) x))) ⌝ }
 {
     let mut total = count;
     let mut next = n;
     let mut at = x;
     while 0 < at {
         let v = nodes[2 * (at - 1)] as usize;
-        total = link(rows, links, total, v, next, n, m, number);
+        total = link(rows, links, total, room, v, next, n, m, number);
         next = v;
         at = nodes[2 * (at - 1) + 1] as usize;
     }
@@ -48,16 +49,17 @@ fn thread_map(
     rows: &mut [u16],
     links: &mut [u16],
     count: usize,
+    room: usize,
 ) -> usize
-    requires { ⌜ Linked (now rows) (now links) n count ⌝ ∗ ⌜ Strung (from + e) n (now last) (now nodes) × (n ≤ vertexRows) ⌝ ∗ ⌜ m < maps ⌝ ∗ ⌜ e < absent ⌝ }
-    ensures { λ r. ⌜ Linked (now (rows .exit)) (now (links .exit)) n r × (pieced (now (rows .exit)) r ≡ puts edgeRows (pieced (now (rows .entry)) count) (threadMap (now (last .entry)) (now (nodes .entry)) from m e)) ⌝ }
+    requires { ⌜ Linked room (now rows) (now links) n count ⌝ ∗ ⌜ Strung (from + e) n (now last) (now nodes) × (n ≤ vertexRows) ⌝ ∗ ⌜ m < maps ⌝ ∗ ⌜ e < absent ⌝ }
+    ensures { λ r. ⌜ Linked room (now (rows .exit)) (now (links .exit)) n r × (pieced (now (rows .exit)) r ≡ puts room (pieced (now (rows .entry)) count) (threadMap (now (last .entry)) (now (nodes .entry)) from m e)) ⌝ }
 {
     let mut total = count;
     let mut k = e;
     while 0 < k {
         k -= 1;
         let x = last[from + k] as usize;
-        total = cut_thread(nodes, x, n, m, k as u16, rows, links, total);
+        total = cut_thread(nodes, x, n, m, k as u16, rows, links, total, room);
     }
     total
 }
@@ -70,9 +72,10 @@ pub fn thread_all(
     n: usize,
     rows: &mut [u16],
     links: &mut [u16],
+    room: usize,
 ) -> usize
-    requires { ⌜ Started (now starts) ⌝ ∗ ⌜ Strung (startOf (now starts) maps) n (now last) (now nodes) × (n ≤ vertexRows) ⌝ ∗ ⌜ Linked (now rows) (now links) n 0 ⌝ }
-    ensures { λ r. ⌜ Linked (now (rows .exit)) (now (links .exit)) n r × (pieced (now (rows .exit)) r ≡ puts edgeRows [] (threadAll (now (last .entry)) (now (nodes .entry)) (now (starts .entry)))) ⌝ }
+    requires { ⌜ Started (now starts) ⌝ ∗ ⌜ Strung (startOf (now starts) maps) n (now last) (now nodes) × (n ≤ vertexRows) ⌝ ∗ ⌜ Linked room (now rows) (now links) n 0 ⌝ }
+    ensures { λ r. ⌜ Linked room (now (rows .exit)) (now (links .exit)) n r × (pieced (now (rows .exit)) r ≡ puts room [] (threadAll (now (last .entry)) (now (nodes .entry)) (now (starts .entry)))) ⌝ }
 {
     let mut total = 0;
     let mut m = MAPS;
@@ -80,7 +83,7 @@ pub fn thread_all(
         m -= 1;
         let from = starts[m];
         let e = starts[m + 1] - from;
-        total = thread_map(last, nodes, n, from, e, m, rows, links, total);
+        total = thread_map(last, nodes, n, from, e, m, rows, links, total, room);
     }
     total
 }

@@ -23,8 +23,8 @@ pub enum Way {
     Swept,
 }
 
-// The vertices of the overlay of the maps in these tables, the plain way: how many there are, or VERTEX_ROWS where there are more than the overlay may have.
-fn collect_maps(
+// The vertices of the overlay of the maps in these tables, the plain way, in a table with room for so many rows: how many there are, or `room` where there are as many or more.
+pub fn collect_maps(
     vertices: &[usize],
     edges: &[usize],
     corners: &[i64],
@@ -32,13 +32,14 @@ fn collect_maps(
     carriers: &[i16],
     labels: &[u16],
     points: &mut [i64],
+    room: usize,
 ) -> usize
-    requires { ⌜ Held (layersBy (now vertices) (now edges) (now corners) (now origins) (now carriers) (now labels)) ⌝ ∗ ⌜ pointWidth * vertexRows ≤ length (now points) ⌝ }
-    ensures { λ r. ⌜ CollectedOf (heldMaps (layersBy (now (vertices .entry)) (now (edges .entry)) (now (corners .entry)) (now (origins .entry)) (now (carriers .entry)) (now (labels .entry)))) (now (points .exit)) r ⌝ }
+    requires { ⌜ Held (layersBy (now vertices) (now edges) (now corners) (now origins) (now carriers) (now labels)) ⌝ ∗ ⌜ pointWidth * room ≤ length (now points) ⌝ }
+    ensures { λ r. ⌜ CollectedOf (heldMaps (layersBy (now (vertices .entry)) (now (edges .entry)) (now (corners .entry)) (now (origins .entry)) (now (carriers .entry)) (now (labels .entry)))) room (now (points .exit)) r ⌝ }
 {
     let c = vertices[MAPS];
-    let n = collect(corners, c, carriers, edges, points);
-    if VERTEX_ROWS <= n {
+    let n = collect(corners, c, carriers, edges, points, room);
+    if room <= n {
         return n;
     }
     order(points, n);
@@ -84,7 +85,16 @@ pub fn vertices_by(
 {
     match way {
         Way::Plain => {
-            let n = collect_maps(vertices, edges, corners, origins, carriers, labels, points);
+            let n = collect_maps(
+                vertices,
+                edges,
+                corners,
+                origins,
+                carriers,
+                labels,
+                points,
+                VERTEX_ROWS,
+            );
             Swept {
                 stops: n,
                 nodes: room,

@@ -6,7 +6,6 @@ use native.Mathlib.Omega.{arith}
 use borrow.Author.Needs.{needs}
 use Rattle.paper.specs.Limits.{maps}
 use Rattle.paper.specs.Pieces.{only}
-use Rattle.overlay_cut.specs.Rooms.{edgeRows}
 use Rattle.overlay_cut.specs.Links.{pieced, Linked}
 use Rattle.overlay_cut.specs.Cutting.{puts}
 use Rattle.overlay_cut.specs.Threads.{thread, strung, Thread}
@@ -15,18 +14,18 @@ use Rattle.overlay_cut.proofs.along.cut_thread.Statement.{statement}
 use Rattle.overlay_cut.proofs.along.cut_thread.Tie as tie
 
 abbrev Inv-loop : tie.InvT-loop
-Inv-loop nodes x n m number rows₀ links₀ count total₀ next₀ at₀ rows links total next at =
-    (length rows ≡ length rows₀) × (length links ≡ length links₀) × Thread nodes at n × Linked rows links n total
-    × Stringing edgeRows n (only maps m number) (puts edgeRows (pieced rows₀ count) (strung m number (thread nodes x))) rows total (thread nodes at) next
+Inv-loop nodes x n m number rows₀ links₀ count room total₀ next₀ at₀ rows links total next at =
+    (length rows ≡ length rows₀) × (length links ≡ length links₀) × Thread nodes at n × Linked room rows links n total
+    × Stringing room n (only maps m number) (puts room (pieced rows₀ count) (strung m number (thread nodes x))) rows total (thread nodes at) next
 
 abbrev μ-loop : tie.MeasureT-loop
-μ-loop nodes x n m number rows₀ links₀ count total₀ next₀ at₀ rows links total next at = at
+μ-loop nodes x n m number rows₀ links₀ count room total₀ next₀ at₀ rows links total next at = at
 
 loop-holds : tie.Need-loop-holds Inv-loop μ-loop
 loop-holds c =
     let start : tie.Start Inv-loop μ-loop = search needs in
     let a = start .args in
-    (refl, refl, start .pre .1 .0 .0, start .pre .0, string-starts edgeRows (a .n) (only maps (a .m) (a .number)) (a .rows .now) (a .count) (thread (a .nodes .now) (a .x)))
+    (refl, refl, start .pre .1 .0 .0, start .pre .0, string-starts (a .room) (a .n) (only maps (a .m) (a .number)) (a .rows .now) (a .count) (thread (a .nodes .now) (a .x)))
 
 mul-v : tie.Need-mul-v Inv-loop μ-loop
 mul-v c =
@@ -84,7 +83,7 @@ loop-again c =
       r .kept .1 .0 ∙ l .inv .1,
       next-thread (l .inv .2) p,
       r .ensures .0,
-      string-turns edgeRows (a .n) (only maps (a .m) (a .number)) (l .inv .4) _ _ (r .last .0) (r .result) (thread-next (l .inv .2) p) (next-under (l .inv .2) p) (r .ensures .1),
+      string-turns (a .room) (a .n) (only maps (a .m) (a .number)) (l .inv .4) _ _ (r .last .0) (r .result) (thread-next (l .inv .2) p) (next-under (l .inv .2) p) (r .ensures .1),
     )
 
 returns : tie.Need-returns Inv-loop μ-loop
@@ -92,7 +91,7 @@ returns c =
     let start : tie.Start Inv-loop μ-loop = search needs in
     let l = c .before .loop in
     let a = start .args in
-    (l .inv .3, string-ends edgeRows (a .n) (only maps (a .m) (a .number)) (l .inv .4) (thread-ends (a .nodes .now) (l .at) (search needs)))
+    (l .inv .3, string-ends (a .room) (a .n) (only maps (a .m) (a .number)) (l .inv .4) (thread-ends (a .nodes .now) (l .at) (search needs)))
 
 pub cut-thread-spec : {M : Type 1} → statement M
 cut-thread-spec =

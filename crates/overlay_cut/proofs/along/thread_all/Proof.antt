@@ -4,7 +4,6 @@ use mathlib.Core.List.{[]}
 use Prim.Native.Nat.{_-_, _≤_}
 use lib.ListN.{length}
 use Rattle.paper.specs.Limits.{maps}
-use Rattle.overlay_cut.specs.Rooms.{edgeRows}
 use Rattle.overlay_cut.specs.Cutting.{puts, Cutting, cut-starts, cut-turns, cut-ends}
 use Rattle.overlay_cut.specs.Links.{Linked}
 use Rattle.overlay_cut.specs.Cuts.{part-within}
@@ -16,15 +15,15 @@ use Rattle.overlay_cut.proofs.along.thread_all.Statement.{statement}
 use Rattle.overlay_cut.proofs.along.thread_all.Tie as tie
 
 abbrev Inv-loop : tie.InvT-loop
-Inv-loop starts last nodes n rows₀ links₀ total₀ m₀ rows links total m =
-    (m ≤ maps) × (length rows ≡ length rows₀) × (length links ≡ length links₀) × Linked rows links n total
-    × Cutting edgeRows (threadPart last nodes starts) (puts edgeRows [] (threadAll last nodes starts)) rows total m
+Inv-loop starts last nodes n rows₀ links₀ room total₀ m₀ rows links total m =
+    (m ≤ maps) × (length rows ≡ length rows₀) × (length links ≡ length links₀) × Linked room rows links n total
+    × Cutting room (threadPart last nodes starts) (puts room [] (threadAll last nodes starts)) rows total m
 
 abbrev μ-loop : tie.MeasureT-loop
-μ-loop starts last nodes n rows₀ links₀ total₀ m₀ rows links total m = m
+μ-loop starts last nodes n rows₀ links₀ room total₀ m₀ rows links total m = m
 
 loop-holds : tie.Need-loop-holds Inv-loop μ-loop
-loop-holds c = let start : tie.Start Inv-loop μ-loop = search needs in (search needs, refl, refl, start .pre .1 .1, cut-starts edgeRows _ _ 0 _)
+loop-holds c = let start : tie.Start Inv-loop μ-loop = search needs in (search needs, refl, refl, start .pre .1 .1, cut-starts _ _ _ 0 _)
 
 shared-slice-read-from : tie.Need-shared-slice-read-from Inv-loop μ-loop
 shared-slice-read-from c =
@@ -61,11 +60,11 @@ loop-again c =
       r .kept .1 .1 .1 .1 .1 .1 .0 ∙ l .inv .1,
       r .kept .1 .1 .1 .1 .1 .1 .1 .0 ∙ l .inv .2,
       r .ensures .0,
-      cut-turns edgeRows _ (l .inv .4) (r .last .1 .1 .1 .1 .1 .1 .0) (r .result) (search needs) (r .ensures .1),
+      cut-turns _ _ (l .inv .4) (r .last .1 .1 .1 .1 .1 .1 .0) (r .result) (search needs) (r .ensures .1),
     )
 
 returns : tie.Need-returns Inv-loop μ-loop
-returns c = (c .before .loop .inv .3, cut-ends edgeRows _ (c .before .loop .inv .4) (search needs))
+returns c = (c .before .loop .inv .3, cut-ends _ _ (c .before .loop .inv .4) (search needs))
 
 pub thread-all-spec : {M : Type 1} → statement M
 thread-all-spec =

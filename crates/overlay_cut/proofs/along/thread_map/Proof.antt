@@ -4,7 +4,6 @@ use Prim.Native.Nat.{_+_, _-_, _≤_}
 use lib.ListN.{length}
 use native.Mathlib.Omega.{arith}
 use borrow.Author.Needs.{needs}
-use Rattle.overlay_cut.specs.Rooms.{edgeRows}
 use Rattle.overlay_cut.specs.Links.{pieced, Linked}
 use Rattle.overlay_cut.specs.Cutting.{puts, Cutting, cut-starts, cut-turns, cut-ends}
 use Rattle.overlay_cut.specs.Threads.{threadRow, threadMap}
@@ -12,17 +11,17 @@ use Rattle.overlay_cut.proofs.along.thread_map.Statement.{statement}
 use Rattle.overlay_cut.proofs.along.thread_map.Tie as tie
 
 abbrev Inv-loop : tie.InvT-loop
-Inv-loop last nodes n from e m rows₀ links₀ count total₀ k₀ rows links total k =
-    (k ≤ e) × (length rows ≡ length rows₀) × (length links ≡ length links₀) × Linked rows links n total
-    × Cutting edgeRows (threadRow last nodes from m) (puts edgeRows (pieced rows₀ count) (threadMap last nodes from m e)) rows total k
+Inv-loop last nodes n from e m rows₀ links₀ count room total₀ k₀ rows links total k =
+    (k ≤ e) × (length rows ≡ length rows₀) × (length links ≡ length links₀) × Linked room rows links n total
+    × Cutting room (threadRow last nodes from m) (puts room (pieced rows₀ count) (threadMap last nodes from m e)) rows total k
 
 abbrev μ-loop : tie.MeasureT-loop
-μ-loop last nodes n from e m rows₀ links₀ count total₀ k₀ rows links total k = k
+μ-loop last nodes n from e m rows₀ links₀ count room total₀ k₀ rows links total k = k
 
 loop-holds : tie.Need-loop-holds Inv-loop μ-loop
 loop-holds c =
     let start : tie.Start Inv-loop μ-loop = search needs in
-    (search needs, refl, refl, start .pre .0, cut-starts edgeRows _ _ _ _)
+    (search needs, refl, refl, start .pre .0, cut-starts _ _ _ _ _)
 
 add-x : tie.Need-add-x Inv-loop μ-loop
 add-x c =
@@ -64,11 +63,11 @@ loop-again c =
       r .kept .1 .1 .1 .1 .1 .0 ∙ l .inv .1,
       r .kept .1 .1 .1 .1 .1 .1 .0 ∙ l .inv .2,
       r .ensures .0,
-      cut-turns edgeRows (threadRow (s .last .now) (s .nodes .now) (s .from) (s .m)) (l .inv .4) (r .last .1 .1 .1 .1 .1 .0) (r .result) (search needs) (r .ensures .1),
+      cut-turns _ (threadRow (s .last .now) (s .nodes .now) (s .from) (s .m)) (l .inv .4) (r .last .1 .1 .1 .1 .1 .0) (r .result) (search needs) (r .ensures .1),
     )
 
 returns : tie.Need-returns Inv-loop μ-loop
-returns c = (c .before .loop .inv .3, cut-ends edgeRows _ (c .before .loop .inv .4) (search needs))
+returns c = (c .before .loop .inv .3, cut-ends _ _ (c .before .loop .inv .4) (search needs))
 
 pub thread-map-spec : {M : Type 1} → statement M
 thread-map-spec =

@@ -2,7 +2,6 @@
 use mathlib.Core.Path.{refl, _∙_, ap}
 use mathlib.Core.List.{[]}
 use borrow.Author.Needs.{needs}
-use Rattle.overlay_cut.specs.Rooms.{edgeRows}
 use Rattle.overlay_cut.specs.Cutting.{puts}
 use Rattle.overlay_cut.specs.Laws.Along.{threads-strung, threads-all}
 use Rattle.overlay_cut.proofs.cuts.cut.Statement.{statement}
@@ -22,7 +21,7 @@ returns c =
     let then1 : tie.Then1 = search needs in
     let cut : tie.After-thread-all = search needs in
     let r = cut .thread-all .ensures in
-    (r .0, r .1 ∙ ap (puts edgeRows []) (threads-all (start .pre .1 .1 .0 .1 (then1 .if1 .taken)) (start .pre .1 .0 .0) refl))
+    (r .0, r .1 ∙ ap (puts (start .args .room) []) (threads-all (start .pre .1 .1 .0 .1 (then1 .if1 .taken)) (start .pre .1 .0 .0) refl))
 
 pub cut-spec : {M : Type 1} → statement M
 cut-spec = tie.close (tie.spec thread-all-requires (λ c. search needs) (λ c. search needs) returns (λ c κs. search needs) (λ c. search needs) (λ c. search needs) (λ c. search needs))

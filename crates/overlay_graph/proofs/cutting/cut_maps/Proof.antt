@@ -3,6 +3,7 @@ use native.Mathlib.Omega.{arith}
 use borrow.Author.Needs.{needs}
 use Prim.Native.Nat.{ℕ}
 use lib.ListN.{length-replicate, getD-replicate}
+use Rattle.overlay_cut.specs.Rooms.{vertexRows, edgeRows}
 use Rattle.overlay_maps.specs.Layers.{Layers, layersBy}
 use Rattle.overlay_graph.specs.Laws.Standing.{starts}
 use Rattle.overlay_graph.specs.Laws.CutLaws.{ordered-near, ordered-rise, ordered-ended, cut-is, cut-over}
@@ -32,7 +33,7 @@ returns c =
     let s : tie.Start = search needs in
     let after : tie.After-vertices-by = search needs in
     let v = after .vertices-by in
-    cut-over (l s) (s .pre .0) (v .last .1 .1 .1 .1 .1 .1 .1 .0) (v .result .stops) (v .ensures .collected) (c .if1 .taken) (v .last .1 .1 .1 .1 .1 .1 .1 .1 .1 .0) 0
+    cut-over (l s) (s .pre .0) vertexRows (v .last .1 .1 .1 .1 .1 .1 .1 .0) (v .result .stops) (v .ensures .collected) (omega arith) (c .if1 .taken) (v .last .1 .1 .1 .1 .1 .1 .1 .1 .1 .0) 0
 
 pieces-requires : tie.Need-pieces-requires
 pieces-requires c κs =
@@ -44,9 +45,9 @@ pieces-requires c κs =
     let ps = v .last .1 .1 .1 .1 .1 .1 .1 .0 in
     let C = v .ensures .collected in
     let edges-few = s .pre .0 .edges-few in (
-      (ordered-near (l s) (s .pre .0) ps (v .result .stops) C few (omega (arith, few, s .pre .1 .0, v .kept .1 .1 .1 .1 .1 .1 .1 .0)), omega (arith, few), ordered-rise (l s) (s .pre .0) ps (v .result .stops) C few),
+      (ordered-near (l s) (s .pre .0) vertexRows ps (v .result .stops) C few (omega (arith, few, s .pre .1 .0, v .kept .1 .1 .1 .1 .1 .1 .1 .0)), omega (arith, few), ordered-rise (l s) (s .pre .0) vertexRows ps (v .result .stops) C few),
       (
-        (starts (l s) (s .pre .0), ordered-ended (l s) (s .pre .0) ps (v .result .stops) C few),
+        (starts (l s) (s .pre .0), ordered-ended (l s) (s .pre .0) vertexRows ps (v .result .stops) C few),
         (
           (
             record {
@@ -56,7 +57,7 @@ pieces-requires c κs =
             },
             v .ensures .threads,
           ),
-          omega (arith, s .pre .1 .1, v .kept .1 .1 .1 .1 .1 .1 .1 .1 .1 .0),
+          (omega arith, omega (arith, s .pre .1 .1, v .kept .1 .1 .1 .1 .1 .1 .1 .1 .1 .0)),
         ),
       ),
     )
@@ -69,7 +70,7 @@ returns-2 c =
     let laid : tie.After-pieces = search needs in
     let v = after .vertices-by in
     let p = laid .pieces in
-    cut-is (l s) (s .pre .0) (v .last .1 .1 .1 .1 .1 .1 .1 .0) (v .result .stops) (v .ensures .collected) (else1 .if1 .left) (p .last .1 .1 .1 .1 .1 .1 .1 .0) (p .result) (p .ensures)
+    cut-is (l s) (s .pre .0) vertexRows (v .last .1 .1 .1 .1 .1 .1 .1 .0) (v .result .stops) (v .ensures .collected) (else1 .if1 .left) edgeRows (p .last .1 .1 .1 .1 .1 .1 .1 .1 .0) (p .result) (p .ensures) (λ h. omega arith)
 
 pub cut-maps-spec : {M : Type 1} → statement M
 cut-maps-spec = tie.close (tie.spec (λ c. search needs) vertices-by-requires (λ c. search needs) (λ c. search needs) returns (λ c. search needs) pieces-requires (λ c. search needs) (λ c. search needs) returns-2)
