@@ -124,7 +124,7 @@ fn fill_with(
     })
 }
 
-// The same in tables of its own, as large as the overlay may need them, or an eighth of that where that is enough.
+// The same in tables of its own, as large as the overlay may need them, or small ones where these are enough.
 pub fn fill(
     vstarts: &[usize],
     estarts: &[usize],

@@ -6,7 +6,7 @@ use borrow.Author.Needs.{needs}
 use Rattle.seq.specs.Seq.{ℕ, suc, _+_, _*_, replicate}
 use Rattle.graph_faces.specs.Linked.{halfRows}
 use Rattle.overlay_graph.specs.Traced.{Blank}
-use Rattle.overlay.specs.Small.{smallEdges}
+use Rattle.graph.specs.Small.{smallEdges}
 use Rattle.overlay.proofs.stages.from_cut.Statement.{statement}
 use Rattle.overlay.proofs.stages.from_cut.Tie as tie
 
