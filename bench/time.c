@@ -1,5 +1,5 @@
-/* time [--melt] FOLDER...: for each sheet the seconds of one overlay by the plain C, by the fast C and by the proved library, the plain way and by the sweep, and the ratios of each way to the plain and to the
- * fast C. All fill the same tables of full size, with the third map empty; no table is cleared before. With --melt the same of the overlay melted, by the plain C and by the proved library. What they
+/* time [--melt] FOLDER...: for each sheet the seconds of one overlay by the plain C, by the fast C and by the proved library, the plain way, by the sweep, and as `bonnetewe_overlay` picks it, and the
+ * ratios of each of these to the plain and to the fast C. All fill the same tables of full size, with the third map empty; no table is cleared before. With --melt the same of the overlay melted, by the plain C and by the proved library. What they
  * leave in the tables is held to each other. */
 #include <stdio.h>
 #include <string.h>
@@ -9,7 +9,7 @@
 #include "fast/fast.h"
 #include "files.h"
 
-enum { PLAIN, FAST, PROVED, SWEPT, WAYS };
+enum { PLAIN, FAST, PROVED, SWEPT, PICKED, WAYS };
 
 /* A set of tables for each. */
 static struct {
@@ -70,6 +70,13 @@ static void proved_swept(void)
     proved(SWEPT, BONNETEWE_SWEPT);
 }
 
+static void proved_picked(void)
+{
+    count(PICKED, bonnetewe_overlay(zones.bytes, zones.length, blocks.bytes, blocks.length, bonnetewe_empty, sizeof bonnetewe_empty, laid[PICKED].vertices,
+                                    BONNETEWE_VERTEX_CELLS, laid[PICKED].halves, BONNETEWE_HALF_CELLS, laid[PICKED].sources, BONNETEWE_SOURCE_CELLS,
+                                    laid[PICKED].faces, BONNETEWE_FACE_CELLS));
+}
+
 static void proved_melted(void)
 {
     count(FAST, bonnetewe_melt(zones.bytes, zones.length, blocks.bytes, blocks.length, bonnetewe_empty, sizeof bonnetewe_empty, laid[FAST].vertices,
@@ -79,7 +86,7 @@ static void proved_melted(void)
 
 int main(int words_count, char **words)
 {
-    static void (*const overlays[])(void) = { plain, fast, proved_plain, proved_swept };
+    static void (*const overlays[])(void) = { plain, fast, proved_plain, proved_swept, proved_picked };
     static void (*const melts[])(void) = { plain_melted, proved_melted };
     int melt = words_count > 1 && strcmp(words[1], "--melt") == 0, ways = melt ? 2 : WAYS;
 
@@ -87,7 +94,8 @@ int main(int words_count, char **words)
     if (melt)
         printf(" %14s %8s\n", "proved", "to plain");
     else
-        printf(" %14s %14s %8s %7s %14s %8s %7s\n", "fast C", "proved, plain", "to plain", "to fast", "proved, swept", "to plain", "to fast");
+        printf(" %14s %14s %8s %7s %14s %8s %7s %14s %8s %7s\n", "fast C", "proved, plain", "to plain", "to fast", "proved, swept", "to plain", "to fast",
+               "proved, picked", "to plain", "to fast");
     for (int i = 1 + melt; i < words_count; i++) {
         double least[WAYS];
         char *name = strrchr(words[i], '/');

@@ -219,7 +219,7 @@ bonnetewe_answer bonnetewe_overlay(const uint8_t *zones, size_t zones_length, co
 
 /* The same with the way to collect the vertices chosen: BONNETEWE_PLAIN, each edge tested with all edges of the maps before its own; or any other number, BONNETEWE_SWEPT, a line
  * that passes over the plane and tests only neighbours. For all files both give the same answer and the same tables, refusals included: it is proved. bonnetewe_overlay takes
- * the sweep, which is faster on full sheets; on small ones the plain way is. */
+ * the sweep, which is faster on full sheets, and the plain way where there are few edges. */
 #define BONNETEWE_PLAIN 0
 #define BONNETEWE_SWEPT 1
 bonnetewe_answer bonnetewe_overlay_by(uint16_t way, const uint8_t *zones, size_t zones_length, const uint8_t *blocks, size_t blocks_length,

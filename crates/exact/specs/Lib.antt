@@ -17,6 +17,7 @@ pub mod Bits
 pub mod Range
 pub mod Mach
 pub mod Gcd
+pub mod Odd
 pub mod Lowest
 pub mod Compare
 pub mod Words

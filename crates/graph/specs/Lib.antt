@@ -1,6 +1,7 @@
 pub mod Flat
 pub mod Upright
 pub mod Rising
+pub mod Small
 pub mod Places
 pub mod Heading
 pub mod Pick

@@ -2,6 +2,7 @@
 mod places; // the first place of each number in a table
 mod heading; // which way a half-edge goes
 mod rising; // points in their order
+mod small; // small graphs
 mod stars; // the half-edges out of each vertex by falling angle
 mod followers; // the follower of every half-edge
 mod look; // looking west
@@ -26,4 +27,5 @@ pub use places::fill;
 pub use places::first_places;
 pub use rising::rise;
 pub use rising::starts_first;
+pub use small::is_small;
 pub use stars::follow_stars;

@@ -1,5 +1,5 @@
 -- Hole walks, outer walks and faces as the code finds them, over the tables of walks: ls the least half-edges, ts the half-edges of greatest angle out of smallest
--- vertices, ss what the hole walks see, ns the numbers of the outer walks. Assumes nothing.
+-- vertices, ks at least half-edges what is known of the walk: what a hole walk sees, the number of an outer walk. Assumes nothing.
 use mathlib.Core.Path.{_≡_, sym, _∙_, ap}
 use Prim.Native.Nat.{_≤_, _<_}
 use native.Mathlib.Omega.{arith}
@@ -8,7 +8,7 @@ use Rattle.seq.specs.Seq.{Bool, true, false, cond, not, _&&_, List, Option·get
 use Rattle.paper.specs.Limits.{absent}
 use Rattle.paper.specs.Plane.{nowhere}
 use Rattle.paper.specs.Graph.{west}
-use Rattle.graph.specs.Flat.{startAt, flatGraph, Numbers}
+use Rattle.graph.specs.Flat.{pointAt, originAt, flatGraph, Numbers}
 
 -- what is read of half-edge h is there
 pub record Kinded (ls ts : List ℕ) (h : ℕ) : Type 0 where
@@ -31,51 +31,63 @@ holeLead ls ts h = eqb (getD ls h 0) h && holeOf ls ts h
 abbrev pub outerNumber : List ℕ → List ℕ → ℕ → ℕ
 outerNumber ls ts h = suc (count (outerLead ls ts) h)
 
--- what is seen strictly west from where t starts
-abbrev pub seenAt : List ℤ → List ℕ → List ℤ → ℕ → ℕ → ℕ → ℕ
-seenAt ps os cs n e t = Option·getD (west (flatGraph ps os cs n e) (startAt ps os t) nowhere) absent
+-- what is seen strictly west from vertex v
+abbrev pub seenFrom : List ℤ → List ℕ → List ℤ → ℕ → ℕ → ℕ → ℕ
+seenFrom ps os cs n e v = Option·getD (west (flatGraph ps os cs n e) (pointAt ps v) nowhere) absent
 
--- what the hole walk with the least half-edge h sees; of the others nothing is asked
-abbrev pub seenBy : List ℤ → List ℕ → List ℤ → ℕ → ℕ → List ℕ → List ℕ → ℕ → ℕ
-seenBy ps os cs n e ls ts h = cond (holeLead ls ts h) (seenAt ps os cs n e (getD ts h 0)) absent
+-- what is known of the walk that h is the least half-edge of: of a hole walk what it sees, of an outer walk that it has the number c
+abbrev pub knownWith : List ℤ → List ℕ → List ℤ → ℕ → ℕ → List ℕ → List ℕ → ℕ → ℕ → ℕ
+knownWith ps os cs n e ls ts h c = cond (holeOf ls ts h) (seenFrom ps os cs n e (originAt os (getD ts h 0))) c
+
+abbrev pub knownBy : List ℤ → List ℕ → List ℤ → ℕ → ℕ → List ℕ → List ℕ → ℕ → ℕ
+knownBy ps os cs n e ls ts h = knownWith ps os cs n e ls ts h (outerNumber ls ts h)
+
+-- the table ks has f at the least half-edge of each walk, of m half-edges
+pub record Known (f : ℕ → ℕ) (ls ks : List ℕ) (m : ℕ) : Type 0 where
+  pub long : m ≤ length ks
+  pub at : (h : ℕ) → h < m → getD ls h 0 ≡ h → getD ks h 0 ≡ f h
 
 -- the tables that the faces of m half-edges are read from: each number that is read names a half-edge, or is absent
-pub record Faced (ls ts ss ns : List ℕ) (m : ℕ) : Type 0 where
+pub record Faced (ls ts ks : List ℕ) (m : ℕ) : Type 0 where
   pub lead : Numbers ls m m
   pub top : Numbers ts m m
-  pub seen-long : m ≤ length ss
-  pub seen : (l : ℕ) → l < m → (getD ss l 0 ≡ absent → ⊥) → getD ss l 0 < m
-  pub number-long : m ≤ length ns
+  pub long : m ≤ length ks
+  pub seen : (h : ℕ) → h < m → holeOf ls ts h ≡ true → (getD ks (getD ls h 0) 0 ≡ absent → ⊥) → getD ks (getD ls h 0) 0 < m
 
-pub faced-kinded : {ls ts ss ns : List ℕ} {m : ℕ} → Faced ls ts ss ns m → (h : ℕ) → h < m → Kinded ls ts h
+pub faced-kinded : {ls ts ks : List ℕ} {m : ℕ} → Faced ls ts ks m → (h : ℕ) → h < m → Kinded ls ts h
 faced-kinded r h l = record { lead-row = omega (arith, r .lead .long); top-row = omega (arith, r .top .long); top-lead = omega (arith, r .top .named h l, r .lead .long) }
 
 -- from x on, through hole walks, in at most so many looks
-abbrev pub faceFrom : List ℕ → List ℕ → List ℕ → List ℕ → ℕ → ℕ → ℕ
-faceFrom ls ts ss ns zero x = 0
-faceFrom ls ts ss ns (suc n) x =
-    let s = getD ss (getD ls x 0) 0 in
-    let r = faceFrom ls ts ss ns n s in
-    let k = getD ns (getD ls x 0) 0 in
-    cond (holeOf ls ts x) (cond (eqb s absent) 0 r) k
+abbrev pub faceFrom : List ℕ → List ℕ → List ℕ → ℕ → ℕ → ℕ
+faceFrom ls ts ks zero x = 0
+faceFrom ls ts ks (suc n) x =
+    let s = getD ks (getD ls x 0) 0 in
+    let r = faceFrom ls ts ks n s in
+    cond (holeOf ls ts x) (cond (eqb s absent) 0 r) s
 
 -- a turn of the loop that looks on: an outer walk; a hole walk that sees the outside; one that sees half-edge s; no look left
-module _ (ls ts ss ns : List ℕ) (x left : ℕ) where
-  face-step : 0 < left → faceFrom ls ts ss ns left x ≡ cond (holeOf ls ts x) (cond (eqb (getD ss (getD ls x 0) 0) absent) 0 (faceFrom ls ts ss ns (left - 1) (getD ss (getD ls x 0) 0))) (getD ns (getD ls x 0) 0)
-  face-step l = let s : left ≡ suc (left - 1) = omega arith in ap (λ (k : ℕ). faceFrom ls ts ss ns k x) s
+module _ (ls ts ks : List ℕ) (x left : ℕ) where
+  abbrev s : ℕ
+  s = getD ks (getD ls x 0) 0
 
-  pub face-outer : 0 < left → holeOf ls ts x ≡ false → getD ns (getD ls x 0) 0 ≡ faceFrom ls ts ss ns left x
-  face-outer l e = sym (face-step l ∙ rw e)
+  face-step : 0 < left → faceFrom ls ts ks left x ≡ cond (holeOf ls ts x) (cond (eqb s absent) 0 (faceFrom ls ts ks (left - 1) s)) s
+  face-step l = let q : left ≡ suc (left - 1) = omega arith in ap (λ (k : ℕ). faceFrom ls ts ks k x) q
 
-  pub face-outside : 0 < left → holeOf ls ts x ≡ true → getD ss (getD ls x 0) 0 ≡ absent → 0 ≡ faceFrom ls ts ss ns left x
-  face-outside l e q = sym (face-step l ∙ rw (e, eq-eqb (getD ss (getD ls x 0) 0) absent q))
+  pub face-outer : 0 < left → holeOf ls ts x ≡ false → getD ks (getD ls x 0) 0 ≡ faceFrom ls ts ks left x
+  face-outer l e = sym (face-step l ∙ ap (λ (c : Bool). cond c (cond (eqb s absent) 0 (faceFrom ls ts ks (left - 1) s)) s) e)
 
-  pub face-on : 0 < left → holeOf ls ts x ≡ true → (getD ss (getD ls x 0) 0 ≡ absent → ⊥) → faceFrom ls ts ss ns left x ≡ faceFrom ls ts ss ns (left - 1) (getD ss (getD ls x 0) 0)
-  face-on l e q = face-step l ∙ rw (e, ne-eqb (getD ss (getD ls x 0) 0) absent q)
+  face-hole : 0 < left → holeOf ls ts x ≡ true → {c : Bool} → eqb s absent ≡ c → faceFrom ls ts ks left x ≡ cond c 0 (faceFrom ls ts ks (left - 1) s)
+  face-hole l e {c} q = face-step l ∙ (λ i. cond (e i) (cond (q i) 0 (faceFrom ls ts ks (left - 1) s)) s)
 
-  pub face-none : left ≤ 0 → 0 ≡ faceFrom ls ts ss ns left x
-  face-none l = let z : 0 ≡ left = omega arith in ap (λ (k : ℕ). faceFrom ls ts ss ns k x) z
+  pub face-outside : 0 < left → holeOf ls ts x ≡ true → getD ks (getD ls x 0) 0 ≡ absent → 0 ≡ faceFrom ls ts ks left x
+  face-outside l e q = sym (face-hole l e (eq-eqb s absent q))
 
--- the hole walks of face f among m half-edges with the faces fs
-abbrev pub holesIn : List ℕ → List ℕ → List ℕ → ℕ → ℕ → ℕ
-holesIn ls ts fs m f = count (λ h. holeLead ls ts h && eqb (getD fs h 0) f) m
+  pub face-on : 0 < left → holeOf ls ts x ≡ true → (getD ks (getD ls x 0) 0 ≡ absent → ⊥) → faceFrom ls ts ks left x ≡ faceFrom ls ts ks (left - 1) (getD ks (getD ls x 0) 0)
+  face-on l e q = face-hole l e (ne-eqb s absent q)
+
+  pub face-none : left ≤ 0 → 0 ≡ faceFrom ls ts ks left x
+  face-none l = let z : 0 ≡ left = omega arith in ap (λ (k : ℕ). faceFrom ls ts ks k x) z
+
+-- the hole walks of face f among m half-edges with the faces of
+abbrev pub holesIn : List ℕ → List ℕ → (ℕ → ℕ) → ℕ → ℕ → ℕ
+holesIn ls ts of m f = count (λ h. holeLead ls ts h && eqb (of h) f) m

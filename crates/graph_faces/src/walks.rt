@@ -3,13 +3,15 @@ use graph::fill;
 use graph::starts_first;
 use limits::ABSENT;
 ghost use mathlib.Core.Path.{_≡_};
-ghost use Prim.Native.Nat.{ℕ, _≤_, _<_};
+ghost use mathlib.Core.Bool.{true};
+ghost use Prim.Native.Nat.{ℕ, _*_, _≤_, _<_};
 ghost use lib.ListN.{length, getD, take};
 ghost use Rattle.seq.specs.Seq.{walk, leader, filled};
 ghost use Rattle.paper.specs.Limits.{absent};
 ghost use Rattle.graph.specs.Flat.{originAt, Numbers, Starts};
 ghost use Rattle.graph.specs.Rising.{RisesIf};
 ghost use Rattle.graph.specs.Pick.{better};
+ghost use Rattle.graph_faces.specs.Climbs.{Climbs, topByLead};
 ghost use Rattle.graph_faces.specs.Lead.{marks, Permutes};
 ghost use Rattle.graph_faces.specs.Turns.{earlierAt, lowAt, topAt};
 
@@ -94,6 +96,44 @@ pub fn tops(origins: &[u16], lead: &[u16], low: &[u16], greatest: &[u16], m: usi
         let l = lead[h] as usize;
         let x = low[l] as usize;
         let v = origins[x] as usize;
+        top[h] = greatest[v];
+        h += 1;
+    }
+}
+
+// Whether `rising` says so, and of e edges each starts at no smaller vertex than the one before it and ends at none smaller than it starts at.
+pub fn climb(origins: &[u16], e: usize, rising: bool) -> bool
+    requires { ⌜ 2 * e ≤ length (now origins) ⌝ ∗ ⌜ 2 * e ≤ absent ⌝ }
+    ensures { λ r. ⌜ (r ≡ true → (rising ≡ true) × Climbs (now (origins .entry)) e) ⌝ }
+{
+    if !rising {
+        return false;
+    }
+    let mut last = 0u16;
+    let mut k = 0;
+    while k < e {
+        let lower = origins[2 * k];
+        if lower < last {
+            return false;
+        }
+        if origins[2 * k + 1] < lower {
+            return false;
+        }
+        last = lower;
+        k += 1;
+    }
+    true
+}
+
+// The same where edges climb: a walk's smallest vertex is the lower end of the edge of its least half-edge.
+pub fn tops_by_leads(origins: &[u16], lead: &[u16], greatest: &[u16], m: usize, top: &mut [u16])
+    requires { ⌜ Numbers (now lead) m m ⌝ ∗ ⌜ m ≤ absent ⌝ ∗ ⌜ Numbers (now origins) m (length (now greatest)) ⌝ ∗ ⌜ m ≤ length (now top) ⌝ }
+    ensures { λ _. ⌜ now (top .exit) ≡ filled m (topByLead (now (origins .entry)) (now (lead .entry)) (now (greatest .entry))) (now (top .entry)) ⌝ }
+{
+    let mut h = 0;
+    while h < m {
+        let l = lead[h] as usize;
+        let v = origins[2 * (l / 2)] as usize;
         top[h] = greatest[v];
         h += 1;
     }

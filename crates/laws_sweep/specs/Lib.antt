@@ -7,6 +7,7 @@ pub mod Waiting
 pub mod Queue
 pub mod Turn
 pub mod Step
+pub mod Through
 pub mod Stops
 pub mod Room
 pub mod Maps

@@ -64,7 +64,8 @@ module _ (es : List Strand) (corners stops : List Pt) (S : Scene es corners stop
   end-queue e i (inl h) = corner-queue (lo e) (S .low-in e i) (same-equal (lo e) v (corner-lowest (e .seg .foot)) v-lowest h)
   end-queue e i (inr h) = corner-queue (hi e) (S .high-in e i) (same-equal (hi e) v (corner-lowest (head (e .seg))) v-lowest h)
 
-  on-at : (e : Strand) → Cut es p e → leftBy (e .seg) v ≡ pos 0 → On (e .seg) v
+  -- an edge that the line cuts, with v on its line, goes through v
+  pub on-at : (e : Strand) → Cut es p e → leftBy (e .seg) v ≡ pos 0 → On (e .seg) v
   on-at e c l = record {
     line = l;
     low = before-asym (lo e) v (le-before (lo e) p v 0<1 (I .real) v-real (c .started) v-ahead);
@@ -141,13 +142,11 @@ module _ (es : List Strand) (corners stops : List Pt) (S : Scene es corners stop
   -- ── the next stop is in the queue ──
 
   -- an edge through v starts there, or the line cuts it already
-  through-cut : (e : Strand) → Among e es → On (e .seg) v → Among v queue ⊎ Cut es p e
+  pub through-cut : (e : Strand) → Among e es → On (e .seg) v → (lo e ≡ v) ⊎ Cut es p e
   through-cut e i o = go (before p (lo e)) refl
     where
-      go : (b : Bool) → before p (lo e) ≡ b → Among v queue ⊎ Cut es p e
-      go true b =
-          inl (corner-queue (lo e) (S .low-in e i)
-          (same-point (lo e) v (corner-lowest (e .seg .foot)) v-lowest (first-left (lo e) (I .left-has (lo e) (S .corner-in (lo e) (S .low-in e i)) b)) (o .low)))
+      go : (b : Bool) → before p (lo e) ≡ b → (lo e ≡ v) ⊎ Cut es p e
+      go true b = inl (same-point (lo e) v (corner-lowest (e .seg .foot)) v-lowest (first-left (lo e) (I .left-has (lo e) (S .corner-in (lo e) (S .low-in e i)) b)) (o .low))
       go false b = inr (record { is = i; started = b; unended = before-le p v (hi e) (I .real) v-real 0<1 v-ahead (o .high) })
 
   crossed-queue : Crosses es v → Among v queue
@@ -168,9 +167,9 @@ module _ (es : List Strand) (corners stops : List Pt) (S : Scene es corners stop
       no : Parallel e f → ⊥
       no = x .touch .turned
 
-      go : Among v queue ⊎ Cut es p e → Among v queue ⊎ Cut es p f → Among v queue
-      go (inl q) h = q
-      go (inr ce) (inl q) = q
+      go : (lo e ≡ v) ⊎ Cut es p e → (lo f ≡ v) ⊎ Cut es p f → Among v queue
+      go (inl h) k = corner-queue (lo e) (S .low-in e (x .one-in)) h
+      go (inr ce) (inl h) = corner-queue (lo f) (S .low-in f (x .other-in)) h
       go (inr ce) (inr cf) =
           ⊎-elim (λ (a, m, c, is). ⊎-elim (λ q. q) (λ z. absurd (no z)) (both e f a m c is le lf))
           (λ (a, m, c, is). ⊎-elim (λ q. q) (λ z. absurd (no (cross-swap-0 (f .seg .up) (e .seg .up) z))) (both f e a m c is lf le))

@@ -110,6 +110,30 @@ pub const HEADING_CELLS: usize = HEADING_WIDTH * HALVES;
 // a face for each half-edge and face 0: as many as could be numbered
 pub const FACE_ROWS: usize = HALVES + 1;
 
+// Small sheets: tables of a twenty-fifth.
+
+pub const SMALL_VERTICES: usize = VERTICES / 25;
+
+pub const SMALL_EDGES: usize = EDGES / 25;
+
+pub const SMALL_HALVES: usize = 2 * SMALL_EDGES;
+// a face for each edge, and face 0
+pub const SMALL_FACES: usize = SMALL_EDGES + 1;
+// one row more, as above
+pub const SMALL_VERTEX_ROWS: usize = SMALL_VERTICES + 1;
+
+pub const SMALL_EDGE_ROWS: usize = SMALL_EDGES + 1;
+
+pub const SMALL_POINT_CELLS: usize = POINT_WIDTH * SMALL_VERTEX_ROWS;
+
+pub const SMALL_PIECE_CELLS: usize = PIECE_WIDTH * SMALL_EDGE_ROWS;
+
+pub const SMALL_CARRIER_CELLS: usize = CARRIER_WIDTH * SMALL_EDGES;
+
+pub const SMALL_HEADING_CELLS: usize = HEADING_WIDTH * SMALL_HALVES;
+// with so many input edges small tables are tried
+pub const FEW_EDGES: usize = 24;
+
 // Lengths of the tables of one map.
 
 pub const MAP_HALVES: usize = 2 * MAP_EDGES as usize;

@@ -1,5 +1,6 @@
 -- Laws that the proofs of the functions cite.
 pub mod KeptLaws
+pub mod RoomLaws
 pub mod GraphLaws
 pub mod PartsLaws
 pub mod LoadedLaws

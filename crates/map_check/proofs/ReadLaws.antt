@@ -5,7 +5,6 @@ use Prim.Native.Nat.{_≤_, _<_}
 use native.Mathlib.Omega.{arith}
 use Rattle.seq.specs.Laid.{laid-ext}
 use Rattle.seq.specs.Seq.{none, some, List, [], _∷_, _++_, ℕ, _+_, _*_, length, take, ℤ, laid}
-use Rattle.paper.specs.Limits.{mapEdges}
 use Rattle.paper.specs.Plane.{Seg, between}
 use Rattle.paper.specs.Refusal.{Refusal, firstOf}
 use Rattle.paper.specs.Graph.{Graph, edge}
@@ -80,16 +79,13 @@ module _ {s : List ℕ} {ps : List ℤ} {os ls : List ℕ} (R : MapRead s ps os 
         ap (λ (m : ℕ). laid m (carrierRowBy ps os) d) edges
         ∙ laid-ext (carrierRowBy ps os) (carrierRow g) (edgesIn s) d (λ j l. ap (λ (c : Seg). c .foot .x ∷ c .foot .y ∷ c .up .x ∷ c .up .y ∷ []) (carrier-read j l))
 
-    module _ (cs d : List ℤ) (room : 4 * mapEdges ≤ length d) (is : cs ≡ laid (edgesIn s) (carrierRow (mapOf s .graph)) d) where
-      enough : 4 * edgesIn s ≤ length d
-      enough = omega (arith, k .few-edges)
-
+    module _ (cs d : List ℤ) (room : 4 * edgesIn s ≤ length d) (is : cs ≡ laid (edgesIn s) (carrierRow (mapOf s .graph)) d) where
       graph-read : flatGraph ps os cs n e ≡ g
-      graph-read = (λ i. flatGraph ps os cs (vertices i) (edges i)) ∙ graph-held s ps os cs (R .point-is) (R .origin-is) (carrier-held s cs d enough is)
+      graph-read = (λ i. flatGraph ps os cs (vertices i) (edges i)) ∙ graph-held s ps os cs (R .point-is) (R .origin-is) (carrier-held s cs d room is)
 
       pub flat-read : Flat ps os cs n e
       flat-read =
-          let F = held-flat s ps os cs (R .point-is) (R .origin-is) (carrier-held s cs d enough is) k (R .points-long) (R .origins-long) (carriers-long s cs d enough is) in
+          let F = held-flat s ps os cs (R .point-is) (R .origin-is) (carrier-held s cs d room is) k (R .points-long) (R .origins-long) (carriers-long s cs d room is) in
           subst (λ (m : ℕ). Flat ps os cs n m) (sym edges) (subst (λ (m : ℕ). Flat ps os cs m (edgesIn s)) (sym vertices) F)
 
       pub laid-read : Laid (flatGraph ps os cs n e)

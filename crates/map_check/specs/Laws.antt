@@ -2,6 +2,7 @@
 pub mod Kept
 pub mod Rows
 pub mod Rising
+pub mod Picks
 pub mod Walking
 pub mod Makers
 pub mod Disagree

@@ -3,6 +3,7 @@ pub mod Net
 pub mod Later
 pub mod Pairs
 pub mod Pass
+pub mod Near
 pub mod Labels
 pub mod Held
 pub mod Answer

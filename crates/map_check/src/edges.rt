@@ -3,6 +3,7 @@ use super::pass::all_clear;
 use graph::carrier_at;
 use graph::first_places;
 use limits::MAP_VERTICES;
+use limits::SMALL_VERTICES;
 use plane::Seg;
 use plane::boxes_apart;
 use plane::clash_by;
@@ -105,12 +106,25 @@ fn first_holding(cells: &[u16], m: usize, v: usize) -> usize
     m
 }
 
-// 9 "a vertex has no edge": the least such vertex of n, or n. It is the least whose first outgoing half-edge, of m, is m: there is none.
+// 9 "a vertex has no edge": the least such vertex of n, or n, with a table lent. It is the least whose first outgoing half-edge, of m, is m: there is none.
+fn first_lonely_in(origins: &[u16], m: usize, n: usize, firsts: &mut [u16]) -> usize
+    requires { ⌜ Numbers (now origins) m n ⌝ ∗ ⌜ m ≤ absent ⌝ ∗ ⌜ n ≤ length (now firsts) ⌝ }
+    ensures { λ r. ⌜ r ≡ least (lonelyAt (now (origins .entry)) m) n ⌝ }
+{
+    first_places(origins, m, m as u16, firsts, n);
+    first_holding(firsts, n, m)
+}
+
+// The same, with a table of its own. Few vertices take a small one: less to clear.
 pub fn first_lonely(origins: &[u16], m: usize, n: usize) -> usize
     requires { ⌜ Numbers (now origins) m n × (m ≤ absent) × (n ≤ mapVertices) ⌝ }
     ensures { λ r. ⌜ r ≡ least (lonelyAt (now (origins .entry)) m) n ⌝ }
 {
-    let mut firsts = [0u16; MAP_VERTICES as usize];
-    first_places(origins, m, m as u16, &mut firsts, n);
-    first_holding(&firsts, n, m)
+    if n <= SMALL_VERTICES {
+        let mut firsts = [0u16; SMALL_VERTICES];
+        first_lonely_in(origins, m, n, &mut firsts)
+    } else {
+        let mut firsts = [0u16; MAP_VERTICES as usize];
+        first_lonely_in(origins, m, n, &mut firsts)
+    }
 }

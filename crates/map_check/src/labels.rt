@@ -1,53 +1,19 @@
-// Rule 10: half-edges at which labels disagree, a search for the least, over the tables of a map with its headings and followers.
-use graph::heading_at;
+// Rule 10: half-edges at which labels disagree, a search for the least, over the tables of a map with its followers and the half-edge of greatest angle out of each vertex.
 use graph::seen_label;
 use graph::start;
-use graph::twin;
 use plane::Point;
 use plane::Vector;
 use plane::before;
-use plane::less_angle;
-ghost use mathlib.Core.Bool.{true};
 ghost use mathlib.Core.Path.{_≡_};
 ghost use Prim.Native.Nat.{_*_, _≤_, _<_};
 ghost use lib.ListN.{length};
-ghost use Rattle.seq.specs.Seq.{least, someBelow};
+ghost use Rattle.seq.specs.Seq.{least};
 ghost use Rattle.paper.specs.Limits.{absent};
 ghost use Rattle.paper.specs.Plane.{before};
 ghost use Rattle.plane.specs.Bounds.{Near};
 ghost use Rattle.plane.specs.Values.{ptOf};
-ghost use Rattle.graph.specs.Flat.{Starts, Flat, Numbers};
-ghost use Rattle.graph.specs.Follow.{Headed, Headings};
-ghost use Rattle.map_check.specs.Labels.{greaterAt, earlierAt, smallestAt, makesHoleAt, seenWest, disagreesAt, Walked, Linked};
-
-// So many half-edges next to one around its origin are looked at before all are.
-const TURNS: usize = 8;
-
-// Whether half-edge x leaves from where h does, with a greater angle.
-fn greater(origins: &[u16], headings: &[i16], h: usize, x: usize) -> bool
-    requires { ⌜ (h < length (now origins)) × (x < length (now origins)) × Headed (now headings) h × Headed (now headings) x ⌝ }
-    ensures { λ r. ⌜ r ≡ greaterAt (now (origins .entry)) (now (headings .entry)) h x ⌝ }
-{
-    if origins[x] != origins[h] {
-        return false;
-    }
-    less_angle(heading_at(headings, h), heading_at(headings, x))
-}
-
-// The least of m half-edges that leaves from where h does with a greater angle, or m.
-fn first_greater(origins: &[u16], headings: &[i16], m: usize, h: usize) -> usize
-    requires { ⌜ (m ≤ length (now origins)) × Headings (now headings) m × (h < m) ⌝ }
-    ensures { λ r. ⌜ r ≡ least (greaterAt (now (origins .entry)) (now (headings .entry)) h) m ⌝ }
-{
-    let mut x = 0;
-    while x < m {
-        if greater(origins, headings, h, x) {
-            return x;
-        }
-        x += 1;
-    }
-    m
-}
+ghost use Rattle.graph.specs.Flat.{originAt, Starts, Flat};
+ghost use Rattle.map_check.specs.Labels.{earlierAt, smallestAt, makesHoleAt, seenWest, disagreesAt, Walked, Linked};
 
 // Whether p comes before q. Of corners the whole numbers tell: "smaller y first, then smaller x".
 fn comes_before(p: Point, q: Point) -> bool
@@ -91,48 +57,24 @@ fn is_smallest(points: &[i64], origins: &[u16], next: &[u16], m: usize, h: usize
     true
 }
 
-// Whether one of the next half-edges clockwise from h around its origin has a greater angle: the follower of a twin is the next. Where h starts at the smallest vertex of its walk and does
-// not make it a hole walk, one of them is that by which the walk arrives there.
-fn turns_greater(origins: &[u16], headings: &[i16], next: &[u16], m: usize, h: usize) -> bool
-    requires { ⌜ (m ≤ length (now origins)) × Headings (now headings) m × Numbers (now next) m m × (h < m) × (m ≤ absent) ⌝ }
-    ensures { λ r. ⌜ (r ≡ true → someBelow (greaterAt (now (origins .entry)) (now (headings .entry)) h) m ≡ true) ⌝ }
-{
-    let mut x = h;
-    let mut left = TURNS;
-    while 0 < left {
-        let t = twin(x);
-        if m <= t {
-            return false;
-        }
-        x = next[t] as usize;
-        if greater(origins, headings, h, x) {
-            return true;
-        }
-        left -= 1;
-    }
-    false
-}
-
-// Whether h "is the greatest-angle half-edge that makes its walk a hole walk". Most half-edges are followed within a few steps by one from a smaller vertex, so the walk is looked at
-// first; then the half-edges next to h around its origin; and a greater angle is searched among all only for a few half-edges of a map.
+// Whether h "is the greatest-angle half-edge that makes its walk a hole walk": it is the one of greatest angle out of its origin, as few are, and no half-edge of its walk starts at a
+// smaller vertex.
 fn makes_hole(
     points: &[i64],
     origins: &[u16],
-    headings: &[i16],
+    heads: &[u16],
     next: &[u16],
     m: usize,
     h: usize,
 ) -> bool
-    requires { ⌜ (m ≤ length (now origins)) × Headings (now headings) m × Walked (now points) (now origins) (now next) m × (h < m) × (m ≤ absent) ⌝ }
-    ensures { λ r. ⌜ r ≡ makesHoleAt (now (points .entry)) (now (origins .entry)) (now (headings .entry)) (now (next .entry)) m h ⌝ }
+    requires { ⌜ (m ≤ length (now origins)) × Walked (now points) (now origins) (now next) m × (h < m) × (originAt (now origins) h < length (now heads)) × (m ≤ absent) ⌝ }
+    ensures { λ r. ⌜ r ≡ makesHoleAt (now (points .entry)) (now (origins .entry)) (now (heads .entry)) (now (next .entry)) m h ⌝ }
 {
-    if !is_smallest(points, origins, next, m, h) {
+    let v = origins[h] as usize;
+    if heads[v] != h as u16 {
         return false;
     }
-    if turns_greater(origins, headings, next, m, h) {
-        return false;
-    }
-    !(first_greater(origins, headings, m, h) < m)
+    is_smallest(points, origins, next, m, h)
 }
 
 // The label of the half-edge seen strictly west of where h starts, or 0 where the outside is seen.
@@ -167,21 +109,21 @@ fn disagrees(
     origins: &[u16],
     carriers: &[i16],
     labels: &[u16],
-    headings: &[i16],
+    heads: &[u16],
     next: &[u16],
     n: usize,
     e: usize,
     h: usize,
 ) -> bool
-    requires { ⌜ Linked (now points) (now origins) (now carriers) (now labels) (now headings) (now next) n e × (h < 2 * e) ⌝ }
-    ensures { λ r. ⌜ r ≡ disagreesAt (now (points .entry)) (now (origins .entry)) (now (carriers .entry)) (now (labels .entry)) (now (headings .entry)) (now (next .entry)) n e h ⌝ }
+    requires { ⌜ Linked (now points) (now origins) (now carriers) (now labels) (now heads) (now next) n e × (h < 2 * e) ⌝ }
+    ensures { λ r. ⌜ r ≡ disagreesAt (now (points .entry)) (now (origins .entry)) (now (carriers .entry)) (now (labels .entry)) (now (heads .entry)) (now (next .entry)) n e h ⌝ }
 {
     let f = next[h] as usize;
     let label = labels[h];
     if label != labels[f] {
         return true;
     }
-    if makes_hole(points, origins, headings, next, 2 * e, h) {
+    if makes_hole(points, origins, heads, next, 2 * e, h) {
         label != seen_west(points, origins, carriers, labels, n, e, h)
     } else {
         false
@@ -194,18 +136,18 @@ pub fn first_disagreeing(
     origins: &[u16],
     carriers: &[i16],
     labels: &[u16],
-    headings: &[i16],
+    heads: &[u16],
     next: &[u16],
     n: usize,
     e: usize,
 ) -> usize
-    requires { ⌜ Linked (now points) (now origins) (now carriers) (now labels) (now headings) (now next) n e ⌝ }
-    ensures { λ r. ⌜ r ≡ least (disagreesAt (now (points .entry)) (now (origins .entry)) (now (carriers .entry)) (now (labels .entry)) (now (headings .entry)) (now (next .entry)) n e) (2 * e) ⌝ }
+    requires { ⌜ Linked (now points) (now origins) (now carriers) (now labels) (now heads) (now next) n e ⌝ }
+    ensures { λ r. ⌜ r ≡ least (disagreesAt (now (points .entry)) (now (origins .entry)) (now (carriers .entry)) (now (labels .entry)) (now (heads .entry)) (now (next .entry)) n e) (2 * e) ⌝ }
 {
     let m = 2 * e;
     let mut h = 0;
     while h < m {
-        if disagrees(points, origins, carriers, labels, headings, next, n, e, h) {
+        if disagrees(points, origins, carriers, labels, heads, next, n, e, h) {
             return h;
         }
         h += 1;

@@ -1,5 +1,5 @@
 // A map file checked and its map laid in tables, read once, front to back. Rules 1 to 4 are found on its header and its length: what passes them has at most 200 vertices and 300 edges, so
-// that the map can be decoded into tables of that many. All other rules are found on these tables.
+// that the map can be decoded into tables of that many, or of as many as the header counts. All other rules are found on these tables.
 use super::answer::Checked;
 use super::answer::Counts;
 use super::parts::lay_carriers;
@@ -15,14 +15,13 @@ ghost use mathlib.Core.Option.{none};
 ghost use Prim.Native.Nat.{_*_, _≤_};
 ghost use lib.ListN.{length};
 ghost use Rattle.seq.specs.Seq.{laid};
-ghost use Rattle.paper.specs.Limits.{mapEdges};
 ghost use Rattle.paper.specs.Refusal.{firstOf, answer};
-ghost use Rattle.paper.specs.Map.{mapOf, edgesIn, formFaults, fault, check};
+ghost use Rattle.paper.specs.Map.{mapOf, vertexCount, edgesIn, formFaults, fault, check};
 ghost use Rattle.map_file.specs.Header.{headerOf};
 ghost use Rattle.map_file.specs.Rows.{carrierRow};
 ghost use Rattle.map_file.specs.Verdict.{verdict};
 ghost use Rattle.map_check.specs.Answer.{answerOf};
-ghost use Rattle.map_check.specs.Held.{MapRoom, MapRead, MapLaid};
+ghost use Rattle.map_check.specs.Held.{MapRoom, stored, MapRead, MapLaid};
 
 // Rules 5 to 10 of a file with this header that passes rules 1 to 4 and whose map is read. The carriers are laid where rules 5 to 7 find nothing.
 fn read_fault(
@@ -33,7 +32,7 @@ fn read_fault(
     carriers: &mut [i16],
     labels: &[u16],
 ) -> Check
-    requires { ⌜ h ≡ headerOf (now file) ⌝ ∗ ⌜ firstOf (formFaults (now file)) ≡ none ⌝ ∗ ⌜ MapRead (now file) (now points) (now origins) (now labels) ⌝ ∗ ⌜ 4 * mapEdges ≤ length (now carriers) ⌝ }
+    requires { ⌜ h ≡ headerOf (now file) ⌝ ∗ ⌜ firstOf (formFaults (now file)) ≡ none ⌝ ∗ ⌜ MapRead (now file) (now points) (now origins) (now labels) ⌝ ∗ ⌜ 4 * edgesIn (now file) ≤ length (now carriers) ⌝ }
     ensures { λ r. ⌜ (verdict r ≡ fault (now (file .entry))) × (fault (now (file .entry)) ≡ none → now (carriers .exit) ≡ laid (edgesIn (now (file .entry))) (carrierRow (mapOf (now (file .entry)) .graph)) (now (carriers .entry))) ⌝ }
 {
     let n = h.vertices as usize;
@@ -69,7 +68,7 @@ pub fn lay_map(
     carriers: &mut [i16],
     labels: &mut [u16],
 ) -> Checked
-    requires { ⌜ MapRoom (now corners) (now origins) (now carriers) (now labels) ⌝ }
+    requires { ⌜ MapRoom (stored vertexCount (now file)) (stored edgesIn (now file)) (now corners) (now origins) (now carriers) (now labels) ⌝ }
     ensures { λ r. ⌜ (answerOf r ≡ check (now (file .entry))) × (fault (now (file .entry)) ≡ none → MapLaid (now (file .entry)) (now (corners .entry)) (now (origins .entry)) (now (carriers .entry)) (now (labels .entry)) (now (corners .exit)) (now (origins .exit)) (now (carriers .exit)) (now (labels .exit))) ⌝ }
 {
     let h = read_header(file);

@@ -15,7 +15,7 @@ ghost use Rattle.plane.specs.Bounds.{Corner, Edge};
 ghost use Rattle.map_check.specs.Pairs.{CommonEnd};
 
 // The lower end of s.
-fn foot(s: Seg) -> Vector
+pub fn foot(s: Seg) -> Vector
     requires { ⌜ Edge (segOf s) ⌝ }
     ensures is { λ r. ⌜ vecOf r ≡ segOf s .foot ⌝ }
     ensures near { λ r. ⌜ Corner (vecOf r) ⌝ }
@@ -24,7 +24,7 @@ fn foot(s: Seg) -> Vector
 }
 
 // The upper end.
-fn head(s: Seg) -> Vector
+pub fn head(s: Seg) -> Vector
     requires { ⌜ Edge (segOf s) ⌝ }
     ensures is { λ r. ⌜ vecOf r ≡ head (segOf s) ⌝ }
     ensures near { λ r. ⌜ Corner (vecOf r) ⌝ }

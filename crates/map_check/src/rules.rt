@@ -3,10 +3,15 @@ use super::edges::first_clash;
 use super::edges::first_clashing;
 use super::edges::first_lonely;
 use super::labels::first_disagreeing;
-use graph::follow;
+use graph::follow_stars;
 use graph::headings;
+use graph::is_small;
 use limits::MAP_HALVES;
 use limits::MAP_HEADING_CELLS;
+use limits::MAP_VERTICES;
+use limits::SMALL_HALVES;
+use limits::SMALL_HEADING_CELLS;
+use limits::SMALL_VERTICES;
 use map_file::Check;
 use map_file::beside;
 use map_file::first;
@@ -41,7 +46,28 @@ fn edges_clash(carriers: &[i16], e: usize) -> Check
     }
 }
 
-// The least half-edge of a map in tables at which labels disagree, or the number of half-edges: first the headings, then the followers.
+// The least half-edge of a map in tables at which labels disagree, or the number of half-edges: first the headings, then the followers and the half-edge of greatest angle out of each vertex,
+// in tables that are lent.
+fn first_by_followers_in(
+    points: &[i64],
+    origins: &[u16],
+    carriers: &[i16],
+    labels: &[u16],
+    n: usize,
+    e: usize,
+    ways: &mut [i16],
+    heads: &mut [u16],
+    next: &mut [u16],
+) -> usize
+    requires { ⌜ Flat (now points) (now origins) (now carriers) n e ⌝ ∗ ⌜ e ≤ mapEdges ⌝ ∗ ⌜ 2 * e ≤ length (now labels) ⌝ ∗ ⌜ Plane (flatGraph (now points) (now origins) (now carriers) n e) ⌝ ∗ ⌜ (2 * (2 * e) ≤ length (now ways)) × (n ≤ length (now heads)) × (2 * e ≤ length (now next)) ⌝ }
+    ensures { λ r. ⌜ r ≡ least (disagrees (flatMap (now (points .entry)) (now (origins .entry)) (now (carriers .entry)) (now (labels .entry)) n e) (followers (flatGraph (now (points .entry)) (now (origins .entry)) (now (carriers .entry)) n e))) (2 * e) ⌝ }
+{
+    headings(points, origins, carriers, n, e, ways);
+    follow_stars(origins, ways, n, e, heads, next);
+    first_disagreeing(points, origins, carriers, labels, heads, next, n, e)
+}
+
+// The same, in tables of its own. A small map takes small ones: less to clear.
 fn first_by_followers(
     points: &[i64],
     origins: &[u16],
@@ -53,11 +79,37 @@ fn first_by_followers(
     requires { ⌜ Flat (now points) (now origins) (now carriers) n e ⌝ ∗ ⌜ n ≤ mapVertices ⌝ ∗ ⌜ e ≤ mapEdges ⌝ ∗ ⌜ 2 * e ≤ length (now labels) ⌝ ∗ ⌜ Plane (flatGraph (now points) (now origins) (now carriers) n e) ⌝ }
     ensures { λ r. ⌜ r ≡ least (disagrees (flatMap (now (points .entry)) (now (origins .entry)) (now (carriers .entry)) (now (labels .entry)) n e) (followers (flatGraph (now (points .entry)) (now (origins .entry)) (now (carriers .entry)) n e))) (2 * e) ⌝ }
 {
-    let mut ways = [0i16; MAP_HEADING_CELLS];
-    headings(points, origins, carriers, n, e, &mut ways);
-    let mut next = [0u16; MAP_HALVES];
-    follow(origins, &ways, n, e, &mut next);
-    first_disagreeing(points, origins, carriers, labels, &ways, &next, n, e)
+    if is_small(n, e) {
+        let mut ways = [0i16; SMALL_HEADING_CELLS];
+        let mut heads = [0u16; SMALL_VERTICES];
+        let mut next = [0u16; SMALL_HALVES];
+        first_by_followers_in(
+            points,
+            origins,
+            carriers,
+            labels,
+            n,
+            e,
+            &mut ways,
+            &mut heads,
+            &mut next,
+        )
+    } else {
+        let mut ways = [0i16; MAP_HEADING_CELLS];
+        let mut heads = [0u16; MAP_VERTICES as usize];
+        let mut next = [0u16; MAP_HALVES];
+        first_by_followers_in(
+            points,
+            origins,
+            carriers,
+            labels,
+            n,
+            e,
+            &mut ways,
+            &mut heads,
+            &mut next,
+        )
+    }
 }
 
 // 10 "labels disagree at a half-edge", where rule 8 finds nothing either. The map has the labels of its half-edges, and no more of the table; without an edge there is nothing to make tables for.

@@ -1,6 +1,5 @@
 -- What comes out of maps that pass: room "is judged on the overlay before melting". Assumes nothing.
-use mathlib.Core.Path.{_≡_}
-use Rattle.seq.specs.Seq.{List, ℕ, padded}
+use Rattle.seq.specs.Seq.{List, ℕ}
 use Rattle.paper.specs.Limits.{maps}
 use Rattle.paper.specs.Refusal.{firstOf}
 use Rattle.paper.specs.Map.{Map}
@@ -8,8 +7,8 @@ use Rattle.paper.specs.Faces.{overlayOf}
 use Rattle.paper.specs.Tables.{countsOf, tablesOf}
 use Rattle.paper.specs.Lent.{Lengths, roomIn, roomFaults, outcome, Outcome}
 use Rattle.paper.specs.Melt.{meltedOf}
-use Rattle.graph_faces.specs.Linked.{halfRows}
 use Rattle.overlay_graph.specs.Cut.{Cut, overlayIn}
+use Rattle.overlay_graph.specs.Traced.{Zeroed}
 
 -- of the maps ms, in tables of these lengths
 abbrev pub meltedIn : List Map → Lengths → Outcome
@@ -17,4 +16,4 @@ meltedIn ms l = let o = meltedOf ms in outcome l (countsOf o) (tablesOf ms o) (f
 
 -- the face of each half-edge of the overlay of the points and pieces in c, zeros past the last
 abbrev pub FacesIn : List Map → Cut → List ℕ → Type 0
-FacesIn ms c face = face ≡ padded 0 halfRows (overlayIn ms c .face)
+FacesIn ms c face = Zeroed (overlayIn ms c .face) face

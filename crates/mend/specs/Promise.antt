@@ -47,11 +47,11 @@ module _ (n l : ℕ) (s : List ℕ) (m : Mended) (f x : List ℕ) (promise : Pro
     module _ (a b : ℕ) (d : answerOf m ≡ done (a, b)) where
       -- "a mended file is never refused with 6, 7 or 9", nor with 1 to 5: with 8 or 10, or not at all
       pub mended-refusal : (fault (take a f) ≡ none) ⊎ ((r : Refusal) × (fault (take a f) ≡ some r) × ((r .number ≡ 8) ⊎ (r .number ≡ 10)))
-      mended-refusal = rw file-is (done-refusal n l s B a b (answer-is ∙ d))
+      mended-refusal = subst (λ (t : List ℕ). (fault (take a t) ≡ none) ⊎ ((r : Refusal) × (fault (take a t) ≡ some r) × ((r .number ≡ 8) ⊎ (r .number ≡ 10)))) (sym file-is) (done-refusal n l s B a b (answer-is ∙ d))
 
       -- mending it again changes nothing and lists nothing
       pub mended-again : (j : ℕ) → mend n j (take a f) ≡ record { answer = done (a, 0); file = f; list = padded 0 j [] }
-      mended-again j = rw file-is (mend-again n l s B a b (answer-is ∙ d) j)
+      mended-again j = subst (λ (t : List ℕ). mend n j (take a t) ≡ record { answer = done (a, 0); file = t; list = padded 0 j [] }) (sym file-is) (mend-again n l s B a b (answer-is ∙ d) j)
 
       -- the list has b entries, and with them the file is as 02 says: corners, labels and ends stay, and what is not listed is in the file
       pub mended-tells : (es : List (ℕ × ℕ)) × (length es ≡ b) × (x ≡ padded 0 l (gather (λ e. e .0 ∷ e .1 ∷ []) es)) × Mends s (take a f) es

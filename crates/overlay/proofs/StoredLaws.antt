@@ -67,8 +67,8 @@ module _ (ms : List Map) (c : Cut) where
 
     half-row : (h : ℕ) → h < 2 * c .edges → halfOf (t .origins) (t .next) (t .prev) (t .face) h ≡ halfRow o h
     half-row h l =
-        let next = cell-is (t .next) (o .walks .next) _ h (T .faces-by .next-is) in
-        let face = cell-is (t .face) (o .face) _ h (T .faces-by .face-is) in
+        let next = cell-is (t .next) (o .walks .next) _ h (T .faces-by .next-is .is) in
+        let face = cell-is (t .face) (o .face) _ h (T .faces-by .face-is .is) in
         λ i. origin-is h l i ∷ twin h ∷ next i ∷ T .prev-is h l i ∷ face i ∷ []
 
     -- ── the tables ──

@@ -2,16 +2,11 @@
 mod judge; // counts over the room
 mod fill; // the lent tables filled
 mod stages; // from layers to tables
+mod layers; // from files to layers
 
-use crate::stages::from_layers;
+use crate::layers::overlay_with;
 pub use judge::over_room;
-use limits::LAYER_CARRIER_CELLS;
-use limits::LAYER_HALVES;
-use limits::LAYER_POINT_CELLS;
-use limits::LAYER_STARTS;
-use map_file::Check;
 use overlay_graph::Way;
-use overlay_maps::lay_maps;
 pub use stages::from_cut;
 pub use stages::refuse;
 use tables::Answer;
@@ -34,45 +29,21 @@ pub fn overlay_by(
 ) -> Answer
     ensures { λ r. ⌜ Promised (lengthsOf (tablesBy (now (vertices .entry)) (now (halves .entry)) (now (sources .entry)) (now (faces .entry)))) (now (zones .entry) ∷ now (blocks .entry) ∷ now (bed .entry) ∷ []) r (tablesBy (now (vertices .exit)) (now (halves .exit)) (now (sources .exit)) (now (faces .exit))) ⌝ }
 {
-    let mut vertex_starts = [0usize; LAYER_STARTS];
-    let mut edge_starts = [0usize; LAYER_STARTS];
-    let mut corners = [0i64; LAYER_POINT_CELLS];
-    let mut origins = [0u16; LAYER_HALVES];
-    let mut carriers = [0i16; LAYER_CARRIER_CELLS];
-    let mut labels = [0u16; LAYER_HALVES];
-    let c = lay_maps(
+    overlay_with(
+        way,
+        false,
         zones,
         blocks,
         bed,
-        &mut vertex_starts,
-        &mut edge_starts,
-        &mut corners,
-        &mut origins,
-        &mut carriers,
-        &mut labels,
-    );
-    match c {
-        Check::Bad(r) => refuse(r, vertices, halves, sources, faces),
-        Check::Fine => {
-            from_layers(
-                way,
-                &vertex_starts,
-                &edge_starts,
-                &corners,
-                &origins,
-                &carriers,
-                &labels,
-                vertices,
-                halves,
-                sources,
-                faces,
-            )
-        }
-    }
+        vertices,
+        halves,
+        sources,
+        faces,
+    )
 }
 
 // The overlay of three files of any bytes in the lent tables: the three counts, or a refusal. "The two-map overlay is the one with an empty third map" (02, Ask 13).
-// The vertices are collected by the way that is faster on full sheets.
+// The vertices are collected by the way that is faster on full sheets, and of a few edges by the plain one, in small tables.
 pub fn overlay(
     zones: &[u8],
     blocks: &[u8],
@@ -84,8 +55,9 @@ pub fn overlay(
 ) -> Answer
     ensures { λ r. ⌜ Promised (lengthsOf (tablesBy (now (vertices .entry)) (now (halves .entry)) (now (sources .entry)) (now (faces .entry)))) (now (zones .entry) ∷ now (blocks .entry) ∷ now (bed .entry) ∷ []) r (tablesBy (now (vertices .exit)) (now (halves .exit)) (now (sources .exit)) (now (faces .exit))) ⌝ }
 {
-    overlay_by(
+    overlay_with(
         Way::Swept,
+        true,
         zones,
         blocks,
         bed,

@@ -3,12 +3,21 @@ use crate::fill::fill;
 use crate::judge::over_room;
 use limits::CARRIER_CELLS;
 use limits::FACE_ROWS;
+use limits::FEW_EDGES;
 use limits::HALVES;
+use limits::MAPS;
 use limits::PIECE_CELLS;
 use limits::POINT_CELLS;
+use limits::SMALL_CARRIER_CELLS;
+use limits::SMALL_EDGES;
+use limits::SMALL_HALVES;
+use limits::SMALL_PIECE_CELLS;
+use limits::SMALL_POINT_CELLS;
+use limits::SMALL_VERTICES;
 use map_file::Check;
 use map_file::Refusal;
 use overlay_graph::Way;
+use overlay_graph::cut_few;
 use overlay_graph::cut_maps;
 use overlay_graph::lay_net;
 use overlay_graph::walk_net;
@@ -16,13 +25,16 @@ use tables::Answer;
 use tables::room_in;
 use tables::wipe_all;
 ghost use mathlib.Core.Path.{_≡_};
+ghost use Prim.Native.Nat.{_+_, _*_, _≤_};
+ghost use lib.ListN.{length};
 ghost use Rattle.paper.specs.Lent.{lengthsOf};
 ghost use Rattle.map_file.specs.Verdict.{refusalOf};
 ghost use Rattle.tables.specs.Values.{tablesBy, outcomeOf};
 ghost use Rattle.overlay_maps.specs.Layers.{layersBy};
 ghost use Rattle.overlay_maps.specs.Held.{Held, heldMaps};
-ghost use Rattle.overlay_graph.specs.Cut.{cutBy, overlayIn, DrawableCut};
-ghost use Rattle.overlay.specs.Judged.{laidOut, overlaid, refusedWith, Within};
+ghost use Rattle.overlay_graph.specs.Cut.{cutBy, CutOf, overlayIn, DrawableCut};
+ghost use Rattle.overlay_graph.specs.Traced.{Blank};
+ghost use Rattle.overlay.specs.Judged.{laidOut, overlaid, refusedWith, Within, Rowed};
 
 // "Refused: all lent tables are zero."
 pub fn refuse(
@@ -38,8 +50,11 @@ pub fn refuse(
     Answer::Refused(r)
 }
 
-// Half-edges, walks and faces, of points and pieces within the room: the maps' own, or what is left of them (02, Ask 12). More faces than room are refused.
-pub fn from_cut(
+// of a small sheet a face for each half-edge, and face 0
+const SMALL_ROWS: usize = SMALL_HALVES + 1;
+
+// Half-edges, walks and faces, of points and pieces within the room: the maps' own, or what is left of them (02, Ask 12). More faces than room are refused. The tables are lent, and zero.
+fn from_cut_with(
     vstarts: &[usize],
     estarts: &[usize],
     corners: &[i64],
@@ -50,16 +65,20 @@ pub fn from_cut(
     points: &[i64],
     e: usize,
     pieces: &[u16],
+    ends: &mut [u16],
+    lines: &mut [i16],
+    next: &mut [u16],
+    face: &mut [u16],
+    outers: &mut [u16],
+    holes: &mut [u16],
     vertices: &mut [i64],
     halves: &mut [u16],
     sources: &mut [u32],
     faces: &mut [u16],
 ) -> Answer
-    requires { ⌜ Held (layersBy (now vstarts) (now estarts) (now corners) (now origins) (now carriers) (now labels)) ⌝ ∗ ⌜ DrawableCut (heldMaps (layersBy (now vstarts) (now estarts) (now corners) (now origins) (now carriers) (now labels))) (cutBy n (now points) e (now pieces)) ⌝ ∗ ⌜ Within (cutBy n (now points) e (now pieces)) (lengthsOf (tablesBy (now vertices) (now halves) (now sources) (now faces))) ⌝ }
+    requires { ⌜ Held (layersBy (now vstarts) (now estarts) (now corners) (now origins) (now carriers) (now labels)) ⌝ ∗ ⌜ DrawableCut (heldMaps (layersBy (now vstarts) (now estarts) (now corners) (now origins) (now carriers) (now labels))) (cutBy n (now points) e (now pieces)) ⌝ ∗ ⌜ Within (cutBy n (now points) e (now pieces)) (lengthsOf (tablesBy (now vertices) (now halves) (now sources) (now faces))) ⌝ ∗ ⌜ (2 * e ≤ length (now ends)) × (4 * e ≤ length (now lines)) ⌝ ∗ ⌜ Blank (2 * e) (now next) × Blank (2 * e) (now face) × Blank (2 * e) (now outers) × Blank (2 * e + 1) (now holes) ⌝ }
     ensures { λ a. ⌜ outcomeOf a (tablesBy (now (vertices .exit)) (now (halves .exit)) (now (sources .exit)) (now (faces .exit))) ≡ laidOut (heldMaps (layersBy (now (vstarts .entry)) (now (estarts .entry)) (now (corners .entry)) (now (origins .entry)) (now (carriers .entry)) (now (labels .entry)))) (overlayIn (heldMaps (layersBy (now (vstarts .entry)) (now (estarts .entry)) (now (corners .entry)) (now (origins .entry)) (now (carriers .entry)) (now (labels .entry)))) (cutBy n (now (points .entry)) e (now (pieces .entry)))) (lengthsOf (tablesBy (now (vertices .entry)) (now (halves .entry)) (now (sources .entry)) (now (faces .entry)))) ⌝ }
 {
-    let mut ends = [0u16; HALVES];
-    let mut lines = [0i16; CARRIER_CELLS];
     lay_net(
         vstarts,
         estarts,
@@ -71,24 +90,10 @@ pub fn from_cut(
         points,
         e,
         pieces,
-        &mut ends,
-        &mut lines,
+        ends,
+        lines,
     );
-    let mut next = [0u16; HALVES];
-    let mut face = [0u16; HALVES];
-    let mut outers = [0u16; HALVES];
-    let mut holes = [0u16; FACE_ROWS];
-    let count = walk_net(
-        n,
-        points,
-        e,
-        &ends,
-        &lines,
-        &mut next,
-        &mut face,
-        &mut outers,
-        &mut holes,
-    );
+    let count = walk_net(n, points, e, ends, lines, next, face, outers, holes);
     let room = room_in(vertices.len(), halves.len(), sources.len(), faces.len());
     if room.faces as usize <= count {
         let over = Refusal {
@@ -110,12 +115,12 @@ pub fn from_cut(
             points,
             e,
             pieces,
-            &ends,
-            &lines,
-            &next,
-            &face,
-            &outers,
-            &holes,
+            ends,
+            lines,
+            next,
+            face,
+            outers,
+            holes,
             count,
             vertices,
             halves,
@@ -125,8 +130,132 @@ pub fn from_cut(
     }
 }
 
-// Vertices and edges, the vertices by the way that is asked for.
-pub fn from_layers(
+// The same in tables of its own, as large as the overlay may need them, or small ones where these are enough.
+pub fn from_cut(
+    vstarts: &[usize],
+    estarts: &[usize],
+    corners: &[i64],
+    origins: &[u16],
+    carriers: &[i16],
+    labels: &[u16],
+    n: usize,
+    points: &[i64],
+    e: usize,
+    pieces: &[u16],
+    vertices: &mut [i64],
+    halves: &mut [u16],
+    sources: &mut [u32],
+    faces: &mut [u16],
+) -> Answer
+    requires { ⌜ Held (layersBy (now vstarts) (now estarts) (now corners) (now origins) (now carriers) (now labels)) ⌝ ∗ ⌜ DrawableCut (heldMaps (layersBy (now vstarts) (now estarts) (now corners) (now origins) (now carriers) (now labels))) (cutBy n (now points) e (now pieces)) ⌝ ∗ ⌜ Within (cutBy n (now points) e (now pieces)) (lengthsOf (tablesBy (now vertices) (now halves) (now sources) (now faces))) ⌝ }
+    ensures { λ a. ⌜ outcomeOf a (tablesBy (now (vertices .exit)) (now (halves .exit)) (now (sources .exit)) (now (faces .exit))) ≡ laidOut (heldMaps (layersBy (now (vstarts .entry)) (now (estarts .entry)) (now (corners .entry)) (now (origins .entry)) (now (carriers .entry)) (now (labels .entry)))) (overlayIn (heldMaps (layersBy (now (vstarts .entry)) (now (estarts .entry)) (now (corners .entry)) (now (origins .entry)) (now (carriers .entry)) (now (labels .entry)))) (cutBy n (now (points .entry)) e (now (pieces .entry)))) (lengthsOf (tablesBy (now (vertices .entry)) (now (halves .entry)) (now (sources .entry)) (now (faces .entry)))) ⌝ }
+{
+    if e <= SMALL_EDGES {
+        let mut ends = [0u16; SMALL_HALVES];
+        let mut lines = [0i16; SMALL_CARRIER_CELLS];
+        let mut next = [0u16; SMALL_HALVES];
+        let mut face = [0u16; SMALL_HALVES];
+        let mut outers = [0u16; SMALL_HALVES];
+        let mut holes = [0u16; SMALL_ROWS];
+        from_cut_with(
+            vstarts,
+            estarts,
+            corners,
+            origins,
+            carriers,
+            labels,
+            n,
+            points,
+            e,
+            pieces,
+            &mut ends,
+            &mut lines,
+            &mut next,
+            &mut face,
+            &mut outers,
+            &mut holes,
+            vertices,
+            halves,
+            sources,
+            faces,
+        )
+    } else {
+        let mut ends = [0u16; HALVES];
+        let mut lines = [0i16; CARRIER_CELLS];
+        let mut next = [0u16; HALVES];
+        let mut face = [0u16; HALVES];
+        let mut outers = [0u16; HALVES];
+        let mut holes = [0u16; FACE_ROWS];
+        from_cut_with(
+            vstarts,
+            estarts,
+            corners,
+            origins,
+            carriers,
+            labels,
+            n,
+            points,
+            e,
+            pieces,
+            &mut ends,
+            &mut lines,
+            &mut next,
+            &mut face,
+            &mut outers,
+            &mut holes,
+            vertices,
+            halves,
+            sources,
+            faces,
+        )
+    }
+}
+
+// The maps' vertices and edges, in tables of any length that have their rows: more of them than room are refused.
+fn lay_cut(
+    vstarts: &[usize],
+    estarts: &[usize],
+    corners: &[i64],
+    origins: &[u16],
+    carriers: &[i16],
+    labels: &[u16],
+    n: usize,
+    points: &[i64],
+    e: usize,
+    pieces: &[u16],
+    vertices: &mut [i64],
+    halves: &mut [u16],
+    sources: &mut [u32],
+    faces: &mut [u16],
+) -> Answer
+    requires { ⌜ Held (layersBy (now vstarts) (now estarts) (now corners) (now origins) (now carriers) (now labels)) ⌝ ∗ ⌜ CutOf (heldMaps (layersBy (now vstarts) (now estarts) (now corners) (now origins) (now carriers) (now labels))) (cutBy n (now points) e (now pieces)) ⌝ ∗ ⌜ Rowed (cutBy n (now points) e (now pieces)) ⌝ }
+    ensures { λ a. ⌜ outcomeOf a (tablesBy (now (vertices .exit)) (now (halves .exit)) (now (sources .exit)) (now (faces .exit))) ≡ overlaid (heldMaps (layersBy (now (vstarts .entry)) (now (estarts .entry)) (now (corners .entry)) (now (origins .entry)) (now (carriers .entry)) (now (labels .entry)))) (lengthsOf (tablesBy (now (vertices .entry)) (now (halves .entry)) (now (sources .entry)) (now (faces .entry)))) ⌝ }
+{
+    let room = room_in(vertices.len(), halves.len(), sources.len(), faces.len());
+    let check = over_room(room, n, e);
+    match check {
+        Check::Bad(r) => refuse(r, vertices, halves, sources, faces),
+        Check::Fine => from_cut(
+            vstarts,
+            estarts,
+            corners,
+            origins,
+            carriers,
+            labels,
+            n,
+            points,
+            e,
+            pieces,
+            vertices,
+            halves,
+            sources,
+            faces,
+        ),
+    }
+}
+
+// Vertices and edges in tables as large as any overlay may need them, the vertices by the way that is asked for.
+fn from_many(
     way: Way,
     vstarts: &[usize],
     estarts: &[usize],
@@ -155,11 +284,55 @@ pub fn from_layers(
         &mut points,
         &mut pieces,
     );
-    let room = room_in(vertices.len(), halves.len(), sources.len(), faces.len());
-    let check = over_room(room, cut.vertices, cut.edges);
-    match check {
-        Check::Bad(r) => refuse(r, vertices, halves, sources, faces),
-        Check::Fine => from_cut(
+    lay_cut(
+        vstarts,
+        estarts,
+        corners,
+        origins,
+        carriers,
+        labels,
+        cut.vertices,
+        &points,
+        cut.edges,
+        &pieces,
+        vertices,
+        halves,
+        sources,
+        faces,
+    )
+}
+
+// The same in small tables, which are soon cleared, the vertices collected the plain way; where these tables are too small, anew in large ones.
+fn from_few(
+    way: Way,
+    vstarts: &[usize],
+    estarts: &[usize],
+    corners: &[i64],
+    origins: &[u16],
+    carriers: &[i16],
+    labels: &[u16],
+    vertices: &mut [i64],
+    halves: &mut [u16],
+    sources: &mut [u32],
+    faces: &mut [u16],
+) -> Answer
+    requires { ⌜ Held (layersBy (now vstarts) (now estarts) (now corners) (now origins) (now carriers) (now labels)) ⌝ }
+    ensures { λ a. ⌜ outcomeOf a (tablesBy (now (vertices .exit)) (now (halves .exit)) (now (sources .exit)) (now (faces .exit))) ≡ overlaid (heldMaps (layersBy (now (vstarts .entry)) (now (estarts .entry)) (now (corners .entry)) (now (origins .entry)) (now (carriers .entry)) (now (labels .entry)))) (lengthsOf (tablesBy (now (vertices .entry)) (now (halves .entry)) (now (sources .entry)) (now (faces .entry)))) ⌝ }
+{
+    let mut points = [0i64; SMALL_POINT_CELLS];
+    let mut pieces = [0u16; SMALL_PIECE_CELLS];
+    let cut = cut_few(
+        vstarts,
+        estarts,
+        corners,
+        origins,
+        carriers,
+        labels,
+        &mut points,
+        &mut pieces,
+    );
+    if cut.vertices <= SMALL_VERTICES && cut.edges <= SMALL_EDGES {
+        lay_cut(
             vstarts,
             estarts,
             corners,
@@ -174,6 +347,69 @@ pub fn from_layers(
             halves,
             sources,
             faces,
-        ),
+        )
+    } else {
+        from_many(
+            way,
+            vstarts,
+            estarts,
+            corners,
+            origins,
+            carriers,
+            labels,
+            vertices,
+            halves,
+            sources,
+            faces,
+        )
+    }
+}
+
+// From the layers to the tables. With few input edges small tables are tried: these edges make a small sheet unless they cross each other often.
+pub fn from_layers(
+    way: Way,
+    small: bool,
+    vstarts: &[usize],
+    estarts: &[usize],
+    corners: &[i64],
+    origins: &[u16],
+    carriers: &[i16],
+    labels: &[u16],
+    vertices: &mut [i64],
+    halves: &mut [u16],
+    sources: &mut [u32],
+    faces: &mut [u16],
+) -> Answer
+    requires { ⌜ Held (layersBy (now vstarts) (now estarts) (now corners) (now origins) (now carriers) (now labels)) ⌝ }
+    ensures { λ a. ⌜ outcomeOf a (tablesBy (now (vertices .exit)) (now (halves .exit)) (now (sources .exit)) (now (faces .exit))) ≡ overlaid (heldMaps (layersBy (now (vstarts .entry)) (now (estarts .entry)) (now (corners .entry)) (now (origins .entry)) (now (carriers .entry)) (now (labels .entry)))) (lengthsOf (tablesBy (now (vertices .entry)) (now (halves .entry)) (now (sources .entry)) (now (faces .entry)))) ⌝ }
+{
+    if small && estarts[MAPS] <= FEW_EDGES {
+        from_few(
+            way,
+            vstarts,
+            estarts,
+            corners,
+            origins,
+            carriers,
+            labels,
+            vertices,
+            halves,
+            sources,
+            faces,
+        )
+    } else {
+        from_many(
+            way,
+            vstarts,
+            estarts,
+            corners,
+            origins,
+            carriers,
+            labels,
+            vertices,
+            halves,
+            sources,
+            faces,
+        )
     }
 }

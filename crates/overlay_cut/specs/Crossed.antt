@@ -8,7 +8,6 @@ use Rattle.paper.specs.Limits.{maps}
 use Rattle.paper.specs.Plane.{Seg}
 use Rattle.paper.specs.Meeting.{meeting, pointOf}
 use Rattle.graph.specs.Flat.{pointWidth, carrierAt, Carriers}
-use Rattle.overlay_cut.specs.Rooms.{vertexRows}
 use Rattle.overlay_cut.specs.Cuts.{startOf, edgesFrom}
 
 -- where t meets the first e edges
@@ -26,10 +25,10 @@ crossPart cs st m = crossMap cs (startOf st m) (edgesFrom st m)
 abbrev pub crossAll : List ℤ → List ℕ → List Pt
 crossAll cs st = rows (crossPart cs st) maps
 
--- a table of points with n of them
-pub record PointTable (t : List ℤ) (n : ℕ) : Type 0 where
-  pub long : pointWidth * vertexRows ≤ length t
-  pub within : n ≤ vertexRows
+-- a table of points with room for so many rows, and n of them
+pub record PointTable (t : List ℤ) (room n : ℕ) : Type 0 where
+  pub long : pointWidth * room ≤ length t
+  pub within : n ≤ room
 
 pub carriers-fewer : (cs : List ℤ) (e d : ℕ) → d ≤ e → Carriers cs e → Carriers cs d
 carriers-fewer cs e d h r = record { long = omega (arith, r .long); near = λ k l. r .near k (omega arith) }

@@ -10,3 +10,6 @@ pub mod EdgesAre
 pub mod NetLaws
 pub mod NetAre
 pub mod NetBounds
+pub mod Threading
+pub mod Remembering
+pub mod Along

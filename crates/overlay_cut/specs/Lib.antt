@@ -10,3 +10,4 @@ pub mod Collecting
 pub mod Crossed
 pub mod Net
 pub mod Laws
+pub mod Threads

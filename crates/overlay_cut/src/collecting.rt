@@ -4,7 +4,6 @@ use graph::carrier_at;
 use graph::point_at;
 use limits::MAPS;
 use limits::POINT_WIDTH;
-use limits::VERTEX_ROWS;
 use plane::Meeting;
 use plane::Point;
 use plane::Seg;
@@ -23,7 +22,6 @@ ghost use Rattle.plane.specs.Bounds.{Near, Edge};
 ghost use Rattle.plane.specs.Values.{ptOf, segOf};
 ghost use Rattle.graph.specs.Flat.{Points, Carriers, pointAt};
 ghost use Rattle.graph.specs.Upright.{Upright};
-ghost use Rattle.overlay_cut.specs.Rooms.{vertexRows};
 ghost use Rattle.overlay_cut.specs.Points.{pointsOf, equal};
 ghost use Rattle.overlay_cut.specs.Collecting.{gathered, standsAmong};
 ghost use Rattle.overlay_cut.specs.Crossed.{PointTable, crossRow, crossMap, crossAll};
@@ -62,11 +60,11 @@ fn stands(points: &[i64], n: usize, p: Point) -> bool
 }
 
 // Appends p to n points where it is new, if there is room for one more row. Answers how many there are.
-fn append_new(points: &mut [i64], n: usize, p: Point) -> usize
-    requires { ⌜ PointTable (now points) n ⌝ ∗ ⌜ Near (ptOf p) ⌝ }
-    ensures { λ r. ⌜ pointsOf (now (points .exit)) r ≡ gathered vertexRows (pointsOf (now (points .entry)) n) (ptOf p ∷ []) ⌝ }
+fn append_new(points: &mut [i64], room: usize, n: usize, p: Point) -> usize
+    requires { ⌜ PointTable (now points) room n ⌝ ∗ ⌜ Near (ptOf p) ⌝ }
+    ensures { λ r. ⌜ pointsOf (now (points .exit)) r ≡ gathered room (pointsOf (now (points .entry)) n) (ptOf p ∷ []) ⌝ }
 {
-    if VERTEX_ROWS <= n {
+    if room <= n {
         return n;
     }
     if stands(points, n, p) {
@@ -77,93 +75,101 @@ fn append_new(points: &mut [i64], n: usize, p: Point) -> usize
 }
 
 // Appends the point where s and t touch or cross; edges go up. Nothing is reckoned of two whose boxes are apart.
-fn cross_pair(s: Seg, t: Seg, points: &mut [i64], n: usize) -> usize
-    requires { ⌜ PointTable (now points) n ⌝ ∗ ⌜ Edge (segOf s) × Edge (segOf t) ⌝ ∗ ⌜ UpV (segOf s .up) × UpV (segOf t .up) ⌝ }
-    ensures { λ r. ⌜ pointsOf (now (points .exit)) r ≡ gathered vertexRows (pointsOf (now (points .entry)) n) (optional (pointOf (meeting (segOf s) (segOf t)))) ⌝ }
+fn cross_pair(s: Seg, t: Seg, points: &mut [i64], room: usize, n: usize) -> usize
+    requires { ⌜ PointTable (now points) room n ⌝ ∗ ⌜ Edge (segOf s) × Edge (segOf t) ⌝ ∗ ⌜ UpV (segOf s .up) × UpV (segOf t .up) ⌝ }
+    ensures { λ r. ⌜ pointsOf (now (points .exit)) r ≡ gathered room (pointsOf (now (points .entry)) n) (optional (pointOf (meeting (segOf s) (segOf t)))) ⌝ }
 {
     if boxes_apart(s, t) {
         return n;
     }
     match meeting(s, t) {
         Meeting::Apart => n,
-        Meeting::Touching(p) => append_new(points, n, p),
-        Meeting::Crossing(p) => append_new(points, n, p),
+        Meeting::Touching(p) => append_new(points, room, n, p),
+        Meeting::Crossing(p) => append_new(points, room, n, p),
         Meeting::Sharing => n,
     }
 }
 
 // Appends the points where t meets the first e edges.
-fn cross_row(carriers: &[i16], e: usize, t: Seg, points: &mut [i64], n: usize) -> usize
-    requires { ⌜ PointTable (now points) n ⌝ ∗ ⌜ Carriers (now carriers) e ⌝ ∗ ⌜ Edge (segOf t) ⌝ ∗ ⌜ Upright (now carriers) e ⌝ ∗ ⌜ UpV (segOf t .up) ⌝ }
-    ensures { λ r. ⌜ pointsOf (now (points .exit)) r ≡ gathered vertexRows (pointsOf (now (points .entry)) n) (crossRow (now (carriers .entry)) e (segOf t)) ⌝ }
+fn cross_row(carriers: &[i16], e: usize, t: Seg, points: &mut [i64], room: usize, n: usize) -> usize
+    requires { ⌜ PointTable (now points) room n ⌝ ∗ ⌜ Carriers (now carriers) e ⌝ ∗ ⌜ Edge (segOf t) ⌝ ∗ ⌜ Upright (now carriers) e ⌝ ∗ ⌜ UpV (segOf t .up) ⌝ }
+    ensures { λ r. ⌜ pointsOf (now (points .exit)) r ≡ gathered room (pointsOf (now (points .entry)) n) (crossRow (now (carriers .entry)) e (segOf t)) ⌝ }
 {
     let mut total = n;
     let mut j = 0;
     while j < e {
         let s = carrier_at(carriers, j);
-        total = cross_pair(s, t, points, total);
+        total = cross_pair(s, t, points, room, total);
         j += 1;
     }
     total
 }
 
 // Appends the points where the e edges from row `from` on, those of one map, meet the edges before them.
-fn cross_map(carriers: &[i16], from: usize, e: usize, points: &mut [i64], n: usize) -> usize
-    requires { ⌜ PointTable (now points) n ⌝ ∗ ⌜ Carriers (now carriers) (from + e) ⌝ ∗ ⌜ Upright (now carriers) (from + e) ⌝ }
-    ensures { λ r. ⌜ pointsOf (now (points .exit)) r ≡ gathered vertexRows (pointsOf (now (points .entry)) n) (crossMap (now (carriers .entry)) from e) ⌝ }
+fn cross_map(
+    carriers: &[i16],
+    from: usize,
+    e: usize,
+    points: &mut [i64],
+    room: usize,
+    n: usize,
+) -> usize
+    requires { ⌜ PointTable (now points) room n ⌝ ∗ ⌜ Carriers (now carriers) (from + e) ⌝ ∗ ⌜ Upright (now carriers) (from + e) ⌝ }
+    ensures { λ r. ⌜ pointsOf (now (points .exit)) r ≡ gathered room (pointsOf (now (points .entry)) n) (crossMap (now (carriers .entry)) from e) ⌝ }
 {
     let mut total = n;
     let mut k = 0;
     while k < e {
         let t = carrier_at(carriers, from + k);
-        total = cross_row(carriers, from, t, points, total);
+        total = cross_row(carriers, from, t, points, room, total);
         k += 1;
     }
     total
 }
 
 // Appends the first c rows of the table of corners.
-fn corners(corners: &[i64], c: usize, points: &mut [i64], n: usize) -> usize
-    requires { ⌜ PointTable (now points) n ⌝ ∗ ⌜ Points (now corners) c ⌝ }
-    ensures { λ r. ⌜ pointsOf (now (points .exit)) r ≡ gathered vertexRows (pointsOf (now (points .entry)) n) (pointsOf (now (corners .entry)) c) ⌝ }
+fn corners(corners: &[i64], c: usize, points: &mut [i64], room: usize, n: usize) -> usize
+    requires { ⌜ PointTable (now points) room n ⌝ ∗ ⌜ Points (now corners) c ⌝ }
+    ensures { λ r. ⌜ pointsOf (now (points .exit)) r ≡ gathered room (pointsOf (now (points .entry)) n) (pointsOf (now (corners .entry)) c) ⌝ }
 {
     let mut total = n;
     let mut v = 0;
     while v < c {
         let p = point_at(corners, v);
-        total = append_new(points, total, p);
+        total = append_new(points, room, total, p);
         v += 1;
     }
     total
 }
 
 // Appends the points where edges of different maps meet.
-fn crossings(carriers: &[i16], starts: &[usize], points: &mut [i64], n: usize) -> usize
-    requires { ⌜ PointTable (now points) n ⌝ ∗ ⌜ Starts (now starts) (now carriers) ⌝ ∗ ⌜ Upright (now carriers) (startOf (now starts) maps) ⌝ }
-    ensures { λ r. ⌜ pointsOf (now (points .exit)) r ≡ gathered vertexRows (pointsOf (now (points .entry)) n) (crossAll (now (carriers .entry)) (now (starts .entry))) ⌝ }
+fn crossings(carriers: &[i16], starts: &[usize], points: &mut [i64], room: usize, n: usize) -> usize
+    requires { ⌜ PointTable (now points) room n ⌝ ∗ ⌜ Starts (now starts) (now carriers) ⌝ ∗ ⌜ Upright (now carriers) (startOf (now starts) maps) ⌝ }
+    ensures { λ r. ⌜ pointsOf (now (points .exit)) r ≡ gathered room (pointsOf (now (points .entry)) n) (crossAll (now (carriers .entry)) (now (starts .entry))) ⌝ }
 {
     let mut total = n;
     let mut m = 0;
     while m < MAPS {
         let from = starts[m];
         let e = starts[m + 1] - from;
-        total = cross_map(carriers, from, e, points, total);
+        total = cross_map(carriers, from, e, points, room, total);
         m += 1;
     }
     total
 }
 
-// The corners and the crossings, each point once: how many there are, or VERTEX_ROWS where there are more than the overlay may have.
+// The corners and the crossings, each point once, in a table with room for so many rows: how many there are, or `room` where there are as many or more.
 pub fn collect(
     corner_rows: &[i64],
     c: usize,
     carriers: &[i16],
     starts: &[usize],
     out: &mut [i64],
+    room: usize,
 ) -> usize
-    requires { ⌜ PointTable (now out) 0 ⌝ ∗ ⌜ Points (now «corner_rows») c ⌝ ∗ ⌜ Starts (now starts) (now carriers) ⌝ ∗ ⌜ Upright (now carriers) (startOf (now starts) maps) ⌝ }
-    ensures { λ r. ⌜ pointsOf (now (out .exit)) r ≡ gathered vertexRows [] (pointsOf (now («corner_rows» .entry)) c ++ crossAll (now (carriers .entry)) (now (starts .entry))) ⌝ }
+    requires { ⌜ PointTable (now out) room 0 ⌝ ∗ ⌜ Points (now «corner_rows») c ⌝ ∗ ⌜ Starts (now starts) (now carriers) ⌝ ∗ ⌜ Upright (now carriers) (startOf (now starts) maps) ⌝ }
+    ensures { λ r. ⌜ pointsOf (now (out .exit)) r ≡ gathered room [] (pointsOf (now («corner_rows» .entry)) c ++ crossAll (now (carriers .entry)) (now (starts .entry))) ⌝ }
 {
-    let n = corners(corner_rows, c, out, 0);
-    crossings(carriers, starts, out, n)
+    let n = corners(corner_rows, c, out, room, 0);
+    crossings(carriers, starts, out, room, n)
 }

@@ -3,5 +3,6 @@ pub mod Standing
 pub mod CutLaws
 pub mod Sweeping
 pub mod Drawing
+pub mod Zeros
 pub mod Tracing
 pub mod Backwards

@@ -1,15 +1,25 @@
--- The overlay's half-edges, walks and faces in tables, zeros past the counts: a record of lists, which contracts name and no function holds. In order: the net,
--- the faces, and all of it with predecessors and least outgoing half-edges. Assumes nothing.
+-- The overlay's half-edges, walks and faces in tables, zeros past the counts: a record of lists, which contracts name and no function holds. In order: tables of
+-- zeros, of any length; the net, the faces, and all of it with predecessors and least outgoing half-edges. Assumes nothing.
 use mathlib.Core.Path.{_≡_}
-use Prim.Native.Nat.{_<_}
-use Rattle.seq.specs.Seq.{List, ℕ, suc, _*_, length, getD, ℤ, table, position, over, padded}
+use Prim.Native.Nat.{_≤_, _<_}
+use Rattle.seq.specs.Seq.{List, ℕ, suc, _*_, length, getD, replicate, ℤ, table, position, over, padded}
 use Rattle.paper.specs.Map.{Map}
 use Rattle.paper.specs.Graph.{halfCount, leaves}
 use Rattle.paper.specs.Faces.{Overlay, net, holesOf}
 use Rattle.paper.specs.Tables.{leastHalf}
 use Rattle.graph.specs.Flat.{Flat, flatGraph}
-use Rattle.graph_faces.specs.Linked.{halfRows}
 use Rattle.overlay_graph.specs.Cut.{Cut, overlayIn}
+
+-- a table of zeros, with n cells or more
+pub record Blank (n : ℕ) (t : List ℕ) : Type 0 where
+  pub cells : ℕ
+  pub room : n ≤ cells
+  pub is : t ≡ replicate cells 0
+
+-- a table that holds xs, and zeros after it
+pub record Zeroed (xs t : List ℕ) : Type 0 where
+  pub cells : ℕ
+  pub is : t ≡ padded 0 cells xs
 
 -- of each half-edge where it starts, its follower, its predecessor and its face; of each edge the input edge that it lies along; of each vertex the least outgoing
 -- half-edge; the least half-edges of the outer walks and how many there are; of each face its hole walks
@@ -55,11 +65,11 @@ pub record FacesOver (o : Overlay) (next₀ face₀ outers₀ holes₀ next face
 
 -- and over zeros
 pub record FacesBy (o : Overlay) (next face outers holes : List ℕ) (count : ℕ) : Type 0 where
-  pub next-is : next ≡ padded 0 halfRows (o .walks .next)
-  pub face-is : face ≡ padded 0 halfRows (o .face)
-  pub outers-is : outers ≡ padded 0 halfRows (o .outers)
+  pub next-is : Zeroed (o .walks .next) next
+  pub face-is : Zeroed (o .face) face
+  pub outers-is : Zeroed (o .outers) outers
   pub count-is : count ≡ length (o .outers)
-  pub holes-is : holes ≡ padded 0 (suc halfRows) (table (holesOf o) (suc count))
+  pub holes-is : Zeroed (table (holesOf o) (suc count)) holes
 
 -- predecessors, and the least outgoing half-edges
 abbrev pub PrevBy : Overlay → Cut → List ℕ → Type 0

@@ -5,6 +5,7 @@ mod tracing; // half-edges, walks, faces
 
 pub use collecting::Way;
 pub use cutting::CutCounts;
+pub use cutting::cut_few;
 pub use cutting::cut_maps;
 pub use tracing::lay_net;
 pub use tracing::walk_net;

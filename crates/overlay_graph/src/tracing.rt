@@ -2,6 +2,8 @@
 use graph_faces::enclose;
 use graph_faces::link;
 use limits::HALVES;
+use limits::SMALL_EDGES;
+use limits::SMALL_HALVES;
 use overlay_cut::carriers as lay_carriers;
 use overlay_cut::origins as lay_origins;
 ghost use Prim.Native.Nat.{_*_, _≤_, _<_};
@@ -38,7 +40,28 @@ pub fn lay_net(
     lay_carriers(pieces, e, edges, carriers, lines);
 }
 
-// The followers, and the faces: of each half-edge, the least half-edges of the outer walks and how many there are, and the hole walks of each face.
+// The followers and the faces, in tables that are lent.
+fn walk_net_in(
+    n: usize,
+    points: &[i64],
+    e: usize,
+    ends: &[u16],
+    lines: &[i16],
+    lead: &mut [u16],
+    top: &mut [u16],
+    next: &mut [u16],
+    face: &mut [u16],
+    outers: &mut [u16],
+    holes: &mut [u16],
+) -> usize
+    requires { ⌜ Flat (now points) (now ends) (now lines) n e ⌝ ∗ ⌜ (n ≤ overlayVertices) × (e ≤ overlayEdges) ⌝ ∗ ⌜ Plane (flatGraph (now points) (now ends) (now lines) n e) ⌝ ∗ ⌜ (2 * e ≤ length (now next)) × (2 * e ≤ length (now face)) × (2 * e ≤ length (now outers)) × (2 * e < length (now holes)) ⌝ ∗ ⌜ (2 * e ≤ length (now lead)) × (2 * e ≤ length (now top)) ⌝ }
+    ensures { λ r. ⌜ FacesOver (facesOf (flatGraph (now (points .entry)) (now (ends .entry)) (now (lines .entry)) n e)) (now (next .entry)) (now (face .entry)) (now (outers .entry)) (now (holes .entry)) (now (next .exit)) (now (face .exit)) (now (outers .exit)) (now (holes .exit)) r ⌝ }
+{
+    link(points, ends, lines, n, e, next, lead, top);
+    enclose(points, ends, lines, n, e, lead, top, face, outers, holes)
+}
+
+// The followers, and the faces: of each half-edge, the least half-edges of the outer walks and how many there are, and the hole walks of each face. A small sheet is walked in small tables: less to clear.
 pub fn walk_net(
     n: usize,
     points: &[i64],
@@ -53,8 +76,37 @@ pub fn walk_net(
     requires { ⌜ Flat (now points) (now ends) (now lines) n e ⌝ ∗ ⌜ (n ≤ overlayVertices) × (e ≤ overlayEdges) ⌝ ∗ ⌜ Plane (flatGraph (now points) (now ends) (now lines) n e) ⌝ ∗ ⌜ (2 * e ≤ length (now next)) × (2 * e ≤ length (now face)) × (2 * e ≤ length (now outers)) × (2 * e < length (now holes)) ⌝ }
     ensures { λ r. ⌜ FacesOver (facesOf (flatGraph (now (points .entry)) (now (ends .entry)) (now (lines .entry)) n e)) (now (next .entry)) (now (face .entry)) (now (outers .entry)) (now (holes .entry)) (now (next .exit)) (now (face .exit)) (now (outers .exit)) (now (holes .exit)) r ⌝ }
 {
-    let mut lead = [0u16; HALVES];
-    let mut top = [0u16; HALVES];
-    link(points, ends, lines, n, e, next, &mut lead, &mut top);
-    enclose(points, ends, lines, n, e, &lead, &top, face, outers, holes)
+    if e <= SMALL_EDGES {
+        let mut lead = [0u16; SMALL_HALVES];
+        let mut top = [0u16; SMALL_HALVES];
+        walk_net_in(
+            n,
+            points,
+            e,
+            ends,
+            lines,
+            &mut lead,
+            &mut top,
+            next,
+            face,
+            outers,
+            holes,
+        )
+    } else {
+        let mut lead = [0u16; HALVES];
+        let mut top = [0u16; HALVES];
+        walk_net_in(
+            n,
+            points,
+            e,
+            ends,
+            lines,
+            &mut lead,
+            &mut top,
+            next,
+            face,
+            outers,
+            holes,
+        )
+    }
 }

@@ -3,7 +3,7 @@
 use mathlib.Core.Path.{_≡_, refl, sym, _∙_, ap, subst}
 use mathlib.Core.List.{append-assoc}
 use Prim.Native.Nat.{_≤_, _<_}
-use native.Mathlib.Nat.{not-suc-le-zero, mul-suc, mul-add, mul-le-mul-left}
+use native.Mathlib.Nat.{not-suc-le-zero, mul-add, mul-le-mul-left}
 use native.Mathlib.Numerals.{add-one}
 use native.Mathlib.Omega.{arith}
 use lib.ListN.{length-append, length-map, List·getD-map}
@@ -14,7 +14,7 @@ use Rattle.seq.specs.Over.{length-over, over-at}
 use Rattle.seq.specs.Filled.{filled-all}
 use Rattle.seq.specs.Laid.{laid-all}
 use Rattle.seq.specs.Total.{total}
-use Rattle.paper.specs.Limits.{maps, mapVertices, mapEdges}
+use Rattle.paper.specs.Limits.{maps, mapEdges}
 use Rattle.paper.specs.Refusal.{Refusal, firstOf}
 use Rattle.paper.specs.Graph.{Graph, origin}
 use Rattle.paper.specs.Map.{Map, mapOf, vertexCount, edgesIn, fault, formFaults, partFaults, netFaults}
@@ -23,15 +23,17 @@ use Rattle.laws_map.specs.Files.{passes-keeps}
 use Rattle.laws_refusals.specs.Refusals.{first-none}
 use Rattle.graph.specs.Flat.{Flat, flatGraph}
 use Rattle.map_file.specs.Rows.{pointRow, carrierRow}
-use Rattle.map_check.specs.Held.{flatMap}
+use Rattle.map_check.specs.Held.{flatMap, stored}
 use Rattle.map_check.specs.Laws.Kept.{Kept}
 use Rattle.map_check.proofs.KeptLaws.{kept}
+use Rattle.map_check.proofs.RoomLaws.{stored-all}
 use Rattle.map_check.proofs.LoadedLaws.{point-held, carrier-held, cell-held, labels-table, graph-held, held-flat}
 use Rattle.overlay_maps.specs.Ended.{Ended}
 use Rattle.overlay_maps.specs.Standing.{cells, standing, Stands}
 use Rattle.overlay_maps.specs.Layers.{Layers, cornersOf, originsOf, carriersOf, labelsOf, starts, Layered, LayerRoom}
 use Rattle.overlay_maps.specs.Held.{vertexStart, edgeStart, heldMap, heldMaps, Held}
 use Rattle.overlay_maps.proofs.StackLaws.{corners-long, origins-long, carriers-long, labels-long, gather-long}
+use Rattle.overlay_maps.proofs.RoomLaws.{total-within, total-under}
 
 -- ── where each map starts ──
 
@@ -54,12 +56,6 @@ module _ (count : List ℕ → ℕ) where
   start-within n [] (suc i) l = absurd (not-suc-le-zero l)
   start-within n (s ∷ files) zero l = omega arith
   start-within n (s ∷ files) (suc i) l = omega (arith, start-within (n + count s) files i (omega arith))
-
-  -- all together, where each is within a limit
-  total-within : (limit : ℕ) (files : List (List ℕ)) → ((i : ℕ) → i < length files → count (getD files i []) ≤ limit) → total count files ≤ limit * length files
-  total-within limit [] h = omega arith
-  total-within limit (s ∷ files) h =
-      omega (arith, mul-suc limit (length files), h 0 (omega arith), total-within limit files (λ i l. h (suc i) (omega arith)))
 
 -- ── its part of a table ──
 
@@ -133,6 +129,10 @@ module _ (s : List ℕ) where
     pub form-passes : firstOf (formFaults s) ≡ none
     unfolding fault
     form-passes = front-none (formFaults s) (partFaults (mapOf s .graph) ++ netFaults (mapOf s)) passes
+
+    -- room is needed for all rows that it counts
+    pub stored-is : (count : List ℕ → ℕ) → stored count s ≡ count s
+    stored-is count = stored-all count s form-passes
 
     parts-pass : firstOf (partFaults (mapOf s .graph)) ≡ none
     unfolding fault
@@ -235,9 +235,10 @@ module _ (files : List (List ℕ)) (d l : Layers) (is : Layered files d l) where
         sym (table-is (heldMap l) maps (map mapOf files) (mapOf []) (length-map files mapOf ∙ every)
         (λ i b. List·getD-map mapOf files i [] ∙ sym (held-is i (omega arith))))
 
-    module _ (room : LayerRoom d) (passes : (i : ℕ) → i < length files → fault (getD files i []) ≡ none) where
-      few-vertices : total vertexCount files ≤ maps * mapVertices
-      few-vertices = omega (arith, every, total-within vertexCount mapVertices files (λ i b. passes-kept (getD files i []) (passes i b) .few-vertices))
+    module _ (room : LayerRoom files d) (passes : (i : ℕ) → i < length files → fault (getD files i []) ≡ none) where
+      -- room for as many rows as are counted
+      all-stored : (count : List ℕ → ℕ) → total count files ≤ total (stored count) files
+      all-stored count = total-under count (stored count) files (λ i b. omega (arith, stored-is (getD files i []) (passes i b) count))
 
       few-edges : total edgesIn files ≤ maps * mapEdges
       few-edges = omega (arith, every, total-within edgesIn mapEdges files (λ i b. passes-kept (getD files i []) (passes i b) .few-edges))
@@ -253,10 +254,10 @@ module _ (files : List (List ℕ)) (d l : Layers) (is : Layered files d l) where
         stands =
             stands-by (getD files i []) (l .corners) (l .origins) (l .carriers) (l .labels) (vertexStart l i) (vertexStart l (i + 1)) (edgeStart l i) (edgeStart l (i + 1))
             (wide i b) (far i b) (corner-cells i b) (origin-cells i b) (carrier-cells i b) (label-cells i b) (passes i b)
-            (part-within cornersOf 4 vertexCount corners-long (d .corners) (l .corners) files (is .stacked .corners-are) (vertexStart l (i + 1)) (maps * mapVertices) vertices-end few-vertices (omega (arith, room .tables .corners)))
-            (part-within originsOf 2 edgesIn origins-long (d .origins) (l .origins) files (is .stacked .origins-are) (edgeStart l (i + 1)) (maps * mapEdges) edges-end few-edges (omega (arith, room .tables .origins)))
-            (part-within carriersOf 4 edgesIn carriers-long (d .carriers) (l .carriers) files (is .stacked .carriers-are) (edgeStart l (i + 1)) (maps * mapEdges) edges-end few-edges (omega (arith, room .tables .carriers)))
-            (part-within labelsOf 2 edgesIn labels-long (d .labels) (l .labels) files (is .stacked .labels-are) (edgeStart l (i + 1)) (maps * mapEdges) edges-end few-edges (omega (arith, room .tables .labels)))
+            (part-within cornersOf 4 vertexCount corners-long (d .corners) (l .corners) files (is .stacked .corners-are) (vertexStart l (i + 1)) (total (stored vertexCount) files) vertices-end (all-stored vertexCount) (room .tables .corners))
+            (part-within originsOf 2 edgesIn origins-long (d .origins) (l .origins) files (is .stacked .origins-are) (edgeStart l (i + 1)) (total (stored edgesIn) files) edges-end (all-stored edgesIn) (room .tables .origins))
+            (part-within carriersOf 4 edgesIn carriers-long (d .carriers) (l .carriers) files (is .stacked .carriers-are) (edgeStart l (i + 1)) (total (stored edgesIn) files) edges-end (all-stored edgesIn) (room .tables .carriers))
+            (part-within labelsOf 2 edgesIn labels-long (d .labels) (l .labels) files (is .stacked .labels-are) (edgeStart l (i + 1)) (total (stored edgesIn) files) edges-end (all-stored edgesIn) (room .tables .labels))
             (omega (arith, edges-end, few-edges))
 
       starts-room : (count : List ℕ → ℕ) (t u : List ℕ) → t ≡ over (starts count 0 files) u → maps < length u → maps < length t

@@ -1,15 +1,14 @@
--- The label of a map's edge at the left of a half-edge along it, by which of the edge's half-edges goes down; and that these are in the table of labels.
+-- The label of a map's edge at the left of a half-edge along it, by which of the edge's half-edges goes up.
 -- Assumes nothing.
 use mathlib.Core.Path.{_≡_, sym, _∙_, ap}
-use Prim.Native.Nat.{_<_}
+use native.Mathlib.Decide.{decLt}
 use native.Mathlib.Omega.{arith}
 use borrow.Author.Tests.{eq-eqb, ne-eqb}
-use Rattle.seq.specs.Seq.{Bool, cond, ℕ, suc, _*_, _-_, _%_, getD}
+use Rattle.seq.specs.Seq.{Bool, true, false, cond, ℕ, suc, _+_, _*_, _-_, _%_, getD}
 use Rattle.paper.specs.Plane.{Pt, Vec}
-use Rattle.paper.specs.Graph.{Graph, twin, eastSide}
+use Rattle.paper.specs.Graph.{twin, goesUp, eastSide}
 use Rattle.paper.specs.Map.{Map}
-use Rattle.laws_graph.specs.Halves.{twin-half}
-use Rattle.laws_graph.specs.East.{east-half}
+use Rattle.laws_graph.specs.Halves.{twin-first, twin-second}
 use Rattle.overlay_maps.specs.Label.{ownLabel, seenLabel, labelBy}
 
 module _ (m : Map) (h k x : ℕ) where
@@ -24,12 +23,26 @@ module _ (m : Map) (h k x : ℕ) where
       ap (λ (y : ℕ). getD (m .labels) y 0)
       (e ∙ sym (ap (λ (c : Bool). cond c (twin (eastSide (m .graph) k)) (eastSide (m .graph) k)) (ne-eqb (h % 2) 0 q)))
 
-module _ (g : Graph) (e k x : ℕ) (l : k < e) (q : x ≡ eastSide g k) where
-  pub east-in : x < 2 * e
-  east-in = omega (arith, east-half g k)
+-- the two half-edges of edge k, by whether the first goes up
+module _ (m : Map) (h k x : ℕ) where
+  east-is : (u : Bool) → goesUp (m .graph) (2 * k) ≡ u → eastSide (m .graph) k ≡ cond u (2 * k + 1) (2 * k)
+  east-is u e = ap (λ (c : Bool). cond c (2 * k + 1) (2 * k)) e
 
-  pub twin-in : twin x < 2 * e
-  twin-in = omega (arith, east-half g k, twin-half x)
+  -- the first goes up: along h lies that of h's parity
+  pub own-rising : goesUp (m .graph) (2 * k) ≡ true → x ≡ 2 * k + h % 2 → getD (m .labels) x 0 ≡ ownLabel m h k
+  own-rising u e =
+      elim (decLt 0 (h % 2)) [
+        | yes q ↦ own-down m h k x (λ z. omega (arith, q, z)) (let w : x ≡ 2 * k + 1 = omega (arith, e, q) in w ∙ sym (east-is true u))
+        | no q ↦ own-up m h k x (omega (arith, q)) (let w : x ≡ 2 * k = omega (arith, e, q) in w ∙ sym (ap twin (east-is true u) ∙ twin-second k))
+      ]
+
+  -- it goes down: along h lies the other
+  pub own-falling : goesUp (m .graph) (2 * k) ≡ false → x ≡ 2 * k + (1 - h % 2) → getD (m .labels) x 0 ≡ ownLabel m h k
+  own-falling u e =
+      elim (decLt 0 (h % 2)) [
+        | yes q ↦ own-down m h k x (λ z. omega (arith, q, z)) (let w : x ≡ 2 * k = omega (arith, e, q) in w ∙ sym (east-is false u))
+        | no q ↦ own-up m h k x (omega (arith, q)) (let w : x ≡ 2 * k + 1 = omega (arith, e, q) in w ∙ sym (ap twin (east-is false u) ∙ twin-first k))
+      ]
 
 -- by the stored source: none, and one
 module _ (m : Map) (h : ℕ) (p : Pt) (d : Vec) where

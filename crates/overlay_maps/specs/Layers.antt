@@ -1,12 +1,14 @@
 -- The tables of all maps, one map after the other: a record of lists, which contracts name and no function holds; and what stands in them of a list of files.
 -- In order: the tables; one file's map; a map behind others; all of them. Assumes nothing.
 use mathlib.Core.Path.{_≡_}
-use Prim.Native.Nat.{_≤_, _<_}
+use Prim.Native.Nat.{_<_}
 use Rattle.seq.specs.Seq.{List, [], _∷_, ℕ, _+_, _*_, length, sets, ℤ, rows, table, gather, over}
-use Rattle.paper.specs.Limits.{maps, mapVertices, mapEdges}
+use Rattle.seq.specs.Total.{total}
+use Rattle.paper.specs.Limits.{maps}
 use Rattle.paper.specs.Graph.{origin}
 use Rattle.paper.specs.Map.{mapOf, vertexCount, edgesIn, label}
 use Rattle.map_file.specs.Rows.{pointRow, carrierRow}
+use Rattle.map_check.specs.Held.{MapRoom, stored}
 
 -- where each map's vertices and edges start, and after the last where they end; then the rows and cells of the maps
 pub record Layers : Type 0 where
@@ -37,12 +39,9 @@ labelsOf s = table (label (mapOf s)) (2 * edgesIn s)
 
 -- ── a map behind v vertices and e edges ──
 
--- room for any map there
-pub record RoomFrom (v e : ℕ) (ps : List ℤ) (os : List ℕ) (cs : List ℤ) (ls : List ℕ) : Type 0 where
-  pub corners : 4 * v + 4 * mapVertices ≤ length ps
-  pub origins : 2 * e + 2 * mapEdges ≤ length os
-  pub carriers : 4 * e + 4 * mapEdges ≤ length cs
-  pub labels : 2 * e + 2 * mapEdges ≤ length ls
+-- room for the file's map there
+abbrev pub RoomFrom : List ℕ → ℕ → ℕ → List ℤ → List ℕ → List ℤ → List ℕ → Type 0
+RoomFrom s v e ps os cs ls = MapRoom (v + stored vertexCount s) (e + stored edgesIn s) ps os cs ls
 
 -- the file's map is stored there
 pub record LaidFrom (s : List ℕ) (v e : ℕ) (dps : List ℤ) (dos : List ℕ) (dcs : List ℤ) (dls : List ℕ) (ps : List ℤ) (os : List ℕ) (cs : List ℤ) (ls : List ℕ) : Type 0 where
@@ -71,16 +70,13 @@ pub record Layered (files : List (List ℕ)) (d l : Layers) : Type 0 where
   pub edges-are : l .edges ≡ over (starts edgesIn 0 files) (d .edges)
   pub stacked : Stacked files (d .corners) (d .origins) (d .carriers) (d .labels) (l .corners) (l .origins) (l .carriers) (l .labels)
 
--- ── room for as many maps as there are ──
+-- ── room for them ──
 
-pub record StackRoom (ps : List ℤ) (os : List ℕ) (cs : List ℤ) (ls : List ℕ) : Type 0 where
-  pub corners : maps * (4 * mapVertices) ≤ length ps
-  pub origins : maps * (2 * mapEdges) ≤ length os
-  pub carriers : maps * (4 * mapEdges) ≤ length cs
-  pub labels : maps * (2 * mapEdges) ≤ length ls
+abbrev pub StackRoom : List (List ℕ) → List ℤ → List ℕ → List ℤ → List ℕ → Type 0
+StackRoom files ps os cs ls = MapRoom (total (stored vertexCount) files) (total (stored edgesIn) files) ps os cs ls
 
 -- with their starts
-pub record LayerRoom (d : Layers) : Type 0 where
+pub record LayerRoom (files : List (List ℕ)) (d : Layers) : Type 0 where
   pub vertices : maps < length (d .vertices)
   pub edges : maps < length (d .edges)
-  pub tables : StackRoom (d .corners) (d .origins) (d .carriers) (d .labels)
+  pub tables : StackRoom files (d .corners) (d .origins) (d .carriers) (d .labels)

@@ -1,21 +1,22 @@
 // "The label of a half-edge in a map: if it lies along an edge of that map, the label of that edge on that side; otherwise the label of what is seen looking
 // west in that map from its lower end along it."
 use crate::west::seen_label;
-use graph::east_side;
-use graph::twin;
+use graph::carrier_at;
+use graph::start;
 use limits::CARRIER_WIDTH;
 use limits::POINT_WIDTH;
 use plane::Point;
+use plane::Seg;
 use plane::Vector;
 ghost use mathlib.Core.Path.{_≡_};
 ghost use Prim.Native.Nat.{_+_, _*_, _-_, _≤_, _<_};
 ghost use lib.ListN.{length};
 ghost use Rattle.paper.specs.Limits.{absent};
-ghost use Rattle.plane.specs.Values.{ptOf, vecOf};
-ghost use Rattle.plane.specs.Bounds.{Direction, Near};
+ghost use Rattle.plane.specs.Values.{ptOf, segOf, vecOf};
+ghost use Rattle.plane.specs.Bounds.{Direction, Edge, Near};
 ghost use Rattle.graph.specs.Flat.{Flat, flatGraph};
 ghost use Rattle.map_check.specs.Held.{flatMap};
-ghost use Rattle.overlay_maps.specs.Ended.{Ended};
+ghost use Rattle.overlay_maps.specs.Ended.{Ended, footOf};
 ghost use Rattle.overlay_maps.specs.Label.{ownLabel};
 ghost use Rattle.overlay_maps.specs.Standing.{Stands, standing};
 ghost use Rattle.overlay_maps.specs.Place.{labelAt, partAt};
@@ -51,7 +52,16 @@ pub fn part_of(vertices: &[usize], edges: &[usize], m: usize) -> Part
     }
 }
 
-// The label of edge k of the map at the left of half-edge h that lies along it, where 2k' goes up and 2k' + 1 down.
+// Whether a corner p is the lower end of an edge between corners, of which s is the carrier.
+fn is_foot(s: Seg, p: Point) -> bool
+    requires { ⌜ Edge (segOf s) × Near (ptOf p) ⌝ }
+    ensures { λ r. ⌜ r ≡ footOf (segOf s) (ptOf p) ⌝ }
+{
+    if p.x == s.x { p.y == s.y } else { false }
+}
+
+// The label of edge k of the map at the left of half-edge h that lies along it, where 2k' goes up and 2k' + 1 down. In the map it is half-edge 2k that goes down where the edge's lower end is that
+// from which 2k + 1 starts.
 fn own_label(
     points: &[i64],
     origins: &[u16],
@@ -62,14 +72,15 @@ fn own_label(
     h: usize,
     k: usize,
 ) -> u16
-    requires { ⌜ Flat (now points) (now origins) (now carriers) n e ⌝ ∗ ⌜ 2 * e ≤ absent ⌝ ∗ ⌜ 2 * e ≤ length (now labels) ⌝ ∗ ⌜ k < e ⌝ }
+    requires { ⌜ Flat (now points) (now origins) (now carriers) n e × Ended (flatGraph (now points) (now origins) (now carriers) n e) ⌝ ∗ ⌜ 2 * e ≤ absent ⌝ ∗ ⌜ 2 * e ≤ length (now labels) ⌝ ∗ ⌜ k < e ⌝ }
     ensures { λ r. ⌜ r ≡ ownLabel (flatMap (now (points .entry)) (now (origins .entry)) (now (carriers .entry)) (now (labels .entry)) n e) h k ⌝ }
 {
-    let down = east_side(points, origins, k);
-    if h % 2 == 0 {
-        labels[twin(down)]
+    let s = carrier_at(carriers, k);
+    let p = start(points, origins, 2 * k + 1);
+    if is_foot(s, p) {
+        labels[2 * k + (1 - h % 2)]
     } else {
-        labels[down]
+        labels[2 * k + h % 2]
     }
 }
 
@@ -119,5 +130,36 @@ pub fn label_at(
         part.w - part.v,
         part.b - part.a,
         at,
+    )
+}
+
+// The label of edge k of a map that stands in a part of the tables, at the left of half-edge h that lies along it.
+pub fn own_at(
+    corners: &[i64],
+    origins: &[u16],
+    carriers: &[i16],
+    labels: &[u16],
+    part: Part,
+    h: usize,
+    k: usize,
+) -> u16
+    requires { ⌜ Stands (now corners) (now origins) (now carriers) (now labels) (part .v) (part .w) (part .a) (part .b) ⌝ ∗ ⌜ k < part .b - part .a ⌝ }
+    ensures { λ r. ⌜ r ≡ ownLabel (standing (now (corners .entry)) (now (origins .entry)) (now (carriers .entry)) (now (labels .entry)) (part .v) (part .w) (part .a) (part .b)) h k ⌝ }
+{
+    let from = POINT_WIDTH * part.v;
+    let to = POINT_WIDTH * part.w;
+    let foot = CARRIER_WIDTH * part.a;
+    let head = CARRIER_WIDTH * part.b;
+    let first = 2 * part.a;
+    let last = 2 * part.b;
+    own_label(
+        &corners[from..to],
+        &origins[first..last],
+        &carriers[foot..head],
+        &labels[first..last],
+        part.w - part.v,
+        part.b - part.a,
+        h,
+        k,
     )
 }

@@ -6,6 +6,7 @@ mod label; // the label of a half-edge in a map, and where the map stands
 pub use label::Part;
 pub use label::Place;
 pub use label::label_at;
+pub use label::own_at;
 pub use label::part_of;
 pub use stack::EMPTY;
 pub use stack::empty;

@@ -60,7 +60,7 @@ fn lay_behind(
     carriers: &mut [i16],
     labels: &mut [u16],
 ) -> Check
-    requires { ⌜ RoomFrom v e (now corners) (now origins) (now carriers) (now labels) ⌝ }
+    requires { ⌜ RoomFrom (now file) v e (now corners) (now origins) (now carriers) (now labels) ⌝ }
     ensures { λ r. ⌜ (verdict r ≡ ofMap map (fault (now (file .entry)))) × (fault (now (file .entry)) ≡ none → LaidFrom (now (file .entry)) v e (now (corners .entry)) (now (origins .entry)) (now (carriers .entry)) (now (labels .entry)) (now (corners .exit)) (now (origins .exit)) (now (carriers .exit)) (now (labels .exit))) ⌝ }
 {
     let at = POINT_WIDTH * v;
@@ -85,7 +85,7 @@ fn lay_pair(
     carriers: &mut [i16],
     labels: &mut [u16],
 ) -> Check
-    requires { ⌜ StackRoom (now corners) (now origins) (now carriers) (now labels) ⌝ }
+    requires { ⌜ StackRoom (now zones ∷ now blocks ∷ []) (now corners) (now origins) (now carriers) (now labels) ⌝ }
     ensures { λ r. ⌜ (verdict r ≡ firstOf (mapFaults (now (zones .entry) ∷ now (blocks .entry) ∷ []))) × (firstOf (mapFaults (now (zones .entry) ∷ now (blocks .entry) ∷ [])) ≡ none → Stacked (now (zones .entry) ∷ now (blocks .entry) ∷ []) (now (corners .entry)) (now (origins .entry)) (now (carriers .entry)) (now (labels .entry)) (now (corners .exit)) (now (origins .exit)) (now (carriers .exit)) (now (labels .exit))) ⌝ }
 {
     let c = lay_behind(zones, 1, 0, 0, corners, origins, carriers, labels);
@@ -109,7 +109,7 @@ fn lay_tables(
     carriers: &mut [i16],
     labels: &mut [u16],
 ) -> Check
-    requires { ⌜ StackRoom (now corners) (now origins) (now carriers) (now labels) ⌝ }
+    requires { ⌜ StackRoom (now zones ∷ now blocks ∷ now bed ∷ []) (now corners) (now origins) (now carriers) (now labels) ⌝ }
     ensures { λ r. ⌜ (verdict r ≡ firstOf (mapFaults (now (zones .entry) ∷ now (blocks .entry) ∷ now (bed .entry) ∷ []))) × (firstOf (mapFaults (now (zones .entry) ∷ now (blocks .entry) ∷ now (bed .entry) ∷ [])) ≡ none → Stacked (now (zones .entry) ∷ now (blocks .entry) ∷ now (bed .entry) ∷ []) (now (corners .entry)) (now (origins .entry)) (now (carriers .entry)) (now (labels .entry)) (now (corners .exit)) (now (origins .exit)) (now (carriers .exit)) (now (labels .exit))) ⌝ }
 {
     let c = lay_pair(zones, blocks, corners, origins, carriers, labels);
@@ -154,7 +154,7 @@ pub fn lay_maps(
     carriers: &mut [i16],
     labels: &mut [u16],
 ) -> Check
-    requires { ⌜ LayerRoom (layersBy (now vertices) (now edges) (now corners) (now origins) (now carriers) (now labels)) ⌝ }
+    requires { ⌜ LayerRoom (now zones ∷ now blocks ∷ now bed ∷ []) (layersBy (now vertices) (now edges) (now corners) (now origins) (now carriers) (now labels)) ⌝ }
     ensures { λ r. ⌜ (verdict r ≡ firstOf (mapFaults (now (zones .entry) ∷ now (blocks .entry) ∷ now (bed .entry) ∷ []))) × (firstOf (mapFaults (now (zones .entry) ∷ now (blocks .entry) ∷ now (bed .entry) ∷ [])) ≡ none → Layered (now (zones .entry) ∷ now (blocks .entry) ∷ now (bed .entry) ∷ []) (layersBy (now (vertices .entry)) (now (edges .entry)) (now (corners .entry)) (now (origins .entry)) (now (carriers .entry)) (now (labels .entry))) (layersBy (now (vertices .exit)) (now (edges .exit)) (now (corners .exit)) (now (origins .exit)) (now (carriers .exit)) (now (labels .exit)))) ⌝ }
 {
     lay_starts(zones, blocks, bed, vertices, edges);

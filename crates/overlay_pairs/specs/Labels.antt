@@ -1,19 +1,23 @@
 -- The label in a map of a half-edge and of a face of the overlay, from the flat tables that the code has of the overlay; what the code reads along the walk of a
--- half-edge; and the place of a half-edge, which is what the code looks up of it. Assumes nothing.
-use mathlib.Core.Path.{_≡_, refl, sym, ap, subst}
+-- half-edge and of its twin; and the place of a half-edge, which is what the code looks up of it. Assumes nothing.
+use mathlib.Core.Path.{_≡_, refl, sym, _∙_, ap, subst}
+use mathlib.Core.Logic.{_⊎_, inl, inr}
 use Prim.Native.Nat.{_≤_, _<_}
 use native.Mathlib.Omega.{arith}
-use Rattle.seq.specs.Seq.{List, ℕ, zero, suc, _+_, _*_, _-_, _/_, _%_, length, getD, ℤ}
+use Rattle.seq.specs.Seq.{_&&_, List, Option·map, ℕ, zero, suc, _+_, _*_, _-_, _/_, _%_, length, getD, ℤ, best, orZero}
 use Rattle.seq.specs.Terms.{Reach, step}
 use Rattle.seq.specs.Perm.{reach-trans}
 use Rattle.paper.specs.Limits.{maps, absent}
-use Rattle.paper.specs.Map.{Map}
+use Rattle.paper.specs.Graph.{edgeCount, twin, atHeight, westward, nearer, eastSide}
+use Rattle.paper.specs.Map.{Map, label}
+use Rattle.laws_graph.specs.Halves.{twin-half}
 use Rattle.plane.specs.Values.{ptOf, vecOf}
 use Rattle.plane.specs.Bounds.{Direction, Near}
 use Rattle.graph.specs.Flat.{startAt, carrierAt, Starts, Carried}
+use Rattle.graph.specs.Laws.Decode.{flat-edges}
 use Rattle.overlay_cut.specs.PieceRows.{pieceWidth}
 use Rattle.overlay_cut.specs.Net.{sourceIn}
-use Rattle.overlay_maps.specs.Label.{labelBy}
+use Rattle.overlay_maps.specs.Label.{ownLabel, labelBy}
 use Rattle.overlay_maps.specs.Place.{labelAt, partAt}
 use Rattle.overlay_maps.specs.Standing.{Stands, standing}
 use Rattle.overlay_maps.specs.Layers.{Layers}
@@ -66,24 +70,40 @@ pub record Walked (next pieces : List ℕ) (h : ℕ) : Type 0 where
   pub follows : (x : ℕ) → OnWalk next h x → x < length next
   pub row : (x : ℕ) → OnWalk next h x → pieceWidth * (x / 2) + pieceWidth ≤ length pieces
 
--- x is on the walk of h, and has a source in map i where it is not h itself
+-- x is on the walk of h, and is h itself where it has no source in map i
 pub record Sourced (pieces next : List ℕ) (i h x : ℕ) : Type 0 where
   pub on-walk : OnWalk next h x
-  pub sourced : (x ≡ h → ⊥) → 0 < sourceIn pieces (x / 2) i
+  pub itself : sourceIn pieces (x / 2) i ≡ 0 → x ≡ h
 
 pub sourced-itself : (pieces next : List ℕ) (i h : ℕ) → Sourced pieces next i h h
-sourced-itself pieces next i h = record { on-walk = (0, refl); sourced = λ away. absurd (away refl) }
+sourced-itself pieces next i h = record { on-walk = (0, refl); itself = λ none. refl }
 
--- of each half-edge of the walk of h all that its label in map i is found from, with one label along the walk: that of h
+-- x is on the walk of h, or on that of its twin where h has no source in map i
+abbrev pub Beside : List ℕ → List ℕ → ℕ → ℕ → ℕ → Type 0
+Beside pieces next i h x = OnWalk next h x ⊎ ((sourceIn pieces (h / 2) i ≡ 0) × OnWalk next (twin h) x)
+
+pub beside-itself : (pieces next : List ℕ) (i h : ℕ) → Beside pieces next i h h
+beside-itself pieces next i h = inl (0, refl)
+
+pub beside-twin : (pieces next : List ℕ) (i h x y : ℕ) → Sourced pieces next i h x → sourceIn pieces (x / 2) i ≡ 0 → OnWalk next (twin h) y → Beside pieces next i h y
+beside-twin pieces next i h x y s none a = inr (subst (λ (z : ℕ). sourceIn pieces (z / 2) i ≡ 0) (s .itself none) none, a)
+
+-- of each half-edge beside h all that its label in map i is found from, with one label on them all: that of h
 pub record Agreeing (m : Map) (ps : List ℤ) (os : List ℕ) (cs : List ℤ) (pieces next : List ℕ) (i e h : ℕ) : Type 0 where
+  pub few : h ≤ absent
   pub walked : Walked next pieces h
-  pub labelled : (x : ℕ) → OnWalk next h x → Labelled ps os cs pieces i e x
-  pub same : (x : ℕ) → OnWalk next h x → halfLabel m ps os cs pieces i x ≡ halfLabel m ps os cs pieces i h
+  pub behind : Walked next pieces (twin h)
+  pub labelled : (x : ℕ) → Beside pieces next i h x → Labelled ps os cs pieces i e x
+  pub same : (x : ℕ) → Beside pieces next i h x → halfLabel m ps os cs pieces i x ≡ halfLabel m ps os cs pieces i h
 
 -- of face f its least outer half-edge, where it is not face 0
 abbrev pub Labels : Map → List ℤ → List ℕ → List ℤ → List ℕ → List ℕ → ℕ → ℕ → List ℕ → ℕ → Type 0
 Labels m ps os cs pieces next i e outers zero = Unit
 Labels m ps os cs pieces next i e outers (suc f) = (f < length outers) × Agreeing m ps os cs pieces next i e (getD outers f 0)
+
+-- how many edges map i has, by where each map's edges start
+abbrev pub edgesOf : List ℕ → ℕ → ℕ
+edgesOf es i = getD es (i + 1) 0 - getD es i 0
 
 -- in map i of those that the layers hold
 abbrev pub Readable : Layers → List ℤ → List ℕ → List ℤ → List ℕ → List ℕ → List ℕ → ℕ → ℕ → Type 0
@@ -114,6 +134,40 @@ module _ (l : Layers) (H : Held l) (i : ℕ) (b : i < maps) (p : Part) (e : p �
 
   pub part-edges : p .b - p .a ≡ edgeStart l (i + 1) - edgeStart l i
   part-edges = ap (λ (x : Part). x .b - x .a) e
+
+-- ── by the source ──
+
+module _ (m : Map) (ps : List ℤ) (os : List ℕ) (cs : List ℤ) (pieces : List ℕ) (i h : ℕ) where
+  -- where there is one, the label of that edge on that side
+  pub own-half : (k : ℕ) → sourceIn pieces (h / 2) i ≡ suc k → ownLabel m h k ≡ halfLabel m ps os cs pieces i h
+  own-half k e = ap (labelBy m h (startAt ps os (2 * (h / 2))) (carrierAt cs (h / 2) .up)) (sym e)
+
+  -- where there is none, one label on both sides
+  pub twin-label : sourceIn pieces (h / 2) i ≡ 0 → halfLabel m ps os cs pieces i (twin h) ≡ halfLabel m ps os cs pieces i h
+  twin-label none =
+      let q = twin-half h in
+      let by : ℕ → ℕ → ℕ = λ x. labelBy m x (startAt ps os (2 * (h / 2))) (carrierAt cs (h / 2) .up) in
+      (λ j. labelBy m (twin h) (startAt ps os (2 * q j)) (carrierAt cs (q j) .up) (sourceIn pieces (q j) i)) ∙ ap (by (twin h)) none ∙ sym (ap (by h) none)
+
+  -- in a map with no edges nothing is seen
+  pub bare-half : edgeCount (m .graph) ≡ 0 → sourceIn pieces (h / 2) i ≡ 0 → halfLabel m ps os cs pieces i h ≡ 0
+  bare-half bare none =
+      let g = m .graph in
+      let p = startAt ps os (2 * (h / 2)) in
+      let d = carrierAt cs (h / 2) .up in
+      ap (labelBy m h p d) none ∙ ap (λ (n : ℕ). orZero (label m) (Option·map (eastSide g) (best (λ k. atHeight g p k && westward g p d k) (nearer g p) n))) bare
+
+-- no edge stands between where map i starts and where the next does
+pub bare-map : (l : Layers) (i : ℕ) → edgeStart l i ≡ edgeStart l (i + 1) → edgeCount (heldMap l i .graph) ≡ 0
+bare-map l i e = let none : edgeStart l (i + 1) - edgeStart l i ≡ 0 = omega (arith, e) in flat-edges _ _ _ _ _ ∙ none
+
+pub bare-label : (m : Map) (ps : List ℤ) (os : List ℕ) (cs : List ℤ) (pieces next : List ℕ) (i e : ℕ) (outers : List ℕ) (f : ℕ) → edgeCount (m .graph) ≡ 0 → e ≡ 0 →
+    Labels m ps os cs pieces next i e outers f → 0 ≡ faceLabel m ps os cs pieces i outers f
+bare-label m ps os cs pieces next i e outers zero bare q l = refl
+bare-label m ps os cs pieces next i e outers (suc f) bare q l =
+    let h = getD outers f 0 in
+    let least = l .1 .labelled h (beside-itself pieces next i h) .source-most in
+    sym (bare-half m ps os cs pieces i h bare (omega (arith, least, q)))
 
 -- ── by whether it is face 0 ──
 

@@ -1,9 +1,9 @@
 -- The labels that the code finds are the definition's: of the half-edges and faces of the overlay of the points and pieces in tables, in the maps that the layers
 -- hold. Assumes nothing.
 use mathlib.Core.Path.{_≡_, refl, sym, _∙_, ap, subst}
+use mathlib.Core.Logic.{inl, inr}
 use Prim.Native.Nat.{_≤_, _<_}
 use native.Mathlib.Omega.{arith}
-use lib.ListN.{length-append}
 use Rattle.seq.specs.Seq.{List, [], _∷_, _++_, Option, none, some, ℕ, zero, suc, _+_, _*_, _-_, _/_, _%_, length, getD, replicate, ℤ, rows, table, cell, select, filled, padded}
 use Rattle.seq.specs.Terms.{Reach}
 use Rattle.seq.specs.Filled.{filled-at}
@@ -13,7 +13,7 @@ use Rattle.seq.specs.Select.{select-from}
 use Rattle.seq.specs.Members.{at-among}
 use Rattle.seq.specs.Wiped.{padded-at}
 use Rattle.paper.specs.Limits.{maps}
-use Rattle.paper.specs.Graph.{Graph, edgeCount, halfCount, followers, start, low, upward}
+use Rattle.paper.specs.Graph.{Graph, edgeCount, halfCount, followers, start, low, upward, twin}
 use Rattle.paper.specs.Map.{Map}
 use Rattle.paper.specs.Pieces.{Piece, layer}
 use Rattle.paper.specs.Faces.{Overlay, labelIn, net, sourcesOf, leadsOuter, holesOf}
@@ -21,11 +21,11 @@ use Rattle.paper.specs.Tables.{faceRow}
 use Rattle.laws_graph.specs.Halves.{even-double, half-first}
 use Rattle.laws_graph.specs.Plane.{up-ends}
 use Rattle.laws_graph.specs.Walks.{Along, along-below}
+use Rattle.laws_graph.specs.Follow.{followers-length}
 use Rattle.laws_file.specs.Agree.{padded-cell}
 use Rattle.graph.specs.Flat.{startAt, carrierAt}
 use Rattle.graph.specs.Laws.Decode.{flat-edges, flat-upward, flat-start}
-use Rattle.graph.specs.Heading.{flat-starts, flat-carried}
-use Rattle.graph_faces.specs.Linked.{halfRows}
+use Rattle.graph.specs.Heading.{twin-under, flat-starts, flat-carried}
 use Rattle.overlay_cut.specs.PieceRows.{minusOne, pieceAt, noPiece}
 use Rattle.overlay_cut.specs.Net.{sourceIn}
 use Rattle.tables.specs.Rows.{faceBy}
@@ -34,10 +34,10 @@ use Rattle.overlay_maps.specs.Held.{Held, heldMap, heldMaps, edgeStart}
 use Rattle.overlay_maps.specs.Layers.{Layers}
 use Rattle.overlay_graph.specs.Laws.Standing.{layer-is, held-edges, held-count}
 use Rattle.overlay_graph.specs.Cut.{Cut, overlayIn, Drawable, DrawableCut}
-use Rattle.overlay_graph.specs.Traced.{NetBy}
+use Rattle.overlay_graph.specs.Traced.{NetBy, Zeroed}
 use Rattle.overlay_graph.specs.Laws.Tracing.{walked}
-use Rattle.overlay_graph.specs.Laws.Backwards.{padded-long}
-use Rattle.overlay_pairs.specs.Labels.{halfLabel, faceLabel, labelCell, outerOf, Labelled, OnWalk, Agreeing, Readable}
+use Rattle.overlay_graph.specs.Laws.Zeros.{zeroed-long}
+use Rattle.overlay_pairs.specs.Labels.{halfLabel, faceLabel, labelCell, outerOf, Labelled, OnWalk, Walked, Beside, Agreeing, Readable, twin-label}
 
 -- the label of face f in map i: "Face 0 is the outside, pair (0, 0)", another has that of its least outer half-edge
 abbrev pub labelOf : List Map → Overlay → ℕ → ℕ → ℕ
@@ -49,14 +49,14 @@ pub record Outlined (l : Layers) (c : Cut) (origins : List ℕ) (carriers : List
   pub held : Held l
   pub cut : DrawableCut (heldMaps l) c
   pub net-by : NetBy (overlayIn (heldMaps l) c) c origins carriers
-  pub next-is : next ≡ padded 0 halfRows (overlayIn (heldMaps l) c .walks .next)
-  pub outers-is : outers ≡ padded 0 halfRows (overlayIn (heldMaps l) c .outers)
+  pub next-is : Zeroed (overlayIn (heldMaps l) c .walks .next) next
+  pub outers-is : Zeroed (overlayIn (heldMaps l) c .outers) outers
   pub count-is : count ≡ length (overlayIn (heldMaps l) c .outers)
 
 -- and the hole walks of each face
 pub record Whole (l : Layers) (c : Cut) (origins : List ℕ) (carriers : List ℤ) (next outers holes : List ℕ) (count : ℕ) : Type 0 where
   pub outlined : Outlined l c origins carriers next outers count
-  pub holes-is : holes ≡ padded 0 (suc halfRows) (table (holesOf (overlayIn (heldMaps l) c)) (suc count))
+  pub holes-is : Zeroed (table (holesOf (overlayIn (heldMaps l) c)) (suc count)) holes
 
 -- the rows of the first n faces
 abbrev pub faceRows : Layers → Cut → ℕ → List ℕ
@@ -134,10 +134,12 @@ module _ (l : Layers) (c : Cut) (os : List ℕ) (bs : List ℤ) (next outers : L
 
   -- by the table of followers as by the definition's
   next-at : (x : ℕ) → getD next x 0 ≡ getD (followers (net o)) x 0
-  next-at x = ap (λ (t : List ℕ). getD t x 0) (O .next-is ∙ ap (padded 0 halfRows) (sym (walked ms c (net o) refl))) ∙ padded-cell 0 halfRows (followers (net o)) x
+  next-at x =
+      let Z = O .next-is in
+      ap (λ (t : List ℕ). getD t x 0) (Z .is ∙ ap (padded 0 (Z .cells)) (sym (walked ms c (net o) refl))) ∙ padded-cell 0 (Z .cells) (followers (net o)) x
 
   next-long : 2 * c .edges ≤ length next
-  next-long = omega (arith, O .cut .few-edges, padded-long halfRows next (o .walks .next) (O .next-is))
+  next-long = omega (arith, zeroed-long (o .walks .next) next (O .next-is), ap length (walked ms c (net o) refl), followers-length (net o) (D .plane), halves-are)
 
   module _ (h : ℕ) (q : h < 2 * c .edges) (x : ℕ) (a : OnWalk next h x) where
     within-walk : h < halfCount (net o)
@@ -171,17 +173,29 @@ module _ (l : Layers) (c : Cut) (os : List ℕ) (bs : List ℤ) (next outers : L
         source-most = source-most (h / 2) k i b;
       }
 
-  agreeing : (i h : ℕ) → i < maps → h < 2 * c .edges → Agreeing (heldMap l i) (c .points) os bs (c .pieces) next i (edgeStart l (i + 1) - edgeStart l i) h
-  agreeing i h b q = record {
-    walked = record { follows = λ x a. omega (arith, walk-below h q x a, next-long); row = λ x a. omega (arith, walk-below h q x a, O .cut .pieces-long) };
-    labelled = λ x a. labelled-at i x b (walk-below h q x a);
-    same = λ x a. walk-same h q x a i b;
-  }
+  walks : (h : ℕ) → h < 2 * c .edges → Walked next (c .pieces) h
+  walks h q = record { follows = λ x a. omega (arith, walk-below h q x a, next-long); row = λ x a. omega (arith, walk-below h q x a, O .cut .pieces-long) }
+
+  -- beside h: on its walk, or on that of its twin
+  module _ (i h : ℕ) (b : i < maps) (q : h < 2 * c .edges) where
+    twin-below : twin h < 2 * c .edges
+    twin-below = twin-under (c .edges) h q
+
+    beside-labelled : (x : ℕ) → Beside (c .pieces) next i h x → Labelled (c .points) os bs (c .pieces) i (edgeStart l (i + 1) - edgeStart l i) x
+    beside-labelled x (inl a) = labelled-at i x b (walk-below h q x a)
+    beside-labelled x (inr a) = labelled-at i x b (walk-below (twin h) twin-below x (a .1))
+
+    beside-same : (x : ℕ) → Beside (c .pieces) next i h x → halfLabel (heldMap l i) (c .points) os bs (c .pieces) i x ≡ halfLabel (heldMap l i) (c .points) os bs (c .pieces) i h
+    beside-same x (inl a) = walk-same h q x a i b
+    beside-same x (inr a) = walk-same (twin h) twin-below x (a .1) i b ∙ twin-label (heldMap l i) (c .points) os bs (c .pieces) i h (a .0)
+
+    agreeing : Agreeing (heldMap l i) (c .points) os bs (c .pieces) next i (edgeStart l (i + 1) - edgeStart l i) h
+    agreeing = record { few = omega (arith, q, O .cut .few-edges); walked = walks h q; behind = walks (twin h) twin-below; labelled = beside-labelled; same = beside-same }
 
   -- ── faces ──
 
   outer-at : (f : ℕ) → f < count → getD outers f 0 ≡ getD (o .outers) f 0
-  outer-at f b = ap (λ (x : List ℕ). getD x f 0) (O .outers-is) ∙ padded-at 0 halfRows f (o .outers) 0 (omega (arith, O .count-is))
+  outer-at f b = ap (λ (x : List ℕ). getD x f 0) (O .outers-is .is) ∙ padded-at 0 (O .outers-is .cells) f (o .outers) 0 (omega (arith, O .count-is))
 
   outers-are : o .outers ≡ select (leadsOuter (o .walks)) (halfCount (net o))
   unfolding overlayIn
@@ -197,7 +211,7 @@ module _ (l : Layers) (c : Cut) (os : List ℕ) (bs : List ℤ) (next outers : L
 
   -- what the code reads is there
   pub outers-long : count ≤ length outers
-  outers-long = omega (arith, O .count-is, ap length (O .outers-is), length-append (o .outers) (replicate (halfRows - length (o .outers)) 0))
+  outers-long = omega (arith, O .count-is, zeroed-long (o .outers) outers (O .outers-is))
 
   pub readable : (i f : ℕ) → i < maps → f < count + 1 → Readable l (c .points) os bs (c .pieces) next outers i f
   readable i zero b q = tt
@@ -231,11 +245,11 @@ module _ (l : Layers) (c : Cut) (os : List ℕ) (bs : List ℤ) (next outers hol
   pub holes-long : count + 1 ≤ length holes
   holes-long =
       let counts = table (holesOf drawn) (suc count) in
-      omega (arith, ap length (W .holes-is), length-append counts (replicate (suc halfRows - length counts) 0), length-table (holesOf drawn) (suc count))
+      omega (arith, zeroed-long counts holes (W .holes-is), length-table (holesOf drawn) (suc count))
 
   holes-at : (f : ℕ) → f < count + 1 → getD holes f 0 ≡ holesOf drawn f
   holes-at f q =
-      ap (λ (x : List ℕ). getD x f 0) (W .holes-is) ∙ padded-at 0 (suc halfRows) f (table (holesOf drawn) (suc count)) 0 (omega (arith, length-table (holesOf drawn) (suc count)))
+      ap (λ (x : List ℕ). getD x f 0) (W .holes-is .is) ∙ padded-at 0 (W .holes-is .cells) f (table (holesOf drawn) (suc count)) 0 (omega (arith, length-table (holesOf drawn) (suc count)))
       ∙ table-at (holesOf drawn) (suc count) f 0 (omega arith)
 
   -- labels, and two columns, filled face by face

@@ -1,11 +1,12 @@
 // "A face holds the pair of its least outer half-edge", with three maps its triple (02, Ask 13): the labels of all faces in every map.
-use crate::along::sourced_along;
+use crate::along::sourced_beside;
 use graph::carrier_at;
 use graph::start;
 use limits::MAPS;
 use overlay_cut::source_in;
 use overlay_maps::Place;
 use overlay_maps::label_at;
+use overlay_maps::own_at;
 use overlay_maps::part_of;
 use plane::Vector;
 ghost use mathlib.Core.Path.{_≡_};
@@ -18,7 +19,7 @@ ghost use Rattle.plane.specs.Bounds.{Direction};
 ghost use Rattle.graph.specs.Flat.{carrierAt, Carried};
 ghost use Rattle.overlay_maps.specs.Layers.{layersBy};
 ghost use Rattle.overlay_maps.specs.Held.{Held, heldMap};
-ghost use Rattle.overlay_pairs.specs.Labels.{faceLabel, labelCell, Placed, PlaceIs, Readable};
+ghost use Rattle.overlay_pairs.specs.Labels.{halfLabel, faceLabel, labelCell, edgesOf, Placed, PlaceIs, Labelled, Readable};
 
 // The upward direction of edge k.
 fn upward(lines: &[i16], k: usize) -> Vector
@@ -62,7 +63,35 @@ fn place_of(
     }
 }
 
-// The label of face f in map m: "Face 0 is the outside, pair (0, 0)", and another has that of its least outer half-edge.
+// The label of half-edge x in map m: that of its source, where it has one, and otherwise of what is seen looking west.
+fn half_label(
+    vstarts: &[usize],
+    estarts: &[usize],
+    corners: &[i64],
+    origins: &[u16],
+    carriers: &[i16],
+    labels: &[u16],
+    points: &[i64],
+    ends: &[u16],
+    lines: &[i16],
+    pieces: &[u16],
+    x: usize,
+    m: usize,
+) -> u16
+    requires { ⌜ Held (layersBy (now vstarts) (now estarts) (now corners) (now origins) (now carriers) (now labels)) ⌝ ∗ ⌜ Labelled (now points) (now ends) (now lines) (now pieces) m (edgesOf (now estarts) m) x ⌝ }
+    ensures { λ r. ⌜ r ≡ halfLabel (heldMap (layersBy (now (vstarts .entry)) (now (estarts .entry)) (now (corners .entry)) (now (origins .entry)) (now (carriers .entry)) (now (labels .entry))) m) (now (points .entry)) (now (ends .entry)) (now (lines .entry)) (now (pieces .entry)) m x ⌝ }
+{
+    let part = part_of(vstarts, estarts, m);
+    let source = source_in(pieces, x / 2, m);
+    if source == 0 {
+        let at = place_of(points, ends, lines, pieces, m, x);
+        return label_at(corners, origins, carriers, labels, part, at);
+    }
+    let k = source as usize - 1;
+    own_at(corners, origins, carriers, labels, part, x, k)
+}
+
+// The label of face f in map m: "Face 0 is the outside, pair (0, 0)", in a map with no edges all is outside, and another face has the label of its least outer half-edge.
 fn face_label(
     vstarts: &[usize],
     estarts: &[usize],
@@ -85,11 +114,25 @@ fn face_label(
     if f == 0 {
         return 0;
     }
-    let part = part_of(vstarts, estarts, m);
+    if estarts[m] == estarts[m + 1] {
+        return 0;
+    }
     let h = outer_of(outers, f) as usize;
-    let x = sourced_along(pieces, next, m, part.b - part.a, h);
-    let at = place_of(points, ends, lines, pieces, m, x);
-    label_at(corners, origins, carriers, labels, part, at)
+    let x = sourced_beside(pieces, next, m, h);
+    half_label(
+        vstarts,
+        estarts,
+        corners,
+        origins,
+        carriers,
+        labels,
+        points,
+        ends,
+        lines,
+        pieces,
+        x,
+        m,
+    )
 }
 
 // The labels of the first n faces, a row for each face and in it a cell for each map.

@@ -1,4 +1,4 @@
--- Between two stops of the line: what holds (`Between`), that a turn keeps it (`between-turns`), that the next search may be made (`between-steady`), and what is known at the end (`Outcome`). Assumes nothing.
+-- Between two stops of the line: what holds (`Between`), that a turn keeps it (`between-turns`), that the next search may be made (`between-steady`), which edges the next stop is on (`between-met`), and what is known at the end (`Outcome`). Assumes nothing.
 use mathlib.Core.Path.{_≡_, refl, sym, _∙_, ap, subst}
 use mathlib.Core.List.{append-assoc}
 use Prim.Native.Nat.{_≤_, _<_}
@@ -7,9 +7,11 @@ use lib.ListN.{length-append}
 use lib.Seq.{take-all, length-take-le}
 use native.Mathlib.Decide.{decLt}
 use Rattle.seq.specs.Seq.{List, [], _∷_, _++_, ℤ, ℕ, _+_, _-_, _*_, length, getD, table, insertBy, rowStored}
-use Rattle.seq.specs.Table.{length-table, table-ext}
-use Rattle.paper.specs.Plane.{Pt, before}
-use Rattle.graph.specs.Flat.{pointAt}
+use Rattle.seq.specs.Terms.{Among}
+use Rattle.seq.specs.Members.{among-map}
+use Rattle.seq.specs.Table.{length-table, table-ext, among-table}
+use Rattle.paper.specs.Plane.{Pt, before, onSeg}
+use Rattle.graph.specs.Flat.{pointAt, carrierAt}
 use Rattle.overlay_cut.specs.Capped.{Cap, whole, capped-step, insert-slow, cap-whole, cap-full}
 use Rattle.overlay_cut.specs.Rooms.{vertexRows}
 use Rattle.overlay_cut.specs.Points.{pointsOf, pointRow}
@@ -21,7 +23,7 @@ use Rattle.laws_sweep.specs.Stops.{start-by, begins, stops-swept}
 use Rattle.laws_sweep.specs.Room.{met-room, met-all}
 use Rattle.laws_sweep.specs.Scene.{Scene, State}
 use Rattle.laws_sweep.specs.Waiting.{Waiting, waits, waits-on}
-use Rattle.laws_sweep.specs.Next.{queue-next, queue-done}
+use Rattle.laws_sweep.specs.Next.{v-ahead, v-real, queue-next, queue-done}
 use Rattle.laws_sweep.specs.Step.{stepped}
 use Rattle.overlay_sweep.specs.Numbers.{numbersIn}
 use Rattle.overlay_sweep.specs.Fans.{numbersFrom}
@@ -31,6 +33,9 @@ use Rattle.overlay_sweep.specs.Ahead.{strandAt, queuedAll}
 use Rattle.overlay_sweep.specs.Sides.{rightAt, soonerAt}
 use Rattle.overlay_sweep.specs.Laws.Mapped.{slots-map}
 use Rattle.overlay_sweep.specs.Turned.{strandsIn, Turned, turned-at}
+use Rattle.overlay_sweep.specs.Meets.{Meets}
+use Rattle.overlay_sweep.specs.Numbered.{Numbered, numbered-starts, numbered-turns, met-on, on-met}
+use Rattle.overlay_sweep.specs.Threading.{atStop, named-on}
 use Rattle.overlay_sweep.specs.Laws.Met.{right-steady}
 
 -- the edges of the tables
@@ -50,6 +55,9 @@ module _ (cs : List ℤ) (e : ℕ) (starts : List ℕ) (corners stops : List Pt)
   abbrev es : List Strand
   es = edgesIn cs e starts
 
+  in-es : (k : ℕ) → k < e → Among (strandAt cs starts k) es
+  in-es k l = among-map (strandAt cs starts) k (table (λ i. i) e) (among-table (λ i. i) e k l)
+
   -- before stop i, the line at p
   pub record Between (st : List ℕ) (c w : ℕ) (t : List ℤ) (n : ℕ) (out : List ℤ) (i : ℕ) : Type 0 where
     pub p : Pt
@@ -60,6 +68,7 @@ module _ (cs : List ℤ) (e : ℕ) (starts : List ℕ) (corners stops : List Pt)
     pub waiting : Waiting es p (strandsIn cs starts (numbersFrom ws w (e - w)))
     pub met-is : stops ≡ met ++ left
     pub met-rows : pointsOf out i ≡ met
+    pub numbered : Numbered cs e starts ws p st c w
     pub rows : Cap vertexRows (queueOf t n) queue
 
   -- the next stop is the last row
@@ -97,17 +106,19 @@ module _ (cs : List ℤ) (e : ℕ) (starts : List ℕ) (corners stops : List Pt)
     abbrev q : List Strand
     q = strandsIn cs starts (numbersFrom ws w (e - w))
 
-    step : (p : Pt) (met left queue : List Pt) → State es corners stops p left queue (s st c t n more) → Waiting es p q → stops ≡ met ++ left → pointsOf out i ≡ met → queueOf t n ≡ queue → Between st′ c′ w′ u n′ out′ (i + 1)
-    step p met [] queue I L f k r = absurd (none-left st c t n more p [] queue I r refl)
-    step p met (v ∷ vs) queue I L f k r = record {
+    step : (p : Pt) (met left queue : List Pt) → State es corners stops p left queue (s st c t n more) → Waiting es p q → stops ≡ met ++ left → pointsOf out i ≡ met → Numbered cs e starts ws p st c w → queueOf t n ≡ queue → Between st′ c′ w′ u n′ out′ (i + 1)
+    step p met [] queue I L f k N r = absurd (none-left st c t n more p [] queue I r refl)
+    step p met (v ∷ vs) queue I L f k N r = record {
       p = v;
       met = met ++ (v ∷ []);
       left = vs;
       queue = put F rest;
-      state = subst (λ (l : List Strand). State es corners stops v vs (put F rest) l) (sym (M .status-is)) (stepped es corners stops S p v vs rest (s st c t n more) J q L);
-      waiting = subst (Waiting es v) (sym (M .waits-is)) (waits-on es corners stops S p v vs (v ∷ rest) (s st c t n more) J q L);
+      state = state′;
+      waiting = waiting′;
       met-is = f ∙ sym (append-assoc met (v ∷ []) vs);
       met-rows = ap (λ (l : List ℤ). pointsOf l (i + 1)) o ∙ row-appended out i z room ∙ (λ j. k j ++ (is-v j ∷ []));
+      numbered = numbered-turns cs e starts ws p v (I .real) (v-real es corners stops S p v vs queue (s st c t n more) I) (v-ahead es corners stops S p v vs queue (s st c t n more) I) M
+          (λ x y. state′ .cut x y .started) (λ x y. waiting′ .from x y .1) N;
       rows = subst (λ (l : List Pt). Cap vertexRows l (put F rest)) (sym (M .points-is .is)) (cap-put F rest (omega (arith, length-falling (pointAt t) (n - 1))));
     }
       where
@@ -126,8 +137,14 @@ module _ (cs : List ℤ) (e : ℕ) (starts : List ℕ) (corners stops : List Pt)
         F : List Pt
         F = found q v (s st c t n more)
 
+        state′ : State es corners stops v vs (put F rest) (strandsIn cs starts (numbersIn st′ c′))
+        state′ = subst (λ (l : List Strand). State es corners stops v vs (put F rest) l) (sym (M .status-is)) (stepped es corners stops S p v vs rest (s st c t n more) J q L)
+
+        waiting′ : Waiting es v (strandsIn cs starts (numbersFrom ws w′ (e - w′)))
+        waiting′ = subst (Waiting es v) (sym (M .waits-is)) (waits-on es corners stops S p v vs (v ∷ rest) (s st c t n more) J q L)
+
     pub between-turns : Between st c w t n out i → Between st′ c′ w′ u n′ out′ (i + 1)
-    between-turns B = step (B .p) (B .met) (B .left) (B .queue) (B .state) (B .waiting) (B .met-is) (B .met-rows) (cap-whole (B .rows) (omega (arith, length-falling (pointAt t) n)))
+    between-turns B = step (B .p) (B .met) (B .left) (B .queue) (B .state) (B .waiting) (B .met-is) (B .met-rows) (B .numbered) (cap-whole (B .rows) (omega (arith, length-falling (pointAt t) n)))
 
   -- the search by halves may be made
   module _ (st : List ℕ) (c w : ℕ) (t : List ℤ) (n : ℕ) (out : List ℤ) (i : ℕ) (few : n < vertexRows) (more : 0 < n) where
@@ -138,6 +155,21 @@ module _ (cs : List ℤ) (e : ℕ) (starts : List ℕ) (corners stops : List Pt)
 
     pub between-steady : Between st c w t n out i → Steady (rightAt cs st (pointAt t (n - 1))) c
     between-steady B = steady-by-left (B .p) (B .left) (B .queue) (B .state) (cap-whole (B .rows) (omega (arith, length-falling (pointAt t) n)))
+
+    -- the edges that the tables have at the next stop are those that it is on
+    module _ (a b x : ℕ) (M : Meets cs e ws st (pointAt t (n - 1)) c w a b x) (k : ℕ) (l : k < e) where
+      met-by-left : (p : Pt) (left queue : List Pt) → State es corners stops p left queue (s st c t n more) → Waiting es p (strandsIn cs starts (numbersFrom ws w (e - w))) → Numbered cs e starts ws p st c w → queueOf t n ≡ queue
+          → atStop st a b ws w x k ≡ onSeg (carrierAt cs k) (pointAt t (n - 1))
+      met-by-left p [] queue I L N r = absurd (none-left st c t n more p [] queue I r refl)
+      met-by-left p (v ∷ vs) queue I L N r =
+          let f = at-v st c t n more p v vs queue I r in
+          let J = next-state st c t n more p v vs queue I r in
+          let D = subst (λ (y : Pt). Meets cs e ws st y c w a b x) f M in
+          named-on cs st ws a b w x k v (met-on cs e starts ws es in-es corners stops S p v vs (queueOf t (n - 1)) st c w a b x J L N D k l)
+          (on-met cs e starts ws es in-es corners stops S p v vs (queueOf t (n - 1)) st c w a b x J L N D k l) ∙ ap (onSeg (carrierAt cs k)) (sym f)
+
+      pub between-met : Between st c w t n out i → atStop st a b ws w x k ≡ onSeg (carrierAt cs k) (pointAt t (n - 1))
+      between-met B = met-by-left (B .p) (B .left) (B .queue) (B .state) (B .waiting) (B .numbered) (cap-whole (B .rows) (omega (arith, length-falling (pointAt t) n)))
 
   -- ── the start and the end ──
 
@@ -158,6 +190,7 @@ module _ (cs : List ℤ) (e : ℕ) (starts : List ℕ) (corners stops : List Pt)
         waiting = subst (Waiting es p) (sym f) (waits es p (λ z i. b (lo z) (S .corner-in (lo z) (S .low-in z i))));
         met-is = refl;
         met-rows = refl;
+        numbered = numbered-starts cs e starts ws p st (λ k l. b (lo (strandAt cs starts k)) (S .corner-in (lo (strandAt cs starts k)) (S .low-in (strandAt cs starts k) (in-es k l)))) h;
         rows = r;
       }
 

@@ -6,9 +6,13 @@ pub mod Falling
 pub mod Queue
 pub mod Splice
 pub mod Fans
+pub mod Meets
+pub mod Keys
 pub mod Ahead
 pub mod Neighbours
 pub mod Turned
+pub mod Numbered
+pub mod Threading
 pub mod Between
 pub mod Loop
 pub mod Vertices

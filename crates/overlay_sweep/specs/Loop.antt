@@ -1,18 +1,19 @@
--- The loop over the stops: what it starts from (`Begun`), keeps (`Looping`) and ends with (`loop-ends`, `loop-stops`); what the sweep asks of the tables (`Given`) and the stops by the
--- definition (`stopsIn`). Assumes nothing.
-use mathlib.Core.Path.{_≡_, refl, sym, _∙_, subst}
+-- The loop over the stops: what it starts from (`Begun`), keeps (`Looping`) and ends with (`loop-ends`, `loop-stops`); what the sweep asks of the tables (`Given`), the stops by the
+-- definition (`stopsIn`) and what it answers (`SweptTo`). Assumes nothing.
+use mathlib.Core.Path.{_≡_, refl, sym, _∙_, ap, subst}
 use Prim.Native.Nat.{_≤_, _<_}
 use native.Mathlib.Omega.{arith}
 use Rattle.seq.specs.Seq.{List, [], ℤ, ℕ, _+_, _-_, _*_, length, table, rowStored}
 use Rattle.seq.specs.Search.{Steady}
 use Rattle.seq.specs.Slotted.{slots}
 use Rattle.paper.specs.Limits.{maps}
-use Rattle.paper.specs.Plane.{Pt, before}
+use Rattle.paper.specs.Plane.{Pt, before, onSeg}
 use Rattle.paper.specs.Pieces.{inOrder}
-use Rattle.graph.specs.Flat.{Points, Carriers, Numbers, pointAt}
+use Rattle.graph.specs.Flat.{Points, Carriers, Numbers, pointAt, carrierAt}
 use Rattle.overlay_cut.specs.Capped.{Cap, cap-le, putAll-cap}
 use Rattle.overlay_cut.specs.Rooms.{vertexRows}
 use Rattle.overlay_cut.specs.Points.{pointsOf, pointRow}
+use Rattle.overlay_cut.specs.Threads.{ThreadedIf}
 use Rattle.laws_sweep.specs.Sweep.{sooner, sweep}
 use Rattle.laws_sweep.specs.Scene.{Scene}
 use Rattle.overlay_sweep.specs.Numbers.{numbersIn}
@@ -21,7 +22,9 @@ use Rattle.overlay_sweep.specs.Queue.{queueOf}
 use Rattle.overlay_sweep.specs.Ahead.{Room, Queued}
 use Rattle.overlay_sweep.specs.Sides.{rightAt, soonerAt}
 use Rattle.overlay_sweep.specs.Turned.{fanRoom, Ready, Turned}
-use Rattle.overlay_sweep.specs.Between.{edgesIn, Outcome, Between, between-turns, between-steady, between-starts, between-ends, between-stops}
+use Rattle.overlay_sweep.specs.Meets.{Meets}
+use Rattle.overlay_sweep.specs.Threading.{Threading, Spun, spun-turns}
+use Rattle.overlay_sweep.specs.Between.{edgesIn, Outcome, Between, between-turns, between-steady, between-met, between-starts, between-ends, between-stops}
 
 -- ── the loop ──
 
@@ -100,6 +103,14 @@ module _ {cs : List ℤ} {e : ℕ} {starts : List ℕ} {cr : List ℤ} {k : ℕ}
           between = between-turns cs e starts (inOrder (pointsOf cr k)) (L .stops) (L .scene) ws st st′ c w c′ w′ t u n n′ out i (omega arith) h (omega arith) p f T out′ o (L .between);
         }
 
+    -- stop i is on the edges that the tables have there, so it joins their threads
+    pub loop-spins : n + i < vertexRows → 0 < n → (p : Pt) → p ≡ pointAt t (n - 1) → {room : ℕ} {last₀ last ns₀ ns : List ℕ} {m : ℕ} → Spun cs e room last₀ last ns₀ ns out m i → {s : ℕ} {last′ ns′ : List ℕ} {m′ : ℕ}
+        → Threading cs e room i ws st p c w s last ns m last′ ns′ m′ → (out′ : List ℤ) → out′ ≡ rowStored 4 out i (pointRow p) → length last′ ≡ length last → length ns′ ≡ length ns → Spun cs e room last₀ last′ ns₀ ns′ out′ m′ (i + 1)
+    loop-spins few h p f {room} {last₀} {last} {ns₀} {ns} {m} U {s} {last′} {ns′} {m′} T out′ o a b =
+        spun-turns U T (omega (arith, L .few, L .out-room))
+        (λ j l. between-met cs e starts (inOrder (pointsOf cr k)) (L .stops) (L .scene) ws st c w t n out i (omega arith) h (T .from) (T .to) s (subst (λ (x : Pt). Meets cs e ws st x c w (T .from) (T .to) s) f (T .meets)) j l (L .between)
+        ∙ ap (onSeg (carrierAt cs j)) (sym f)) out′ o a b
+
     pub loop-ends : n ≤ 0 → Outcome (sweep vertexRows (slots sooner [] (edgesIn cs e starts)) (inOrder (pointsOf cr k)) []) out i
     loop-ends h = between-ends cs e starts (inOrder (pointsOf cr k)) (L .stops) (L .scene) ws (L .between) h (L .few)
 
@@ -111,6 +122,11 @@ module _ {cs : List ℤ} {e : ℕ} {starts : List ℕ} {cr : List ℤ} {k : ℕ}
 -- the stops by the definition, as many as the table has rows
 abbrev pub stopsIn : List ℤ → ℕ → List ℕ → List ℤ → ℕ → List Pt
 stopsIn cs e starts cr k = sweep vertexRows (slots sooner [] (edgesIn cs e starts)) (inOrder (pointsOf cr k)) []
+
+-- what the sweep answers: the stops, and the threads of the edges
+pub record SweptTo (cs : List ℤ) (e : ℕ) (starts : List ℕ) (cr : List ℤ) (k room : ℕ) (out : List ℤ) (r : ℕ) (last ns : List ℕ) (m : ℕ) : Type 0 where
+  pub stops : Outcome (stopsIn cs e starts cr k) out r
+  pub threads : ThreadedIf out cs e last ns room m r
 
 -- what the sweep asks of the tables
 pub record Given (cs : List ℤ) (e : ℕ) (starts : List ℕ) (cr : List ℤ) (k : ℕ) (out : List ℤ) : Type 0 where

@@ -1,26 +1,27 @@
 -- A turn of the line, by tables: the numbers in the tables are strands (`strandAt`), and what the code makes of the tables is what the definition makes of the lists of strands.
 -- Assumes nothing.
 use mathlib.Core.Path.{_≡_, sym, _∙_, ap, subst}
-use mathlib.Core.Logic.{⊎-elim}
+use mathlib.Core.Logic.{_⊎_, inl, inr, ⊎-elim}
 use mathlib.Core.List.{map-append}
 use Prim.Native.Nat.{_≤_, _<_}
 use native.Mathlib.Omega.{arith}
 use lib.Seq.{drop-drop, length-take-le, take-at, drop-at}
-use Rattle.seq.specs.Seq.{List, [], _++_, map, ℤ, ℕ, _+_, _-_, _*_, length, getD, take, drop, table}
+use Rattle.seq.specs.Seq.{true, List, [], _++_, map, ℤ, ℕ, _+_, _-_, _*_, length, getD, take, drop, table}
 use Rattle.seq.specs.Terms.{Among}
-use Rattle.seq.specs.Members.{among-++}
+use Rattle.seq.specs.Members.{++-among, among-++}
 use Rattle.seq.specs.Table.{length-table, table-at, table-ext, table-among, among-table}
 use Rattle.paper.specs.Limits.{maps, mapEdges}
 use Rattle.paper.specs.Plane.{Pt}
 use Rattle.graph.specs.Flat.{Numbers, Carriers}
-use Rattle.seq.specs.Kept.{kept}
-use Rattle.seq.specs.Slotted.{slots}
+use Rattle.seq.specs.Kept.{kept, kept-has}
+use Rattle.seq.specs.Slotted.{slots, slots-has}
 use Rattle.laws_sweep.specs.Sweep.{Strand, right, on, goesOn, startsAt, steeper, westOf, through, eastOf, leaving, status, joint, found}
 use Rattle.seq.specs.Search.{lead, trail, Stop, ScanStop, lead-at}
 use Rattle.overlay_sweep.specs.Numbers.{numbersIn}
 use Rattle.overlay_sweep.specs.Sides.{rightAt, onAt, steeperAt}
 use Rattle.overlay_sweep.specs.Splice.{take-table, drop-table}
 use Rattle.overlay_sweep.specs.Fans.{numbersFrom, goesAt, startsIn, slots-++, Fanned}
+use Rattle.overlay_sweep.specs.Meets.{first-cells, cells-part}
 use Rattle.overlay_sweep.specs.Laws.Mapped.{kept-map, lead-map, trail-map, slots-map}
 use Rattle.overlay_sweep.specs.Ahead.{strandAt, Queued, queued-on, requeued}
 use Rattle.overlay_sweep.specs.Neighbours.{jointAt}
@@ -58,6 +59,9 @@ pub record Turned (cs : List ℤ) (e : ℕ) (starts : List ℕ) (p : Pt) (ws st 
   pub started : w′ ≤ e
   pub status-is : strandsIn cs starts (numbersIn st′ c′) ≡ status (strandsIn cs starts (numbersFrom ws w (e - w))) p (strandsIn cs starts (numbersIn st c))
   pub waits-is : strandsIn cs starts (numbersFrom ws w′ (e - w′)) ≡ trail (startsAt p) (strandsIn cs starts (numbersFrom ws w (e - w)))
+  -- the numbers: an edge that goes on stays, and one that waits does so still or has come in
+  pub stays : (k : ℕ) → Among k (numbersIn st c) → goesAt cs p k ≡ true → Among k (numbersIn st′ c′)
+  pub comes : (k : ℕ) → Among k (numbersFrom ws w (e - w)) → Among k (numbersIn st′ c′) ⊎ Among k (numbersFrom ws w′ (e - w′))
   pub points-is : Queued (found (strandsIn cs starts (numbersFrom ws w (e - w))) p (strandsIn cs starts (numbersIn st c))) t n u n′
 
 pub turned-at : {cs : List ℤ} {e : ℕ} {starts : List ℕ} {p q : Pt} {ws st : List ℕ} {c w : ℕ} {t : List ℤ} {n : ℕ} {st′ : List ℕ} {c′ w′ : ℕ} {u : List ℤ} {n′ : ℕ}
@@ -160,7 +164,7 @@ module _ (cs : List ℤ) (starts : List ℕ) (p : Pt) where
             ap (λ (k : ℕ). startsAt p (g k)) (V-at (s - w) l ∙ ap (λ (k : ℕ). getD ws k 0) f) ∙ SS .stops (omega (arith, wS));
       }
 
-      start-part : lead (startsAt p) (map g Q) ≡ map g (numbersFrom ws w (s - w))
+      pub start-part : lead (startsAt p) (map g Q) ≡ map g (numbersFrom ws w (s - w))
       start-part =
           sym (lead-map g (startsAt p) Q) ∙ ap (map g) (lead-at 0 (λ k. startsAt p (g k)) Q (s - w) start-stop .0)
           ∙ ap (map g) (take-table (λ i. getD ws (w + i) 0) (e - w) (s - w) (omega (arith, wS, sE)))
@@ -195,6 +199,27 @@ module _ (cs : List ℤ) (starts : List ℕ) (p : Pt) where
 
           pub status-part : map g (numbersIn st′ cut) ≡ status (map g Q) p S
           status-part = ap (map g) E ∙ map-append g (take a N) (M ++ drop b N) ∙ (λ i. sym west-part i ++ (map-append g M (drop b N) ∙ (λ j. sym fan-part j ++ sym east-part j)) i)
+
+          -- its numbers
+          spliced-in : (k : ℕ) → Among k (take a N) ⊎ (Among k M ⊎ Among k (drop b N)) → Among k (numbersIn st′ cut)
+          spliced-in k h = subst (Among k) (sym E) (++-among k (take a N) (M ++ drop b N) (⊎-elim (λ i. inl i) (λ i. inr (++-among k M (drop b N) i)) h))
+
+          goes-in : (k : ℕ) → Among k (numbersFrom st a (b - a)) → goesAt cs p k ≡ true → Among k M
+          goes-in k i g =
+              subst (Among k) (sym (F₁ .is))
+              (slots-has (steeperAt cs) (numbersIn f₀ h) (numbersFrom ws w (s - w)) k (inl (subst (Among k) (sym (F₀ .is)) (slots-has (steeperAt cs) [] (kept (goesAt cs p) (numbersFrom st a (b - a))) k (inr (kept-has (goesAt cs p) k (numbersFrom st a (b - a)) i g))))))
+
+          starts-in : (k : ℕ) → Among k (numbersFrom ws w (s - w)) → Among k M
+          starts-in k i = subst (Among k) (sym (F₁ .is)) (slots-has (steeperAt cs) (numbersIn f₀ h) (numbersFrom ws w (s - w)) k (inr i))
+
+          stays-in : (k : ℕ) → Among k N → goesAt cs p k ≡ true → Among k (numbersIn st′ cut)
+          stays-in k i h =
+              ⊎-elim (λ j. spliced-in k (inl (subst (Among k) (sym (take-table (λ i. getD st i 0) c a ac)) j)))
+              (λ j. ⊎-elim (λ l. spliced-in k (inr (inl (goes-in k l h)))) (λ l. spliced-in k (inr (inr (subst (Among k) (sym (drop-table (λ i. getD st i 0) c b bc)) l)))) (cells-part st k a b c ab bc j))
+              (first-cells st k a c ac i)
+
+          comes-in : (k : ℕ) → Among k Q → Among k (numbersIn st′ cut) ⊎ Among k (numbersFrom ws s (e - s))
+          comes-in k i = ⊎-elim (λ j. inl (spliced-in k (inr (inl (starts-in k j))))) (λ j. inr j) (cells-part ws k w s e wS sE i)
 
           W-long : length (take a N) ≡ a
           W-long = length-take-le a N (omega (arith, ac, N-long))
@@ -258,6 +283,8 @@ module _ (cs : List ℤ) (starts : List ℕ) (p : Pt) where
               started = sE;
               status-is = status-part;
               waits-is = sym wait-part;
+              stays = stays-in;
+              comes = comes-in;
               points-is = requeued found-part (queued-on Q₁ Q₂);
             }
 

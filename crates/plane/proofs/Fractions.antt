@@ -1,7 +1,7 @@
 -- Two coordinates n/d and m/e on the machine. First what is read back of one, and what small and middling ones are bounded by; then that the products
 -- n·e and m·d fit by the short way (`first-fits`, `second-fits`) and are what they say (`short`, `short-test`); that they are factors of `products` in any case (`factors`,
 -- `long`); last the coordinates of two points. Assumes nothing.
-use mathlib.Core.Path.{_≡_, sym, _∙_, subst}
+use mathlib.Core.Path.{_≡_, sym, _∙_, ap, subst}
 use mathlib.Core.Bool.{true, _&&_}
 use mathlib.Core.List.{[], _∷_}
 use mathlib.Core.Logic.{_⊎_, inl, inr}
@@ -10,13 +10,15 @@ use native.Mathlib.Omega.{arith}
 use lib.IntN.{ℤ, pos, negsuc, negℤ, natAbs, _-ℤ_, _*ℤ_}
 use lib.Signed.{ltZ, _≤ℤ_, _<ℤ_}
 use mir.Syntax.{w64}
-use mir.Val.{SFits}
+use mir.Val.{SFits, ofZ, toZ}
 use Rattle.exact.specs.Lowest.{pt}
 use Rattle.exact.specs.Mach.{tr, tru, fits, plain, atmost, under, abs-of}
 use Rattle.exact.specs.Order.{zomega, sq}
 use Rattle.exact.specs.Tests.{and-parts, lt-t, lt-sign}
 use Rattle.seq.specs.Tests.{or-cases}
 use Rattle.exact.specs.Sign.{sgn, isNeg}
+use Rattle.exact.specs.Signs.{sgn-scale}
+use Rattle.exact.specs.Solve.{ring, reify}
 use Rattle.exact.specs.Words.{Factors}
 use Rattle.plane.specs.Bounds.{Near, Coordinate, small, middling, shortWay}
 use Rattle.plane.proofs.Machine.{back}
@@ -125,6 +127,19 @@ module _ (n d m e : ℤ) (P : Coordinate n d) (Q : Coordinate m e) where
 
   pub long : back n *ℤ back e -ℤ back m *ℤ back d ≡ n *ℤ e -ℤ m *ℤ d
   long = plain (search tr depth 20) tt
+
+-- one denominator
+module _ (n d m e : ℤ) (P : Coordinate n d) (Q : Coordinate m e) where
+  common : (n d m : ℤ) → d *ℤ (n -ℤ m) ≡ n *ℤ d -ℤ m *ℤ d
+  common n d m = ring (n ∷ d ∷ m ∷ []) (search reify depth 20) tt
+
+  one-read : ofZ w64 d ≡ ofZ w64 e → d ≡ e
+  one-read q = sym (denominator-read n d P) ∙ ap (toZ w64) q ∙ denominator-read m e Q
+
+  pub level : ofZ w64 d ≡ ofZ w64 e → sgn (back n -ℤ back m) ≡ sgn (n *ℤ e -ℤ m *ℤ d)
+  level q =
+      (λ i. sgn (number-read n d P i -ℤ number-read m e Q i)) ∙ sym (sgn-scale (n -ℤ m) d (P .positive)) ∙ ap sgn (common n d m)
+      ∙ (λ i. sgn (n *ℤ one-read q i -ℤ m *ℤ d))
 
 -- the coordinates of two points, and how far apart the machine finds them
 module _ (px py pd qx qy qd : ℤ) (P : Near (pt px py pd)) (Q : Near (pt qx qy qd)) where

@@ -56,7 +56,7 @@ fn short_way(n: i64, d: i64, m: i64, e: i64) -> bool
 }
 
 // The order of n/d and m/e: that of n·e and m·d, which need not fit 64 bits.
-fn fractions(n: i64, d: i64, m: i64, e: i64) -> Ordering
+fn crosswise(n: i64, d: i64, m: i64, e: i64) -> Ordering
     requires { ⌜ Coordinate n d × Coordinate m e ⌝ }
     ensures { λ r. ⌜ signOf r ≡ sgn (n *ℤ e -ℤ m *ℤ d) ⌝ }
 {
@@ -64,6 +64,18 @@ fn fractions(n: i64, d: i64, m: i64, e: i64) -> Ordering
         exact::order(n * e, m * d)
     } else {
         exact::products(n, e, m, d)
+    }
+}
+
+// The same; where d is e, as of two corners, it is the order of n and m.
+fn fractions(n: i64, d: i64, m: i64, e: i64) -> Ordering
+    requires { ⌜ Coordinate n d × Coordinate m e ⌝ }
+    ensures { λ r. ⌜ signOf r ≡ sgn (n *ℤ e -ℤ m *ℤ d) ⌝ }
+{
+    if d == e {
+        exact::order(n, m)
+    } else {
+        crosswise(n, d, m, e)
     }
 }
 

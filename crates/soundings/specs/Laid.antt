@@ -3,7 +3,7 @@ use mathlib.Core.Path.{_≡_, refl, sym, _∙_, ap, subst}
 use Prim.Native.Nat.{_≤_}
 use native.Mathlib.Omega.{arith}
 use Rattle.seq.specs.Seq.{List, [], _∷_, _++_, Option, none, some, ℕ, _*_, length, getD, take, ℤ, filled, laid}
-use Rattle.paper.specs.Limits.{mapEdges}
+use Rattle.paper.specs.Limits.{mapVertices, mapEdges}
 use Rattle.paper.specs.Refusal.{Refusal, Answer, done, refused, answer, firstOf, ofMap}
 use Rattle.paper.specs.Map.{label, vertexCount, edgesIn, mapOf, fault, formFaults, partFaults, netFaults}
 use Rattle.laws_refusals.specs.Refusals.{nothing, of-none, first-none}
@@ -55,7 +55,7 @@ module _ (s : List ℕ) (e : fault s ≡ none) where
   passes-kept : Kept s
   passes-kept = kept s form-passes parts-pass
 
-  pub is-laid : (dps : List ℤ) (dos : List ℕ) (dcs : List ℤ) (dls : List ℕ) (ps : List ℤ) (os : List ℕ) (cs : List ℤ) (ls : List ℕ) → MapRoom dps dos dcs dls → MapLaid s dps dos dcs dls ps os cs ls → Laid s ps os cs ls
+  pub is-laid : (dps : List ℤ) (dos : List ℕ) (dcs : List ℤ) (dls : List ℕ) (ps : List ℤ) (os : List ℕ) (cs : List ℤ) (ls : List ℕ) → MapRoom mapVertices mapEdges dps dos dcs dls → MapLaid s dps dos dcs dls ps os cs ls → Laid s ps os cs ls
   is-laid dps dos dcs dls ps os cs ls R L =
       let k = passes-kept in
       let rp : 4 * vertexCount s ≤ length dps = omega (arith, R .corners, k .few-vertices) in

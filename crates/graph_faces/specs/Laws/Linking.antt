@@ -3,7 +3,7 @@ use mathlib.Core.Path.{_≡_, sym, _∙_, ap, subst}
 use Prim.Native.Nat.{_≤_, _<_}
 use native.Mathlib.Omega.{arith}
 use lib.ListN.{length-replicate}
-use Rattle.seq.specs.Seq.{List, Option·getD, ℕ, _*_, length, getD, take, replicate, table, leader, filled, laid, over, ℤ, pos}
+use Rattle.seq.specs.Seq.{List, Option·getD, ℕ, _*_, length, getD, take, replicate, table, leader, filled, laid, over, ℤ}
 use Rattle.seq.specs.Table.{table-ext}
 use Rattle.seq.specs.Filled.{filled-ext, Holds, filled-holds, holds-ext}
 use Rattle.paper.specs.Limits.{absent}
@@ -34,15 +34,12 @@ module _ (ps : List ℤ) (os : List ℕ) (cs : List ℤ) (n e : ℕ) (F : Flat p
 
   -- ── headings ──
 
-  module _ (k : ℕ) (room : 2 * (2 * e) ≤ k) (ways : List ℤ) (is : ways ≡ laid (2 * e) (λ h. row (heading g h)) (replicate k (pos 0))) where
-    wide : 2 * (2 * e) ≤ length (replicate k (pos 0))
-    wide = rw (length-replicate k (pos 0)) room
-
+  module _ (d : List ℤ) (wide : 2 * (2 * e) ≤ length d) (ways : List ℤ) (is : ways ≡ laid (2 * e) (λ h. row (heading g h)) d) where
     pub ways-heads : Heads ps os cs n e ways
-    ways-heads = heads-laid ps os cs n e ways (replicate k (pos 0)) wide is
+    ways-heads = heads-laid ps os cs n e ways d wide is
 
     pub ways-near : Headings ways (2 * e)
-    ways-near = headings-laid ps os cs n e ways (replicate k (pos 0)) wide is F
+    ways-near = headings-laid ps os cs n e ways d wide is F
 
     pub ways-apart : Apart os ways (2 * e)
     ways-apart = flat-apart ps os cs n e P ways ways-heads
@@ -80,9 +77,9 @@ module _ (ps : List ℤ) (os : List ℕ) (cs : List ℤ) (n e : ℕ) (F : Flat p
 
   -- ── greatest angles ──
 
-  pub greatest-holds : (ways : List ℤ) → Heads ps os cs n e ways → (k : ℕ) → n ≤ k → (out : List ℕ) → out ≡ filled n (greatestAt os ways (2 * e)) (replicate k 0) → Holds (λ v. Option·getD (greatestOut g v) absent) out n
-  greatest-holds ways H k room out is =
-      holds-ext (greatestAt os ways (2 * e)) (λ v. Option·getD (greatestOut g v) absent) out n (λ v l. flat-greatest ps os cs n e F ways H v) (made (greatestAt os ways (2 * e)) n k out room is)
+  pub greatest-holds : (ways : List ℤ) → Heads ps os cs n e ways → (d : List ℕ) → n ≤ length d → (out : List ℕ) → out ≡ filled n (greatestAt os ways (2 * e)) d → Holds (λ v. Option·getD (greatestOut g v) absent) out n
+  greatest-holds ways H d room out is =
+      holds-ext (greatestAt os ways (2 * e)) (λ v. Option·getD (greatestOut g v) absent) out n (λ v l. flat-greatest ps os cs n e F ways H v) (filled-holds (greatestAt os ways (2 * e)) out d n room is)
 
   -- ── smallest vertices ──
 

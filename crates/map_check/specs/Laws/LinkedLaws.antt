@@ -13,7 +13,7 @@ use Rattle.laws_graph.specs.Plane.{Plane}
 use Rattle.graph.specs.Flat.{flatGraph, Flat, Numbers}
 use Rattle.graph.specs.Heading.{row}
 use Rattle.graph.specs.Follow.{Headings, followerAt, follower-under, flat-follower, heads-laid, headings-laid}
-use Rattle.graph.specs.Stars.{Apart, flat-apart}
+use Rattle.graph.specs.Stars.{greatestAt, Apart, flat-apart}
 use Rattle.map_check.specs.Labels.{disagreesAt, Linked}
 use Rattle.map_check.specs.Held.{flatMap}
 use Rattle.map_check.specs.Laws.Disagree.{flat-disagrees}
@@ -29,7 +29,8 @@ module _ {ps : List ℤ} {os : List ℕ} {cs : List ℤ} {n e : ℕ} (F : Flat p
     pub made-apart : Plane g → Apart os hs (2 * e)
     made-apart P = flat-apart ps os cs n e P hs (heads-laid ps os cs n e hs dh roomy made)
 
-    module _ (nx dn : List ℕ) (room : 2 * e ≤ length dn) (is : nx ≡ filled (2 * e) (followerAt os hs (2 * e)) dn) where
+    module _ (nx dn : List ℕ) (room : 2 * e ≤ length dn) (is : nx ≡ filled (2 * e) (followerAt os hs (2 * e)) dn)
+        (gs dg : List ℕ) (wide : n ≤ length dg) (tops : gs ≡ filled n (greatestAt os hs (2 * e)) dg) where
       next-at : (h : ℕ) → h < 2 * e → getD nx h 0 ≡ followerAt os hs (2 * e) h
       next-at h l = ap (λ (t : List ℕ). getD t h 0) is ∙ filled-at (followerAt os hs (2 * e)) (2 * e) h dn 0 l
 
@@ -39,15 +40,18 @@ module _ {ps : List ℤ} {os : List ℕ} {cs : List ℤ} {n e : ℕ} (F : Flat p
         named = λ h l. subst (λ (x : ℕ). x < 2 * e) (sym (next-at h l)) (follower-under os hs e h l);
       }
 
-      pub made-linked : (ls : List ℕ) → 2 * e ≤ length ls → Linked ps os cs ls hs nx n e
-      made-linked ls l = record { flat = F; few = omega arith; labels = l; headings = made-headings; next = made-next }
+      holds-tops : Holds (greatestAt os hs (2 * e)) gs n
+      holds-tops = filled-holds (greatestAt os hs (2 * e)) gs dg n wide tops
+
+      pub made-linked : (ls : List ℕ) → 2 * e ≤ length ls → Linked ps os cs ls gs nx n e
+      made-linked ls l = record { flat = F; few = omega arith; labels = l; heads = holds-tops .long; next = made-next }
 
       holds-followers : Holds (follower g) nx (2 * e)
       holds-followers =
           holds-ext (followerAt os hs (2 * e)) (follower g) nx (2 * e) (flat-follower ps os cs n e hs (heads-laid ps os cs n e hs dh roomy made))
           (filled-holds (followerAt os hs (2 * e)) nx dn (2 * e) room is)
 
-      pub found-disagrees : Plane g → (ls : List ℕ) (r : ℕ) → r ≡ least (disagreesAt ps os cs ls hs nx n e) (2 * e) → r ≡ least (disagrees (flatMap ps os cs ls n e) (followers g)) (2 * e)
+      pub found-disagrees : Plane g → (ls : List ℕ) (r : ℕ) → r ≡ least (disagreesAt ps os cs ls gs nx n e) (2 * e) → r ≡ least (disagrees (flatMap ps os cs ls n e) (followers g)) (2 * e)
       found-disagrees P ls r q =
-          q ∙ least-ext (disagreesAt ps os cs ls hs nx n e) (disagrees (flatMap ps os cs ls n e) (followers g)) (2 * e)
-          (λ h l. flat-disagrees ps os cs n e F P hs (heads-laid ps os cs n e hs dh roomy made) nx holds-followers h l ls)
+          q ∙ least-ext (disagreesAt ps os cs ls gs nx n e) (disagrees (flatMap ps os cs ls n e) (followers g)) (2 * e)
+          (λ h l. flat-disagrees ps os cs n e F P hs (heads-laid ps os cs n e hs dh roomy made) gs holds-tops nx holds-followers h l ls)

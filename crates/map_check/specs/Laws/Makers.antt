@@ -5,11 +5,12 @@ use mathlib.Core.Logic.{inl, inr}
 use Prim.Native.Nat.{_<_}
 use native.Mathlib.Decide.{ℕ-discrete}
 use borrow.Author.Tests.{eqb-true, eq-eqb}
-use Rattle.seq.specs.Seq.{Bool, true, false, not, _&&_, List, [], _∷_, Option, none, some, ℕ, eqb, length, getD, someBelow, walkFrom}
+use Rattle.seq.specs.Seq.{Bool, true, false, not, _&&_, List, [], _∷_, Option, none, some, Option·getD, ℕ, eqb, length, getD, someBelow, walkFrom}
 use Rattle.seq.specs.Terms.{Among, Has, BestIs}
 use Rattle.seq.specs.Tests.{bool-ext, clash, not-true, and-both, and-parts, was-false}
 use Rattle.seq.specs.Least.{no-some, no-some-is}
 use Rattle.seq.specs.Cyclic.{asym}
+use Rattle.paper.specs.Limits.{absent}
 use Rattle.paper.specs.Plane.{before, lessAngle}
 use Rattle.paper.specs.Graph.{Graph, halfCount, point, origin, start, heading, followers, walk, smallest, leaves, greatestOut, makesHole}
 use Rattle.laws_plane.specs.Points.{before-irr}
@@ -69,6 +70,31 @@ module _ (g : Graph) (P : Plane g) (h : ℕ) (l : h < halfCount g) where
         | yes q ↦ ap some (sym q)
         | no q ↦ absurd (clash (and-both (B .is .has) (B .beats h leaves-own q)) (no-some-is (greater g h) (halfCount g) e s (B .is .below)))
       ]
+
+  -- so the one of greatest angle out of the origin of h is h exactly if none out of it has a greater one
+  top-none : (o : Option ℕ) → BestIs (leaves g (origin g h)) (λ k r. lesser g r k) (halfCount g) o → eqb (Option·getD o absent) h ≡ true → someBelow (greater g h) (halfCount g) ≡ false
+  top-none none B e = absurd (B h leaves-own)
+  top-none (some s) B e =
+      no-some (greater g h) (halfCount g)
+      (λ k b. not-true (greater g h k) (λ t. beats k b (and-parts (eqb (origin g k) (origin g h)) (lesser g h k) t)))
+    where
+      own : s ≡ h
+      own = eqb-true s h e
+
+      beats : (k : ℕ) → k < halfCount g → (eqb (origin g k) (origin g h) ≡ true) × (lesser g h k ≡ true) → ⊥
+      beats k b t =
+          elim (ℕ-discrete k h) [
+            | yes q ↦ clash (t .1) (subst (λ (x : ℕ). lesser g h x ≡ false) (sym q) (ranked g P .irr h l))
+            | no q ↦ asym (origin g) (lesser g) (halfCount g) (ranked g P) h k l b (sym (eqb-true (origin g k) (origin g h) (t .0))) (t .1)
+                (subst (λ (x : ℕ). lesser g k x ≡ true) own (B .beats k (record { below = b; has = t .0 }) (λ z. q (z ∙ own))))
+          ]
+
+  pub top-is : eqb (Option·getD (greatestOut g (origin g h)) absent) h ≡ not (someBelow (greater g h) (halfCount g))
+  top-is =
+      bool-ext (eqb (Option·getD (greatestOut g (origin g h)) absent) h) (not (someBelow (greater g h) (halfCount g)))
+      (λ e. ap not (top-none (greatestOut g (origin g h)) (greatest-is g P (origin g h)) e))
+      (λ e. ap (λ (o : Option ℕ). eqb (Option·getD o absent) h) (greatest-own (was-false (someBelow (greater g h) (halfCount g)) e) (greatestOut g (origin g h)) (greatest-is g P (origin g h)))
+      ∙ eq-eqb h h refl)
 
   maker-makes : maker g h ≡ true → makesHole g (followers g) h ≡ true
   maker-makes e =

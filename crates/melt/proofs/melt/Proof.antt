@@ -1,9 +1,7 @@
 -- `melt::melt` meets its contract: the tables have room for all maps, and hold them where all pass. Assumes nothing.
-use mathlib.Core.Path.{refl, sym, _∙_, ap}
-use native.Mathlib.Omega.{arith}
+use mathlib.Core.Path.{_≡_, refl, sym, _∙_, ap}
 use borrow.Author.Needs.{needs}
-use lib.ListN.{length-replicate}
-use Rattle.seq.specs.Seq.{List, [], _∷_, ℕ, _+_, _*_, replicate, pos}
+use Rattle.seq.specs.Seq.{List, [], _∷_, ℕ, _+_, _*_, length, replicate, pos}
 use Rattle.paper.specs.Limits.{maps, mapVertices, mapEdges}
 use Rattle.paper.specs.Map.{Map}
 use Rattle.paper.specs.Lent.{lengthsOf}
@@ -11,23 +9,19 @@ use Rattle.map_file.specs.Verdict.{verdict}
 use Rattle.tables.specs.Values.{tablesBy}
 use Rattle.overlay_maps.specs.Layers.{layersBy, LayerRoom}
 use Rattle.overlay_maps.proofs.StackLaws.{all-pass}
+use Rattle.overlay_maps.proofs.RoomLaws.{cleared-full, layer-room}
 use Rattle.overlay_maps.proofs.HeldLaws.{held-maps, layers-held}
 use Rattle.melt.specs.Melted.{meltedIn}
 use Rattle.melt.specs.Laws.Judged.{files-refused, files-pass}
 use Rattle.melt.proofs.melt.Statement.{statement}
 use Rattle.melt.proofs.melt.Tie as tie
 
-room : LayerRoom (layersBy (replicate (maps + 1) 0) (replicate (maps + 1) 0) (replicate (maps * (4 * mapVertices)) (pos 0)) (replicate (maps * (2 * mapEdges)) 0) (replicate (maps * (4 * mapEdges)) (pos 0)) (replicate (maps * (2 * mapEdges)) 0))
-room = record {
-  vertices = omega (arith, length-replicate {A = ℕ} (maps + 1) 0);
-  edges = omega (arith, length-replicate {A = ℕ} (maps + 1) 0);
-  tables = record {
-    corners = omega (arith, length-replicate (maps * (4 * mapVertices)) (pos 0));
-    origins = omega (arith, length-replicate {A = ℕ} (maps * (2 * mapEdges)) 0);
-    carriers = omega (arith, length-replicate (maps * (4 * mapEdges)) (pos 0));
-    labels = omega (arith, length-replicate {A = ℕ} (maps * (2 * mapEdges)) 0);
-  };
-}
+room : (files : List (List ℕ)) → length files ≡ maps →
+    LayerRoom files (layersBy (replicate (maps + 1) 0) (replicate (maps + 1) 0) (replicate (4 * (maps * mapVertices)) (pos 0)) (replicate (2 * (maps * mapEdges)) 0) (replicate (4 * (maps * mapEdges)) (pos 0)) (replicate (2 * (maps * mapEdges)) 0))
+room files every = layer-room files (cleared-full files every)
+
+lay-maps-requires : tie.Need-lay-maps-requires
+lay-maps-requires c κs = let s : tie.Start = search needs in room (s .args .zones .now ∷ s .args .blocks .now ∷ s .args .bed .now ∷ []) refl
 
 melt-layers-requires : tie.Need-melt-layers-requires
 melt-layers-requires c κs =
@@ -35,7 +29,7 @@ melt-layers-requires c κs =
     let laid = c .before .before .before .before .before .before .before .before .before .before .before .before .before .before .before .before .before .before .lay-maps .ensures in
     let none = sym (laid .0) ∙ ap verdict (c .before .before .before .before .before .before .before .before .before .before .enum-told .given .1) in
     let files = a .zones .now ∷ a .blocks .now ∷ a .bed .now ∷ [] in
-    layers-held files _ _ (laid .1 none) refl room (all-pass files none)
+    layers-held files _ _ (laid .1 none) refl (room files refl) (all-pass files none)
 
 returns : tie.Need-returns
 returns c =
@@ -64,7 +58,7 @@ melt-spec =
     (λ c. search needs)
     (λ c. search needs)
     (λ c. search needs)
-    (λ c κs. room)
+    lay-maps-requires
     (λ c. search needs)
     (λ c κs. search needs)
     (λ c. search needs)

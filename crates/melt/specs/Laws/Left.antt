@@ -10,14 +10,15 @@ use Rattle.paper.specs.Faces.{Overlay, overlayOf}
 use Rattle.paper.specs.Lent.{Lengths}
 use Rattle.paper.specs.Melt.{meltedOf}
 use Rattle.laws_file.specs.Agree.{padded-cell}
-use Rattle.graph_faces.specs.Linked.{halfRows}
+use Rattle.graph.specs.Laws.Decode.{flat-halves}
 use Rattle.overlay_cut.specs.PieceRows.{pieceWidth}
 use Rattle.overlay_maps.specs.Held.{heldMaps}
 use Rattle.overlay_maps.specs.Layers.{Layers}
 use Rattle.overlay_graph.specs.Cut.{Cut, CutOf, overlayIn, Drawable, DrawableCut}
 use Rattle.overlay_graph.specs.Laws.Standing.{keep, held-count, vertex-near}
 use Rattle.overlay_graph.specs.Laws.Drawing.{overlay-in}
-use Rattle.overlay_graph.specs.Laws.Backwards.{padded-long}
+use Rattle.overlay_graph.specs.Laws.Zeros.{zeroed-long}
+use Rattle.overlay_graph.specs.Laws.Tracing.{face-length}
 use Rattle.overlay_pairs.specs.Labels.{labelCell}
 use Rattle.overlay_pairs.specs.Pairs.{Outlined, labelOf, labels-are}
 use Rattle.thin.specs.Thinned.{Thinned}
@@ -38,10 +39,11 @@ module _ (l : Layers) (c : Cut) (C : CutOf (heldMaps l) c) (os : List ℕ) (bs :
   faces-are = omega (arith, O .count-is, ap (λ (o : Overlay). length (o .outers)) drawn-is)
 
   face-at : (h : ℕ) → getD face h 0 ≡ getD (overlayOf ms .face) h 0
-  face-at h = ap (λ (x : List ℕ). getD x h 0) F ∙ padded-cell 0 halfRows (overlayIn ms c .face) h ∙ ap (λ (o : Overlay). getD (o .face) h 0) drawn-is
+  face-at h = ap (λ (x : List ℕ). getD x h 0) (F .is) ∙ padded-cell 0 (F .cells) (overlayIn ms c .face) h ∙ ap (λ (o : Overlay). getD (o .face) h 0) drawn-is
 
   pub face-long : 2 * c .edges ≤ length face
-  face-long = omega (arith, padded-long halfRows face (overlayIn ms c .face) F, O .cut .few-edges)
+  face-long =
+      omega (arith, zeroed-long (overlayIn ms c .face) face F, face-length ms c _ (O .net-by .net-is), flat-halves (c .points) os bs (c .vertices) (c .edges))
 
   -- with the labels of every face
   module _ (triples d : List ℕ) (e : triples ≡ filled (maps * (count + 1)) (labelCell l (c .points) os bs (c .pieces) outers) d) where

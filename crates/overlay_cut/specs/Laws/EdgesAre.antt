@@ -1,5 +1,5 @@
 -- The pieces that the tables give are the pieces of the maps' edges, so that the table of pieces is `edgesOf` the maps that the tables hold; and where it is full
--- the overlay has more edges than it may. Assumes nothing.
+-- there are at least as many as it has room for. Assumes nothing.
 use mathlib.Core.Path.{_≡_, sym, _∙_, ap, subst}
 use Prim.Native.Nat.{_≤_, _<_}
 use native.Mathlib.Omega.{arith}
@@ -9,13 +9,12 @@ use Rattle.seq.specs.Seq.{List, [], ℕ, _+_, length, select, rows}
 use Rattle.seq.specs.Select.{select-ext}
 use Rattle.seq.specs.Rows.{rows-ext}
 use Rattle.seq.specs.Table.{length-table, table-at}
-use Rattle.paper.specs.Limits.{maps, overlayEdges}
+use Rattle.paper.specs.Limits.{maps}
 use Rattle.paper.specs.Plane.{onSeg}
 use Rattle.paper.specs.Graph.{Graph, edge, pointIn}
 use Rattle.paper.specs.Map.{Map}
 use Rattle.paper.specs.Pieces.{Piece, layer, only, links, along, piecesOf, edgesOf, piecesInOrder, earlier, joined}
 use Rattle.graph.specs.Flat.{pointAt, carrierAt}
-use Rattle.overlay_cut.specs.Rooms.{edgeRows}
 use Rattle.overlay_cut.specs.Points.{pointsOf, noPoint}
 use Rattle.overlay_cut.specs.Capped.{Cap, cap-whole, cap-full, putAll-cap}
 use Rattle.overlay_cut.specs.PieceRows.{pieceAt, piecesIn}
@@ -50,21 +49,21 @@ module _ (ps : List ℤ) (n : ℕ) where
         ∙ rows-ext (cutRow ps n cs (startOf st m) m) (λ k. links (only (length ms) m k) (along (pointsOf ps n) (layer ms m .graph) k)) (edgesIn ms m) (λ k l. row-is m k h l))
         ∙ ap (rows (piecesOf ms (pointsOf ps n))) (sym (H .count))
 
-    -- ── in a table with room for one more than the overlay may have ──
+    -- ── in a table with room for so many ──
 
-    module _ (vs : List Pt) (v : pointsOf ps n ≡ vs) (out : List ℕ) (r : ℕ) (e : piecesIn out r ≡ puts edgeRows [] (cutAll ps n cs st)) where
+    module _ (room : ℕ) (vs : List Pt) (v : pointsOf ps n ≡ vs) (out : List ℕ) (r : ℕ) (e : piecesIn out r ≡ puts room [] (cutAll ps n cs st)) where
       ordered : piecesInOrder (cutAll ps n cs st) ≡ edgesOf ms vs
       ordered = ap piecesInOrder pieces-are ∙ ap (edgesOf ms) v
 
-      cap : Cap edgeRows (piecesIn out r) (edgesOf ms vs)
-      cap = subst (λ (l : List Piece). Cap edgeRows (piecesIn out r) l) ordered (subst (λ (l : List Piece). Cap edgeRows l (piecesInOrder (cutAll ps n cs st))) (sym e) (putAll-cap earlier joined edgeRows (cutAll ps n cs st)))
+      cap : Cap room (piecesIn out r) (edgesOf ms vs)
+      cap = subst (λ (l : List Piece). Cap room (piecesIn out r) l) ordered (subst (λ (l : List Piece). Cap room l (piecesInOrder (cutAll ps n cs st))) (sym e) (putAll-cap earlier joined room (cutAll ps n cs st)))
 
-      -- they are the edges, if they are no more than the overlay may have
-      pub edges-are : r ≤ overlayEdges → Edges ms vs out r
+      -- they are the edges, if there are fewer
+      pub edges-are : r < room → Edges ms vs out r
       edges-are h =
           let q : piecesIn out r ≡ edgesOf ms vs = cap-whole cap (omega (arith, length-table (pieceAt out) r)) in
           record { are = q; many = sym (length-table (pieceAt out) r) ∙ ap length q }
 
-      -- and otherwise the overlay has more
-      pub edges-over : overlayEdges < r → overlayEdges < length (edgesOf ms vs)
+      -- and otherwise there are at least so many
+      pub edges-over : room ≤ r → room ≤ length (edgesOf ms vs)
       edges-over h = omega (arith, cap-full cap (omega (arith, length-table (pieceAt out) r)))

@@ -1,5 +1,5 @@
 -- The points that are collected are the overlay's vertices: put in order they are `verticesOf` the maps that the tables hold, and where the table is full the
--- overlay has more vertices than it may. The maps keep the rules: where edges in one line touch is a corner then. Assumes nothing.
+-- overlay has at least as many vertices as it has rows. The maps keep the rules: where edges in one line touch is a corner then. Assumes nothing.
 use mathlib.Core.Path.{_≡_, refl, sym, _∙_, ap, subst}
 use mathlib.Core.Logic.{inl, inr, ⊎-elim}
 use Prim.Native.Nat.{_≤_, _<_}
@@ -14,14 +14,12 @@ use Rattle.seq.specs.Rows.{rows-among}
 use Rattle.seq.specs.Collected.{collect-distinct, collect-from, collect-has}
 use Rattle.seq.specs.Inserted.{inOrder-same}
 use Rattle.seq.specs.ByHalves.{length-sorted}
-use Rattle.paper.specs.Limits.{overlayVertices}
 use Rattle.paper.specs.Plane.{before}
 use Rattle.paper.specs.Map.{Map}
 use Rattle.paper.specs.Pieces.{layer, inOrder, verticesOf}
 use Rattle.laws_overlay.specs.Maps.{AllKeep, points-lowest}
 use Rattle.laws_meet.specs.Collect.{metIn, vertices-by}
 use Rattle.graph.specs.Flat.{pointAt}
-use Rattle.overlay_cut.specs.Rooms.{vertexRows}
 use Rattle.overlay_cut.specs.Capped.{Cap, whole, cap-whole, cap-full, collectIn-cap}
 use Rattle.overlay_cut.specs.Points.{pointsOf, equal, equal-is, Once, once-clear, asym, trans, one-point}
 use Rattle.overlay_cut.specs.Crossed.{crossAll}
@@ -94,14 +92,14 @@ module _ {ms : List Map} {corners : List ℤ} {c : ℕ} {cs : List ℤ} {st : Li
   pub each-many : length each ≡ length (verticesOf ms)
   each-many = sym (length-ordered each each-once) ∙ ap length each-ordered
 
-  -- ── in a table with room for one more than the overlay may have ──
+  -- ── in a table with room for so many ──
 
-  module _ (out : List ℤ) (n : ℕ) (e : pointsOf out n ≡ gathered vertexRows [] found) where
-    cap : Cap vertexRows (pointsOf out n) each
-    cap = subst (λ (l : List Pt). Cap vertexRows l each) (sym e) (collectIn-cap equal vertexRows [] [] found (whole refl (omega arith)))
+  module _ (room : ℕ) (out : List ℤ) (n : ℕ) (e : pointsOf out n ≡ gathered room [] found) where
+    cap : Cap room (pointsOf out n) each
+    cap = subst (λ (l : List Pt). Cap room l each) (sym e) (collectIn-cap equal room [] [] found (whole refl (omega arith)))
 
-    -- they are the vertices, if they are no more than the overlay may have
-    pub vertices-are : n ≤ overlayVertices → Vertices ms out n
+    -- they are the vertices, if the table is not full
+    pub vertices-are : n < room → Vertices ms out n
     vertices-are h =
         let q : pointsOf out n ≡ each = cap-whole cap (omega (arith, length-table (pointAt out) n)) in
         record {
@@ -110,6 +108,6 @@ module _ {ms : List Map} {corners : List ℤ} {c : ℕ} {cs : List ℤ} {st : Li
           many = sym (length-table (pointAt out) n) ∙ ap length q ∙ each-many;
         }
 
-    -- and otherwise the overlay has more
-    pub vertices-over : overlayVertices < n → overlayVertices < length (verticesOf ms)
+    -- and otherwise the overlay has as many or more
+    pub vertices-over : room ≤ n → room ≤ length (verticesOf ms)
     vertices-over h = omega (arith, cap-full cap (omega (arith, length-table (pointAt out) n)), each-many)

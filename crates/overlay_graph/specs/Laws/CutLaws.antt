@@ -3,16 +3,17 @@
 use mathlib.Core.Path.{_≡_, sym, _∙_, ap, subst}
 use Prim.Native.Nat.{_≤_, _<_}
 use native.Mathlib.Omega.{arith}
+use native.Mathlib.Decide.{decLt}
 use Rattle.seq.specs.Seq.{List, [], _++_, ℕ, _*_, length, ℤ}
 use Rattle.seq.specs.Terms.{Among}
-use Rattle.paper.specs.Limits.{maps}
+use Rattle.seq.specs.Table.{length-table}
+use Rattle.paper.specs.Limits.{maps, overlayVertices, overlayEdges}
 use Rattle.paper.specs.Plane.{whole, head}
 use Rattle.paper.specs.Graph.{edge}
 use Rattle.paper.specs.Pieces.{layer, inOrder, verticesOf}
 use Rattle.laws_overlay.specs.Vertices.{foot-there, head-there}
 use Rattle.laws_cut.specs.Between.{vertices-rise}
 use Rattle.graph.specs.Flat.{pointAt, carrierAt, Points}
-use Rattle.overlay_cut.specs.Rooms.{vertexRows, edgeRows}
 use Rattle.overlay_cut.specs.Points.{pointsOf, Once}
 use Rattle.overlay_cut.specs.Collecting.{gathered}
 use Rattle.overlay_cut.specs.Crossed.{crossAll}
@@ -29,15 +30,15 @@ use Rattle.overlay_graph.specs.Laws.Standing.{keep, holds, held-count, v
 use Rattle.overlay_graph.specs.Collected.{CollectedOf}
 use Rattle.overlay_graph.specs.Cut.{cutBy, CutOf}
 
--- the n points in a table are those that are collected
-abbrev pub Collected : Layers → List ℤ → ℕ → Type 0
-Collected l out n = pointsOf out n ≡ gathered vertexRows [] (pointsOf (l .corners) (vertexStart l maps) ++ crossAll (l .carriers) (l .edges))
+-- the n points in a table with room for so many are those that are collected
+abbrev pub Collected : Layers → ℕ → List ℤ → ℕ → Type 0
+Collected l room out n = pointsOf out n ≡ gathered room [] (pointsOf (l .corners) (vertexStart l maps) ++ crossAll (l .carriers) (l .edges))
 
-module _ (l : Layers) (H : Held l) (out : List ℤ) (n : ℕ) (e : Collected l out n) where
-  -- no more of them than the overlay may have
-  module _ (few : n < vertexRows) where
+module _ (l : Layers) (H : Held l) (room : ℕ) (out : List ℤ) (n : ℕ) (e : Collected l room out n) where
+  -- the table is not full
+  module _ (few : n < room) where
     each : Vertices (heldMaps l) out n
-    each = vertices-are (holds l H) (keep l H) out n e (omega arith)
+    each = vertices-are (holds l H) (keep l H) room out n e few
 
     pub collected-once : Once (pointsOf out n)
     collected-once = each .once
@@ -46,23 +47,23 @@ module _ (l : Layers) (H : Held l) (out : List ℤ) (n : ℕ) (e : Collected l o
     collected-near h = unordered-near l H out n h each
 
     -- put in order
-    pub ordered-is : (ps : List ℤ) → pointsOf ps n ≡ inOrder (pointsOf out n) → CollectedOf (heldMaps l) ps n
+    pub ordered-is : (ps : List ℤ) → pointsOf ps n ≡ inOrder (pointsOf out n) → CollectedOf (heldMaps l) room ps n
     ordered-is ps o = record { vertices-are = λ h. o ∙ each .ordered; vertices-over = λ h. absurd (omega arith) }
 
-  -- more of them: no more is said
-  pub collected-over : vertexRows ≤ n → (ps : List ℤ) → CollectedOf (heldMaps l) ps n
-  collected-over more ps = record { vertices-are = λ h. absurd (omega arith); vertices-over = λ h. vertices-over (holds l H) (keep l H) out n e h }
+  -- it is: no more is said
+  pub collected-over : room ≤ n → (ps : List ℤ) → CollectedOf (heldMaps l) room ps n
+  collected-over more ps = record { vertices-are = λ h. absurd (omega arith); vertices-over = λ h. vertices-over (holds l H) (keep l H) room out n e h }
 
 -- ── the pieces between the vertices ──
 
-module _ (l : Layers) (H : Held l) (ps : List ℤ) (n : ℕ) (v : CollectedOf (heldMaps l) ps n) where
-  module _ (few : n < vertexRows) where
+module _ (l : Layers) (H : Held l) (room : ℕ) (ps : List ℤ) (n : ℕ) (v : CollectedOf (heldMaps l) room ps n) where
+  module _ (few : n < room) where
     pub ordered-near : 4 * n ≤ length ps → Points ps n
-    ordered-near h = vertices-near l H ps n h (v .vertices-are (omega arith))
+    ordered-near h = vertices-near l H ps n h (v .vertices-are few)
 
     -- they stand in point order, and the ends of all edges among them
     pub ordered-rise : InRowOrder ps n
-    ordered-rise = record { rises = vertices-rise (heldMaps l) (keep l H) (pointAt ps) n (v .vertices-are (omega arith)) }
+    ordered-rise = record { rises = vertices-rise (heldMaps l) (keep l H) (pointAt ps) n (v .vertices-are few) }
 
     pub ordered-ended : Ended ps n (l .carriers) (edgeStart l maps)
     ordered-ended = record {
@@ -72,23 +73,37 @@ module _ (l : Layers) (H : Held l) (ps : List ℤ) (n : ℕ) (v : CollectedOf (h
           let e : carrierAt (l .carriers) k ≡ edge (layer (heldMaps l) (o .map) .graph) (o .number) .carrier = ap (carrierAt (l .carriers)) (o .is) ∙ holds l H .carriers-are (o .map) (o .number) (o .earlier) (o .below) in
           subst (EndsIn ps n) (sym e)
           (record {
-            low = subst (Among (whole (edge (layer (heldMaps l) (o .map) .graph) (o .number) .carrier .foot))) (sym (v .vertices-are (omega arith))) (foot-there (heldMaps l) (keep l H) (o .map) (o .number) i (o .below));
-            high = subst (Among (whole (head (edge (layer (heldMaps l) (o .map) .graph) (o .number) .carrier)))) (sym (v .vertices-are (omega arith))) (head-there (heldMaps l) (keep l H) (o .map) (o .number) i (o .below));
+            low = subst (Among (whole (edge (layer (heldMaps l) (o .map) .graph) (o .number) .carrier .foot))) (sym (v .vertices-are few)) (foot-there (heldMaps l) (keep l H) (o .map) (o .number) i (o .below));
+            high = subst (Among (whole (head (edge (layer (heldMaps l) (o .map) .graph) (o .number) .carrier)))) (sym (v .vertices-are few)) (head-there (heldMaps l) (keep l H) (o .map) (o .number) i (o .below));
           });
     }
 
-    pub cut-is : (rows : List ℕ) (r : ℕ) → piecesIn rows r ≡ puts edgeRows [] (cutAll ps n (l .carriers) (l .edges)) → CutOf (heldMaps l) (cutBy n ps r rows)
-    cut-is rows r p = record {
-      vertices-are = λ h. v .vertices-are h;
-      vertices-over = λ h. v .vertices-over h;
-      edges-are = λ h q. edges-are ps n (holds l H) (verticesOf (heldMaps l)) (v .vertices-are h) rows r p q .are;
-      edges-over = λ h q. edges-over ps n (holds l H) (verticesOf (heldMaps l)) (v .vertices-are h) rows r p q;
-    }
+    -- the pieces between them, in a table that is not full, or has room for more than the overlay may have
+    pub cut-is : (edge-room : ℕ) (rows : List ℕ) (r : ℕ) → piecesIn rows r ≡ puts edge-room [] (cutAll ps n (l .carriers) (l .edges)) → (edge-room ≤ r → overlayEdges < edge-room) → CutOf (heldMaps l) (cutBy n ps r rows)
+    cut-is edge-room rows r p roomy =
+        let vs = verticesOf (heldMaps l) in
+        let is : pointsOf ps n ≡ vs = v .vertices-are few in
+        let many : n ≡ length vs = sym (length-table (pointAt ps) n) ∙ ap length is in
+        elim (decLt r edge-room) [
+          | yes q ↦ let all = edges-are ps n (holds l H) edge-room vs is rows r p q in record {
+            vertices-are = λ h. is;
+            vertices-over = λ h. omega (arith, many);
+            edges-are = λ h k. all .are;
+            edges-over = λ h k. omega (arith, all .many);
+          }
+          | no q ↦ let more = edges-over ps n (holds l H) edge-room vs is rows r p (omega arith) in let most = roomy (omega arith) in record {
+            vertices-are = λ h. is;
+            vertices-over = λ h. omega (arith, many);
+            edges-are = λ h k. absurd (omega (arith, most));
+            edges-over = λ h k. omega (arith, most, more);
+          }
+        ]
 
-  pub cut-over : vertexRows ≤ n → (rows : List ℕ) (r : ℕ) → CutOf (heldMaps l) (cutBy n ps r rows)
-  cut-over more rows r = record {
-    vertices-are = λ h. v .vertices-are h;
-    vertices-over = λ h. v .vertices-over h;
+  -- more vertices than the overlay may have: nothing is said of pieces
+  pub cut-over : overlayVertices < room → room ≤ n → (rows : List ℕ) (r : ℕ) → CutOf (heldMaps l) (cutBy n ps r rows)
+  cut-over roomy more rows r = record {
+    vertices-are = λ h. absurd (omega arith);
+    vertices-over = λ h. omega (arith, v .vertices-over more);
     edges-are = λ h q. absurd (omega arith);
     edges-over = λ h q. absurd (omega arith);
   }

@@ -73,7 +73,7 @@ module _ {ms : List Map} {corners : List ℤ} {c : ℕ} {cs : List ℤ} {st : Li
 -- ── layers ──
 
 -- all of them, or that there are more than the overlay may have
-outcome-is : (ms : List Map) (t : List ℤ) (r : ℕ) → Outcome (verticesOf ms) t r → CollectedOf ms t r
+outcome-is : (ms : List Map) (t : List ℤ) (r : ℕ) → Outcome (verticesOf ms) t r → CollectedOf ms vertexRows t r
 outcome-is ms t r (all h e) = record { vertices-are = λ q. e; vertices-over = λ q. absurd (omega arith) }
 outcome-is ms t r (more h e) = record { vertices-are = λ q. absurd (omega arith); vertices-over = λ q. omega arith }
 
@@ -83,7 +83,7 @@ module _ (l : Layers) (H : Held l) where
       maps-given (heldMaps l) (keep l H) (l .carriers) (edgeStart l maps) (l .edges) (l .corners) (vertexStart l maps) (edges-are (holds l H)) (corners-are (holds l H)) out
       (starts l H .carried) (corners-near l H) (H .edges-long) (omega (arith, H .edges-few)) room
 
-  pub layers-swept : (t : List ℤ) (r : ℕ) → Outcome (stopsIn (l .carriers) (edgeStart l maps) (l .edges) (l .corners) (vertexStart l maps)) t r → CollectedOf (heldMaps l) t r
+  pub layers-swept : (t : List ℤ) (r : ℕ) → Outcome (stopsIn (l .carriers) (edgeStart l maps) (l .edges) (l .corners) (vertexStart l maps)) t r → CollectedOf (heldMaps l) vertexRows t r
   layers-swept t r o =
       outcome-is (heldMaps l) t r
       (maps-swept (heldMaps l) (keep l H) (l .carriers) (edgeStart l maps) (l .edges) (l .corners) (vertexStart l maps) (edges-are (holds l H)) (corners-are (holds l H)) t r o)

@@ -3,14 +3,15 @@
 use mathlib.Core.Path.{_≡_, refl, sym, _∙_, ap, subst}
 use Prim.Native.Nat.{_≤_, _<_}
 use native.Mathlib.Omega.{arith}
-use Rattle.seq.specs.Seq.{List, ℕ, suc, _*_, length, getD, replicate, table, position, filled, laid, padded, ℤ}
+use Rattle.seq.specs.Seq.{List, ℕ, suc, _*_, length, getD, table, position, filled, laid, over, ℤ}
 use Rattle.seq.specs.Filled.{filled-at, Holds}
 use Rattle.seq.specs.Laid.{length-laid}
-use Rattle.seq.specs.Wiped.{length-padded, padded-at, over-zeros}
-use Rattle.paper.specs.Limits.{overlayEdges, absent}
+use Rattle.seq.specs.Table.{length-table}
+use Rattle.seq.specs.Wiped.{padded-at}
+use Rattle.paper.specs.Limits.{absent}
 use Rattle.paper.specs.Graph.{Graph, halfCount, follower, followers, leaves}
 use Rattle.paper.specs.Map.{Map}
-use Rattle.paper.specs.Faces.{net, holesOf}
+use Rattle.paper.specs.Faces.{net, walksOf, faceIn, holesOf}
 use Rattle.paper.specs.Tables.{leastHalf}
 use Rattle.laws_graph.specs.Plane.{Plane}
 use Rattle.laws_graph.specs.Follow.{followers-length, followers-at, follower-below}
@@ -18,7 +19,7 @@ use Rattle.graph.specs.Flat.{Points, Numbers, Flat, flatGraph}
 use Rattle.graph.specs.Laws.Decode.{flat-points, flat-halves, flat-origin}
 use Rattle.graph.specs.Places.{firstPlace}
 use Rattle.graph.specs.Laws.Firsts.{place-least, place-predecessor}
-use Rattle.graph_faces.specs.Linked.{halfRows, facesOf}
+use Rattle.graph_faces.specs.Linked.{facesOf}
 use Rattle.overlay_cut.specs.Points.{points-by}
 use Rattle.overlay_cut.specs.Net.{endsOf, carrierIn, segRow}
 use Rattle.overlay_cut.specs.Laws.NetAre as NetAre
@@ -27,7 +28,8 @@ use Rattle.overlay_maps.specs.Held.{heldMaps, Held}
 use Rattle.overlay_maps.specs.Layers.{Layers}
 use Rattle.overlay_graph.specs.Laws.Standing.{holds, starts}
 use Rattle.overlay_graph.specs.Cut.{Cut, overlayIn, DrawableCut}
-use Rattle.overlay_graph.specs.Traced.{NetBy, FacesOver, FacesBy, PrevBy, LeastBy}
+use Rattle.overlay_graph.specs.Traced.{Blank, Zeroed, NetBy, FacesOver, FacesBy, PrevBy, LeastBy}
+use Rattle.overlay_graph.specs.Laws.Zeros.{zeroed-long, over-blank}
 
 -- ── the graph ──
 
@@ -68,26 +70,26 @@ module _ (l : Layers) (H : Held l) (c : Cut) (D : DrawableCut (heldMaps l) c)
 
 -- ── walks ──
 
-module _ (ps : List ℤ) (os : List ℕ) (cs : List ℤ) (n e : ℕ) (P : Plane (flatGraph ps os cs n e)) (small : e ≤ overlayEdges) where
+module _ (ps : List ℤ) (os : List ℕ) (cs : List ℤ) (n e : ℕ) (P : Plane (flatGraph ps os cs n e)) where
   abbrev g : Graph
   g = flatGraph ps os cs n e
 
   halves : halfCount g ≡ 2 * e
   halves = flat-halves ps os cs n e
 
-  module _ (next : List ℕ) (is : next ≡ padded 0 halfRows (followers g)) where
-    length-next : length next ≡ halfRows
-    length-next = ap length is ∙ length-padded 0 halfRows (followers g) (omega (arith, followers-length g P, halves))
+  module _ (next : List ℕ) (Z : Zeroed (followers g) next) where
+    next-long : 2 * e ≤ length next
+    next-long = omega (arith, zeroed-long (followers g) next Z, followers-length g P, halves)
 
     next-holds : Holds (follower g) next (halfCount g)
     next-holds = record {
-      long = omega (arith, length-next, halves);
-      at = λ i l. ap (λ (x : List ℕ). getD x i 0) is ∙ padded-at 0 halfRows i (followers g) 0 (omega (arith, followers-length g P)) ∙ followers-at g P i l;
+      long = omega (arith, next-long, halves);
+      at = λ i l. ap (λ (x : List ℕ). getD x i 0) (Z .is) ∙ padded-at 0 (Z .cells) i (followers g) 0 (omega (arith, followers-length g P)) ∙ followers-at g P i l;
     }
 
     pub next-numbers : Numbers next (2 * e) (2 * e)
     next-numbers = record {
-      long = omega (arith, length-next);
+      long = next-long;
       named = λ i l. omega (arith, next-holds .at i (omega (arith, halves)), follower-below g P i (omega (arith, halves)), halves);
     }
 
@@ -112,6 +114,9 @@ module _ (ms : List Map) (c : Cut) (g : Graph) (q : g ≡ net (overlayIn ms c)) 
   unfolding overlayIn
   faced = ap (λ (x : Graph). facesOf x .face) q
 
+  pub face-length : length (overlayIn ms c .face) ≡ halfCount g
+  face-length = sym (ap length faced) ∙ length-table (faceIn (walksOf g) (length (g .points))) (halfCount g)
+
   outer : facesOf g .outers ≡ overlayIn ms c .outers
   unfolding overlayIn
   outer = ap (λ (x : Graph). facesOf x .outers) q
@@ -131,18 +136,19 @@ module _ (ms : List Map) (c : Cut) (D : DrawableCut ms c) (os : List ℕ) (bs : 
   net-planar = subst Plane (sym q) (D .drawable .plane)
 
   -- in tables that were zero
-  pub faces-by : (next face outers holes : List ℕ) (n : ℕ) → FacesOver (facesOf (flatGraph (c .points) os bs (c .vertices) (c .edges))) (replicate halfRows 0) (replicate halfRows 0) (replicate halfRows 0) (replicate (suc halfRows) 0) next face outers holes n
-      → FacesBy (overlayIn ms c) next face outers holes n
-  faces-by next face outers holes n A = record {
-    next-is = A .next-is ∙ over-zeros 0 halfRows (followers f) ∙ ap (padded 0 halfRows) (walked ms c f q);
-    face-is = A .face-is ∙ over-zeros 0 halfRows (facesOf f .face) ∙ ap (padded 0 halfRows) (faced ms c f q);
-    outers-is = A .outers-is ∙ over-zeros 0 halfRows (facesOf f .outers) ∙ ap (padded 0 halfRows) (outer ms c f q);
-    count-is = A .count-is ∙ ap length (outer ms c f q);
-    holes-is = A .holes-is ∙ over-zeros 0 (suc halfRows) (table (holesOf (facesOf f)) (suc n)) ∙ ap (padded 0 (suc halfRows)) (holed ms c f q (suc n));
-  }
+  module _ (next₀ face₀ outers₀ holes₀ : List ℕ) (x y z w : ℕ) (no-next : Blank x next₀) (no-face : Blank y face₀) (no-outers : Blank z outers₀) (no-holes : Blank w holes₀) where
+    pub faces-by : (next face outers holes : List ℕ) (n : ℕ) → FacesOver (facesOf (flatGraph (c .points) os bs (c .vertices) (c .edges))) next₀ face₀ outers₀ holes₀ next face outers holes n
+        → FacesBy (overlayIn ms c) next face outers holes n
+    faces-by next face outers holes n A = record {
+      next-is = over-blank x (overlayIn ms c .walks .next) next₀ next no-next (A .next-is ∙ ap (λ (t : List ℕ). over t next₀) (walked ms c f q));
+      face-is = over-blank y (overlayIn ms c .face) face₀ face no-face (A .face-is ∙ ap (λ (t : List ℕ). over t face₀) (faced ms c f q));
+      outers-is = over-blank z (overlayIn ms c .outers) outers₀ outers no-outers (A .outers-is ∙ ap (λ (t : List ℕ). over t outers₀) (outer ms c f q));
+      count-is = A .count-is ∙ ap length (outer ms c f q);
+      holes-is = over-blank w (table (holesOf (overlayIn ms c)) (suc n)) holes₀ holes no-holes (A .holes-is ∙ ap (λ (t : List ℕ). over t holes₀) (holed ms c f q (suc n)));
+    }
 
-  pub prev-of : (next : List ℕ) → next ≡ padded 0 halfRows (followers (flatGraph (c .points) os bs (c .vertices) (c .edges))) → (prev d : List ℕ) → prev ≡ filled (2 * c .edges) (firstPlace next (2 * c .edges) absent) d → PrevBy (overlayIn ms c) c prev
-  prev-of next is prev d p h b = prev-is (c .points) os bs (c .vertices) (c .edges) net-planar (D .few-edges) next is prev d p h b ∙ ap (position h) (walked ms c f q)
+  pub prev-of : (next : List ℕ) → Zeroed (followers (flatGraph (c .points) os bs (c .vertices) (c .edges))) next → (prev d : List ℕ) → prev ≡ filled (2 * c .edges) (firstPlace next (2 * c .edges) absent) d → PrevBy (overlayIn ms c) c prev
+  prev-of next is prev d p h b = prev-is (c .points) os bs (c .vertices) (c .edges) net-planar next is prev d p h b ∙ ap (position h) (walked ms c f q)
 
   pub least-of : (least d : List ℕ) → least ≡ filled (c .vertices) (firstPlace os (2 * c .edges) absent) d → LeastBy (overlayIn ms c) c least
-  least-of least d l v b = least-is (c .points) os bs (c .vertices) (c .edges) net-planar (D .few-edges) least d l v b ∙ ap (λ (x : Graph). leastHalf (leaves x v) (halfCount x)) q
+  least-of least d l v b = least-is (c .points) os bs (c .vertices) (c .edges) net-planar least d l v b ∙ ap (λ (x : Graph). leastHalf (leaves x v) (halfCount x)) q

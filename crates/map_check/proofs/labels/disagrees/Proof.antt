@@ -43,7 +43,7 @@ returns c =
     let os = a .origins .now in
     let ls = a .labels .now in
     let nx = a .next .now in
-    let made = makesHoleAt ps os (a .headings .now) nx (2 * a .e) (a .h) in
+    let made = makesHoleAt ps os (a .heads .now) nx (2 * a .e) (a .h) in
     let seen = eqb (getD ls (a .h) 0) (seenWest ps os (a .carriers .now) ls (a .n) (a .e) (a .h)) in
     by-follower (getD ls (a .h) 0) (getD ls (getD nx (a .h) 0) 0) (made && not seen) (c .if1 .taken)
 
@@ -52,7 +52,7 @@ makes-hole-requires c κs =
     let s : tie.Start = search needs in
     let F = s .pre .0 .flat in
     let starts = flat-starts (s .args .points .now) (s .args .origins .now) (s .args .carriers .now) (s .args .n) (s .args .e) F in
-    (F .origins .long, s .pre .0 .headings, record { starts = starts; next = s .pre .0 .next }, s .pre .1, s .pre .0 .few)
+    (F .origins .long, record { starts = starts; next = s .pre .0 .next }, s .pre .1, omega (arith, F .origins .named (s .args .h) (s .pre .1), s .pre .0 .heads), s .pre .0 .few)
 
 returns-2 : tie.Need-returns-2
 returns-2 c =
@@ -63,7 +63,7 @@ returns-2 c =
     let os = a .origins .now in
     let ls = a .labels .now in
     let nx = a .next .now in
-    let made = makesHoleAt ps os (a .headings .now) nx (2 * a .e) (a .h) in
+    let made = makesHoleAt ps os (a .heads .now) nx (2 * a .e) (a .h) in
     let seen = eqb (getD ls (a .h) 0) (seenWest ps os (a .carriers .now) ls (a .n) (a .e) (a .h)) in
     ap (λ (x : ℕ). not (eqb (getD ls (a .h) 0) x)) (c .seen-west .ensures)
     ∙ by-look (getD ls (a .h) 0) (getD ls (getD nx (a .h) 0) 0) made (not seen) (else1 .if1 .left) (sym (c .before .before .makes-hole .ensures) ∙ c .before .if2 .taken)
@@ -76,7 +76,7 @@ returns-3 c =
     let os = a .origins .now in
     let ls = a .labels .now in
     let nx = a .next .now in
-    let made = makesHoleAt ps os (a .headings .now) nx (2 * a .e) (a .h) in
+    let made = makesHoleAt ps os (a .heads .now) nx (2 * a .e) (a .h) in
     let seen = eqb (getD ls (a .h) 0) (seenWest ps os (a .carriers .now) ls (a .n) (a .e) (a .h)) in
     no-look (getD ls (a .h) 0) (getD ls (getD nx (a .h) 0) 0) made (not seen) (c .before .before .if1 .left) (sym (c .before .makes-hole .ensures) ∙ c .if2 .left)
 

@@ -9,10 +9,10 @@ use Rattle.map_check.proofs.labels.first_disagreeing.Statement.{stateme
 use Rattle.map_check.proofs.labels.first_disagreeing.Tie as tie
 
 abbrev Inv-loop : tie.InvT-loop
-Inv-loop points origins carriers labels headings next n e m h₀ h = Searching (disagreesAt points origins carriers labels headings next n e) (2 * e) h
+Inv-loop points origins carriers labels heads next n e m h₀ h = Searching (disagreesAt points origins carriers labels heads next n e) (2 * e) h
 
 abbrev μ-loop : tie.MeasureT-loop
-μ-loop points origins carriers labels headings next n e m h₀ h = 2 * e - h
+μ-loop points origins carriers labels heads next n e m h₀ h = 2 * e - h
 
 returns : tie.Need-returns Inv-loop μ-loop
 returns c =

@@ -3,9 +3,10 @@ use mathlib.Core.Path.{sym, ap, _∙_}
 use native.Mathlib.Omega.{arith}
 use borrow.Author.Needs.{needs}
 use Rattle.paper.specs.Refusal.{answer}
+use Rattle.paper.specs.Map.{vertexCount, edgesIn}
 use Rattle.laws_refusals.specs.Refusals.{no-refusal}
 use Rattle.map_file.specs.Verdict.{verdict}
-use Rattle.map_check.proofs.KeptLaws.{few-vertices, few-edges}
+use Rattle.map_check.proofs.RoomLaws.{stored-all}
 use Rattle.map_check.proofs.LoadedLaws.{is-read}
 use Rattle.map_check.proofs.ReadLaws.{form-some}
 use Rattle.map_check.proofs.lay.lay_map.Statement.{statement}
@@ -19,7 +20,7 @@ read-map-requires c κs =
     let s = start .args .file .now in
     let form = sym (fine .before .before .form-fault .ensures) ∙ ap verdict (fine .enum-told2 .given .1) in
     let head : tie.After-read-header = search needs in
-    (head .read-header .ensures, (omega (arith, room .corners, few-vertices s form), omega (arith, room .origins, few-edges s form), omega (arith, room .labels, few-edges s form)))
+    (head .read-header .ensures, (omega (arith, room .corners, stored-all vertexCount s form), omega (arith, room .origins, stored-all edgesIn s form), omega (arith, room .labels, stored-all edgesIn s form)))
 
 read-fault-requires : tie.Need-read-fault-requires
 read-fault-requires c κs =
@@ -31,10 +32,10 @@ read-fault-requires c κs =
     let form = sym (fine .before .before .form-fault .ensures) ∙ ap verdict (fine .enum-told2 .given .1) in
     let is = read .read-map .ensures in
     let R =
-    is-read s _ _ _ _ _ _ (omega (arith, room .corners, few-vertices s form)) (omega (arith, room .origins, few-edges s form)) (omega (arith, room .labels, few-edges s form))
+    is-read s _ _ _ _ _ _ (omega (arith, room .corners, stored-all vertexCount s form)) (omega (arith, room .origins, stored-all edgesIn s form)) (omega (arith, room .labels, stored-all edgesIn s form))
     (is .0) (is .1) (is .2) in
     let head : tie.After-read-header = search needs in
-    (head .read-header .ensures, (form, (R, room .carriers)))
+    (head .read-header .ensures, (form, (R, omega (arith, room .carriers, stored-all edgesIn s form))))
 
 returns : tie.Need-returns
 returns c =

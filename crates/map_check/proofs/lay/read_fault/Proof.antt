@@ -31,7 +31,7 @@ lay-carriers-requires c κs =
     let form = start .pre .1 .0 in
     let R = start .pre .1 .1 .0 in
     let parts = sym (part-faults R v e) ∙ sym (c .before .before .before .part-fault .ensures) ∙ ap verdict (c .before .enum-told2 .given .1) in
-    (corners-read R v e form parts, (origins-read R v e form parts, omega (arith, start .pre .1 .1 .1, e, few-edges s form)))
+    (corners-read R v e form parts, (origins-read R v e form parts, omega (arith, start .pre .1 .1 .1, e)))
 
 net-fault-requires : tie.Need-net-fault-requires
 net-fault-requires c κs =

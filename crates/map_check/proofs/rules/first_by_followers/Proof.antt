@@ -1,44 +1,46 @@
--- `map_check::rules::first_by_followers` meets its contract. Assumes nothing.
-use Rattle.map_check.specs.Laws.LinkedLaws.{made-headings, made-apart, made-linked, found-disagrees}
+-- `map_check::rules::first_by_followers` meets its contract: either tables have room. Assumes nothing.
 use native.Mathlib.Omega.{arith}
 use borrow.Author.Needs.{needs}
 use Rattle.map_check.proofs.rules.first_by_followers.Statement.{statement}
 use Rattle.map_check.proofs.rules.first_by_followers.Tie as tie
 
-follow-requires : tie.Need-follow-requires
-follow-requires c κs =
-    let start : tie.Start = search needs in
-    let after-headings : tie.After-headings = search needs in
-    let p = start .pre in
-    let ways = after-headings .headings .ensures in
-    (p .0 .origins, (omega (arith, p .1 .0), (omega (arith, p .1 .1 .0), (made-headings (p .0) (p .1 .1 .0) _ _ (omega (arith, p .1 .1 .0)) ways, (omega (arith, p .1 .1 .0), made-apart (p .0) (p .1 .1 .0) _ _ (omega (arith, p .1 .1 .0)) ways (p .1 .1 .1 .1))))))
-
-first-disagreeing-requires : tie.Need-first-disagreeing-requires
-first-disagreeing-requires c κs =
-    let after-headings : tie.After-headings = search needs in
-    let after-follow : tie.After-follow = search needs in
+first-by-followers-in-requires : tie.Need-first-by-followers-in-requires
+first-by-followers-in-requires c κs =
     let s : tie.Start = search needs in
-    let p = s .pre in
-    made-linked (p .0) (p .1 .1 .0) _ _ (omega (arith, p .1 .1 .0)) (after-headings .headings .ensures) _ _ (omega (arith, p .1 .1 .0)) (after-follow .follow .ensures) (s .args .labels .now) (p .1 .1 .1 .0)
+    let a : tie.After-is-small = search needs in
+    let b : tie.Then1 = search needs in
+    let w = a .is-small .ensures (b .if1 .taken) in
+    let p = s .pre .1 in
+    (s .pre .0, (p .1 .0, (p .1 .1 .0, (p .1 .1 .1, (omega (arith, w .1), omega (arith, w .0), omega (arith, w .1))))))
+
+first-by-followers-in-requires-2 : tie.Need-first-by-followers-in-requires-2
+first-by-followers-in-requires-2 c κs =
+    let s : tie.Start = search needs in
+    let p = s .pre .1 in
+    (s .pre .0, (p .1 .0, (p .1 .1 .0, (p .1 .1 .1, (omega (arith, p .1 .0), omega (arith, p .0), omega (arith, p .1 .0))))))
 
 returns : tie.Need-returns
 returns c =
-    let after-headings : tie.After-headings = search needs in
-    let after-follow : tie.After-follow = search needs in
-    let s : tie.Start = search needs in
-    let p = s .pre in
-    found-disagrees (p .0) (p .1 .1 .0) _ _ (omega (arith, p .1 .1 .0)) (after-headings .headings .ensures) _ _ (omega (arith, p .1 .1 .0)) (after-follow .follow .ensures) (p .1 .1 .1 .1) (s .args .labels .now) _ (c .first-disagreeing .ensures)
+    let f : tie.After-first-by-followers-in = search needs in
+    f .first-by-followers-in .ensures
+
+returns-2 : tie.Need-returns-2
+returns-2 c =
+    let f : tie.After-first-by-followers-in2 = search needs in
+    f .first-by-followers-in2 .ensures
 
 pub first-by-followers-spec : {M : Type 1} → statement M
 first-by-followers-spec =
     tie.close
     (tie.spec
-    (λ c. search needs)
     (λ c κs. search needs)
     (λ c. search needs)
     (λ c. search needs)
-    follow-requires
+    (λ c. search needs)
+    first-by-followers-in-requires
     (λ c. search needs)
     (λ c. search needs)
-    first-disagreeing-requires
-    returns)
+    (λ c. search needs)
+    first-by-followers-in-requires-2
+    returns
+    returns-2)

@@ -41,7 +41,7 @@ module _ (s : tie.Start) where
 -- the labels of every face are laid
 module _ (c : tie.After-lay-labels) where
   abbrev begun : tie.Start
-  begun = c .before .before .before .before .before .before .before .before .before .before .before .before .before .before
+  begun = c .before .before .before .before .before .before .before .before .before .before .before .before .before .before .before .before
 
   abbrev triples : List ℕ
   triples = c .lay-labels .last .1 .1 .1 .1 .1 .1 .1 .1 .1 .1 .1 .1 .1 .0
@@ -55,83 +55,67 @@ module _ (c : tie.After-lay-labels) where
 -- ── the needs ──
 
 add-lay-labels : tie.Need-add-lay-labels
-add-lay-labels c = omega (arith, c .before .before .before .before .before .before .before .before .before .before .before .before .pre .1 .1 .1 .1)
+add-lay-labels c = omega (arith, c .before .before .before .before .before .before .before .before .before .before .before .before .before .before .pre .1 .1 .1 .1 .0)
 
 lay-labels-requires : tie.Need-lay-labels-requires
 lay-labels-requires c κs =
-    let s = c .before .before .before .before .before .before .before .before .before .before .before .before .before in
+    let s = c .before .before .before .before .before .before .before .before .before .before .before .before .before .before .before in
     let a = s .args in
-    (O s .held, (readable (L s) (C s) (now (a .ends)) (now (a .lines)) (now (a .next)) (now (a .outers)) (a .count) (O s), omega (arith, s .pre .1 .1 .1 .1)))
+    (O s .held, (readable (L s) (C s) (now (a .ends)) (now (a .lines)) (now (a .next)) (now (a .outers)) (a .count) (O s), s .pre .1 .1 .1 .1 .1))
 
 thin-requires : tie.Need-thin-requires
 thin-requires c κs =
-    let r : tie.After-lay-labels = c .before .before .before .before in
+    let r : tie.After-lay-labels = c .before .before .before .before .before in
     let s = begun r in
     let a = s .args in
     let D = O s .cut in
+    let long = s .pre .1 .1 .1 .1 in
     let faces = faces-are (L s) (C s) (s .pre .0) (now (a .ends)) (now (a .lines)) (now (a .next)) (now (a .outers)) (a .count) (O s) (now (a .face)) (s .pre .1 .1 .0) in
-    let long = face-long (L s) (C s) (s .pre .0) (now (a .ends)) (now (a .lines)) (now (a .next)) (now (a .outers)) (a .count) (O s) (now (a .face)) (s .pre .1 .1 .0) in (
-      thinnable (ms s) (C s) (now (a .face)) (triples r) (known r) (D .points-long) (D .pieces-long) long (omega (arith, faces, r .lay-labels .kept .1 .1 .1 .1 .1 .1 .1 .1 .1 .1 .1 .1 .1 .0, s .pre .1 .1 .1 .1)),
-      (omega (arith, D .few-vertices), omega (arith, D .few-edges)),
-    )
+    let faced = face-long (L s) (C s) (s .pre .0) (now (a .ends)) (now (a .lines)) (now (a .next)) (now (a .outers)) (a .count) (O s) (now (a .face)) (s .pre .1 .1 .0) in
+    (thinnable (ms s) (C s) (now (a .face)) (triples r) (known r) (D .points-long) (D .pieces-long) faced (omega (arith, faces, r .lay-labels .kept .1 .1 .1 .1 .1 .1 .1 .1 .1 .1 .1 .1 .1 .0, long .1)), (long .2, long .3))
 
 from-cut-requires : tie.Need-from-cut-requires
 from-cut-requires c κs =
-    let r : tie.After-lay-labels = c .before .before .before .before .before .before .before .before .before .before .before .before .before in
+    let r : tie.After-lay-labels = c .before .before .before .before .before .before .before .before .before .before .before .before .before .before .before in
     let s = begun r in
     let a = s .args in
-    let t = c .before .before .before .before .before .before .before .before .thin in
+    let t = c .before .before .before .before .before .before .before .before .before .thin in
     let k = cutBy (t .result .vertices) (t .last .1 .1 .1 .1 .1 .1 .0) (t .result .edges) (t .last .1 .1 .1 .1 .1 .1 .1 .0) in
-    let D = O s .cut in (
+    let long = s .pre .1 .1 .1 .1 in (
       O s .held,
       (
         left-drawable (L s) (C s) (s .pre .0) (now (a .ends)) (now (a .lines)) (now (a .next)) (now (a .outers)) (a .count) (O s) (now (a .face)) (s .pre .1 .1 .0) (triples r) _ (r .lay-labels .ensures) k (t .ensures)
-            (omega (arith, D .few-vertices, t .kept .1 .1 .1 .1 .1 .1 .0)) (omega (arith, D .few-edges, t .kept .1 .1 .1 .1 .1 .1 .1 .0)),
+            (omega (arith, long .2, t .kept .1 .1 .1 .1 .1 .1 .0)) (omega (arith, long .3, t .kept .1 .1 .1 .1 .1 .1 .1 .0)),
         left-within (L s) (C s) (s .pre .0) (now (a .ends)) (now (a .lines)) (now (a .next)) (now (a .outers)) (a .count) (O s) (now (a .face)) (s .pre .1 .1 .0) (triples r) _ (r .lay-labels .ensures) k (t .ensures) (lent s) (s .pre .1 .1 .1 .0),
       ),
     )
 
-same-length : tie.Need-same-length
-same-length c = c .before .before .before .before .before .before .before .from-cut .kept .1 .1 .1 .1 .1 .1 .1 .1 .1 .1 .0
-
-same-length-2 : tie.Need-same-length-2
-same-length-2 c = c .before .before .before .before .before .before .before .from-cut .kept .1 .1 .1 .1 .1 .1 .1 .1 .1 .1 .1 .0
-
-same-length-3 : tie.Need-same-length-3
-same-length-3 c = c .before .before .before .before .before .before .before .from-cut .kept .1 .1 .1 .1 .1 .1 .1 .1 .1 .1 .1 .1 .0
-
-same-length-4 : tie.Need-same-length-4
-same-length-4 c = c .before .before .before .before .before .before .before .from-cut .kept .1 .1 .1 .1 .1 .1 .1 .1 .1 .1 .1 .1 .1 .0
-
 returns : tie.Need-returns
 returns c =
-    let r : tie.After-lay-labels = c .before .before .before .before .before .before .before .before .before .before .before .before .before .before .before .before .before .before .before .before .before in
+    let r : tie.After-lay-labels = c .before .before .before .before .before .before .before .before .before .before .before .before .before .before .before .before .before .before .before .before .before .before .before in
     let s = begun r in
     let a = s .args in
-    let t = c .before .before .before .before .before .before .before .before .before .before .before .before .before .before .before .before .thin in
+    let t = c .before .before .before .before .before .before .before .before .before .before .before .before .before .before .before .before .before .thin in
     let k = cutBy (t .result .vertices) (t .last .1 .1 .1 .1 .1 .1 .0) (t .result .edges) (t .last .1 .1 .1 .1 .1 .1 .1 .0) in
     let D = O s .cut in
     c .before .before .before .before .before .before .before .from-cut .ensures
     ∙ ap (λ (o : Overlay). laidOut (ms s) o (lent s)) (left-melted (L s) (C s) (s .pre .0) (now (a .ends)) (now (a .lines)) (now (a .next)) (now (a .outers)) (a .count) (O s) (now (a .face)) (s .pre .1 .1 .0) (triples r) _ (r .lay-labels .ensures) k (t .ensures))
     ∙ melted-room (ms s) (lent s) (keep (L s) (O s .held))
-    (faces-fit (ms s) (C s) (s .pre .0) (D .few-vertices) (D .few-edges) (lent s) (s .pre .1 .1 .1 .0) (a .count) (O s .count-is) (s .pre .1 .1 .1 .1))
+    (faces-fit (ms s) (C s) (s .pre .0) (D .few-vertices) (D .few-edges) (lent s) (s .pre .1 .1 .1 .0) (a .count) (O s .count-is) (s .pre .1 .1 .1 .1 .0))
 
 pub melt-faces-spec : {M : Type 1} → statement M
 melt-faces-spec =
     tie.close
     (tie.spec
     add-lay-labels
-    (λ c. search needs)
     lay-labels-requires
-    (λ c. search needs)
-    (λ c. search needs)
-    (λ c. search needs)
     thin-requires
-    (λ c. search needs)
-    (λ c. search needs)
     from-cut-requires
-    same-length
-    same-length-2
-    same-length-3
-    same-length-4
+    (λ c. c .before .before .before .before .before .before .before .before .before .before .before .before .before .before .before .before .before .before .before .before .before .before .before .lay-labels .kept .1 .1 .1 .1 .1 .1 .1 .1 .1 .1 .1 .1 .1 .0)
+    (λ c. c .before .before .before .before .before .before .before .before .before .before .before .before .before .before .before .before .before .thin .kept .1 .1 .1 .1 .1 .1 .0)
+    (λ c. c .before .before .before .before .before .before .before .before .before .before .before .before .before .before .before .before .before .thin .kept .1 .1 .1 .1 .1 .1 .1 .0)
+    (λ c. c .before .before .before .before .before .before .before .from-cut .kept .1 .1 .1 .1 .1 .1 .1 .1 .1 .1 .0)
+    (λ c. c .before .before .before .before .before .before .before .from-cut .kept .1 .1 .1 .1 .1 .1 .1 .1 .1 .1 .1 .0)
+    (λ c. c .before .before .before .before .before .before .before .from-cut .kept .1 .1 .1 .1 .1 .1 .1 .1 .1 .1 .1 .1 .0)
+    (λ c. c .before .before .before .before .before .before .before .from-cut .kept .1 .1 .1 .1 .1 .1 .1 .1 .1 .1 .1 .1 .1 .0)
     returns)

@@ -1,12 +1,13 @@
 -- `mend::entries::put_step` meets its contract: what is stored are the entries of those below the counter at which the step is taken. Assumes nothing.
 use mathlib.Core.Path.{_≡_, refl, sym, ap, _∙_}
 use mathlib.Core.Logic.{⊎-elim}
+use Prim.Native.Nat.{_≤_, _<_}
 use native.Mathlib.Numerals.{add-one}
 use native.Mathlib.Omega.{arith}
 use borrow.Author.Needs.{needs}
 use lib.ListN.{set, length-set}
 use Rattle.seq.specs.Count.{count-below}
-use Rattle.seq.specs.Seq.{List, [], _∷_, ℕ, _+_, _-_, sets}
+use Rattle.seq.specs.Seq.{Bool, true, List, [], _∷_, ℕ, _+_, _-_, length, sets}
 use Rattle.mend.specs.Stored.{takenIn}
 use Rattle.mend.proofs.AppendLaws.{Appending, append-starts, append-takes, append-leaves, append-ends, append-place}
 use Rattle.mend.proofs.entries.put_step.Statement.{statement}
@@ -22,59 +23,34 @@ Inv-loop into ends e step n list₀ start at₀ i₀ list at i = Appending 2 (ta
 abbrev μ-loop : tie.MeasureT-loop
 μ-loop into ends e step n list₀ start at₀ i₀ list at i = n - i
 
+-- the list has room for one more entry
+fits : {p : ℕ → Bool} {f : ℕ → List ℕ} {at n : ℕ} {d t : List ℕ} {a i : ℕ} → Appending 2 p f at n d t a i → i < n → p i ≡ true → a + 2 ≤ length t
+fits {p = p} {n = n} {i = i} r l e = omega (arith, r .place, r .room, r .kept, count-below p n i l e)
+
+entry-fits : (c : tie.Then1 Inv-loop μ-loop) → c .before .before .before .loop .at + 2 ≤ length (c .before .before .before .loop .list)
+entry-fits c = fits (c .before .before .before .loop .inv) (c .before .before .loop-test .taken) (sym (c .before .taken .ensures) ∙ c .if1 .taken)
+
 mul-list : tie.Need-mul-list Inv-loop μ-loop
-mul-list c =
-    let s : tie.Start Inv-loop μ-loop = search needs in
-    let l : tie.At-loop Inv-loop μ-loop = search needs in
-    let r = l .loop .inv in
-    let a = s .args in
-    let more = count-below (takenIn (a .into .now) (a .ends .now) (a .e) (a .step)) (a .n) (l .loop .i) (omega arith) (sym (c .before .taken .ensures) ∙ c .if1 .taken) in
-    omega (arith, r .place, r .room, r .kept, more, length-set (l .loop .list) (l .loop .at) (a .step))
+mul-list c = omega (arith, entry-fits c)
 
 slice-write-list : tie.Need-slice-write-list Inv-loop μ-loop
-slice-write-list c =
-    let s : tie.Start Inv-loop μ-loop = search needs in
-    let l : tie.At-loop Inv-loop μ-loop = search needs in
-    let r = l .loop .inv in
-    let a = s .args in
-    let more = count-below (takenIn (a .into .now) (a .ends .now) (a .e) (a .step)) (a .n) (l .loop .i) (omega arith) (sym (c .before .taken .ensures) ∙ c .if1 .taken) in
-    omega (arith, r .place, r .room, r .kept, more, length-set (l .loop .list) (l .loop .at) (a .step))
+slice-write-list c = omega (arith, entry-fits c)
 
 add-list : tie.Need-add-list Inv-loop μ-loop
-add-list c =
-    let s : tie.Start Inv-loop μ-loop = search needs in
-    let l : tie.At-loop Inv-loop μ-loop = search needs in
-    let r = l .loop .inv in
-    let a = s .args in
-    let more = count-below (takenIn (a .into .now) (a .ends .now) (a .e) (a .step)) (a .n) (l .loop .i) (omega arith) (sym (c .before .taken .ensures) ∙ c .if1 .taken) in
-    omega (arith, r .place, r .room, r .kept, more, length-set (l .loop .list) (l .loop .at) (a .step))
+add-list c = omega (arith, entry-fits c)
 
 mul-list-2 : tie.Need-mul-list-2 Inv-loop μ-loop
 mul-list-2 c =
-    let s : tie.Start Inv-loop μ-loop = search needs in
-    let l : tie.At-loop Inv-loop μ-loop = search needs in
-    let r = l .loop .inv in
-    let a = s .args in
-    let more = count-below (takenIn (a .into .now) (a .ends .now) (a .e) (a .step)) (a .n) (l .loop .i) (omega arith) (sym (c .before .taken .ensures) ∙ c .if1 .taken) in
-    omega (arith, r .place, r .room, r .kept, more, length-set (l .loop .list) (l .loop .at) (a .step))
+    let l = c .before .before .before .loop in
+    omega (arith, entry-fits c, length-set (l .list) (l .at) (c .before .before .before .before .before .before .before .args .step))
 
 slice-write-list-2 : tie.Need-slice-write-list-2 Inv-loop μ-loop
 slice-write-list-2 c =
-    let s : tie.Start Inv-loop μ-loop = search needs in
-    let l : tie.At-loop Inv-loop μ-loop = search needs in
-    let r = l .loop .inv in
-    let a = s .args in
-    let more = count-below (takenIn (a .into .now) (a .ends .now) (a .e) (a .step)) (a .n) (l .loop .i) (omega arith) (sym (c .before .taken .ensures) ∙ c .if1 .taken) in
-    omega (arith, r .place, r .room, r .kept, more, length-set (l .loop .list) (l .loop .at) (a .step))
+    let l = c .before .before .before .loop in
+    omega (arith, entry-fits c, length-set (l .list) (l .at) (c .before .before .before .before .before .before .before .args .step))
 
 add-at : tie.Need-add-at Inv-loop μ-loop
-add-at c =
-    let s : tie.Start Inv-loop μ-loop = search needs in
-    let l : tie.At-loop Inv-loop μ-loop = search needs in
-    let r = l .loop .inv in
-    let a = s .args in
-    let more = count-below (takenIn (a .into .now) (a .ends .now) (a .e) (a .step)) (a .n) (l .loop .i) (omega arith) (sym (c .before .taken .ensures) ∙ c .if1 .taken) in
-    omega (arith, r .place, r .room, r .kept, more, length-set (l .loop .list) (l .loop .at) (a .step))
+add-at c = omega (arith, entry-fits c)
 
 loop-again : tie.Need-loop-again Inv-loop μ-loop
 loop-again c =

@@ -1,120 +1,29 @@
--- `overlay::stages::from_cut` meets its contract. First what is known from the start; then the needs, call by call. Assumes nothing.
-use mathlib.Core.Path.{_∙_, ap}
+-- `overlay::stages::from_cut` meets its contract: the tables are zero and have room, small ones where the edges are few. Assumes nothing.
+use mathlib.Core.Path.{refl}
 use Prim.Native.Nat.{_≤_}
 use native.Mathlib.Omega.{arith}
 use borrow.Author.Needs.{needs}
-use denote.Ref.{now}
-use Rattle.seq.specs.Seq.{List, ℕ, suc, replicate, ℤ}
-use Rattle.paper.specs.Limits.{overlayEdges}
-use Rattle.paper.specs.Map.{Map}
-use Rattle.paper.specs.Tables.{Counts}
-use Rattle.paper.specs.Lent.{Lengths, lengthsOf}
-use Rattle.laws_graph.specs.Plane.{Plane}
-use Rattle.graph.specs.Flat.{flatGraph}
-use Rattle.graph_faces.specs.Linked.{halfRows, facesOf}
-use Rattle.tables.specs.Values.{tablesBy}
-use Rattle.overlay_maps.specs.Layers.{Layers, layersBy}
-use Rattle.overlay_maps.specs.Held.{heldMaps}
-use Rattle.overlay_graph.specs.Cut.{Cut, cutBy, overlayIn}
-use Rattle.overlay_graph.specs.Traced.{NetBy, FacesOver, FacesBy}
-use Rattle.overlay_graph.specs.Laws.Tracing.{net-planar, faces-by}
-use Rattle.overlay.proofs.JudgeLaws.{faces-refused, all-within}
+use Rattle.seq.specs.Seq.{ℕ, suc, _+_, _*_, replicate}
+use Rattle.graph_faces.specs.Linked.{halfRows}
+use Rattle.overlay_graph.specs.Traced.{Blank}
+use Rattle.graph.specs.Small.{smallEdges}
 use Rattle.overlay.proofs.stages.from_cut.Statement.{statement}
 use Rattle.overlay.proofs.stages.from_cut.Tie as tie
 
--- ── what is known ──
+blank : (n cells : ℕ) → n ≤ cells → Blank n (replicate cells 0)
+blank n cells h = record { cells = cells; room = h; is = refl }
 
-module _ (s : tie.Start) where
-  abbrev l : Layers
-  l = layersBy (s .args .vstarts .now) (s .args .estarts .now) (s .args .corners .now) (s .args .origins .now) (s .args .carriers .now) (s .args .labels .now)
+from-cut-with-requires : tie.Need-from-cut-with-requires
+from-cut-with-requires c κs =
+    let p = c .before .before .before .before .before .before .before .before .before .before .before .before .before .before .before .before .before .before .before .pre in
+    let few = c .before .before .before .before .before .before .before .before .before .before .if1 in
+    (p .0, (p .1 .0, (p .1 .1, ((omega (arith, few), omega (arith, few)), (blank _ (2 * smallEdges) (omega (arith, few)), blank _ (2 * smallEdges) (omega (arith, few)), blank _ (2 * smallEdges) (omega (arith, few)), blank _ (2 * smallEdges + 1) (omega (arith, few)))))))
 
-  abbrev ms : List Map
-  ms = heldMaps l
-
-  abbrev k : Cut
-  k = cutBy (s .args .n) (s .args .points .now) (s .args .e) (s .args .pieces .now)
-
-  abbrev lent : Lengths
-  lent = let a = s .args in lengthsOf (tablesBy (now (a .vertices)) (now (a .halves)) (now (a .sources)) (now (a .faces)))
-
-  short : k .edges ≤ overlayEdges
-  short = s .pre .1 .0 .few-edges
-
-  module _ (os : List ℕ) (bs : List ℤ) (N : NetBy (overlayIn ms k) k os bs) where
-    planar : Plane (flatGraph (k .points) os bs (k .vertices) (k .edges))
-    planar = net-planar ms k (s .pre .1 .0) os bs N
-
-    -- followers and faces, in tables that were zero
-    faced : (next face outers holes : List ℕ) (n : ℕ) → FacesOver (facesOf (flatGraph (k .points) os bs (k .vertices) (k .edges))) (replicate halfRows 0) (replicate halfRows 0) (replicate halfRows 0) (replicate (suc halfRows) 0) next face outers holes n → FacesBy (overlayIn ms k) next face outers holes n
-    faced = faces-by ms k (s .pre .1 .0) os bs N
-
--- ── the needs ──
-
-lay-net-requires : tie.Need-lay-net-requires
-lay-net-requires c κs =
-    let s = c .before .before .before .before .before .before .before .before .before .before in
-    let p = s .pre in
-    (p .0, (p .1 .0, (omega (arith, short s), omega (arith, short s))))
-
-walk-net-requires : tie.Need-walk-net-requires
-walk-net-requires c κs =
-    let s = c .before .before .before .before .before .before .before .before .before .before .before .before .before .before .before .before .before .before .before in
-    let b = c .before .before .before .before .before .before .before .before .lay-net in (
-      b .ensures .flat,
-      ((s .pre .1 .0 .few-vertices, short s), (planar s (b .last .1 .1 .1 .1 .1 .1 .1 .1 .1 .1 .0) (b .last .1 .1 .1 .1 .1 .1 .1 .1 .1 .1 .1 .0) (b .ensures), (omega (arith, short s), omega (arith, short s), omega (arith, short s), omega (arith, short s)))),
-    )
-
-fill-requires : tie.Need-fill-requires
-fill-requires c κs =
-    let s = c .before .before .before .before .before .before .before .before .before .before .before .before .before .before .before .before .before .before .before .before .before .before .before .before .before .before .before .before .before .before .before .before .before .before .before .before .before in
-    let p = s .pre in
-    let b = c .before .before .before .before .before .before .before .before .before .before .before .before .before .before .before .before .before .before .before .before .before .before .before .before .before .before .lay-net in
-    let w = c .before .before .before .before .before .before .before .before .before .before .before .before .before .before .before .before .before .walk-net in
-    let room = ap (λ (n : Counts). n .faces) (c .before .before .before .before .before .before .before .before .before .before .before .before .room-in .ensures) in
-    let f = faced s (b .last .1 .1 .1 .1 .1 .1 .1 .1 .1 .1 .0) (b .last .1 .1 .1 .1 .1 .1 .1 .1 .1 .1 .1 .0) (b .ensures) (w .last .1 .1 .1 .1 .1 .0) (w .last .1 .1 .1 .1 .1 .1 .0) (w .last .1 .1 .1 .1 .1 .1 .1 .0) (w .last .1 .1 .1 .1 .1 .1 .1 .1 .0) (w .result) (w .ensures) in
-    (p .0, (p .1 .0, (p .1 .1, ((b .ensures, f), omega (arith, room, c .before .before .before .before .before .before .before .before .before .before .if1)))))
-
-same-length : tie.Need-same-length
-same-length c = c .before .before .before .before .before .before .before .refuse .kept .1 .0
-
-same-length-2 : tie.Need-same-length-2
-same-length-2 c = c .before .before .before .before .before .before .before .refuse .kept .1 .1 .0
-
-same-length-3 : tie.Need-same-length-3
-same-length-3 c = c .before .before .before .before .before .before .before .refuse .kept .1 .1 .1 .0
-
-same-length-4 : tie.Need-same-length-4
-same-length-4 c = c .before .before .before .before .before .before .before .refuse .kept .1 .1 .1 .1 .0
-
-returns : tie.Need-returns
-returns c =
-    let s = c .before .before .before .before .before .before .before .before .before .before .before .before .before .before .before .before .before .before .before .before .before .before .before .before .before .before .before .before .before .before .before .before .before .before .before .before .before .before .before in
-    let b = c .before .before .before .before .before .before .before .before .before .before .before .before .before .before .before .before .before .before .before .before .before .before .before .before .before .before .before .before .lay-net in
-    let w = c .before .before .before .before .before .before .before .before .before .before .before .before .before .before .before .before .before .before .before .walk-net in
-    let room = ap (λ (n : Counts). n .faces) (c .before .before .before .before .before .before .before .before .before .before .before .before .before .before .room-in .ensures) in
-    let f = faced s (b .last .1 .1 .1 .1 .1 .1 .1 .1 .1 .1 .0) (b .last .1 .1 .1 .1 .1 .1 .1 .1 .1 .1 .1 .0) (b .ensures) (w .last .1 .1 .1 .1 .1 .0) (w .last .1 .1 .1 .1 .1 .1 .0) (w .last .1 .1 .1 .1 .1 .1 .1 .0) (w .last .1 .1 .1 .1 .1 .1 .1 .1 .0) (w .result) (w .ensures) in
-    c .before .before .before .before .before .before .before .refuse .ensures ∙ faces-refused (ms s) (k s) (lent s) (s .pre .1 .1) (w .result) (f .count-is) (omega (arith, room, c .before .before .before .before .before .before .before .before .before .before .before .before .if1))
-
-same-length-5 : tie.Need-same-length-5
-same-length-5 c = c .before .before .before .before .before .before .before .fill .kept .1 .1 .1 .1 .1 .1 .1 .1 .1 .1 .1 .1 .1 .1 .1 .1 .1 .0
-
-same-length-6 : tie.Need-same-length-6
-same-length-6 c = c .before .before .before .before .before .before .before .fill .kept .1 .1 .1 .1 .1 .1 .1 .1 .1 .1 .1 .1 .1 .1 .1 .1 .1 .1 .0
-
-same-length-7 : tie.Need-same-length-7
-same-length-7 c = c .before .before .before .before .before .before .before .fill .kept .1 .1 .1 .1 .1 .1 .1 .1 .1 .1 .1 .1 .1 .1 .1 .1 .1 .1 .1 .0
-
-same-length-8 : tie.Need-same-length-8
-same-length-8 c = c .before .before .before .before .before .before .before .fill .kept .1 .1 .1 .1 .1 .1 .1 .1 .1 .1 .1 .1 .1 .1 .1 .1 .1 .1 .1 .1 .0
-
-returns-2 : tie.Need-returns-2
-returns-2 c =
-    let s = c .before .before .before .before .before .before .before .before .before .before .before .before .before .before .before .before .before .before .before .before .before .before .before .before .before .before .before .before .before .before .before .before .before .before .before .before .before .before .before .before .before .before .before .before .before in
-    let b = c .before .before .before .before .before .before .before .before .before .before .before .before .before .before .before .before .before .before .before .before .before .before .before .before .before .before .before .before .before .before .before .before .before .before .lay-net in
-    let w = c .before .before .before .before .before .before .before .before .before .before .before .before .before .before .before .before .before .before .before .before .before .before .before .before .before .walk-net in
-    let room = ap (λ (n : Counts). n .faces) (c .before .before .before .before .before .before .before .before .before .before .before .before .before .before .before .before .before .before .before .before .room-in .ensures) in
-    let f = faced s (b .last .1 .1 .1 .1 .1 .1 .1 .1 .1 .1 .0) (b .last .1 .1 .1 .1 .1 .1 .1 .1 .1 .1 .1 .0) (b .ensures) (w .last .1 .1 .1 .1 .1 .0) (w .last .1 .1 .1 .1 .1 .1 .0) (w .last .1 .1 .1 .1 .1 .1 .1 .0) (w .last .1 .1 .1 .1 .1 .1 .1 .1 .0) (w .result) (w .ensures) in
-    c .before .before .before .before .before .before .before .fill .ensures ∙ all-within (ms s) (k s) (lent s) (s .pre .1 .1) (w .result) (f .count-is) (omega (arith, room, c .before .before .before .before .before .before .before .before .before .before .before .before .before .before .before .before .before .before .if1))
+from-cut-with-requires-2 : tie.Need-from-cut-with-requires-2
+from-cut-with-requires-2 c κs =
+    let p = c .before .before .before .before .before .before .before .before .before .before .before .before .before .before .before .before .before .before .before .pre in
+    let few = p .1 .0 .few-edges in
+    (p .0, (p .1 .0, (p .1 .1, ((omega (arith, few), omega (arith, few)), (blank _ halfRows (omega (arith, few)), blank _ halfRows (omega (arith, few)), blank _ halfRows (omega (arith, few)), blank _ (suc halfRows) (omega (arith, few)))))))
 
 pub from-cut-spec : {M : Type 1} → statement M
 from-cut-spec =
@@ -122,31 +31,25 @@ from-cut-spec =
     (tie.spec
     (λ c. search needs)
     (λ c. search needs)
-    lay-net-requires
+    (λ c. search needs)
+    (λ c. search needs)
+    (λ c. search needs)
+    (λ c. search needs)
+    from-cut-with-requires
     (λ c. search needs)
     (λ c. search needs)
     (λ c. search needs)
     (λ c. search needs)
     (λ c. search needs)
     (λ c. search needs)
-    walk-net-requires
-    (λ c κs. tt)
-    (λ c. search needs)
-    (λ c κs. tt)
-    (λ c. search needs)
-    (λ c. search needs)
-    (λ c. search needs)
-    (λ c. search needs)
-    (λ c. search needs)
-    (λ c. search needs)
-    fill-requires
-    same-length
-    same-length-2
-    same-length-3
-    same-length-4
-    returns
-    same-length-5
-    same-length-6
-    same-length-7
-    same-length-8
-    returns-2)
+    from-cut-with-requires-2
+    (λ c. c .before .before .before .before .before .before .before .before .before .before .before .before .before .from-cut-with .kept .1 .1 .1 .1 .1 .1 .1 .1 .1 .1 .1 .1 .1 .1 .1 .1 .0)
+    (λ c. c .before .before .before .before .before .before .before .before .before .before .before .before .before .from-cut-with .kept .1 .1 .1 .1 .1 .1 .1 .1 .1 .1 .1 .1 .1 .1 .1 .1 .1 .0)
+    (λ c. c .before .before .before .before .before .before .before .before .before .before .before .before .before .from-cut-with .kept .1 .1 .1 .1 .1 .1 .1 .1 .1 .1 .1 .1 .1 .1 .1 .1 .1 .1 .0)
+    (λ c. c .before .before .before .before .before .before .before .before .before .before .before .before .before .from-cut-with .kept .1 .1 .1 .1 .1 .1 .1 .1 .1 .1 .1 .1 .1 .1 .1 .1 .1 .1 .1 .0)
+    (λ c. c .before .before .before .before .before .before .before .before .before .before .before .before .before .from-cut-with .ensures)
+    (λ c. c .before .before .before .before .before .before .before .before .before .before .before .before .before .from-cut-with2 .kept .1 .1 .1 .1 .1 .1 .1 .1 .1 .1 .1 .1 .1 .1 .1 .1 .0)
+    (λ c. c .before .before .before .before .before .before .before .before .before .before .before .before .before .from-cut-with2 .kept .1 .1 .1 .1 .1 .1 .1 .1 .1 .1 .1 .1 .1 .1 .1 .1 .1 .0)
+    (λ c. c .before .before .before .before .before .before .before .before .before .before .before .before .before .from-cut-with2 .kept .1 .1 .1 .1 .1 .1 .1 .1 .1 .1 .1 .1 .1 .1 .1 .1 .1 .1 .0)
+    (λ c. c .before .before .before .before .before .before .before .before .before .before .before .before .before .from-cut-with2 .kept .1 .1 .1 .1 .1 .1 .1 .1 .1 .1 .1 .1 .1 .1 .1 .1 .1 .1 .1 .0)
+    (λ c. c .before .before .before .before .before .before .before .before .before .before .before .before .before .from-cut-with2 .ensures))

@@ -5,7 +5,6 @@ use Rattle.paper.specs.Plane.{Seg}
 use Rattle.laws_plane.specs.Cone.{UpV}
 use Rattle.graph.specs.Flat.{carrierAt}
 use Rattle.graph.specs.Upright.{upright-fewer}
-use Rattle.overlay_cut.specs.Rooms.{vertexRows}
 use Rattle.overlay_cut.specs.Points.{pointsOf}
 use Rattle.overlay_cut.specs.Crossed.{crossRow, carriers-fewer}
 use Rattle.overlay_cut.specs.Collecting.{gathered, Gathering, gather-starts, gather-turns, gather-ends}
@@ -15,10 +14,10 @@ use Rattle.overlay_cut.proofs.collecting.cross_map.Statement.{statement
 use Rattle.overlay_cut.proofs.collecting.cross_map.Tie as tie
 
 abbrev Inv-loop : tie.InvT-loop
-Inv-loop carriers from e points₀ n total₀ k₀ points total k = Gathering vertexRows (λ j. crossRow carriers from (carrierAt carriers (from + j))) e points₀ n points total k
+Inv-loop carriers from e points₀ room n total₀ k₀ points total k = Gathering room (λ j. crossRow carriers from (carrierAt carriers (from + j))) e points₀ n points total k
 
 abbrev μ-loop : tie.MeasureT-loop
-μ-loop carriers from e points₀ n total₀ k₀ points total k = e - k
+μ-loop carriers from e points₀ room n total₀ k₀ points total k = e - k
 
 carrier-at-requires : tie.Need-carrier-at-requires Inv-loop μ-loop
 carrier-at-requires c κs =
@@ -52,7 +51,7 @@ loop-again c =
     let l = at-loop .loop in
     let r = c .before .cross-row in
     let a = start .args in
-    gather-turns (l .inv) (omega arith) (r .kept .1 .1 .1 .0) (r .ensures ∙ ap (λ (s : Seg). gathered vertexRows (pointsOf (l .points) (l .total)) (crossRow (a .carriers .now) (a .from) s)) (after-carrier-at .carrier-at .ensures .0))
+    gather-turns (l .inv) (omega arith) (r .kept .1 .1 .1 .0) (r .ensures ∙ ap (λ (s : Seg). gathered (a .room) (pointsOf (l .points) (l .total)) (crossRow (a .carriers .now) (a .from) s)) (after-carrier-at .carrier-at .ensures .0))
 
 pub cross-map-spec : {M : Type 1} → statement M
 cross-map-spec =

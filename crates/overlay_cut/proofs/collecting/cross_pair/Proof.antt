@@ -9,7 +9,6 @@ use Rattle.laws_meet.specs.Collect.{boxes-meeting}
 use Rattle.plane.specs.Bounds.{NearIf}
 use Rattle.plane.specs.Values.{segOf, meetingOf}
 use Rattle.plane.specs.declared.kinds.Meeting.{Meeting}
-use Rattle.overlay_cut.specs.Rooms.{vertexRows}
 use Rattle.overlay_cut.specs.Points.{pointsOf}
 use Rattle.overlay_cut.specs.Collecting.{gathered}
 use borrow.Author.Needs.{needs}
@@ -19,7 +18,7 @@ use Rattle.overlay_cut.proofs.collecting.cross_pair.Tie as tie
 -- what the call of `meeting` told, of each way
 module _ (c : tie.After-meeting) where
   abbrev after : Option Pt → List Pt
-  after o = gathered vertexRows (pointsOf (c .before .before .before .args .points .now) (c .before .before .before .args .n)) (optional o)
+  after o = gathered (c .before .before .before .args .room) (pointsOf (c .before .before .before .args .points .now) (c .before .before .before .args .n)) (optional o)
 
   told : (m : Meeting) → c .meeting .result ≡ m → after (pointOf (meetingOf m)) ≡ after (pointOf (meeting (segOf (c .before .before .before .args .s)) (segOf (c .before .before .before .args .t))))
   told m e = ap (λ (w : Ways.Meeting). after (pointOf w)) (sym (ap meetingOf e) ∙ c .meeting .ensures .0)
@@ -45,7 +44,7 @@ returns c =
     let s = segOf (a .s) in
     let t = segOf (a .t) in
     let up = c .before .before .pre .1 .1 in
-    ap (λ (w : Ways.Meeting). gathered vertexRows (pointsOf (a .points .now) (a .n)) (optional (pointOf w)))
+    ap (λ (w : Ways.Meeting). gathered (a .room) (pointsOf (a .points .now) (a .n)) (optional (pointOf w)))
     (sym (boxes-meeting s t (up .0) (up .1) (boxes-apart s t (sym (c .before .boxes-apart .ensures) ∙ c .if1 .taken))))
 
 returns-2 : tie.Need-returns-2

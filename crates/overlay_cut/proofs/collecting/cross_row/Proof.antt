@@ -7,7 +7,6 @@ use Rattle.paper.specs.Meeting.{meeting, pointOf}
 use Rattle.laws_plane.specs.Cone.{UpV}
 use Rattle.plane.specs.Values.{segOf}
 use Rattle.graph.specs.Flat.{carrierAt}
-use Rattle.overlay_cut.specs.Rooms.{vertexRows}
 use Rattle.overlay_cut.specs.Points.{pointsOf}
 use Rattle.overlay_cut.specs.Collecting.{gathered, Gathering, gather-starts, gather-turns, gather-ends}
 use borrow.Author.Needs.{needs}
@@ -16,10 +15,10 @@ use Rattle.overlay_cut.proofs.collecting.cross_row.Statement.{statement
 use Rattle.overlay_cut.proofs.collecting.cross_row.Tie as tie
 
 abbrev Inv-loop : tie.InvT-loop
-Inv-loop carriers e t points₀ n total₀ j₀ points total j = Gathering vertexRows (λ k. optional (pointOf (meeting (carrierAt carriers k) (segOf t)))) e points₀ n points total j
+Inv-loop carriers e t points₀ room n total₀ j₀ points total j = Gathering room (λ k. optional (pointOf (meeting (carrierAt carriers k) (segOf t)))) e points₀ n points total j
 
 abbrev μ-loop : tie.MeasureT-loop
-μ-loop carriers e t points₀ n total₀ j₀ points total j = e - j
+μ-loop carriers e t points₀ room n total₀ j₀ points total j = e - j
 
 carrier-at-requires : tie.Need-carrier-at-requires Inv-loop μ-loop
 carrier-at-requires c κs = let s = c .before .before in record { row = omega (arith, s .pre .1 .0 .long); near = s .pre .1 .0 .near (c .before .loop .j) (omega arith) }
@@ -39,7 +38,7 @@ loop-again c =
     let l = at-loop .loop in
     let r = c .before .cross-pair in
     let t = segOf (start .args .t) in
-    gather-turns (l .inv) (omega arith) (r .kept .1 .1 .0) (r .ensures ∙ ap (λ (s : Seg). gathered vertexRows (pointsOf (l .points) (l .total)) (optional (pointOf (meeting s t)))) (after-carrier-at .carrier-at .ensures .0))
+    gather-turns (l .inv) (omega arith) (r .kept .1 .1 .0) (r .ensures ∙ ap (λ (s : Seg). gathered (start .args .room) (pointsOf (l .points) (l .total)) (optional (pointOf (meeting s t)))) (after-carrier-at .carrier-at .ensures .0))
 
 pub cross-row-spec : {M : Type 1} → statement M
 cross-row-spec =

@@ -2,7 +2,6 @@
 use Prim.Native.Nat.{_-_}
 use Rattle.paper.specs.Limits.{maps}
 use Rattle.graph.specs.Upright.{upright-fewer}
-use Rattle.overlay_cut.specs.Rooms.{vertexRows}
 use Rattle.overlay_cut.specs.Cuts.{part-within, part-carried}
 use Rattle.overlay_cut.specs.Crossed.{crossPart}
 use Rattle.overlay_cut.specs.Collecting.{Gathering, gather-starts, gather-turns, gather-ends}
@@ -12,10 +11,10 @@ use Rattle.overlay_cut.proofs.collecting.crossings.Statement.{statement
 use Rattle.overlay_cut.proofs.collecting.crossings.Tie as tie
 
 abbrev Inv-loop : tie.InvT-loop
-Inv-loop carriers starts points₀ n total₀ m₀ points total m = Gathering vertexRows (crossPart carriers starts) maps points₀ n points total m
+Inv-loop carriers starts points₀ room n total₀ m₀ points total m = Gathering room (crossPart carriers starts) maps points₀ n points total m
 
 abbrev μ-loop : tie.MeasureT-loop
-μ-loop carriers starts points₀ n total₀ m₀ points total m = maps - m
+μ-loop carriers starts points₀ room n total₀ m₀ points total m = maps - m
 
 sub-e : tie.Need-sub-e Inv-loop μ-loop
 sub-e c =

@@ -4,7 +4,6 @@ use mathlib.Core.List.{[]}
 use Prim.Native.Nat.{_-_, _≤_}
 use lib.ListN.{length}
 use Rattle.paper.specs.Limits.{maps}
-use Rattle.overlay_cut.specs.Rooms.{edgeRows}
 use Rattle.overlay_cut.specs.Cutting.{puts, Cutting, cut-starts, cut-turns, cut-ends}
 use Rattle.overlay_cut.specs.Links.{Linked}
 use Rattle.overlay_cut.specs.Between.{ended-part}
@@ -15,15 +14,15 @@ use Rattle.overlay_cut.proofs.cutting.cut_all.Statement.{statement}
 use Rattle.overlay_cut.proofs.cutting.cut_all.Tie as tie
 
 abbrev Inv-loop : tie.InvT-loop
-Inv-loop points n carriers starts rows₀ links₀ total₀ m₀ rows links total m =
-    (m ≤ maps) × (length rows ≡ length rows₀) × (length links ≡ length links₀) × Linked rows links n total
-    × Cutting edgeRows (cutPart points n carriers starts) (puts edgeRows [] (cutAll points n carriers starts)) rows total m
+Inv-loop points n carriers starts rows₀ links₀ room total₀ m₀ rows links total m =
+    (m ≤ maps) × (length rows ≡ length rows₀) × (length links ≡ length links₀) × Linked room rows links n total
+    × Cutting room (cutPart points n carriers starts) (puts room [] (cutAll points n carriers starts)) rows total m
 
 abbrev μ-loop : tie.MeasureT-loop
-μ-loop points n carriers starts rows₀ links₀ total₀ m₀ rows links total m = m
+μ-loop points n carriers starts rows₀ links₀ room total₀ m₀ rows links total m = m
 
 loop-holds : tie.Need-loop-holds Inv-loop μ-loop
-loop-holds c = let start : tie.Start Inv-loop μ-loop = search needs in (search needs, refl, refl, start .pre .1 .1, cut-starts edgeRows _ _ 0 _)
+loop-holds c = let start : tie.Start Inv-loop μ-loop = search needs in (search needs, refl, refl, start .pre .1 .1, cut-starts _ _ _ 0 _)
 
 sub-e : tie.Need-sub-e Inv-loop μ-loop
 sub-e c =
@@ -48,11 +47,11 @@ loop-again c =
       r .kept .1 .1 .1 .1 .1 .1 .0 ∙ l .inv .1,
       r .kept .1 .1 .1 .1 .1 .1 .1 .0 ∙ l .inv .2,
       r .ensures .0,
-      cut-turns edgeRows _ (l .inv .4) (r .last .1 .1 .1 .1 .1 .1 .0) (r .result) (search needs) (r .ensures .1),
+      cut-turns _ _ (l .inv .4) (r .last .1 .1 .1 .1 .1 .1 .0) (r .result) (search needs) (r .ensures .1),
     )
 
 returns : tie.Need-returns Inv-loop μ-loop
-returns c = (c .before .loop .inv .3, cut-ends edgeRows _ (c .before .loop .inv .4) (search needs))
+returns c = (c .before .loop .inv .3, cut-ends _ _ (c .before .loop .inv .4) (search needs))
 
 pub cut-all-spec : {M : Type 1} → statement M
 cut-all-spec =

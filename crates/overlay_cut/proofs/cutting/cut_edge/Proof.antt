@@ -11,7 +11,6 @@ use Rattle.plane.specs.Values.{vecOf, segOf}
 use Rattle.plane.specs.Bounds.{Near}
 use Rattle.graph.specs.Flat.{pointAt}
 use Rattle.laws_cut.specs.Between.{onLine}
-use Rattle.overlay_cut.specs.Rooms.{edgeRows}
 use Rattle.overlay_cut.specs.Links.{pieced, Linked}
 use Rattle.overlay_cut.specs.Cutting.{puts, Linking, link-starts, link-skips, link-turns, link-ends}
 use Rattle.overlay_cut.specs.Between.{Span, spans, span-upto, span-none, span-line}
@@ -22,12 +21,12 @@ use Rattle.overlay_cut.proofs.cutting.cut_edge.Statement.{statement}
 use Rattle.overlay_cut.proofs.cutting.cut_edge.Tie as tie
 
 abbrev Inv-loop : tie.InvT-loop
-Inv-loop points n s m number rows₀ links₀ count first top total₀ next₀ v₀ rows links total next v =
-    (length rows ≡ length rows₀) × (length links ≡ length links₀) × (v ≤ top + 1) × Span points n (segOf s) first top × Linked rows links n total
-    × Linking edgeRows n (λ v. onSeg (segOf s) (pointAt points v)) (only maps m number) (puts edgeRows (pieced rows₀ count) (cutEdge points n (segOf s) m number)) rows total v next
+Inv-loop points n s m number rows₀ links₀ count room first top total₀ next₀ v₀ rows links total next v =
+    (length rows ≡ length rows₀) × (length links ≡ length links₀) × (v ≤ top + 1) × Span points n (segOf s) first top × Linked room rows links n total
+    × Linking room n (λ v. onSeg (segOf s) (pointAt points v)) (only maps m number) (puts room (pieced rows₀ count) (cutEdge points n (segOf s) m number)) rows total v next
 
 abbrev μ-loop : tie.MeasureT-loop
-μ-loop points n s m number rows₀ links₀ count first top total₀ next₀ v₀ rows links total next v = v
+μ-loop points n s m number rows₀ links₀ count room first top total₀ next₀ v₀ rows links total next v = v
 
 add-v : tie.Need-add-v Inv-loop μ-loop
 add-v c =
@@ -47,7 +46,7 @@ loop-holds c =
     let a = start .args in
     let R = start .pre .1 .0 .2 in
     let S = spans (a .points .now) (a .n) R (segOf (a .s)) (start .pre .1 .1 .0 .1) (low .place .result) (high .place2 .result) _ _ (low .place .ensures) (foot .foot .ensures .0) (high .place2 .ensures) (head .head .ensures .0) in
-    (refl, refl, search needs, S, start .pre .0, link-starts edgeRows _ _ _ _ _ _ (omega (arith, S .high)) (span-upto (a .points .now) (a .n) R S))
+    (refl, refl, search needs, S, start .pre .0, link-starts _ _ _ _ _ _ _ (omega (arith, S .high)) (span-upto (a .points .now) (a .n) R S))
 
 point-at-requires : tie.Need-point-at-requires Inv-loop μ-loop
 point-at-requires c κs =
@@ -92,20 +91,20 @@ loop-again c =
       omega (arith, l .inv .2),
       l .inv .3,
       r .ensures .0,
-      link-turns edgeRows _ _ _ (l .inv .5) (r .last .0) (r .result) (search needs) (tested after-on-line ∙ then1 .if1 .taken) (r .ensures .1),
+      link-turns _ _ _ _ (l .inv .5) (r .last .0) (r .result) (search needs) (tested after-on-line ∙ then1 .if1 .taken) (r .ensures .1),
     )
 
 loop-again-2 : tie.Need-loop-again-2 Inv-loop μ-loop
 loop-again-2 c =
     let at-loop : tie.At-loop Inv-loop μ-loop = search needs in
     let l = at-loop .loop in
-    (l .inv .0, l .inv .1, omega (arith, l .inv .2), l .inv .3, l .inv .4, link-skips edgeRows _ _ _ (l .inv .5) (search needs) (tested (c .before) ∙ c .if1 .left))
+    (l .inv .0, l .inv .1, omega (arith, l .inv .2), l .inv .3, l .inv .4, link-skips _ _ _ _ (l .inv .5) (search needs) (tested (c .before) ∙ c .if1 .left))
 
 returns : tie.Need-returns Inv-loop μ-loop
 returns c =
     let start : tie.Start Inv-loop μ-loop = search needs in
     let l = c .before .loop in
-    (l .inv .4, link-ends edgeRows _ _ _ (l .inv .5) (span-none (start .args .points .now) (start .args .n) (start .pre .1 .0 .2) (l .inv .3) (l .v) (search needs)))
+    (l .inv .4, link-ends _ _ _ _ (l .inv .5) (span-none (start .args .points .now) (start .args .n) (start .pre .1 .0 .2) (l .inv .3) (l .v) (search needs)))
 
 pub cut-edge-spec : {M : Type 1} → statement M
 cut-edge-spec =

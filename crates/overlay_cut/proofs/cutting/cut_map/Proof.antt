@@ -3,7 +3,6 @@ use mathlib.Core.Path.{_≡_, refl, sym, _∙_, ap, subst}
 use Prim.Native.Nat.{_+_, _-_, _≤_}
 use lib.ListN.{length}
 use Rattle.paper.specs.Plane.{Seg}
-use Rattle.overlay_cut.specs.Rooms.{edgeRows}
 use Rattle.overlay_cut.specs.Links.{pieced, Linked}
 use Rattle.overlay_cut.specs.Cutting.{puts, Cutting, cut-starts, cut-turns, cut-ends}
 use Rattle.overlay_cut.specs.Between.{EndsIn}
@@ -14,17 +13,17 @@ use Rattle.overlay_cut.proofs.cutting.cut_map.Statement.{statement}
 use Rattle.overlay_cut.proofs.cutting.cut_map.Tie as tie
 
 abbrev Inv-loop : tie.InvT-loop
-Inv-loop points n carriers from e m rows₀ links₀ count total₀ k₀ rows links total k =
-    (k ≤ e) × (length rows ≡ length rows₀) × (length links ≡ length links₀) × Linked rows links n total
-    × Cutting edgeRows (cutRow points n carriers from m) (puts edgeRows (pieced rows₀ count) (cutMap points n carriers from m e)) rows total k
+Inv-loop points n carriers from e m rows₀ links₀ count room total₀ k₀ rows links total k =
+    (k ≤ e) × (length rows ≡ length rows₀) × (length links ≡ length links₀) × Linked room rows links n total
+    × Cutting room (cutRow points n carriers from m) (puts room (pieced rows₀ count) (cutMap points n carriers from m e)) rows total k
 
 abbrev μ-loop : tie.MeasureT-loop
-μ-loop points n carriers from e m rows₀ links₀ count total₀ k₀ rows links total k = k
+μ-loop points n carriers from e m rows₀ links₀ count room total₀ k₀ rows links total k = k
 
 loop-holds : tie.Need-loop-holds Inv-loop μ-loop
 loop-holds c =
     let start : tie.Start Inv-loop μ-loop = search needs in
-    (search needs, refl, refl, start .pre .0, cut-starts edgeRows _ _ _ _)
+    (search needs, refl, refl, start .pre .0, cut-starts _ _ _ _ _)
 
 carrier-at-requires : tie.Need-carrier-at-requires Inv-loop μ-loop
 carrier-at-requires c κs =
@@ -51,12 +50,12 @@ loop-again c =
       r .kept .1 .1 .1 .1 .1 .0 ∙ l .inv .1,
       r .kept .1 .1 .1 .1 .1 .1 .0 ∙ l .inv .2,
       r .ensures .0,
-      cut-turns edgeRows (cutRow (s .points .now) (s .n) (s .carriers .now) (s .from) (s .m)) (l .inv .4) (r .last .1 .1 .1 .1 .1 .0) (r .result) (search needs)
-          (r .ensures .1 ∙ ap (λ (q : Seg). puts edgeRows (pieced (l .rows) (l .total)) (cutEdge (s .points .now) (s .n) q (s .m) (l .k - 1))) (after-carrier-at .carrier-at .ensures .0)),
+      cut-turns _ (cutRow (s .points .now) (s .n) (s .carriers .now) (s .from) (s .m)) (l .inv .4) (r .last .1 .1 .1 .1 .1 .0) (r .result) (search needs)
+          (r .ensures .1 ∙ ap (λ (q : Seg). puts (s .room) (pieced (l .rows) (l .total)) (cutEdge (s .points .now) (s .n) q (s .m) (l .k - 1))) (after-carrier-at .carrier-at .ensures .0)),
     )
 
 returns : tie.Need-returns Inv-loop μ-loop
-returns c = (c .before .loop .inv .3, cut-ends edgeRows _ (c .before .loop .inv .4) (search needs))
+returns c = (c .before .loop .inv .3, cut-ends _ _ (c .before .loop .inv .4) (search needs))
 
 pub cut-map-spec : {M : Type 1} → statement M
 cut-map-spec =

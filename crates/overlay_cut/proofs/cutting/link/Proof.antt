@@ -2,7 +2,6 @@
 use mathlib.Core.Path.{_∙_}
 use Rattle.paper.specs.Limits.{maps}
 use Rattle.paper.specs.Pieces.{only}
-use Rattle.overlay_cut.specs.Rooms.{edgeRows}
 use Rattle.overlay_cut.specs.Links.{pieced}
 use Rattle.overlay_cut.specs.Cutting.{link-none, link-one}
 use borrow.Author.Needs.{needs}
@@ -13,7 +12,7 @@ returns : tie.Need-returns
 returns c =
     let start = c .before .before .before in
     let a = start .args in
-    (start .pre .0, link-none edgeRows (a .n) (a .next) (a .v) (only maps (a .m) (a .number)) (pieced (a .rows .now) (a .count)) (c .if1 .taken))
+    (start .pre .0, link-none (a .room) (a .n) (a .next) (a .v) (only maps (a .m) (a .number)) (pieced (a .rows .now) (a .count)) (c .if1 .taken))
 
 returns-2 : tie.Need-returns-2
 returns-2 c =
@@ -21,7 +20,7 @@ returns-2 c =
     let else1 : tie.Else1 = search needs in
     let put : tie.After-put = search needs in
     let a = start .args in
-    (put .put .ensures .0, put .put .ensures .1 ∙ link-one edgeRows (a .n) (a .next) (a .v) (only maps (a .m) (a .number)) (pieced (a .rows .now) (a .count)) (else1 .if1 .left))
+    (put .put .ensures .0, put .put .ensures .1 ∙ link-one (a .room) (a .n) (a .next) (a .v) (only maps (a .m) (a .number)) (pieced (a .rows .now) (a .count)) (else1 .if1 .left))
 
 pub link-spec : {M : Type 1} → statement M
 link-spec = tie.close (tie.spec returns (λ c. search needs) (λ c. search needs) (λ c κs. search needs) (λ c. search needs) (λ c. search needs) returns-2)

@@ -21,7 +21,7 @@ returns c =
     let s = c .before .before .before .before .before .before .before .before .before in
     let k = c .before .before .collect in
     let out = k .last .1 .1 .1 .1 .0 in
-    collected-over (l s) (s .pre .0) out (k .result) (k .ensures) (c .if1 .taken) out
+    collected-over (l s) (s .pre .0) (s .args .room) out (k .result) (k .ensures) (c .if1 .taken) out
 
 order-requires : tie.Need-order-requires
 order-requires c κs =
@@ -29,8 +29,8 @@ order-requires c κs =
     let k = c .before .before .before .collect in
     let out = k .last .1 .1 .1 .1 .0 in
     let few = c .before .if1 .left in (
-      collected-near (l s) (s .pre .0) out (k .result) (k .ensures) few (omega (arith, few, s .pre .1, k .kept .1 .1 .1 .1 .0)),
-      collected-once (l s) (s .pre .0) out (k .result) (k .ensures) few,
+      collected-near (l s) (s .pre .0) (s .args .room) out (k .result) (k .ensures) few (omega (arith, few, s .pre .1, k .kept .1 .1 .1 .1 .0)),
+      collected-once (l s) (s .pre .0) (s .args .room) out (k .result) (k .ensures) few,
     )
 
 returns-2 : tie.Need-returns-2
@@ -38,7 +38,7 @@ returns-2 c =
     let s = c .before .before .before .before .before .before .before .before .before .before .before .before in
     let k = c .before .before .before .before .before .collect in
     let o = c .before .order in
-    ordered-is (l s) (s .pre .0) (k .last .1 .1 .1 .1 .0) (k .result) (k .ensures) (c .before .before .before .if1 .left) (o .last .0) (o .ensures)
+    ordered-is (l s) (s .pre .0) (s .args .room) (k .last .1 .1 .1 .1 .0) (k .result) (k .ensures) (c .before .before .before .if1 .left) (o .last .0) (o .ensures)
 
 pub collect-maps-spec : {M : Type 1} → statement M
 collect-maps-spec = tie.close (tie.spec (λ c. search needs) collect-requires (λ c. search needs) returns order-requires (λ c. search needs) returns-2)

@@ -11,13 +11,16 @@ abbrev l : tie.Start → Layers
 l s = layersBy (s .args .vertices .now) (s .args .edges .now) (s .args .corners .now) (s .args .origins .now) (s .args .carriers .now) (s .args .labels .now)
 
 sweep-requires : tie.Need-sweep-requires
-sweep-requires c κs = let s = c .before .before .before .before .before .before in layers-given (l s) (s .pre .0) (now (s .args .points)) (s .pre .1)
+sweep-requires c κs =
+    let s : tie.Start = search needs in
+    (layers-given (l s) (s .pre .0) (now (s .args .points)) (s .pre .1 .0), s .pre .1 .1)
 
 returns : tie.Need-returns
 returns c =
-    let s = c .before .before .before .before .before .before .before .before in
-    let k = c .before .sweep in
-    layers-swept (l s) (s .pre .0) (k .last .1 .1 .1 .1 .0) (k .result) (k .ensures)
+    let s : tie.Start = search needs in
+    let after : tie.After-sweep = search needs in
+    let k = after .sweep in
+    record { collected = layers-swept (l s) (s .pre .0) (k .last .1 .1 .1 .1 .0) (k .result .stops) (k .ensures .stops); threads = k .ensures .threads }
 
 pub sweep-maps-spec : {M : Type 1} → statement M
-sweep-maps-spec = tie.close (tie.spec (λ c. search needs) sweep-requires (λ c. search needs) returns)
+sweep-maps-spec = tie.close (tie.spec (λ c. search needs) sweep-requires (λ c. search needs) (λ c. search needs) (λ c. search needs) returns)

@@ -1,76 +1,68 @@
--- `overlay_maps::label::own_label` meets its contract. Assumes nothing.
-use mathlib.Core.Path.{_≡_, _∙_, ap}
-use Prim.Native.Nat.{_+_, _*_, _<_}
+-- `overlay_maps::label::own_label` meets its contract: the first of the edge's half-edges goes up where the second does not start at the carrier's foot. Assumes nothing.
+use mathlib.Core.Path.{_≡_, refl, sym, _∙_, ap}
+use Prim.Native.Nat.{_+_, _*_}
 use native.Mathlib.Omega.{arith}
-use Rattle.paper.specs.Graph.{twin, eastSide}
-use Rattle.graph.specs.Flat.{flatGraph}
-use Rattle.graph.specs.Heading.{flat-starts}
-use Rattle.graph.specs.Look.{flat-east}
+use borrow.Author.Needs.{needs}
+use Rattle.seq.specs.Seq.{not}
+use Rattle.plane.specs.Values.{ptOf, segOf}
+use Rattle.graph.specs.Heading.{flat-starts, flat-carried}
 use Rattle.map_check.specs.Held.{flatMap}
-use Rattle.overlay_maps.proofs.LabelLaws.{own-up, own-down, east-in, twin-in}
+use Rattle.overlay_maps.specs.Ended.{foot-up}
+use Rattle.overlay_maps.proofs.LabelLaws.{own-rising, own-falling}
 use Rattle.overlay_maps.proofs.label.own_label.Statement.{statement}
 use Rattle.overlay_maps.proofs.label.own_label.Tie as tie
 
-east-side-requires : tie.Need-east-side-requires
-east-side-requires c κs =
-    let s = c .before .before in
-    let ps = s .args .points .now in
-    let os = s .args .origins .now in
-    let cs = s .args .carriers .now in
-    let n = s .args .n in
-    let e = s .args .e in
-    let k = s .args .k in
-    let F = s .pre .0 in
-    (omega (arith, s .pre .1 .0, s .pre .1 .1 .1), flat-starts ps os cs n e F (2 * k) (omega (arith, s .pre .1 .1 .1)), flat-starts ps os cs n e F (2 * k + 1) (omega (arith, s .pre .1 .1 .1)))
+carrier-at-requires : tie.Need-carrier-at-requires
+carrier-at-requires c κs =
+    let s : tie.Start = search needs in
+    let a = s .args in
+    flat-carried (a .points .now) (a .origins .now) (a .carriers .now) (a .n) (a .e) (s .pre .0 .0) (a .k) (s .pre .1 .1 .1)
 
--- the half-edge that goes down
-down : (c : tie.After-east-side) → c .east-side .result ≡ eastSide (flatGraph (c .before .before .before .args .points .now) (c .before .before .before .args .origins .now) (c .before .before .before .args .carriers .now) (c .before .before .before .args .n) (c .before .before .before .args .e)) (c .before .before .before .args .k)
-down c =
-    let s = c .before .before .before in
-    c .east-side .ensures ∙ flat-east (s .args .points .now) (s .args .origins .now) (s .args .carriers .now) (s .args .n) (s .args .e) (s .pre .0) (s .args .k) (s .pre .1 .1 .1)
-
-in-edges : (c : tie.After-east-side) → c .east-side .result < 2 * c .before .before .before .args .e
-in-edges c = let s = c .before .before .before in east-in (flatGraph (s .args .points .now) (s .args .origins .now) (s .args .carriers .now) (s .args .n) (s .args .e)) (s .args .e) (s .args .k) (c .east-side .result) (s .pre .1 .1 .1) (down c)
-
-in-twins : (c : tie.After-east-side) → twin (c .east-side .result) < 2 * c .before .before .before .args .e
-in-twins c = let s = c .before .before .before in twin-in (flatGraph (s .args .points .now) (s .args .origins .now) (s .args .carriers .now) (s .args .n) (s .args .e)) (s .args .e) (s .args .k) (c .east-side .result) (s .pre .1 .1 .1) (down c)
-
-twin-requires : tie.Need-twin-requires
-twin-requires c κs = omega (arith, in-edges (c .before), c .before .before .before .before .pre .1 .0)
-
-mul-result : tie.Need-mul-result
-mul-result c = omega (arith, in-twins (c .before .before), c .twin .ensures, c .before .before .before .before .before .pre .1 .0)
-
-shared-slice-read-result : tie.Need-shared-slice-read-result
-shared-slice-read-result c = omega (arith, in-twins (c .before .before .before), c .before .twin .ensures, c .before .before .before .before .before .before .pre .1 .1 .0)
-
-mul-result-2 : tie.Need-mul-result-2
-mul-result-2 c = omega (arith, in-edges (c .before), c .before .before .before .before .pre .1 .0)
-
-shared-slice-read-result-2 : tie.Need-shared-slice-read-result-2
-shared-slice-read-result-2 c = omega (arith, in-edges (c .before .before), c .before .before .before .before .before .pre .1 .1 .0)
+start-requires : tie.Need-start-requires
+start-requires c κs =
+    let s : tie.Start = search needs in
+    let a = s .args in
+    flat-starts (a .points .now) (a .origins .now) (a .carriers .now) (a .n) (a .e) (s .pre .0 .0) (2 * a .k + 1) (omega (arith, s .pre .1 .1 .1))
 
 returns : tie.Need-returns
 returns c =
-    let s = c .before .before .before .before .before .before in
-    own-up (flatMap (s .args .points .now) (s .args .origins .now) (s .args .carriers .now) (s .args .labels .now) (s .args .n) (s .args .e)) (s .args .h) (s .args .k) _
-    (c .before .before .if1 .taken) (c .before .twin .ensures ∙ ap twin (down (c .before .before .before)))
+    let s : tie.Start = search needs in
+    let at : tie.After-carrier-at = search needs in
+    let from : tie.After-start = search needs in
+    let told : tie.After-is-foot = search needs in
+    let then : tie.Then1 = search needs in
+    let a = s .args in
+    let up = foot-up (a .points .now) (a .origins .now) (a .carriers .now) (a .n) (a .e) (s .pre .0 .0) (s .pre .0 .1) (a .k) (s .pre .1 .1 .1) (ptOf (from .start .result)) (from .start .ensures .0) (segOf (at .carrier-at .result)) (at .carrier-at .ensures .0) in
+    own-falling (flatMap (a .points .now) (a .origins .now) (a .carriers .now) (a .labels .now) (a .n) (a .e)) (a .h) (a .k) _ (up ∙ ap not (sym (told .is-foot .ensures) ∙ then .if1 .taken)) refl
 
 returns-2 : tie.Need-returns-2
 returns-2 c =
-    let s = c .before .before .before .before .before in
-    own-down (flatMap (s .args .points .now) (s .args .origins .now) (s .args .carriers .now) (s .args .labels .now) (s .args .n) (s .args .e)) (s .args .h) (s .args .k) _
-    (c .before .if1 .left) (down (c .before .before))
+    let s : tie.Start = search needs in
+    let at : tie.After-carrier-at = search needs in
+    let from : tie.After-start = search needs in
+    let told : tie.After-is-foot = search needs in
+    let else : tie.Else1 = search needs in
+    let a = s .args in
+    let up = foot-up (a .points .now) (a .origins .now) (a .carriers .now) (a .n) (a .e) (s .pre .0 .0) (s .pre .0 .1) (a .k) (s .pre .1 .1 .1) (ptOf (from .start .result)) (from .start .ensures .0) (segOf (at .carrier-at .result)) (at .carrier-at .ensures .0) in
+    own-rising (flatMap (a .points .now) (a .origins .now) (a .carriers .now) (a .labels .now) (a .n) (a .e)) (a .h) (a .k) _ (up ∙ ap not (sym (told .is-foot .ensures) ∙ else .if1 .left)) refl
 
 pub own-label-spec : {M : Type 1} → statement M
 own-label-spec =
     tie.close
     (tie.spec
-    east-side-requires
-    twin-requires
-    mul-result
-    shared-slice-read-result
-    mul-result-2
-    shared-slice-read-result-2
+    carrier-at-requires
+    (λ c. search needs)
+    (λ c. search needs)
+    start-requires
+    (λ c κs. search needs)
+    (λ c. search needs)
+    (λ c. search needs)
+    (λ c. search needs)
+    (λ c. search needs)
+    (λ c. search needs)
+    (λ c. search needs)
+    (λ c. search needs)
+    (λ c. search needs)
+    (λ c. search needs)
     returns
     returns-2)

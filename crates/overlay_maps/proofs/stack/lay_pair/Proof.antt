@@ -3,18 +3,18 @@ use mathlib.Core.Path.{sym, ap, _∙_}
 use mathlib.Core.List.{[], _∷_}
 use native.Mathlib.Omega.{arith}
 use borrow.Author.Needs.{needs}
-use Rattle.paper.specs.Map.{fault}
+use Rattle.paper.specs.Map.{vertexCount, edgesIn, fault}
 use Rattle.laws_refusals.specs.Refusals.{no-refusal, first-one, of-none}
 use Rattle.map_file.specs.Verdict.{verdict}
+use Rattle.map_check.proofs.RoomLaws.{room-within}
 use Rattle.overlay_maps.proofs.StackLaws.{stack-none, stack-more, before-refused, before-passes, all-pass}
-use Rattle.overlay_maps.proofs.HeldLaws.{passes-kept}
+use Rattle.overlay_maps.proofs.HeldLaws.{stored-is}
 use Rattle.overlay_maps.proofs.stack.lay_pair.Statement.{statement}
 use Rattle.overlay_maps.proofs.stack.lay_pair.Tie as tie
 
 lay-behind-requires : tie.Need-lay-behind-requires
 lay-behind-requires c κs =
-    let room = c .before .before .before .before .before .before .before .before .pre in
-    record { corners = omega (arith, room .corners); origins = omega (arith, room .origins); carriers = omega (arith, room .carriers); labels = omega (arith, room .labels) }
+    room-within (c .before .before .before .before .before .before .before .before .pre) (omega arith) (omega arith)
 
 lay-behind-requires-2 : tie.Need-lay-behind-requires-2
 lay-behind-requires-2 c κs =
@@ -24,13 +24,15 @@ lay-behind-requires-2 c κs =
     let a = start .args .zones .now in
     let v = c .before .before .before .before .before .vertex-count .ensures in
     let e = c .before .before .before .before .edge-count .ensures in
-    let k = passes-kept a (of-none 1 (fault a) (sym (first .ensures .0) ∙ ap verdict (c .before .before .before .before .before .before .enum-told2 .given .1))) in
+    let pass = of-none 1 (fault a) (sym (first .ensures .0) ∙ ap verdict (c .before .before .before .before .before .before .enum-told2 .given .1)) in
+    let sv = stored-is a pass vertexCount in
+    let se = stored-is a pass edgesIn in
     let kept = first .kept in
     record {
-      corners = omega (arith, room .corners, v, k .few-vertices, kept .1 .1 .1 .1 .0);
-      origins = omega (arith, room .origins, e, k .few-edges, kept .1 .1 .1 .1 .1 .0);
-      carriers = omega (arith, room .carriers, e, k .few-edges, kept .1 .1 .1 .1 .1 .1 .0);
-      labels = omega (arith, room .labels, e, k .few-edges, kept .1 .1 .1 .1 .1 .1 .1 .0);
+      corners = omega (arith, room .corners, v, sv, kept .1 .1 .1 .1 .0);
+      origins = omega (arith, room .origins, e, se, kept .1 .1 .1 .1 .1 .0);
+      carriers = omega (arith, room .carriers, e, se, kept .1 .1 .1 .1 .1 .1 .0);
+      labels = omega (arith, room .labels, e, se, kept .1 .1 .1 .1 .1 .1 .1 .0);
     }
 
 returns : tie.Need-returns
@@ -55,12 +57,14 @@ returns-2 c =
       λ q.
           let pa = all-pass (a ∷ b ∷ []) q 0 (omega arith) in
           let pb = all-pass (a ∷ b ∷ []) q 1 (omega arith) in
-          let ka = passes-kept a pa in
-          let kb = passes-kept b pb in
+          let va = stored-is a pa vertexCount in
+          let ea = stored-is a pa edgesIn in
+          let vb = stored-is b pb vertexCount in
+          let eb = stored-is b pb edgesIn in
           let one =
-          stack-more [] a 0 0 (omega arith) (omega arith) (omega (arith, room .corners, ka .few-vertices)) (omega (arith, room .origins, ka .few-edges)) (omega (arith, room .carriers, ka .few-edges)) (omega (arith, room .labels, ka .few-edges))
+          stack-more [] a 0 0 (omega arith) (omega arith) (omega (arith, room .corners, va)) (omega (arith, room .origins, ea)) (omega (arith, room .carriers, ea)) (omega (arith, room .labels, ea))
           (stack-none _ _ _ _) (first .1 pa) in
-          stack-more (a ∷ []) b _ _ (omega (arith, v)) (omega (arith, e)) (omega (arith, room .corners, v, ka .few-vertices, kb .few-vertices)) (omega (arith, room .origins, e, ka .few-edges, kb .few-edges)) (omega (arith, room .carriers, e, ka .few-edges, kb .few-edges)) (omega (arith, room .labels, e, ka .few-edges, kb .few-edges))
+          stack-more (a ∷ []) b _ _ (omega (arith, v)) (omega (arith, e)) (omega (arith, room .corners, v, va, vb)) (omega (arith, room .origins, e, ea, eb)) (omega (arith, room .carriers, e, ea, eb)) (omega (arith, room .labels, e, ea, eb))
           one (second .1 pb),
     )
 

@@ -3,15 +3,17 @@ use mathlib.Core.Path.{sym, ap, _∙_}
 use mathlib.Core.List.{[], _∷_}
 use native.Mathlib.Omega.{arith}
 use borrow.Author.Needs.{needs}
+use Rattle.paper.specs.Map.{vertexCount, edgesIn}
 use Rattle.laws_refusals.specs.Refusals.{no-refusal}
 use Rattle.map_file.specs.Verdict.{verdict}
+use Rattle.map_check.proofs.RoomLaws.{room-within}
 use Rattle.overlay_maps.proofs.StackLaws.{stack-more, before-refused, before-passes, all-pass}
-use Rattle.overlay_maps.proofs.HeldLaws.{passes-kept}
+use Rattle.overlay_maps.proofs.HeldLaws.{stored-is}
 use Rattle.overlay_maps.proofs.stack.lay_tables.Statement.{statement}
 use Rattle.overlay_maps.proofs.stack.lay_tables.Tie as tie
 
 lay-pair-requires : tie.Need-lay-pair-requires
-lay-pair-requires c κs = c .before .before .before .before .before .before .before .before .before .pre
+lay-pair-requires c κs = room-within (c .before .before .before .before .before .before .before .before .before .pre) (omega arith) (omega arith)
 
 lay-behind-requires : tie.Need-lay-behind-requires
 lay-behind-requires c κs =
@@ -24,14 +26,20 @@ lay-behind-requires c κs =
     let w = c .before .before .before .before .before .before .vertex-count2 .ensures in
     let e = c .before .before .before .before .before .edge-count .ensures in
     let f = c .before .before .before .before .edge-count2 .ensures in
-    let ka = passes-kept (start .args .zones .now) (all-pass files none 0 (omega arith)) in
-    let kb = passes-kept (start .args .blocks .now) (all-pass files none 1 (omega arith)) in
+    let a = start .args .zones .now in
+    let b = start .args .blocks .now in
+    let pa = all-pass files none 0 (omega arith) in
+    let pb = all-pass files none 1 (omega arith) in
+    let va = stored-is a pa vertexCount in
+    let ea = stored-is a pa edgesIn in
+    let vb = stored-is b pb vertexCount in
+    let eb = stored-is b pb edgesIn in
     let kept = pair .kept in
     record {
-      corners = omega (arith, room .corners, v, w, ka .few-vertices, kb .few-vertices, kept .1 .1 .0);
-      origins = omega (arith, room .origins, e, f, ka .few-edges, kb .few-edges, kept .1 .1 .1 .0);
-      carriers = omega (arith, room .carriers, e, f, ka .few-edges, kb .few-edges, kept .1 .1 .1 .1 .0);
-      labels = omega (arith, room .labels, e, f, ka .few-edges, kb .few-edges, kept .1 .1 .1 .1 .1 .0);
+      corners = omega (arith, room .corners, v, w, va, vb, kept .1 .1 .0);
+      origins = omega (arith, room .origins, e, f, ea, eb, kept .1 .1 .1 .0);
+      carriers = omega (arith, room .carriers, e, f, ea, eb, kept .1 .1 .1 .1 .0);
+      labels = omega (arith, room .labels, e, f, ea, eb, kept .1 .1 .1 .1 .1 .0);
     }
 
 returns : tie.Need-returns
@@ -54,13 +62,20 @@ returns-2 c =
     let w = c .before .before .before .before .before .before .before .before .before .before .before .before .before .vertex-count2 .ensures in
     let e = c .before .before .before .before .before .before .before .before .before .before .before .before .edge-count .ensures in
     let f = c .before .before .before .before .before .before .before .before .before .before .before .edge-count2 .ensures in
-    let ka = passes-kept (start .args .zones .now) (all-pass files none 0 (omega arith)) in
-    let kb = passes-kept (start .args .blocks .now) (all-pass files none 1 (omega arith)) in (
+    let a = start .args .zones .now in
+    let b = start .args .blocks .now in
+    let pa = all-pass files none 0 (omega arith) in
+    let pb = all-pass files none 1 (omega arith) in
+    let va = stored-is a pa vertexCount in
+    let ea = stored-is a pa edgesIn in
+    let vb = stored-is b pb vertexCount in
+    let eb = stored-is b pb edgesIn in (
       last .0 ∙ sym (before-passes files s none),
       λ q.
           let pass = all-pass (start .args .zones .now ∷ start .args .blocks .now ∷ s ∷ []) q 2 (omega arith) in
-          let kc = passes-kept s pass in
-          stack-more files s _ _ (omega (arith, v, w)) (omega (arith, e, f)) (omega (arith, room .corners, v, w, ka .few-vertices, kb .few-vertices, kc .few-vertices)) (omega (arith, room .origins, e, f, ka .few-edges, kb .few-edges, kc .few-edges)) (omega (arith, room .carriers, e, f, ka .few-edges, kb .few-edges, kc .few-edges)) (omega (arith, room .labels, e, f, ka .few-edges, kb .few-edges, kc .few-edges))
+          let vs = stored-is s pass vertexCount in
+          let es = stored-is s pass edgesIn in
+          stack-more files s _ _ (omega (arith, v, w)) (omega (arith, e, f)) (omega (arith, room .corners, v, w, va, vb, vs)) (omega (arith, room .origins, e, f, ea, eb, es)) (omega (arith, room .carriers, e, f, ea, eb, es)) (omega (arith, room .labels, e, f, ea, eb, es))
           (pair .1 none) (last .1 pass),
     )
 

@@ -9,10 +9,10 @@ use Rattle.overlay_pairs.proofs.along.sourced_along.Statement.{statemen
 use Rattle.overlay_pairs.proofs.along.sourced_along.Tie as tie
 
 abbrev Inv-loop : tie.InvT-loop
-Inv-loop pieces next m edges h x₀ left₀ x left = OnWalk next h x
+Inv-loop pieces next m h x₀ left₀ x left = OnWalk next h x
 
 abbrev μ-loop : tie.MeasureT-loop
-μ-loop pieces next m edges h x₀ left₀ x left = left
+μ-loop pieces next m h x₀ left₀ x left = left
 
 source-in-requires : tie.Need-source-in-requires Inv-loop μ-loop
 source-in-requires c κs =
@@ -20,10 +20,10 @@ source-in-requires c κs =
     let at : tie.At-loop Inv-loop μ-loop = search needs in
     (s .pre .1 .row (at .loop .x) (at .loop .inv), s .pre .0)
 
-returns-2 : tie.Need-returns-2 Inv-loop μ-loop
-returns-2 c =
+returns : tie.Need-returns Inv-loop μ-loop
+returns c =
     let at : tie.At-loop Inv-loop μ-loop = search needs in
-    record { on-walk = at .loop .inv; sourced = λ away. omega (arith, c .if2 .taken, c .before .source-in .ensures) }
+    record { on-walk = at .loop .inv; itself = λ none. absurd (omega (arith, c .if1 .taken, c .before .source-in .ensures, none)) }
 
 shared-slice-read-x : tie.Need-shared-slice-read-x Inv-loop μ-loop
 shared-slice-read-x c =
@@ -56,10 +56,9 @@ sourced-along-spec =
     (tie.spec
     Inv-loop
     μ-loop
-    (λ c. sourced-itself _ _ _ _)
     (λ c. (0, refl))
     source-in-requires
-    returns-2
+    returns
     mul-x
     shared-slice-read-x
     cast-x

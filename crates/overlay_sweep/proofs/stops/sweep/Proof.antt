@@ -10,7 +10,7 @@ use Rattle.overlay_sweep.proofs.stops.sweep.Tie as tie
 shared-slice-read-e : tie.Need-shared-slice-read-e
 shared-slice-read-e c =
     let start : tie.Start = search needs in
-    omega (arith, start .pre .starts-long)
+    omega (arith, start .pre .0 .starts-long)
 
 slice-aggregate-by-lower-end : tie.Need-slice-aggregate-by-lower-end
 slice-aggregate-by-lower-end c = search needs
@@ -18,7 +18,7 @@ slice-aggregate-by-lower-end c = search needs
 by-lower-end-requires : tie.Need-by-lower-end-requires
 by-lower-end-requires c κs =
     let start : tie.Start = search needs in
-    let g = start .pre in
+    let g = start .pre .0 in
     (g .carriers, (omega (arith, g .few), omega (arith, g .few, slice-aggregate-by-lower-end c)))
 
 slice-aggregate-corners-in : tie.Need-slice-aggregate-corners-in
@@ -27,7 +27,7 @@ slice-aggregate-corners-in c = search needs
 corners-in-requires : tie.Need-corners-in-requires
 corners-in-requires c κs =
     let start : tie.Start = search needs in
-    (start .pre .corners, omega (arith, slice-aggregate-corners-in c))
+    (start .pre .0 .corners, omega (arith, slice-aggregate-corners-in c))
 
 slice-aggregate-all-turns-2 : tie.Need-slice-aggregate-all-turns-2
 slice-aggregate-all-turns-2 c = search needs
@@ -41,9 +41,11 @@ all-turns-requires c κs =
     let a = s .args in
     let waits : tie.After-by-lower-end = search needs in
     let corners : tie.After-corners-in = search needs in
-    let b = waits .by-lower-end in
-    begun (a .carriers .now) (startOf (a .starts .now) maps) (a .starts .now) (a .rows .now) (a .k) (a .out .now) (s .pre) _ _ _ (b .ensures .0) (b .ensures .1)
-    (omega (arith, slice-aggregate-all-turns-2 (c .before .before .before))) (omega (arith, slice-aggregate-all-turns-3 (c .before .before))) _ _ _ (corners .corners-in .ensures)
+    let b = waits .by-lower-end in (
+      begun (a .carriers .now) (startOf (a .starts .now) maps) (a .starts .now) (a .rows .now) (a .k) (a .out .now) (s .pre .0) _ _ _ (b .ensures .0) (b .ensures .1)
+          (omega (arith, slice-aggregate-all-turns-2 (c .before .before .before .before .before))) (omega (arith, slice-aggregate-all-turns-3 (c .before .before .before .before))) _ _ _ (corners .corners-in .ensures),
+      s .pre .1,
+    )
 
 returns : tie.Need-returns
 returns c = let all : tie.After-all-turns = search needs in all .all-turns .ensures
@@ -62,5 +64,7 @@ sweep-spec =
     slice-aggregate-all-turns-3
     (λ c. search needs)
     all-turns-requires
+    (λ c. search needs)
+    (λ c. search needs)
     (λ c. search needs)
     returns)

@@ -1,41 +1,28 @@
--- `plane::order::fractions` meets its contract, by the short way and by the long one. Assumes nothing.
-use mathlib.Core.Path.{sym, _∙_, ap}
+-- `plane::order::fractions` meets its contract: where both denominators are one number, it is a factor of the difference. Assumes nothing.
+use mathlib.Core.Path.{_∙_, ap}
 use borrow.Author.Needs.{needs}
 use Rattle.exact.specs.Exact.{sgn}
-use Rattle.plane.proofs.Fractions.{Short, short-of, first-fits, second-fits, short, factors, long}
+use Rattle.plane.proofs.Fractions.{read, long, level}
 use Rattle.plane.proofs.order.fractions.Statement.{statement}
 use Rattle.plane.proofs.order.fractions.Tie as tie
 
--- by the short way both products fit
-is-short : (c : tie.Then1) → let a = c .before .before .args in Short (a .n) (a .d) (a .m) (a .e)
-is-short c =
-    let s = c .before .before in
+crosswise-requires : tie.Need-crosswise-requires
+crosswise-requires c κs =
+    let s : tie.Start = search needs in
     let a = s .args in
-    short-of (a .n) (a .d) (a .m) (a .e) (s .pre .0) (s .pre .1) (sym (c .before .short-way .ensures) ∙ c .if1 .taken)
-
-mul-order : tie.Need-mul-order
-mul-order c =
-    let s = c .before .before in
-    let a = s .args in
-    first-fits (a .n) (a .d) (a .m) (a .e) (s .pre .0) (s .pre .1) (is-short c)
-
-mul-order-2 : tie.Need-mul-order-2
-mul-order-2 c =
-    let s = c .before .before in
-    let a = s .args in
-    second-fits (a .n) (a .d) (a .m) (a .e) (s .pre .0) (s .pre .1) (is-short c)
-
-products-requires : tie.Need-products-requires
-products-requires c κs = let s = c .before .before in let a = s .args in factors (a .n) (a .d) (a .m) (a .e) (s .pre .0) (s .pre .1)
+    (read (a .n) (a .d) (s .pre .0), read (a .m) (a .e) (s .pre .1))
 
 returns : tie.Need-returns
 returns c =
-    let s = c .before .before .before in
+    let s : tie.Start = search needs in
     let a = s .args in
-    c .order .ensures ∙ ap sgn (short (a .n) (a .d) (a .m) (a .e) (s .pre .0) (s .pre .1) (is-short (c .before)))
+    c .order .ensures ∙ level (a .n) (a .d) (a .m) (a .e) (s .pre .0) (s .pre .1) (c .before .if1 .taken)
 
 returns-2 : tie.Need-returns-2
-returns-2 c = let s = c .before .before .before in let a = s .args in c .products .ensures ∙ ap sgn (long (a .n) (a .d) (a .m) (a .e) (s .pre .0) (s .pre .1))
+returns-2 c =
+    let s : tie.Start = search needs in
+    let a = s .args in
+    c .crosswise .ensures ∙ ap sgn (long (a .n) (a .d) (a .m) (a .e) (s .pre .0) (s .pre .1))
 
 pub fractions-spec : {M : Type 1} → statement M
-fractions-spec = tie.close (tie.spec (λ c κs. search needs) mul-order mul-order-2 (λ c κs. search needs) products-requires returns returns-2)
+fractions-spec = tie.close (tie.spec (λ c κs. search needs) crosswise-requires returns returns-2)
