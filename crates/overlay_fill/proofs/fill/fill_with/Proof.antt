@@ -1,4 +1,4 @@
--- `overlay::fill::fill_with` meets its contract. In order: the records of the tables, what each call asks, what is stored. Assumes nothing.
+-- `overlay_fill::fill::fill_with` meets its contract. In order: the records of the tables, what each call asks, what is stored. Assumes nothing.
 use mathlib.Core.Path.{_∙_, ap}
 use Prim.Native.Nat.{_≤_}
 use native.Mathlib.Omega.{arith}
@@ -13,9 +13,9 @@ use Rattle.overlay_graph.specs.Cut.{Cut, cutBy}
 use Rattle.overlay_graph.specs.Traced.{Traced, tracedBy, TracedOf}
 use Rattle.overlay_graph.specs.Laws.Backwards.{next-named, prev-by, least-by, face-long}
 use Rattle.overlay_pairs.specs.Pairs.{Whole}
-use Rattle.overlay.proofs.StoredLaws.{counts-are, stored-is}
-use Rattle.overlay.proofs.fill.fill_with.Statement.{statement}
-use Rattle.overlay.proofs.fill.fill_with.Tie as tie
+use Rattle.overlay_fill.proofs.StoredLaws.{counts-are, stored-is}
+use Rattle.overlay_fill.proofs.fill.fill_with.Statement.{statement}
+use Rattle.overlay_fill.proofs.fill.fill_with.Tie as tie
 
 -- ── the records ──
 

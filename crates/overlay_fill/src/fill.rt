@@ -28,8 +28,8 @@ ghost use Rattle.overlay_maps.specs.Layers.{layersBy};
 ghost use Rattle.overlay_maps.specs.Held.{Held, heldMaps};
 ghost use Rattle.overlay_graph.specs.Cut.{cutBy, overlayIn, DrawableCut};
 ghost use Rattle.overlay_graph.specs.Traced.{NetBy, FacesBy};
-ghost use Rattle.overlay.specs.Judged.{doneWith, Within};
-ghost use Rattle.overlay.specs.Small.{Small};
+ghost use Rattle.overlay_fill.specs.Judged.{doneWith, Within};
+ghost use Rattle.overlay_fill.specs.Small.{Small};
 
 // the labels of every face, a cell for each map
 const LABEL_CELLS: usize = MAPS * FACES;

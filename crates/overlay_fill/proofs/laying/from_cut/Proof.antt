@@ -1,4 +1,4 @@
--- `overlay::stages::from_cut` meets its contract: the tables are zero and have room, small ones where the edges are few. Assumes nothing.
+-- `overlay_fill::laying::from_cut` meets its contract: the tables are zero and have room, small ones where the edges are few. Assumes nothing.
 use mathlib.Core.Path.{refl}
 use Prim.Native.Nat.{_≤_}
 use native.Mathlib.Omega.{arith}
@@ -7,8 +7,8 @@ use Rattle.seq.specs.Seq.{ℕ, suc, _+_, _*_, replicate}
 use Rattle.graph_faces.specs.Linked.{halfRows}
 use Rattle.overlay_graph.specs.Traced.{Blank}
 use Rattle.graph.specs.Small.{smallEdges}
-use Rattle.overlay.proofs.stages.from_cut.Statement.{statement}
-use Rattle.overlay.proofs.stages.from_cut.Tie as tie
+use Rattle.overlay_fill.proofs.laying.from_cut.Statement.{statement}
+use Rattle.overlay_fill.proofs.laying.from_cut.Tie as tie
 
 blank : (n cells : ℕ) → n ≤ cells → Blank n (replicate cells 0)
 blank n cells h = record { cells = cells; room = h; is = refl }

@@ -1,10 +1,10 @@
--- `overlay::judge::over_room` meets its contract. Assumes nothing.
+-- `overlay_fill::judge::over_room` meets its contract. Assumes nothing.
 use mathlib.Core.Path.{_∙_}
 use mathlib.Core.List.{[], _∷_}
 use Rattle.paper.specs.Refusal.{firstOf}
 use borrow.Author.Needs.{needs}
-use Rattle.overlay.proofs.judge.over_room.Statement.{statement}
-use Rattle.overlay.proofs.judge.over_room.Tie as tie
+use Rattle.overlay_fill.proofs.judge.over_room.Statement.{statement}
+use Rattle.overlay_fill.proofs.judge.over_room.Tie as tie
 
 returns : tie.Need-returns
 returns c =

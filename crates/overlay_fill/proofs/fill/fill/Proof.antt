@@ -1,8 +1,8 @@
--- `overlay::fill::fill` meets its contract: the tables have room, small ones where the sheet is small. Assumes nothing.
+-- `overlay_fill::fill::fill` meets its contract: the tables have room, small ones where the sheet is small. Assumes nothing.
 use native.Mathlib.Omega.{arith}
 use borrow.Author.Needs.{needs}
-use Rattle.overlay.proofs.fill.fill.Statement.{statement}
-use Rattle.overlay.proofs.fill.fill.Tie as tie
+use Rattle.overlay_fill.proofs.fill.fill.Statement.{statement}
+use Rattle.overlay_fill.proofs.fill.fill.Tie as tie
 
 fill-with-requires : tie.Need-fill-with-requires
 fill-with-requires c κs =

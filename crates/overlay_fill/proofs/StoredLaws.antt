@@ -19,7 +19,7 @@ use Rattle.overlay_cut.specs.Net.{sourceIn}
 use Rattle.tables.specs.Rows.{vertexOf, halfOf, sourceOf, faceBy}
 use Rattle.overlay_graph.specs.Cut.{Cut, overlayIn}
 use Rattle.overlay_graph.specs.Traced.{Traced, TracedOf}
-use Rattle.overlay.specs.Stored.{stored, storedCounts}
+use Rattle.overlay_fill.specs.Stored.{stored, storedCounts}
 
 stored-source : (n : ℕ) → plusOne (minusOne n) ≡ n
 stored-source zero = refl

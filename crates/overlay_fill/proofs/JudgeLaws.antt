@@ -21,7 +21,7 @@ use Rattle.laws_refusals.specs.Refusals.{nothing, given-none, none-given, first
 use Rattle.graph.specs.Flat.{pointAt}
 use Rattle.overlay_cut.specs.PieceRows.{pieceAt, piecesIn}
 use Rattle.overlay_graph.specs.Cut.{Cut, CutOf, overlayIn}
-use Rattle.overlay.specs.Judged.{laidOut, overlaid, doneWith, refusedWith, Within}
+use Rattle.overlay_fill.specs.Judged.{laidOut, overlaid, doneWith, refusedWith, Within}
 
 -- ── the maps ──
 

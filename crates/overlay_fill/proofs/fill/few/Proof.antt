@@ -1,9 +1,9 @@
--- `overlay::fill::few` meets its contract. Assumes nothing.
+-- `overlay_fill::fill::few` meets its contract. Assumes nothing.
 use native.Mathlib.Omega.{arith}
 use borrow.Author.Needs.{needs}
 use Rattle.exact.specs.Tests.{never}
-use Rattle.overlay.proofs.fill.few.Statement.{statement}
-use Rattle.overlay.proofs.fill.few.Tie as tie
+use Rattle.overlay_fill.proofs.fill.few.Statement.{statement}
+use Rattle.overlay_fill.proofs.fill.few.Tie as tie
 
 returns-4 : tie.Need-returns-4
 returns-4 c =

@@ -1,9 +1,9 @@
--- `overlay::stages::refuse` meets its contract. Assumes nothing.
+-- `overlay_fill::laying::refuse` meets its contract. Assumes nothing.
 use Rattle.paper.specs.Refusal.{refused}
 use Rattle.map_file.specs.Verdict.{refusalOf}
 use borrow.Author.Needs.{needs}
-use Rattle.overlay.proofs.stages.refuse.Statement.{statement}
-use Rattle.overlay.proofs.stages.refuse.Tie as tie
+use Rattle.overlay_fill.proofs.laying.refuse.Statement.{statement}
+use Rattle.overlay_fill.proofs.laying.refuse.Tie as tie
 
 returns : tie.Need-returns
 returns c = λ i. record {

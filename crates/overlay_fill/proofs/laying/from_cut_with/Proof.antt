@@ -1,4 +1,4 @@
--- `overlay::stages::from_cut_with` meets its contract. First what is known from the start; then the needs, call by call. Assumes nothing.
+-- `overlay_fill::laying::from_cut_with` meets its contract. First what is known from the start; then the needs, call by call. Assumes nothing.
 use mathlib.Core.Path.{_∙_, ap}
 use Prim.Native.Nat.{_≤_}
 use native.Mathlib.Omega.{arith}
@@ -19,9 +19,9 @@ use Rattle.overlay_graph.specs.Cut.{Cut, cutBy, overlayIn}
 use Rattle.overlay_graph.specs.Traced.{NetBy, FacesOver, FacesBy}
 use Rattle.overlay_graph.specs.Laws.Zeros.{blank-long}
 use Rattle.overlay_graph.specs.Laws.Tracing.{net-planar, faces-by}
-use Rattle.overlay.proofs.JudgeLaws.{faces-refused, all-within}
-use Rattle.overlay.proofs.stages.from_cut_with.Statement.{statement}
-use Rattle.overlay.proofs.stages.from_cut_with.Tie as tie
+use Rattle.overlay_fill.proofs.JudgeLaws.{faces-refused, all-within}
+use Rattle.overlay_fill.proofs.laying.from_cut_with.Statement.{statement}
+use Rattle.overlay_fill.proofs.laying.from_cut_with.Tie as tie
 
 -- ── what is known ──
 
