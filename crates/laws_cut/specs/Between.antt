@@ -1,6 +1,5 @@
 -- The vertices on an edge stand between its ends: in a table of points in strict order, with an edge's lower end in row a and its upper end in row z, those on it are those
--- from a to z that lie on its line. Then for the vertices of the overlay: the rows rise, so that a search by halves finds a corner's number; and each corner, and each end of
--- an edge, stands there. Assumes nothing.
+-- from a to z that lie on its line. Then for the vertices of the overlay, whose rows rise. Assumes nothing.
 use mathlib.Core.Path.{_≡_, refl, sym, _∙_, subst}
 use Prim.Native.Nat.{_≤_, _<_}
 use native.Mathlib.Decide.{decLt}
