@@ -5,4 +5,9 @@ mod sound; // sound edge records
 mod fill; // the tables that a file holds
 mod reader; // the reader
 
+pub use reader::judge;
 pub use reader::read;
+pub use stored::counts;
+pub use stored::faces_start;
+pub use stored::label;
+pub use stored::layout_in;

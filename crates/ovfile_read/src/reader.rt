@@ -54,7 +54,7 @@ fn body(
 }
 
 // What the file is refused for, by tables of these lengths.
-fn judge(file: &[u8], vertices: usize, halves: usize, sources: usize, faces: usize) -> Check
+pub fn judge(file: &[u8], vertices: usize, halves: usize, sources: usize, faces: usize) -> Check
     ensures { λ r. ⌜ verdict r ≡ readFault maps (length layouts) (layoutOf layouts (u16 (now (file .entry)) 3)) (lengthsBy vertices halves sources faces) (now (file .entry)) (tablesIn maps (layoutOf layouts (u16 (now (file .entry)) 3)) (now (file .entry))) ⌝ }
 {
     let c = head(file);
