@@ -13,6 +13,7 @@ use Rattle.seq.specs.HowMany.{howMany}
 use Rattle.paper.specs.Year.{Pair, gapPair}
 use Rattle.laws_year.specs.Capped.{Capped, capFace, capFaces}
 use Rattle.seq.specs.HowMany.{many-++, many-le}
+use Rattle.year.specs.Risen.{InOrder, faces-ordered}
 use Rattle.year.specs.Kept.{kept, most, Few, few-more, faces-few, faces-snoc}
 
 -- a file's faces other than 0
@@ -78,6 +79,9 @@ module _ {lo : Layout} {s : List ℕ} {n file : ℕ} {rows₀ : List ℕ} {pairs
   add-few h g =
       subst (λ (c : Capped). Few most (c .tallies)) (sym (r .is))
       (few-more (length (pairsFrom lo s f) + roomy) most (capFaces file (kept rows₀ pairs) (pairsFrom lo s f) .tallies) (omega (arith, r .within, length-table (pairFrom lo s) f)) (faces-few roomy file (kept rows₀ pairs) (pairsFrom lo s f) g))
+
+  pub add-ordered : InOrder (kept rows₀ pairs .tallies) → InOrder (kept rows total .tallies)
+  add-ordered o = subst (λ (c : Capped). InOrder (c .tallies)) (sym (r .is)) (faces-ordered file (kept rows₀ pairs) (pairsFrom lo s f) o)
 
   pub add-turns : (u : List ℕ) (m zone block : ℕ) → f < n → length u ≡ length rows
       → zone ≡ storedLabel lo s (f + 1) 0 → block ≡ storedLabel lo s (f + 1) 1 → kept u m ≡ capFace file (kept rows total) (zone, block) → Adding lo s n file rows₀ pairs u m (f + 1)

@@ -3,6 +3,7 @@ use crate::face::add_face;
 use ovfile::Layout;
 use ovfile_read::label;
 ghost use mathlib.Core.Path.{_≡_};
+ghost use mathlib.Core.Bool.{true};
 ghost use Prim.Native.Nat.{_+_, _*_, _≤_, _<_};
 ghost use lib.ListN.{length};
 ghost use Rattle.seq.specs.Seq.{cond};
@@ -15,6 +16,7 @@ ghost use Rattle.ovfile.specs.Values.{layoutFrom};
 ghost use Rattle.ovfile_read.specs.Starts.{FacesFrom};
 ghost use Rattle.year.specs.TallyRows.{tallyWidth};
 ghost use Rattle.year.specs.Kept.{kept, Few};
+ghost use Rattle.year.specs.Risen.{InOrder};
 ghost use Rattle.year.specs.Faced.{pairsFrom, others, roomy};
 
 fn wide(x: u16) -> u32
@@ -67,8 +69,9 @@ pub fn add_faces(
     number: u32,
     rows: &mut [u32],
     pairs: usize,
+    ordered: bool,
 ) -> usize
-    requires { ⌜ FacesFrom (layoutFrom layout) (now file) start ⌝ ∗ ⌜ n ≤ others ⌝ ∗ ⌜ tallyWidth * yearPairs ≤ length (now rows) ⌝ ∗ ⌜ Few roomy (kept (now rows) pairs .tallies) ⌝ }
+    requires { ⌜ FacesFrom (layoutFrom layout) (now file) start ⌝ ∗ ⌜ n ≤ others ⌝ ∗ ⌜ tallyWidth * yearPairs ≤ length (now rows) ⌝ ∗ ⌜ Few roomy (kept (now rows) pairs .tallies) ⌝ ∗ ⌜ (ordered ≡ true → InOrder (kept (now rows) pairs .tallies)) ⌝ }
     ensures { λ r. ⌜ kept (now (rows .exit)) r ≡ capFaces number (kept (now (rows .entry)) pairs) (pairsFrom (layoutFrom layout) (now (file .entry)) n) ⌝ }
 {
     let mut total = pairs;
@@ -76,7 +79,7 @@ pub fn add_faces(
     while f < n {
         let zone = label_of(layout, file, start, f, 0);
         let block = label_of(layout, file, start, f, 1);
-        total = add_face(rows, total, zone, block, number);
+        total = add_face(rows, total, zone, block, number, ordered);
         f += 1;
     }
     total

@@ -1,9 +1,11 @@
 // One file more.
+use crate::face::in_order;
 use crate::faces::add_faces;
 use crate::faces::gaps;
 use crate::state::Sums;
 use crate::state::Year;
 use crate::state::has_room;
+use crate::state::kept_pairs;
 use limits::FACE_CELLS;
 use limits::HALF_CELLS;
 use limits::SOURCE_CELLS;
@@ -51,7 +53,17 @@ fn add_sheet(layout: Layout, file: &[u8], n: usize, rows: &mut [u32], sums: Sums
 {
     let number = sums.files + 1;
     let start = faces_start(layout, file);
-    let pairs = add_faces(layout, file, start, n, number as u32, rows, sums.pairs);
+    let ordered = in_order(rows, kept_pairs(sums.pairs));
+    let pairs = add_faces(
+        layout,
+        file,
+        start,
+        n,
+        number as u32,
+        rows,
+        sums.pairs,
+        ordered,
+    );
     let gaps = sums.gaps + gaps(layout, file, start, n);
     Sums {
         pairs,

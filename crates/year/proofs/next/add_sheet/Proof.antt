@@ -2,10 +2,26 @@
 use native.Mathlib.Omega.{arith}
 use mathlib.Core.Path.{refl}
 use Rattle.ovfile.specs.Values.{layoutFrom}
+use Rattle.year.specs.Risen.{ordered-kept}
 use Rattle.year.specs.OneFile.{gaps-small, sheet-added}
 use borrow.Author.Needs.{needs}
 use Rattle.year.proofs.next.add_sheet.Statement.{statement}
 use Rattle.year.proofs.next.add_sheet.Tie as tie
+
+in-order-requires : tie.Need-in-order-requires
+in-order-requires c κs =
+    let s : tie.Start = search needs in
+    omega (arith, c .kept-pairs .ensures, s .pre .1 .1 .0 .room)
+
+add-faces-requires : tie.Need-add-faces-requires
+add-faces-requires c κs =
+    let s : tie.Start = search needs in
+    let start : tie.After-faces-start = search needs in
+    let n : tie.After-kept-pairs = search needs in
+    let o : tie.After-in-order = search needs in
+    let a = s .args in
+    let r = s .pre .1 .1 .0 in
+    (start .faces-start .ensures, (s .pre .1 .0, (r .room, (r .few, λ e. ordered-kept (a .rows .now) (a .sums .pairs) (n .kept-pairs .result) (n .kept-pairs .ensures) (o .in-order .ensures e)))))
 
 add-gaps : tie.Need-add-gaps
 add-gaps c =
@@ -27,8 +43,10 @@ add-sheet-spec =
     (tie.spec
     (λ c. search needs)
     (λ c κs. search needs)
-    (λ c. search needs)
     (λ c κs. search needs)
+    in-order-requires
+    (λ c. search needs)
+    add-faces-requires
     (λ c κs. search needs)
     add-gaps
     (λ c. search needs)
