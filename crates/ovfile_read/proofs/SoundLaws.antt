@@ -7,7 +7,7 @@ use native.Mathlib.Omega.{arith}
 use borrow.Author.Tests.{ltb-true, eq-eqb, ne-eqb}
 use lib.ListN.{set, length-set, getD-replicate, length-replicate}
 use lib.Seq.{getD-set-same, getD-set-other}
-use Rattle.seq.specs.Seq.{Bool, true, false, not, _&&_, List, ℕ, _+_, _*_, ltb, eqb, length, getD, replicate, someBelow}
+use Rattle.seq.specs.Seq.{Bool, true, false, cond, not, _&&_, List, ℕ, _+_, _*_, _-_, _%_, ltb, eqb, length, getD, replicate, someBelow}
 use Rattle.seq.specs.Least.{some-has, some-witness, no-some, no-some-is, some-ext}
 use Rattle.seq.specs.Table.{table-at}
 use Rattle.paper.specs.Limits.{maps}
@@ -67,6 +67,15 @@ taken-same {key} {n} {t = t} r e = subst (λ (k : ℕ). Taken key n k t) e r
 guarded : (a x y : Bool) → (a ≡ true → x ≡ y) → (a && x) ≡ (a && y)
 guarded true x y h = h refl
 guarded false x y h = refl
+
+-- the two half-edges of an edge
+pub twin-lower : (k : ℕ) → 2 * k + 1 ≡ twin (2 * k)
+twin-lower k = ap (λ (b : Bool). cond b (2 * k + 1) (2 * k - 1)) (sym (eq-eqb (2 * k % 2) 0 (omega arith)))
+
+pub twin-upper : (k : ℕ) → 2 * k ≡ twin (2 * k + 1)
+twin-upper k =
+    let e : 2 * k ≡ 2 * k + 1 - 1 = omega arith in
+    e ∙ ap (λ (b : Bool). cond b (2 * k + 1 + 1) (2 * k + 1 - 1)) (sym (ne-eqb ((2 * k + 1) % 2) 0 (λ z. omega arith)))
 
 module _ (l : Layout) (s : List ℕ) where
   abbrev t : Tables

@@ -11,7 +11,6 @@ use limits::SMALL_EDGES;
 use limits::SMALL_HALVES;
 use ovfile::Layout;
 use ovfile::store;
-use ovfile::twin;
 use ovfile::u16_at;
 use tables::Counts;
 ghost use mathlib.Core.Path.{_≡_};
@@ -19,32 +18,34 @@ ghost use mathlib.Core.Bool.{not};
 ghost use Prim.Native.Nat.{_+_, _*_, _<_, _≤_};
 ghost use Rattle.seq.specs.Seq.{least};
 ghost use Rattle.paper.specs.Limits.{maps};
+ghost use Rattle.paper.specs.Graph.{twin};
 ghost use Rattle.paper.specs.Ovfile.{soundFollower, hasSource, soundEdge};
-ghost use Rattle.paper.specs.Reader.{countsIn, storedFollower, tablesIn};
+ghost use Rattle.paper.specs.Reader.{countsIn, storedOrigin, storedFollower, tablesIn};
 ghost use Rattle.tables.specs.Values.{countsOf};
 ghost use Rattle.ovfile.specs.Values.{layoutFrom};
 ghost use Rattle.ovfile.specs.Known.{Known};
 ghost use Rattle.ovfile_read.specs.Starts.{EdgesFrom, Taken};
 ghost use Rattle.ovfile_read.specs.Filled.{Within};
 
-// "each follower is a half-edge of the file, starts where its half-edge ends, and follows no half-edge of lower number": of half-edge h of n, which is then among those of lower number.
+// "each follower is a half-edge of the file, starts where its half-edge ends, and follows no half-edge of lower number": of half-edge h of n, which ends at a vertex and is then among those of
+// lower number.
 fn sound_follower(
     layout: Layout,
     file: &[u8],
     start: usize,
     n: u32,
     h: u32,
+    end: u16,
     taken: &mut [u16],
 ) -> bool
-    requires { ⌜ EdgesFrom (layoutFrom layout) (now file) start × (n ≡ 2 * countsIn (now file) .edges) × (h < 2 * countsIn (now file) .edges) × Taken (storedFollower (layoutFrom layout) (now file)) (2 * countsIn (now file) .edges) h (now taken) ⌝ }
+    requires { ⌜ EdgesFrom (layoutFrom layout) (now file) start × (n ≡ 2 * countsIn (now file) .edges) × (h < 2 * countsIn (now file) .edges) × (end ≡ storedOrigin (layoutFrom layout) (now file) (twin h)) × Taken (storedFollower (layoutFrom layout) (now file)) (2 * countsIn (now file) .edges) h (now taken) ⌝ }
     ensures { λ r. ⌜ (r ≡ soundFollower (countsIn (now (file .entry))) (tablesIn maps (layoutFrom layout) (now (file .entry))) h) × Taken (storedFollower (layoutFrom layout) (now (file .entry))) (2 * countsIn (now (file .entry)) .edges) (h + 1) (now (taken .exit)) ⌝ }
 {
     let f = follower(layout, file, start, h);
     let fresh = u16_at(taken, f as usize) == 0;
     store(taken, f as usize, 1);
     let starts = origin(layout, file, start, f as u32);
-    let ends = origin(layout, file, start, twin(h));
-    ((f as u32) < n) & ((starts == ends) & fresh)
+    ((f as u32) < n) & ((starts == end) & fresh)
 }
 
 // "a source is not 0"
@@ -78,8 +79,8 @@ fn sound_edge(
     let right = face(layout, file, start, b);
     let faces = (left < c.faces) & (right < c.faces);
     let source = has_source(layout, file, start, k);
-    let forth = sound_follower(layout, file, start, n, a, taken);
-    let back = sound_follower(layout, file, start, n, b, taken);
+    let forth = sound_follower(layout, file, start, n, a, upper, taken);
+    let back = sound_follower(layout, file, start, n, b, lower, taken);
     ends & (source & (faces & (forth & back)))
 }
 

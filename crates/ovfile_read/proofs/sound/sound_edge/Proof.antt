@@ -5,9 +5,9 @@ use native.Mathlib.Omega.{arith}
 use denote.Ref.{now}
 use Rattle.seq.specs.Seq.{_&&_, ℕ, _+_, _*_, _^_, ltb}
 use Rattle.paper.specs.Tables.{Counts}
-use Rattle.paper.specs.Reader.{countsIn}
+use Rattle.paper.specs.Reader.{countsIn, storedOrigin}
 use Rattle.ovfile.specs.Values.{layoutFrom}
-use Rattle.ovfile_read.proofs.SoundLaws.{origin-is, face-is}
+use Rattle.ovfile_read.proofs.SoundLaws.{origin-is, face-is, twin-lower, twin-upper}
 use borrow.Author.Needs.{needs}
 use Rattle.ovfile_read.proofs.sound.sound_edge.Statement.{statement}
 use Rattle.ovfile_read.proofs.sound.sound_edge.Tie as tie
@@ -28,13 +28,15 @@ add-b c =
 sound-follower-requires : tie.Need-sound-follower-requires
 sound-follower-requires c κs =
     let start : tie.Start = search needs in
-    (start .pre .0, ap (λ (n : Counts). 2 * n .edges) (start .pre .1), omega (arith, start .pre .2), start .pre .3)
+    let uppered : tie.After-origin2 = c .before .before .before .before .before .before .before in
+    (start .pre .0, ap (λ (n : Counts). 2 * n .edges) (start .pre .1), omega (arith, start .pre .2), uppered .origin2 .ensures ∙ ap (storedOrigin (layoutFrom (start .args .layout)) (now (start .args .file))) (twin-lower (start .args .k)), start .pre .3)
 
 sound-follower-requires-2 : tie.Need-sound-follower-requires-2
 sound-follower-requires-2 c κs =
     let start : tie.Start = search needs in
     let before : tie.After-sound-follower = search needs in
-    (start .pre .0, ap (λ (n : Counts). 2 * n .edges) (start .pre .1), omega (arith, start .pre .2), before .sound-follower .ensures .1)
+    let lowered : tie.After-origin = before .before .before .before .before .before .before .before .before .before in
+    (start .pre .0, ap (λ (n : Counts). 2 * n .edges) (start .pre .1), omega (arith, start .pre .2), lowered .origin .ensures ∙ ap (storedOrigin (layoutFrom (start .args .layout)) (now (start .args .file))) (twin-upper (start .args .k)), before .sound-follower .ensures .1)
 
 returns : tie.Need-returns
 returns c =

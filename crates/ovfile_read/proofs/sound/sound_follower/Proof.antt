@@ -16,18 +16,15 @@ returns c =
     let followed : tie.After-follower = search needs in
     let looked : tie.After-u16-at = search needs in
     let stored : tie.After-store = search needs in
-    let first : tie.After-origin = search needs in
-    let twinned : tie.After-twin = search needs in
     let a = start .args in
     let l = layoutFrom (a .layout) in
     let s = now (a .file) in
     let taken = now (a .taken) in
     let follower = followed .follower .ensures in
     let fresh = looked .u16-at .ensures ∙ ap (λ (f : ℕ). getD taken f 0) follower in
-    let starts = first .origin .ensures ∙ ap (storedOrigin l s) follower in
-    let ends = c .origin2 .ensures ∙ ap (storedOrigin l s) (twinned .twin .ensures) in (
-      (λ i. ltb (follower i) (start .pre .1 i) && (eqb (starts i) (ends i) && eqb (fresh i) 0)) ∙ follower-by l s (a .h) taken (start .pre .2) (start .pre .3),
-      taken-turns (start .pre .3) (stored .store .ensures ∙ ap (λ (f : ℕ). set taken f 1) follower),
+    let starts = c .origin .ensures ∙ ap (storedOrigin l s) follower in (
+      (λ i. ltb (follower i) (start .pre .1 i) && (eqb (starts i) (start .pre .3 i) && eqb (fresh i) 0)) ∙ follower-by l s (a .h) taken (start .pre .2) (start .pre .4),
+      taken-turns (start .pre .4) (stored .store .ensures ∙ ap (λ (f : ℕ). set taken f 1) follower),
     )
 
 pub sound-follower-spec : {M : Type 1} → statement M
@@ -40,8 +37,6 @@ sound-follower-spec =
     (λ c. search needs)
     (λ c κs. search needs)
     (λ c. search needs)
-    (λ c κs. search needs)
-    (λ c κs. search needs)
     (λ c κs. search needs)
     (λ c. search needs)
     (λ c. search needs)
