@@ -8,6 +8,9 @@ use crate::merge::merge;
 use crate::merge::move_ends;
 use crate::numbers::count_kept;
 use crate::numbers::number;
+use crate::steps::edge_steps;
+use crate::steps::vertex_steps;
+use limits::MAP_EDGES;
 use limits::MAP_HALVES;
 use limits::MAP_POINT_CELLS;
 use limits::MAP_VERTICES;
@@ -56,14 +59,15 @@ fn judge(n: usize, l: usize, long: usize, many: u16) -> Check
     first(short, few)
 }
 
-// By the tables of a file that can be mended: so many of its n vertices and e edges are kept.
+// By the tables of a file that can be mended: so many of its n vertices and e edges are kept, and `corners` and `pieces` say in which step each of the others is dropped.
 fn finish(
     file: &[u8],
     points: &[i64],
     labels: &[u16],
-    into: &[u16],
     ends: &[u16],
     numbers: &[u16],
+    corners: &[u16],
+    pieces: &[u16],
     n: u16,
     e: u16,
     vertices: u16,
@@ -71,7 +75,7 @@ fn finish(
     out: &mut [u8],
     list: &mut [u16],
 ) -> Mended
-    requires { ⌜ (n ≡ vertexCount (now file)) × (e ≡ edgesIn (now file)) × Ready (now file) (now points) (now labels) (now into) (now ends) (now numbers) vertices edges ⌝ }
+    requires { ⌜ (n ≡ vertexCount (now file)) × (e ≡ edgesIn (now file)) × Ready (now file) (now points) (now labels) (now ends) (now numbers) (now corners) (now pieces) vertices edges ⌝ }
     ensures { λ r. ⌜ mendingOf r (now (out .exit)) (now (list .exit)) ≡ mend (length (now (out .entry))) (length (now (list .entry))) (now (file .entry)) ⌝ }
 {
     let bytes = map_length(vertices, edges);
@@ -81,8 +85,20 @@ fn finish(
     match check {
         Check::Bad(r) => refuse(r, out, list),
         Check::Fine => {
-            put_file(points, labels, ends, numbers, n, e, vertices, edges, out);
-            put_list(into, ends, n, e, list);
+            put_file(
+                points,
+                labels,
+                ends,
+                numbers,
+                corners,
+                pieces,
+                n,
+                e,
+                vertices,
+                edges,
+                out,
+            );
+            put_list(corners, pieces, n, e, list);
             Mended::Done(Mending { length, entries })
         }
     }
@@ -107,16 +123,21 @@ fn mend_map(
     merge(points, n, &mut into);
     let mut ends = [0u16; MAP_HALVES];
     move_ends(&into, origins, e, &mut ends);
+    let mut pieces = [0u16; MAP_EDGES as usize];
+    edge_steps(&ends, e, &mut pieces);
+    let mut corners = [0u16; MAP_VERTICES as usize];
+    vertex_steps(&into, &ends, &pieces, n, e, &mut corners);
     let mut numbers = [0u16; MAP_VERTICES as usize];
-    let vertices = number(&ends, e, n, &mut numbers);
-    let edges = count_kept(&ends, e);
+    let vertices = number(&corners, n, &mut numbers);
+    let edges = count_kept(&pieces, e);
     finish(
         file,
         points,
         labels,
-        &into,
         &ends,
         &numbers,
+        &corners,
+        &pieces,
         n,
         e,
         vertices,
