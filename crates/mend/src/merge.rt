@@ -3,6 +3,7 @@ use crate::keys::corner_keys;
 use crate::keys::first_like;
 use crate::keys::seen;
 use limits::MAP_VERTICES;
+use limits::SMALL_VERTICES;
 use ovfile::u16_at;
 ghost use mathlib.Core.Path.{_≡_};
 ghost use Prim.Native.Nat.{_+_, _*_, _≤_, _<_};
@@ -39,14 +40,27 @@ fn merge_by(keys: &[u32], n: u16, into: &mut [u16])
     }
 }
 
-// The lowest vertex at the point of each of n vertices.
+// The lowest vertex at the point of each of n vertices, with a table lent for the keys.
+fn merge_in(points: &[i64], n: u16, keys: &mut [u32], into: &mut [u16])
+    requires { ⌜ Corners (now points) n × (n ≤ length (now keys)) × (n ≤ length (now into)) ⌝ }
+    ensures { λ _. ⌜ now (into .exit) ≡ filled n (intoAt (now (points .entry))) (now (into .entry)) ⌝ }
+{
+    corner_keys(points, n, keys);
+    merge_by(keys, n, into);
+}
+
+// The same, with a table of its own. Few vertices take a small one: less to clear.
 pub fn merge(points: &[i64], n: u16, into: &mut [u16])
     requires { ⌜ Corners (now points) n × (n ≤ mapVertices) × (n ≤ length (now into)) ⌝ }
     ensures { λ _. ⌜ now (into .exit) ≡ filled n (intoAt (now (points .entry))) (now (into .entry)) ⌝ }
 {
-    let mut keys = [0u32; MAP_VERTICES as usize];
-    corner_keys(points, n, &mut keys);
-    merge_by(&keys, n, into);
+    if n as usize <= SMALL_VERTICES {
+        let mut keys = [0u32; SMALL_VERTICES];
+        merge_in(points, n, &mut keys, into);
+    } else {
+        let mut keys = [0u32; MAP_VERTICES as usize];
+        merge_in(points, n, &mut keys, into);
+    }
 }
 
 // The vertex that each half-edge of e edges starts from afterwards.

@@ -14,6 +14,10 @@ use limits::MAP_EDGES;
 use limits::MAP_HALVES;
 use limits::MAP_POINT_CELLS;
 use limits::MAP_VERTICES;
+use limits::SMALL_EDGES;
+use limits::SMALL_HALVES;
+use limits::SMALL_POINT_CELLS;
+use limits::SMALL_VERTICES;
 use map_file::Check;
 use map_file::Header;
 use map_file::Refusal;
@@ -28,7 +32,7 @@ use seq::wipe_u16;
 ghost use mathlib.Core.Path.{_≡_};
 ghost use mathlib.Core.List.{[], _∷_};
 ghost use mathlib.Core.Option.{none};
-ghost use Prim.Native.Nat.{_/_};
+ghost use Prim.Native.Nat.{_*_, _/_, _≤_};
 ghost use lib.Dec.{ltb};
 ghost use lib.ListN.{length};
 ghost use Rattle.paper.specs.Map.{vertexCount, edgesIn, formFaults};
@@ -147,19 +151,42 @@ fn mend_map(
     )
 }
 
-// A file that passes rules 1 to 4: its map is read once, front to back.
+// A file that passes rules 1 to 4: its map is read once, front to back, into lent tables.
+fn mend_in(
+    file: &[u8],
+    h: Header,
+    points: &mut [i64],
+    origins: &mut [u16],
+    labels: &mut [u16],
+    out: &mut [u8],
+    list: &mut [u16],
+) -> Mended
+    requires { ⌜ h ≡ headerOf (now file) ⌝ ∗ ⌜ firstOf (formFaults (now file)) ≡ none ⌝ ∗ ⌜ (4 * vertexCount (now file) ≤ length (now points)) × (2 * edgesIn (now file) ≤ length (now origins)) × (2 * edgesIn (now file) ≤ length (now labels)) ⌝ }
+    ensures { λ r. ⌜ mendingOf r (now (out .exit)) (now (list .exit)) ≡ mend (length (now (out .entry))) (length (now (list .entry))) (now (file .entry)) ⌝ }
+{
+    read_map(file, h, points, origins, labels);
+    let check = table_fault(points, origins, h.vertices as usize, h.edges as usize);
+    match check {
+        Check::Bad(r) => refuse(r, out, list),
+        Check::Fine => mend_map(file, h, points, origins, labels, out, list),
+    }
+}
+
+// The same, with tables of its own. A small map takes small ones: less to clear.
 fn mend_read(file: &[u8], h: Header, out: &mut [u8], list: &mut [u16]) -> Mended
     requires { ⌜ h ≡ headerOf (now file) ⌝ ∗ ⌜ firstOf (formFaults (now file)) ≡ none ⌝ }
     ensures { λ r. ⌜ mendingOf r (now (out .exit)) (now (list .exit)) ≡ mend (length (now (out .entry))) (length (now (list .entry))) (now (file .entry)) ⌝ }
 {
-    let mut points = [0i64; MAP_POINT_CELLS];
-    let mut origins = [0u16; MAP_HALVES];
-    let mut labels = [0u16; MAP_HALVES];
-    read_map(file, h, &mut points, &mut origins, &mut labels);
-    let check = table_fault(&points, &origins, h.vertices as usize, h.edges as usize);
-    match check {
-        Check::Bad(r) => refuse(r, out, list),
-        Check::Fine => mend_map(file, h, &points, &origins, &labels, out, list),
+    if (h.vertices as usize <= SMALL_VERTICES) & (h.edges as usize <= SMALL_EDGES) {
+        let mut points = [0i64; SMALL_POINT_CELLS];
+        let mut origins = [0u16; SMALL_HALVES];
+        let mut labels = [0u16; SMALL_HALVES];
+        mend_in(file, h, &mut points, &mut origins, &mut labels, out, list)
+    } else {
+        let mut points = [0i64; MAP_POINT_CELLS];
+        let mut origins = [0u16; MAP_HALVES];
+        let mut labels = [0u16; MAP_HALVES];
+        mend_in(file, h, &mut points, &mut origins, &mut labels, out, list)
     }
 }
 

@@ -4,6 +4,7 @@ use crate::keys::seen;
 use crate::merge::from_now;
 use crate::merge::to_now;
 use limits::MAP_EDGES;
+use limits::SMALL_EDGES;
 use ovfile::store;
 use ovfile::u16_at;
 ghost use mathlib.Core.Path.{_≡_};
@@ -47,7 +48,7 @@ fn edge_step(ends: &[u16], keys: &[u32], k: u16) -> u16
     0
 }
 
-// That of each of e edges, by their keys.
+// The step of each of e edges, by their keys.
 fn edge_steps_by(ends: &[u16], keys: &[u32], e: u16, steps: &mut [u16])
     requires { ⌜ (e ≤ length (now keys)) × (e ≤ length (now steps)) ⌝ }
     ensures { λ _. ⌜ now (steps .exit) ≡ filled e (λ k. edgeStep (shrunkIn (now (ends .entry)) k) (someBelow (likeIn (now (keys .entry)) k) k)) (now (steps .entry)) ⌝ }
@@ -60,13 +61,27 @@ fn edge_steps_by(ends: &[u16], keys: &[u32], e: u16, steps: &mut [u16])
     }
 }
 
+// That of each of e edges, with a table lent for the keys.
+fn edge_steps_in(ends: &[u16], e: u16, keys: &mut [u32], steps: &mut [u16])
+    requires { ⌜ (e ≤ length (now keys)) × (e ≤ length (now steps)) ⌝ }
+    ensures { λ _. ⌜ now (steps .exit) ≡ filled e (λ k. edgeStep (shrunkIn (now (ends .entry)) k) (repeatedIn (now (ends .entry)) k)) (now (steps .entry)) ⌝ }
+{
+    edge_keys(ends, e, keys);
+    edge_steps_by(ends, keys, e, steps);
+}
+
+// The same, with a table of its own. Few edges take a small one: less to clear.
 pub fn edge_steps(ends: &[u16], e: u16, steps: &mut [u16])
     requires { ⌜ (e ≤ mapEdges) × (e ≤ length (now steps)) ⌝ }
     ensures { λ _. ⌜ now (steps .exit) ≡ filled e (λ k. edgeStep (shrunkIn (now (ends .entry)) k) (repeatedIn (now (ends .entry)) k)) (now (steps .entry)) ⌝ }
 {
-    let mut keys = [0u32; MAP_EDGES as usize];
-    edge_keys(ends, e, &mut keys);
-    edge_steps_by(ends, &keys, e, steps);
+    if e as usize <= SMALL_EDGES {
+        let mut keys = [0u32; SMALL_EDGES];
+        edge_steps_in(ends, e, &mut keys, steps);
+    } else {
+        let mut keys = [0u32; MAP_EDGES as usize];
+        edge_steps_in(ends, e, &mut keys, steps);
+    }
 }
 
 // ── vertices ──

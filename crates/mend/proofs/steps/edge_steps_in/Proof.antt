@@ -1,8 +1,8 @@
--- `mend::steps::edge_steps` meets its contract: an earlier edge with the same key joins the same two. Assumes nothing.
+-- `mend::steps::edge_steps_in` meets its contract: an earlier edge with the same key joins the same two. Assumes nothing.
 use borrow.Author.Needs.{needs}
 use Rattle.mend.proofs.KeyLaws.{stepped-by-keys}
-use Rattle.mend.proofs.steps.edge_steps.Statement.{statement}
-use Rattle.mend.proofs.steps.edge_steps.Tie as tie
+use Rattle.mend.proofs.steps.edge_steps_in.Statement.{statement}
+use Rattle.mend.proofs.steps.edge_steps_in.Tie as tie
 
 returns : tie.Need-returns
 returns c =
@@ -10,13 +10,12 @@ returns c =
     let one : tie.After-edge-keys = search needs in
     stepped-by-keys (s .args .ends .now) (s .args .e) _ _ _ _ (one .edge-keys .ensures) (c .before .before .edge-steps-by .ensures)
 
-pub edge-steps-spec : {M : Type 1} → statement M
-edge-steps-spec =
+pub edge-steps-in-spec : {M : Type 1} → statement M
+edge-steps-in-spec =
     tie.close
     (tie.spec
-    (λ c. search needs)
+    (λ c κs. search needs)
     (λ c κs. search needs)
     (λ c. search needs)
-    (λ c κs. search needs)
     (λ c. search needs)
     returns)
