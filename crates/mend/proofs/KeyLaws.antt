@@ -3,8 +3,8 @@ use mathlib.Core.Path.{_≡_, refl, sym, _∙_, ap}
 use mathlib.Core.Logic.{⊎-elim}
 use Prim.Native.Nat.{_≤_, _<_}
 use native.Mathlib.Omega.{arith}
-use borrow.Author.Tests.{eqb-true, eq-eqb, leb-true, leb-false, lt-ltb, ltb-true}
-use Rattle.seq.specs.Seq.{Bool, true, false, cond, not, _&&_, _||_, List, ℕ, _+_, _*_, leb, ltb, eqb, ℤ, pos, negsuc, natAbs, getD, length, least, someBelow, filled}
+use borrow.Author.Tests.{eqb-true, eq-eqb, leb-true, leb-false}
+use Rattle.seq.specs.Seq.{Bool, true, false, cond, not, _&&_, _||_, List, ℕ, _+_, _*_, leb, eqb, ℤ, pos, negsuc, natAbs, getD, least, someBelow, filled}
 use Rattle.seq.specs.Tests.{bool-ext, or-l, or-r, or-cases, and-both, and-parts}
 use Rattle.seq.specs.Least.{least-ext, some-ext}
 use Rattle.seq.specs.Filled.{filled-at, filled-ext}

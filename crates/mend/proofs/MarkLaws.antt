@@ -6,12 +6,11 @@ use Prim.Native.Nat.{_≤_, _<_}
 use native.Mathlib.Decide.{ℕ-discrete}
 use native.Mathlib.Numerals.{add-one}
 use native.Mathlib.Omega.{arith}
-use borrow.Author.Tests.{eq-eqb, ne-eqb, lt-ltb, ltb-true, ltb-false, le-ltb}
+use borrow.Author.Tests.{eq-eqb, ne-eqb, lt-ltb, ltb-true, le-ltb}
 use lib.ListN.{set, length-set}
 use lib.Seq.{getD-set-same, getD-set-other}
 use Rattle.seq.specs.Seq.{Bool, true, false, cond, _&&_, _||_, List, ℕ, suc, _+_, ltb, eqb, length, getD, least, someBelow}
 use Rattle.seq.specs.Filled.{Holds}
-use Rattle.seq.specs.Least.{least-le}
 
 -- one more
 some-step : (r n : ℕ) (b c : Bool) → ltb r n ≡ b → ltb (cond b r (cond c n (suc n))) (suc n) ≡ (b || c)

@@ -2,11 +2,10 @@
 use mathlib.Core.Path.{_≡_, refl, sym, _∙_, ap}
 use Prim.Native.Nat.{_≤_, _<_}
 use native.Mathlib.Omega.{arith}
-use Rattle.seq.specs.Seq.{Bool, true, false, cond, not, _&&_, _||_, List, ℕ, _+_, _*_, ltb, eqb, length, getD, someBelow, filled}
-use Rattle.seq.specs.Tests.{never}
+use Rattle.seq.specs.Seq.{Bool, true, false, cond, not, _&&_, _||_, List, ℕ, _+_, _*_, eqb, length, getD, someBelow, filled}
 use Rattle.seq.specs.Least.{some-ext}
 use Rattle.seq.specs.Filled.{Holds, filled-at, length-filled}
-use Rattle.paper.specs.Graph.{Graph, edge, edgeCount, origin}
+use Rattle.paper.specs.Graph.{Graph, edge, origin}
 use Rattle.paper.specs.Map.{mapOf, vertexCount, edgesIn}
 use Rattle.paper.specs.Mend.{into, fromNow, toNow, shrunk, alike, repeated, keptEdge, keptEdges, endsAt, hasEdge}
 use Rattle.laws_graph.specs.Halves.{origin-first, origin-second}

@@ -2,19 +2,17 @@
 use mathlib.Core.Path.{_≡_, sym, _∙_, ap}
 use Prim.Native.Nat.{_<_}
 use native.Mathlib.Omega.{arith}
-use Rattle.seq.specs.Seq.{Bool, cond, not, _&&_, _||_, List, [], _∷_, _++_, none, ℕ, _+_, _*_, _-_, ltb, eqb, length, getD, ℤ, someBelow, count, rows, gather}
-use Rattle.seq.specs.Least.{some-ext}
+use Rattle.seq.specs.Seq.{Bool, cond, not, List, [], _∷_, _++_, none, ℕ, _+_, _*_, _-_, eqb, length, getD, ℤ, someBelow, count, rows, gather}
 use Rattle.seq.specs.Count.{count-ext}
 use Rattle.seq.specs.Rows.{rows-ext}
 use Rattle.seq.specs.Select.{length-select}
 use Rattle.paper.specs.Bytes.{ascii, le}
-use Rattle.paper.specs.Graph.{Graph, edge, edgeCount}
+use Rattle.paper.specs.Graph.{Graph, edgeCount}
 use Rattle.paper.specs.Map.{mapOf, vertexCount, edgesIn, doubled}
-use Rattle.paper.specs.Mend.{into, fromNow, toNow, shrunk, alike, repeated, keptEdge, keptEdges, endsAt, hasEdge, bare, keptVertices, entries, cornerBytes, cornerOf, mended}
+use Rattle.paper.specs.Mend.{fromNow, toNow, shrunk, alike, repeated, keptEdge, keptEdges, hasEdge, bare, keptVertices, entries, cornerBytes, cornerOf, mended}
 use Rattle.paper.specs.Plane.{Pt, vec}
 use Rattle.paper.specs.Refusal.{firstOf}
 use Rattle.laws_refusals.specs.Refusals.{first-none}
-use Rattle.laws_graph.specs.Halves.{origin-first, origin-second}
 use Rattle.laws_graph.specs.Reading.{points-count, edges-count, point-at}
 use Rattle.laws_mend.specs.Clean.{Mendable}
 use Rattle.laws_mend.specs.Faults.{fault-is}

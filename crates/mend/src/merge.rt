@@ -1,7 +1,7 @@
 // Step 1: "a vertex on another is merged into the one of lowest number". A table of the vertex into which each is merged, and one of the ends of all half-edges afterwards.
-use crate::keys::corner_keys;
-use crate::keys::first_like;
-use crate::keys::seen;
+use crate::packed::corner_keys;
+use crate::packed::first_like;
+use crate::packed::seen;
 use limits::MAP_VERTICES;
 use limits::SMALL_VERTICES;
 use ovfile::u16_at;

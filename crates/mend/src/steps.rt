@@ -1,8 +1,8 @@
 // The step that drops each vertex and each edge, or 0, worked out once into two tables.
-use crate::keys::edge_keys;
-use crate::keys::seen;
 use crate::merge::from_now;
 use crate::merge::to_now;
+use crate::packed::edge_keys;
+use crate::packed::seen;
 use limits::MAP_EDGES;
 use limits::SMALL_EDGES;
 use ovfile::store;

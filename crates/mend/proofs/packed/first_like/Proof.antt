@@ -1,12 +1,12 @@
--- `mend::keys::first_like` meets its contract: nothing below the counter has been found. Assumes nothing.
+-- `mend::packed::first_like` meets its contract: nothing below the counter has been found. Assumes nothing.
 use borrow.Author.Needs.{needs}
 use borrow.Author.Tests.{eq-eqb, ne-eqb}
 use native.Mathlib.Omega.{arith}
 use Rattle.seq.specs.Loops.Searching.{Searching, search-starts, search-turns, search-finds, search-ends}
 use Rattle.seq.specs.Seq.{_-_}
 use Rattle.mend.specs.Keys.{likeIn}
-use Rattle.mend.proofs.keys.first_like.Statement.{statement}
-use Rattle.mend.proofs.keys.first_like.Tie as tie
+use Rattle.mend.proofs.packed.first_like.Statement.{statement}
+use Rattle.mend.proofs.packed.first_like.Tie as tie
 
 abbrev Inv-loop : tie.InvT-loop
 Inv-loop keys i key j₀ j = Searching (likeIn keys i) i j

@@ -1,11 +1,11 @@
--- `mend::keys::pair_key` meets its contract. Assumes nothing.
+-- `mend::packed::pair_key` meets its contract. Assumes nothing.
 use mathlib.Core.Path.{sym, ap}
 use borrow.Author.Needs.{needs}
 use borrow.Author.Tests.{le-leb, lt-leb}
 use native.Mathlib.Omega.{arith}
 use Rattle.seq.specs.Seq.{Bool, cond, _+_, _*_}
-use Rattle.mend.proofs.keys.pair_key.Statement.{statement}
-use Rattle.mend.proofs.keys.pair_key.Tie as tie
+use Rattle.mend.proofs.packed.pair_key.Statement.{statement}
+use Rattle.mend.proofs.packed.pair_key.Tie as tie
 
 returns : tie.Need-returns
 returns c =

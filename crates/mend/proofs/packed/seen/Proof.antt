@@ -1,12 +1,12 @@
--- `mend::keys::seen` meets its contract: what is found stands below the counter. Assumes nothing.
+-- `mend::packed::seen` meets its contract: what is found stands below the counter. Assumes nothing.
 use mathlib.Core.Path.{refl}
 use borrow.Author.Needs.{needs}
 use native.Mathlib.Omega.{arith}
 use Rattle.seq.specs.Seq.{_-_}
 use Rattle.mend.specs.Keys.{likeIn}
 use Rattle.mend.proofs.MarkLaws.{Seeing, see-starts, see-turns, see-ends}
-use Rattle.mend.proofs.keys.seen.Statement.{statement}
-use Rattle.mend.proofs.keys.seen.Tie as tie
+use Rattle.mend.proofs.packed.seen.Statement.{statement}
+use Rattle.mend.proofs.packed.seen.Tie as tie
 
 abbrev Inv-loop : tie.InvT-loop
 Inv-loop keys i key found₀ j₀ found j = Seeing (likeIn keys i) i found j

@@ -1,16 +1,16 @@
--- `mend::keys::corner_key` meets its contract: a corner within reach fits two bytes and two. Assumes nothing.
+-- `mend::packed::corner_key` meets its contract: a corner within reach fits two bytes and two. Assumes nothing.
 use mathlib.Core.Path.{_≡_, ap, _∙_}
 use Prim.Native.Nat.{_<_}
 use native.Mathlib.Omega.{arith}
 use borrow.Author.Needs.{needs}
 use mir.Syntax.{w64}
 use mir.ValLaws.{toZ-ofZ}
-use Rattle.seq.specs.Seq.{ℕ, _+_, _*_, natAbs}
+use Rattle.seq.specs.Seq.{_+_, _*_, natAbs}
 use Rattle.laws_file.specs.Bytes.{wrapped}
 use Rattle.map_check.specs.Parts.{cornerIn}
 use Rattle.mend.proofs.KeyLaws.{wrapped-below}
-use Rattle.mend.proofs.keys.corner_key.Statement.{statement}
-use Rattle.mend.proofs.keys.corner_key.Tie as tie
+use Rattle.mend.proofs.packed.corner_key.Statement.{statement}
+use Rattle.mend.proofs.packed.corner_key.Tie as tie
 
 twos-requires : tie.Need-twos-requires
 twos-requires c κs =

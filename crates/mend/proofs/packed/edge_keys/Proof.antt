@@ -1,23 +1,18 @@
--- `mend::keys::corner_keys` meets its contract: below the counter the cells are those of the corners, and the other cells as they were. Assumes nothing.
+-- `mend::packed::edge_keys` meets its contract: below the counter the cells are those of the ends, and the other cells as they were. Assumes nothing.
+use mathlib.Core.Path.{_∙_}
 use native.Mathlib.Omega.{arith}
 use borrow.Author.Needs.{needs}
 use Rattle.seq.specs.Loops.Filling.{Filling, fill-starts, fill-turns, fill-ends}
 use Rattle.seq.specs.Seq.{_-_}
-use Rattle.mend.specs.Keys.{cornerKey}
-use Rattle.mend.proofs.keys.corner_keys.Statement.{statement}
-use Rattle.mend.proofs.keys.corner_keys.Tie as tie
+use Rattle.mend.specs.Keys.{pairKey, edgeKey}
+use Rattle.mend.proofs.packed.edge_keys.Statement.{statement}
+use Rattle.mend.proofs.packed.edge_keys.Tie as tie
 
 abbrev Inv-loop : tie.InvT-loop
-Inv-loop points n keys₀ v₀ keys v = Filling (cornerKey points) n keys₀ keys v
+Inv-loop ends e keys₀ k₀ keys k = Filling (edgeKey ends) e keys₀ keys k
 
 abbrev μ-loop : tie.MeasureT-loop
-μ-loop points n keys₀ v₀ keys v = n - v
-
-corner-key-requires : tie.Need-corner-key-requires Inv-loop μ-loop
-corner-key-requires c κs =
-    let s : tie.Start Inv-loop μ-loop = search needs in
-    let at : tie.At-loop Inv-loop μ-loop = search needs in
-    s .pre .0 .near (at .loop .v) (omega arith)
+μ-loop ends e keys₀ k₀ keys k = e - k
 
 mul-keys : tie.Need-mul-keys Inv-loop μ-loop
 mul-keys c =
@@ -32,18 +27,20 @@ slice-write-keys c =
 loop-again : tie.Need-loop-again Inv-loop μ-loop
 loop-again c =
     let at : tie.At-loop Inv-loop μ-loop = search needs in
-    let one : tie.After-corner-key Inv-loop μ-loop = search needs in
-    fill-turns (at .loop .inv) (omega arith) (one .corner-key .ensures)
+    let one : tie.After-pair-key Inv-loop μ-loop = search needs in
+    fill-turns (at .loop .inv) (omega arith) (one .pair-key .ensures ∙ (λ i. pairKey (one .before .before .from-now .ensures i) (one .before .to-now .ensures i)))
 
-pub corner-keys-spec : {M : Type 1} → statement M
-corner-keys-spec =
+pub edge-keys-spec : {M : Type 1} → statement M
+edge-keys-spec =
     tie.close
     (tie.spec
     Inv-loop
     μ-loop
     (λ c. fill-starts (search needs))
     (λ c. search needs)
-    corner-key-requires
+    (λ c κs. search needs)
+    (λ c κs. search needs)
+    (λ c κs. search needs)
     mul-keys
     slice-write-keys
     (λ c. search needs)
