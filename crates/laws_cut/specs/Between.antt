@@ -1,32 +1,26 @@
 -- The vertices on an edge stand between its ends: in a table of points in strict order, with an edge's lower end in row a and its upper end in row z, those on it are those
--- from a to z that lie on its line. Then for the vertices of the overlay: the rows rise, so that a search by halves finds a corner's number; and each corner, and each end of
--- an edge, stands there. Assumes nothing.
-use mathlib.Core.Path.{_≡_, refl, sym, _∙_, ap, subst}
-use mathlib.Core.Logic.{_⊎_, inl, inr}
+-- from a to z that lie on its line. Then for the vertices of the overlay, whose rows rise. Assumes nothing.
+use mathlib.Core.Path.{_≡_, refl, sym, _∙_, subst}
 use Prim.Native.Nat.{_≤_, _<_}
 use native.Mathlib.Decide.{decLt}
 use native.Mathlib.Omega.{arith}
 use Rattle.exact.specs.Sign.{sgn, isZer}
-use Rattle.seq.specs.Seq.{Bool, true, false, not, _&&_, List, [], ℕ, suc, _+_, _*_, _-_, length, least, select, table}
-use Rattle.seq.specs.Terms.{Among, Rising}
+use Rattle.seq.specs.Seq.{Bool, true, false, not, _&&_, List, ℕ, suc, _-_, length, select, table}
+use Rattle.seq.specs.Terms.{Rising}
 use Rattle.seq.specs.Tests.{clash, not-true}
-use Rattle.seq.specs.Members.{every-in}
-use Rattle.seq.specs.Table.{table-among, among-table}
 use Rattle.paper.specs.Plane.{Pt, Seg, whole, head, before, leftBy, onSeg}
-use Rattle.paper.specs.Graph.{Graph, point, edge, start, low, high}
+use Rattle.paper.specs.Graph.{low, high}
 use Rattle.paper.specs.Map.{Map}
 use Rattle.paper.specs.Pieces.{layer, verticesOf}
 use Rattle.laws_plane.specs.Cone.{UpV}
-use Rattle.laws_plane.specs.Points.{LowestP, before-irr, before-asym, before-asymmetric, before-transitive}
-use Rattle.laws_plane.specs.Ends.{lower-upper}
+use Rattle.laws_plane.specs.Points.{before-irr, before-asym}
 use Rattle.laws_plane.specs.Edges.{on-is, seg-up}
 use Rattle.laws_graph.specs.Plane.{upward-up}
-use Rattle.laws_graph.specs.Halves.{origin-first, origin-second}
-use Rattle.laws_map.specs.Keeps.{seg, edges, vertices}
+use Rattle.laws_map.specs.Keeps.{seg, edges}
 use Rattle.laws_overlay.specs.Maps.{AllKeep}
-use Rattle.laws_overlay.specs.Vertices.{vertex-has, foot-there, head-there, vertices-lowest, vertices-rising}
-use Rattle.seq.specs.Halves.{Lasts, Rises, reached, rising-rises, place-lasts, place-found}
-use Rattle.seq.specs.Range.{selectFrom, select-upto, select-none, select-range, selectFrom-ext}
+use Rattle.laws_overlay.specs.Vertices.{vertices-rising}
+use Rattle.seq.specs.Halves.{Rises, rising-rises}
+use Rattle.seq.specs.Range.{selectFrom, select-upto, select-range, selectFrom-ext}
 
 -- p lies on the line of s
 abbrev pub onLine : Seg → Pt → Bool
@@ -75,9 +69,6 @@ module _ (f : ℕ → Pt) (n : ℕ) (R : Rises before f n) (s : Seg) (a z : ℕ)
   pub along-upto : select (λ v. onSeg s (f v)) n ≡ select (λ v. onSeg s (f v)) (suc z)
   along-upto = select-upto (λ v. onSeg s (f v)) (suc z) n (omega arith) (λ v h k. past-off v (omega arith) k)
 
-  pub along-none : select (λ v. onSeg s (f v)) a ≡ []
-  along-none = select-none (λ v. onSeg s (f v)) a below-off
-
   -- the rows on an edge, of all n, are those from a to z on its line
   pub along-between : UpV (s .up) → select (λ v. onSeg s (f v)) n ≡ selectFrom (λ v. onLine s (f v)) a (suc z - a)
   along-between u =
@@ -91,60 +82,8 @@ module _ (ms : List Map) (K : AllKeep ms) (f : ℕ → Pt) (n : ℕ) (are : tabl
   pub vertices-rise : Rises before f n
   vertices-rise = rising-rises before f n (subst (Rising before) (sym are) (vertices-rising ms K))
 
-  row-lowest : (k : ℕ) → k < n → LowestP (f k)
-  row-lowest k l = every-in LowestP (verticesOf ms) (vertices-lowest ms K) (f k) (subst (Among (f k)) are (among-table f n k l))
-
-  -- so that a place is found by halves
-  pub vertices-last : (p : Pt) → LowestP p → Lasts (reached before f p) n
-  vertices-last p low = place-lasts before f n p vertices-rise LowestP before-transitive row-lowest low
-
-  -- a point of the overlay stands at its place
-  pub vertex-number : (p : Pt) → Among p (verticesOf ms) → (k : ℕ) × (k < n) × (f k ≡ p) × (least (λ v. not (before (f v) p)) n ≡ k)
-  vertex-number p i =
-      let (k, l, e) = table-among f n p (subst (Among p) (sym are) i) in
-      (k, l, e, place-found before f n p vertices-rise before-asymmetric k l e)
-
-  -- a corner, and the ends of an edge
-  pub corner-number : (i v : ℕ) → i < length ms → v < vertices (layer ms i) →
-      (k : ℕ) × (k < n) × (f k ≡ point (layer ms i .graph) v) × (least (λ x. not (before (f x) (point (layer ms i .graph) v))) n ≡ k)
-  corner-number i v l b = vertex-number (point (layer ms i .graph) v) (vertex-has ms K (point (layer ms i .graph) v) (inl (record { layer-of = i; vertex = v; in-list = l; below = b; is = refl })))
-
   module _ (i e : ℕ) (l : i < length ms) (b : e < edges (layer ms i)) where
-    pub foot-number : (k : ℕ) × (k < n) × (f k ≡ whole (seg (layer ms i) e .foot)) × (least (λ v. not (before (f v) (whole (seg (layer ms i) e .foot)))) n ≡ k)
-    foot-number = vertex-number (whole (seg (layer ms i) e .foot)) (foot-there ms K i e l b)
-
-    pub head-number : (k : ℕ) × (k < n) × (f k ≡ whole (head (seg (layer ms i) e))) × (least (λ v. not (before (f v) (whole (head (seg (layer ms i) e))))) n ≡ k)
-    head-number = vertex-number (whole (head (seg (layer ms i) e))) (head-there ms K i e l b)
-
     -- the vertices on edge e of map i
     pub edge-between : (a z : ℕ) → a < n → z < n → f a ≡ whole (seg (layer ms i) e .foot) → f z ≡ whole (head (seg (layer ms i) e)) →
         select (λ v. onSeg (seg (layer ms i) e) (f v)) n ≡ selectFrom (λ v. onLine (seg (layer ms i) e) (f v)) a (suc z - a)
     edge-between a z la lz fa fz = along-between f n vertices-rise (seg (layer ms i) e) a z la lz fa fz (upward-up (layer ms i .graph) (K i l .plane) e b)
-
-    abbrev g : Graph
-    g = layer ms i .graph
-
-    -- by the numbers of the vertices that the edge joins: the lesser is that of its lower end
-    pub ends-numbered : (u v : ℕ) → u < n → v < n → f u ≡ point (layer ms i .graph) (edge (layer ms i .graph) e .from) → f v ≡ point (layer ms i .graph) (edge (layer ms i .graph) e .to) →
-        ((u < v) × (f u ≡ whole (seg (layer ms i) e .foot)) × (f v ≡ whole (head (seg (layer ms i) e)))) ⊎ ((v < u) × (f v ≡ whole (seg (layer ms i) e .foot)) × (f u ≡ whole (head (seg (layer ms i) e))))
-    ends-numbered u v lu lv fu fv = go (lower-upper (start g (2 * e)) (start g (2 * e + 1)))
-      where
-        rises : (a z : ℕ) → a < n → z < n → f a ≡ whole (seg (layer ms i) e .foot) → f z ≡ whole (head (seg (layer ms i) e)) → a < z
-        rises a z la lz fa fz = ends-rise f n vertices-rise (seg (layer ms i) e) a z la lz fa fz (upward-up (layer ms i .graph) (K i l .plane) e b)
-
-        first : f u ≡ start g (2 * e)
-        first = fu ∙ ap (point g) (sym (origin-first e g))
-
-        second : f v ≡ start g (2 * e + 1)
-        second = fv ∙ ap (point g) (sym (origin-second e g))
-
-        go : ((low g e ≡ start g (2 * e)) × (high g e ≡ start g (2 * e + 1))) ⊎ ((low g e ≡ start g (2 * e + 1)) × (high g e ≡ start g (2 * e))) →
-            ((u < v) × (f u ≡ whole (seg (layer ms i) e .foot)) × (f v ≡ whole (head (seg (layer ms i) e)))) ⊎ ((v < u) × (f v ≡ whole (seg (layer ms i) e .foot)) × (f u ≡ whole (head (seg (layer ms i) e))))
-        go (inl (x, y)) =
-            let p : f u ≡ whole (seg (layer ms i) e .foot) = first ∙ sym x ∙ sym (K i l .foot-is e b) in
-            let q : f v ≡ whole (head (seg (layer ms i) e)) = second ∙ sym y ∙ sym (K i l .head-is e b) in
-            inl (rises u v lu lv p q, p, q)
-        go (inr (x, y)) =
-            let p : f v ≡ whole (seg (layer ms i) e .foot) = second ∙ sym x ∙ sym (K i l .foot-is e b) in
-            let q : f u ≡ whole (head (seg (layer ms i) e)) = first ∙ sym y ∙ sym (K i l .head-is e b) in
-            inr (rises v u lv lu p q, p, q)

@@ -1,13 +1,5 @@
 pub mod Between
-pub mod Crossings
-pub mod Gathering
-pub mod Remembered
-pub mod EndCuts
-pub mod Linked
-pub mod Joining
 pub mod Agreeing
-pub mod Keys
-pub mod Room
 pub mod Chains
 pub mod Apart
 pub mod Laying

@@ -1,14 +1,5 @@
 pub mod Below
 pub mod Clashes
 pub mod Keys
-pub mod ByKeys
-pub mod Once
-pub mod Makers
-pub mod Stars
-pub mod Floors
 pub mod Looks
-pub mod MapLooks
 pub mod Sides
-pub mod Worked
-pub mod Meetings
-pub mod Exact

@@ -1,41 +1,22 @@
--- Looks that stop early, in a plane graph in which no two edges share a stretch. Edges are taken in an order f of their lower ends. A look along any direction may stop at the first edge that starts higher than
--- the point (`height-look`); a look that counts only edges strictly west may stop at the first whose lower end is after the point in point order (`order-look`), and there a candidate is an edge
--- strictly west whose lower end is not after the point, in point order, and whose upper end is (`order-candidate`): so that vertex numbers in point order do for heights. Assumes nothing.
-use mathlib.Core.Path.{_≡_, refl, _∙_, ap, subst}
+-- Looks that count only edges strictly west, in a plane graph in which no two edges share a stretch: a candidate is an edge strictly west whose lower end is not after the point, in point order, and whose upper
+-- end is (`order-candidate`), so that vertex numbers in point order do for heights. Assumes nothing.
+use mathlib.Core.Path.{_≡_, ap}
 use mathlib.Core.List.{[], _∷_}
 use Prim.Native.Nat.{_≤_, _<_}
-use native.Mathlib.Decide.{ℕ-discrete}
 use native.Mathlib.Omega.{arith}
 use lib.Signed.{ltZ, _≤ℤ_, _<ℤ_}
 use Rattle.exact.specs.Order.{zomega, sq, 0≤-*, 0<-*, <→≤, 0<-neg}
 use Rattle.exact.specs.Tests.{lt-t, t-lt}
-use Rattle.seq.specs.Seq.{Bool, true, false, not, _&&_, Option, none, some, Option·map, ℕ, ℤ, pos, negℤ, _-ℤ_, _*ℤ_, least, best}
-use Rattle.seq.specs.Terms.{Has, Injects}
+use Rattle.seq.specs.Seq.{Bool, true, not, _&&_, ℕ, ℤ, pos, negℤ, _-ℤ_, _*ℤ_}
 use Rattle.seq.specs.Tests.{bool-ext, clash, not-true, and-parts, and-both, was-false}
-use Rattle.seq.specs.Early.{early-best}
 use Rattle.paper.specs.Plane.{Pt, Vec, nowhere, dir, before, below}
-use Rattle.paper.specs.Graph.{Graph, edgeCount, edge, low, high, upward, leftOf, atHeight, westward, nearer, eastSide, west}
+use Rattle.paper.specs.Graph.{Graph, edgeCount, edge, low, high, upward, leftOf, atHeight, westward}
 use Rattle.laws_plane.specs.Cone.{Up, above, level, rises-up}
-use Rattle.laws_plane.specs.Points.{before-up, before-le}
-use Rattle.laws_plane.specs.Ends.{below-before, below-level, lt-below}
+use Rattle.laws_plane.specs.Points.{before-up}
+use Rattle.laws_plane.specs.Ends.{below-before, lt-below}
 use Rattle.laws_plane.specs.Sides.{left-chord}
 use Rattle.laws_graph.specs.Plane.{Plane, ends-real, ends-on}
-use Rattle.laws_graph.specs.Nearest.{Clear, nearer-order}
-use Rattle.laws_graph.specs.West.{candidate, nearer-strict, height-is, nowhere-westward, right-westward}
-
--- the look over the first r edges in the order f
-abbrev pub westUpto : Graph → (ℕ → ℕ) → Pt → Vec → ℕ → Option ℕ
-westUpto g f p d r = Option·map (λ i. eastSide g (f i)) (best (λ i. candidate g p d (f i)) (λ i j. nearer g p (f i) (f j)) r)
-
--- f takes the edges by rising heights of their lower ends; by rising lower ends
-abbrev pub Level : Graph → (ℕ → ℕ) → Type 0
-Level g f = (i j : ℕ) → i < j → j < edgeCount g → below (low g (f j)) (low g (f i)) ≡ false
-
-abbrev pub Ascending : Graph → (ℕ → ℕ) → Type 0
-Ascending g f = (i j : ℕ) → i < j → j < edgeCount g → before (low g (f j)) (low g (f i)) ≡ false
-
-pub ascending-level : (g : Graph) (f : ℕ → ℕ) → Ascending g f → Level g f
-ascending-level g f A i j l h = not-true (below (low g (f j)) (low g (f i))) (λ e. clash (below-before (low g (f j)) (low g (f i)) e) (A i j l h))
+use Rattle.laws_graph.specs.West.{candidate, height-is, nowhere-westward, right-westward}
 
 -- edge k is strictly west of p, by point order
 abbrev pub westBy : Graph → Pt → ℕ → Bool
@@ -87,51 +68,3 @@ module _ (g : Graph) (P : Plane g) (p : Pt) (hp : pos 0 <ℤ p .D) (k : ℕ) (l 
       (and-both {a = not (below p (low g k))} (ap not (not-true (below p (low g k)) (λ b. clash (below-before p (low g k) b) (was-false (before p (low g k)) (s .0)))))
       (before-lower (high g k) (ends-real g P k .1) (ends-on g P k l .1) w (s .1)))
       (right-westward g p k nowhere w))
-
-  -- none whose lower end is after the point
-  pub after-none : before p (low g k) ≡ true → candidate g p nowhere k ≡ false
-  after-none e = order-candidate ∙ ap (λ (c : Bool). (not c && before p (high g k)) && ltZ (leftOf g p k) (pos 0)) e
-
--- ── looks in order ──
-
-map-map : (f e : ℕ → ℕ) (o : Option ℕ) → Option·map (λ i. e (f i)) o ≡ Option·map e (Option·map f o)
-map-map f e none = refl
-map-map f e (some i) = refl
-
-module _ (g : Graph) (P : Plane g) (C : Clear g) (f : ℕ → ℕ) (I : Injects f (edgeCount g)) (p : Pt) (hp : pos 0 <ℤ p .D) (d : Vec) where
-  asym : (x y : ℕ) → Has (candidate g p d) (edgeCount g) x → Has (candidate g p d) (edgeCount g) y → nearer g p x y ≡ true → nearer g p y x ≡ false
-  asym x y hx hy e = not-true (nearer g p y x) (λ q. let s = nearer-strict g P p hp d in clash (s .trans x y x hx hy hx e q) (s .irr x hx))
-
-  -- where no candidate comes from the first that says stop
-  pub early-look : (stop : ℕ → Bool) → ((i j : ℕ) → i ≤ j → j < edgeCount g → stop i ≡ true → candidate g p d (f j) ≡ false) → westUpto g f p d (least stop (edgeCount g)) ≡ west g p d
-  early-look stop none-after =
-      map-map f (eastSide g) (best (λ i. candidate g p d (f i)) (λ i j. nearer g p (f i) (f j)) (least stop (edgeCount g)))
-      ∙ ap (Option·map (eastSide g)) (early-best (candidate g p d) (nearer g p) (edgeCount g) (nearer-order g P p hp C d) asym f I stop none-after)
-
-  -- ── up to the first that starts higher ──
-
-  higher-none : Level g f → (i j : ℕ) → i ≤ j → j < edgeCount g → below p (low g (f i)) ≡ true → candidate g p d (f j) ≡ false
-  higher-none L i j l h e = not-true (candidate g p d (f j)) (λ c. clash higher (height-is g p (f j) (and-parts (atHeight g p (f j)) (westward g p d (f j)) c .0) .0))
-    where
-      higher : below p (low g (f j)) ≡ true
-      higher =
-          elim (ℕ-discrete i j) [
-            | yes q ↦ subst (λ (x : ℕ). below p (low g (f x)) ≡ true) q e
-            | no q ↦ below-level p (low g (f i)) (low g (f j)) hp (ends-real g P (f i) .0) (ends-real g P (f j) .0) e (L i j (omega arith) h)
-          ]
-
-  pub height-look : Level g f → westUpto g f p d (least (λ i. below p (low g (f i))) (edgeCount g)) ≡ west g p d
-  height-look L = early-look (λ i. below p (low g (f i))) (higher-none L)
-
--- ── strictly west: up to the first that starts after the point ──
-
-module _ (g : Graph) (P : Plane g) (C : Clear g) (f : ℕ → ℕ) (I : Injects f (edgeCount g)) (A : Ascending g f) (p : Pt) (hp : pos 0 <ℤ p .D) where
-  later : (i j : ℕ) → i ≤ j → j < edgeCount g → before p (low g (f i)) ≡ true → before p (low g (f j)) ≡ true
-  later i j l h e =
-      elim (ℕ-discrete i j) [
-        | yes q ↦ subst (λ (x : ℕ). before p (low g (f x)) ≡ true) q e
-        | no q ↦ before-le p (low g (f i)) (low g (f j)) hp (ends-real g P (f i) .0) (ends-real g P (f j) .0) e (A i j (omega arith) h)
-      ]
-
-  pub order-look : westUpto g f p nowhere (least (λ i. before p (low g (f i))) (edgeCount g)) ≡ west g p nowhere
-  order-look = early-look g P C f I p hp nowhere (λ i. before p (low g (f i))) (λ i j l h e. after-none g P p hp (f j) (I .into j h) (later i j l h e))

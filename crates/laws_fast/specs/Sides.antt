@@ -1,34 +1,25 @@
 -- Rule 8 for two edges with each side reckoned once: reasons why two edges that go up do not clash. The ends of the one lie strictly on one side of the other (`one-side`); the one ends where the other starts, or
--- before (`end-to-end`); they start together, or end together, and go different ways (`common-foot`, `common-head`). A test that asks for these by the keys of the ends and four sides
--- (`quickClash`) misses no clash (`quick-sound`): it may stand for `clash` in the pass of Clashes (`quick-least`: rule 8 from end to end). Assumes nothing.
-use mathlib.Core.Path.{_≡_, refl, sym, _∙_, ap, subst}
+-- before (`end-to-end`); they start together, or end together, and go different ways (`common-foot`, `common-head`). Assumes nothing.
+use mathlib.Core.Path.{_≡_, sym, _∙_, ap, subst}
 use mathlib.Core.List.{[], _∷_}
 use mathlib.Core.Logic.{_⊎_, inl, inr, ⊎-elim}
 use Prim.Native.Nat.{_≤_, _<_}
 use native.Mathlib.Omega.{arith}
-use borrow.Author.Tests.{ltb-false, le-ltb, eqb-true}
 use lib.Signed.{ltZ, _≤ℤ_, _<ℤ_}
 use Rattle.exact.specs.Solve.{ring, reify}
 use Rattle.exact.specs.Order.{zomega, sq, 0≤-*, 0<-*, ≤→0≤}
 use Rattle.exact.specs.Mul.{≡-by₂}
-use Rattle.exact.specs.Sign.{sgn, isZer}
 use Rattle.exact.specs.Tests.{lt-t}
-use Rattle.seq.specs.Seq.{Bool, true, false, cond, not, _&&_, _||_, ℕ, ltb, eqb, ℤ, pos, negℤ, _+ℤ_, _-ℤ_, _*ℤ_, least}
-use Rattle.seq.specs.Tests.{clash as no-both, not-true, and-parts, or-cases}
-use Rattle.seq.specs.Pass.{meets}
-use Rattle.seq.specs.RisingKeys.{Cells, digits, thing, digits-order}
+use Rattle.seq.specs.Seq.{_||_, Bool, true, false, _&&_, ℤ, pos, negℤ, _+ℤ_, _-ℤ_, _*ℤ_}
+use Rattle.seq.specs.Tests.{not-true, and-parts, or-cases}
 use Rattle.paper.specs.Plane.{Pt, Vec, Seg, cross, head, whole, before, same, leftBy, clash}
 use Rattle.laws_plane.specs.Cone.{UpV}
 use Rattle.laws_plane.specs.Points.{le-trans, neither, same-sym}
 use Rattle.laws_plane.specs.Ends.{0<1}
 use Rattle.laws_plane.specs.Sides.{left-foot, left-head}
 use Rattle.laws_plane.specs.Lines.{Part, numer, denom, denom-pos, line-part, on-part, one-point}
-use Rattle.laws_plane.specs.Clash.{Share, clash-shares, clash-swap}
-use Rattle.laws_fast.specs.Keys.{numberOf, number-before, number-same}
-use Rattle.laws_fast.specs.Below.{goneBy}
-use Rattle.laws_fast.specs.Clashes.{AllUp, Sound, clashingBy, pass-least}
-use Rattle.laws_fast.specs.ByKeys.{EndKeys, keys-pass}
-use Rattle.laws_plane.specs.Disjoint.{Disjoint, disjoint-clash, disjoint-swap}
+use Rattle.laws_plane.specs.Clash.{Share, clash-shares}
+use Rattle.laws_plane.specs.Disjoint.{Disjoint}
 
 -- ── one strict side ──
 
@@ -126,64 +117,3 @@ one-is a b e =
     ⊎-elim (λ f. let r = and-parts (ltZ (pos 0) a) (ltZ (pos 0) b) f in inl (lt-t {a = pos 0} {b = a} (r .0), lt-t {a = pos 0} {b = b} (r .1)))
     (λ f. let r = and-parts (ltZ a (pos 0)) (ltZ b (pos 0)) f in inr (lt-t {a = a} {b = pos 0} (r .0), lt-t {a = b} {b = pos 0} (r .1)))
     (or-cases (ltZ (pos 0) a && ltZ (pos 0) b) (ltZ a (pos 0) && ltZ b (pos 0)) e)
-
--- the ends of each are not on one strict side of the other
-abbrev pub facing : Seg → Seg → Bool
-facing s t = not (oneSide (leftBy s (whole (t .foot))) (leftBy s (whole (head t)))) && not (oneSide (leftBy t (whole (s .foot))) (leftBy t (whole (head s))))
-
--- by the keys of the ends: apart in point order, or end to end; with a common foot or head by the turn; else by four sides
-abbrev pub quickClash : (ℕ → Seg) → (ℕ → ℕ) → (ℕ → ℕ) → ℕ → ℕ → Bool
-quickClash seg lo hi q k =
-    (ltb (lo k) (hi q) && ltb (lo q) (hi k))
-    && cond (eqb (lo q) (lo k) || eqb (hi q) (hi k)) (isZer (sgn (cross (seg q .up) (seg k .up)))) (facing (seg q) (seg k))
-
-module _ (seg : ℕ → Seg) (n : ℕ) (lo hi : ℕ → ℕ) (E : EndKeys seg n lo hi) (up : AllUp seg n) where
-  -- an end of the one is not before an end of the other
-  not-before : (a b : ℕ) → a < n → b < n → ltb (lo a) (hi b) ≡ false → before (whole (seg a .foot)) (whole (head (seg b))) ≡ false
-  not-before a b la lb e =
-      number-before (seg a .foot) (head (seg b)) (E .foot-in a la) (E .head-in b lb)
-      ∙ le-ltb (numberOf (seg a .foot)) (numberOf (head (seg b))) (omega (arith, ltb-false (lo a) (hi b) e, E .lo-is a la, E .hi-is b lb))
-
-  module _ (q k : ℕ) (lq : q < n) (lk : k < n) where
-    abbrev s : Seg
-    s = seg q
-
-    abbrev t : Seg
-    t = seg k
-
-    sides : facing (seg q) (seg k) ≡ false → clash (seg q) (seg k) ≡ false
-    sides e = go (oneSide (leftBy s (whole (t .foot))) (leftBy s (whole (head t)))) (oneSide (leftBy t (whole (s .foot))) (leftBy t (whole (head s)))) refl refl e
-      where
-        go : (a b : Bool) → oneSide (leftBy s (whole (t .foot))) (leftBy s (whole (head t))) ≡ a → oneSide (leftBy t (whole (s .foot))) (leftBy t (whole (head s))) ≡ b → (not a && not b) ≡ false → clash s t ≡ false
-        go true b f h e = disjoint-clash s t (up q lq) (up k lk) (one-side s t (up k lk) (one-is (leftBy s (whole (t .foot))) (leftBy s (whole (head t))) f))
-        go false true f h e = disjoint-clash s t (up q lq) (up k lk) (disjoint-swap t s (one-side t s (up q lq) (one-is (leftBy t (whole (s .foot))) (leftBy t (whole (head s))) h)))
-        go false false f h e = absurd (no-both refl e)
-
-    turned : isZer (sgn (cross (seg q .up) (seg k .up))) ≡ false → cross (seg q .up) (seg k .up) ≡ pos 0 → ⊥
-    turned e z = no-both (ap (λ (c : ℤ). isZer (sgn c)) z) e
-
-    together : (eqb (lo q) (lo k) ≡ true) ⊎ (eqb (hi q) (hi k) ≡ true) → isZer (sgn (cross (seg q .up) (seg k .up))) ≡ false → clash (seg q) (seg k) ≡ false
-    together (inl f) e =
-        common-foot s t (up q lq) (up k lk) (turned e) (number-same (s .foot) (t .foot) (E .foot-in q lq) (E .foot-in k lk) (sym (E .lo-is q lq) ∙ eqb-true (lo q) (lo k) f ∙ E .lo-is k lk))
-    together (inr f) e =
-        common-head s t (up q lq) (up k lk) (turned e) (number-same (head s) (head t) (E .head-in q lq) (E .head-in k lk) (sym (E .hi-is q lq) ∙ eqb-true (hi q) (hi k) f ∙ E .hi-is k lk))
-
-    rest : (c : Bool) → (eqb (lo q) (lo k) || eqb (hi q) (hi k)) ≡ c → cond c (isZer (sgn (cross (seg q .up) (seg k .up)))) (facing (seg q) (seg k)) ≡ false → clash (seg q) (seg k) ≡ false
-    rest true f e = together (or-cases (eqb (lo q) (lo k)) (eqb (hi q) (hi k)) f) e
-    rest false f e = sides e
-
-    ends : (a b : Bool) → ltb (lo k) (hi q) ≡ a → ltb (lo q) (hi k) ≡ b →
-        ((a && b) && cond (eqb (lo q) (lo k) || eqb (hi q) (hi k)) (isZer (sgn (cross (seg q .up) (seg k .up)))) (facing (seg q) (seg k))) ≡ false → clash (seg q) (seg k) ≡ false
-    ends true true f h e = rest (eqb (lo q) (lo k) || eqb (hi q) (hi k)) refl e
-    ends true false f h e = end-to-end s t (up q lq) (up k lk) (not-before q k lq lk h)
-    ends false b f h e = clash-swap s t (up q lq) (up k lk) ∙ end-to-end t s (up k lk) (up q lq) (not-before k q lk lq f)
-
-  -- it misses no clash
-  pub quick-sound : Sound seg n (quickClash seg lo hi)
-  quick-sound q k lq lk e = ends q k lq lk (ltb (lo k) (hi q)) (ltb (lo q) (hi k)) refl refl e
-
-  -- rule 8 from end to end: the edges sorted by the keys of their lower ends, the pass by keys and this test, which finds nothing
-  pub quick-least : (m : ℕ) → n ≤ m → (cell : ℕ → ℕ) → Cells (digits lo m) n cell → meets (goneBy lo hi) (thing m cell) (quickClash seg lo hi) n ≡ false → least (clashingBy seg n) n ≡ n
-  quick-least m few cell C e =
-      let B = digits-order lo n m few cell C in
-      pass-least seg n up (thing m cell) (B .each) (goneBy lo hi) (keys-pass seg n lo hi E (thing m cell) B) (quickClash seg lo hi) quick-sound e

@@ -110,11 +110,11 @@ pub const HEADING_CELLS: usize = HEADING_WIDTH * HALVES;
 // a face for each half-edge and face 0: as many as could be numbered
 pub const FACE_ROWS: usize = HALVES + 1;
 
-// Small sheets: tables of a twenty-fifth.
+// Small sheets: tables of a thirty-second.
 
-pub const SMALL_VERTICES: usize = VERTICES / 25;
+pub const SMALL_VERTICES: usize = VERTICES / 32;
 
-pub const SMALL_EDGES: usize = EDGES / 25;
+pub const SMALL_EDGES: usize = EDGES / 32;
 
 pub const SMALL_HALVES: usize = 2 * SMALL_EDGES;
 // a face for each edge, and face 0

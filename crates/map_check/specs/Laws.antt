@@ -1,6 +1,5 @@
 -- The laws behind the proofs of this crate: nothing here is cited by a contract.
 pub mod Kept
-pub mod Rows
 pub mod Rising
 pub mod Picks
 pub mod Walking

@@ -7,7 +7,7 @@ use Rattle.seq.specs.Seq.{Bool, false, cond, _||_, List, ℕ, ltb, length, getD
 use Rattle.paper.specs.Limits.{reach}
 use Rattle.paper.specs.Plane.{Seg, head, clash}
 use Rattle.graph.specs.Flat.{carrierAt}
-use Rattle.map_check.specs.Pass.{edgeIn}
+use Rattle.keys.specs.Cells.{edgeIn}
 
 -- the least and the greatest x of an edge's ends
 abbrev pub westOf : Seg → ℤ

@@ -3,7 +3,6 @@ mod parts; // rules 5 to 7, and the carriers
 mod edges; // rules 8 and 9
 mod pairs; // two edges that do not clash
 mod few; // rule 8 of few edges
-mod sort; // cells sorted, of which nothing is promised
 mod near; // edges near each other
 mod pass; // rule 8 by a pass from below
 mod labels; // rule 10

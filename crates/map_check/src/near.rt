@@ -1,10 +1,10 @@
 // Edges in cells, in the order of their lower ends, each held to those after it: first by the boxes, from which x to which they reach, in tables of their own; what is left is listed, and
 // held to the edge itself.
 use super::pairs::clear;
-use super::pairs::foot;
 use super::pairs::head;
 use super::pass::carrier_in;
 use super::pass::end_of;
+use keys::foot;
 use limits::MAP_EDGES;
 use limits::REACH;
 use plane::Vector;
@@ -18,8 +18,9 @@ ghost use Rattle.plane.specs.Bounds.{Corner};
 ghost use Rattle.plane.specs.Values.{vecOf};
 ghost use Rattle.graph.specs.Flat.{Carriers};
 ghost use Rattle.graph.specs.Upright.{Upright};
+ghost use Rattle.keys.specs.Cells.{InTurn};
 ghost use Rattle.map_check.specs.Net.{clashingAt};
-ghost use Rattle.map_check.specs.Pass.{InTurn, ClearAbove};
+ghost use Rattle.map_check.specs.Pass.{ClearAbove};
 ghost use Rattle.map_check.specs.Near.{westOf, eastOf, fromWest, besideOf, carrierIn, Boxes, Picked};
 
 // How far the west of the reach is.

@@ -1,4 +1,5 @@
 // Two edges that do not clash, found without the point where they meet: by their boxes, by sides, or by an end that they have in common.
+use keys::foot;
 use plane::Seg;
 use plane::Vector;
 use plane::boxes_apart;
@@ -14,16 +15,7 @@ ghost use Rattle.plane.specs.Values.{vecOf, segOf};
 ghost use Rattle.plane.specs.Bounds.{Corner, Edge};
 ghost use Rattle.map_check.specs.Pairs.{CommonEnd};
 
-// The lower end of s.
-pub fn foot(s: Seg) -> Vector
-    requires { ⌜ Edge (segOf s) ⌝ }
-    ensures is { λ r. ⌜ vecOf r ≡ segOf s .foot ⌝ }
-    ensures near { λ r. ⌜ Corner (vecOf r) ⌝ }
-{
-    Vector { x: s.x, y: s.y }
-}
-
-// The upper end.
+// The upper end of s.
 pub fn head(s: Seg) -> Vector
     requires { ⌜ Edge (segOf s) ⌝ }
     ensures is { λ r. ⌜ vecOf r ≡ head (segOf s) ⌝ }

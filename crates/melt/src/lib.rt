@@ -7,7 +7,7 @@ use limits::LAYER_HALVES;
 use limits::LAYER_POINT_CELLS;
 use limits::LAYER_STARTS;
 use map_file::Check;
-use overlay::refuse;
+use overlay_fill::refuse;
 use overlay_maps::lay_maps;
 use tables::Answer;
 ghost use mathlib.Core.List.{[], _∷_};

@@ -16,9 +16,9 @@ use limits::SMALL_POINT_CELLS;
 use limits::SMALL_VERTICES;
 use map_file::Check;
 use map_file::Refusal;
-use overlay::from_cut;
-use overlay::over_room;
-use overlay::refuse;
+use overlay_fill::from_cut;
+use overlay_fill::over_room;
+use overlay_fill::refuse;
 use overlay_graph::Way;
 use overlay_graph::cut_few;
 use overlay_graph::cut_maps;
@@ -42,7 +42,7 @@ ghost use Rattle.overlay_maps.specs.Held.{Held, heldMaps};
 ghost use Rattle.overlay_graph.specs.Cut.{cutBy, CutOf, DrawableCut};
 ghost use Rattle.overlay_graph.specs.Traced.{Blank};
 ghost use Rattle.overlay_pairs.specs.Pairs.{Outlined};
-ghost use Rattle.overlay.specs.Judged.{doneWith, Within, Rowed};
+ghost use Rattle.overlay_fill.specs.Judged.{doneWith, Within, Rowed};
 ghost use Rattle.melt.specs.Melted.{meltedIn, FacesIn};
 
 // the labels of every face, a cell for each map

@@ -13,7 +13,7 @@ use Rattle.paper.specs.Mend.{cornerBytes}
 use Rattle.paper.specs.Plane.{Vec}
 use Rattle.laws_file.specs.Bytes.{wrapped, length-leSigned, leSigned-wrapped}
 use Rattle.map_check.specs.Parts.{cornerIn}
-use Rattle.mend.specs.Steps.{keptIn, hasIn}
+use Rattle.mend.specs.Steps.{stepIs}
 use Rattle.mend.specs.Stored.{pointIn, rowIn, edgeIn, fileIn, Counted}
 use Rattle.mend.proofs.AppendLaws.{then-behind, append-long}
 
@@ -31,43 +31,43 @@ corner-put a s p u at e f = then-behind s at (leSigned 2 (a .x)) (leSigned 2 (a 
 
 -- ── the file ──
 
-module _ (ps : List ℤ) (ls t ns : List ℕ) (n e v k : ℕ) (r : Counted t n e v k) where
+module _ (ps : List ℤ) (ls t ns vs es : List ℕ) (n e v k : ℕ) (r : Counted vs es n e v k) where
   abbrev head : List ℕ
-  head = ascii "ZMP" ++ gather (le 2) (1 ∷ count (hasIn t e) n ∷ count (keptIn t) e ∷ [])
+  head = ascii "ZMP" ++ gather (le 2) (1 ∷ count (stepIs vs 0) n ∷ count (stepIs es 0) e ∷ [])
 
   abbrev corners : List ℕ
-  corners = rows (pointIn ps t e) n
+  corners = rows (pointIn ps vs) n
 
   abbrev edges : List ℕ
-  edges = rows (edgeIn ls t ns) e
+  edges = rows (edgeIn ls t ns es) e
 
   corners-long : length corners ≡ 4 * v
-  corners-long = append-long 4 (hasIn t e) (λ u. cornerBytes (cornerIn ps u)) (λ u. corner-long (cornerIn ps u)) n ∙ ap (λ (j : ℕ). 4 * j) (sym (r .vertices))
+  corners-long = append-long 4 (stepIs vs 0) (λ u. cornerBytes (cornerIn ps u)) (λ u. corner-long (cornerIn ps u)) n ∙ ap (λ (j : ℕ). 4 * j) (sym (r .vertices))
 
   edges-long : length edges ≡ 8 * k
-  edges-long = append-long 8 (keptIn t) (λ j. gather (le 2) (rowIn ls t ns j)) (λ j. refl) e ∙ ap (λ (j : ℕ). 8 * j) (sym (r .edges))
+  edges-long = append-long 8 (stepIs es 0) (λ j. gather (le 2) (rowIn ls t ns j)) (λ j. refl) e ∙ ap (λ (j : ℕ). 8 * j) (sym (r .edges))
 
   front-long : length (head ++ corners) ≡ vertexPlace v
   front-long = length-append head corners ∙ ap (λ (j : ℕ). 9 + j) corners-long
 
-  pub file-long : length (fileIn ps ls t ns n e) ≡ vertexPlace v + 8 * k
+  pub file-long : length (fileIn ps ls t ns vs es n e) ≡ vertexPlace v + 8 * k
   file-long = length-append (head ++ corners) edges ∙ (λ i. front-long i + edges-long i)
 
   head-is : ascii "ZMP" ++ gather (le 2) (1 ∷ v ∷ k ∷ []) ≡ head
   head-is i = ascii "ZMP" ++ gather (le 2) (1 ∷ r .vertices i ∷ r .edges i ∷ [])
 
   -- room for the corners, and for the edges
-  pub corners-room : (long : ℕ) → vertexPlace v + 8 * k ≤ long → mapHead + 4 * count (hasIn t e) n ≤ long
+  pub corners-room : (long : ℕ) → vertexPlace v + 8 * k ≤ long → mapHead + 4 * count (stepIs vs 0) n ≤ long
   corners-room long h = omega (arith, r .vertices, h)
 
-  pub edges-room : (at long : ℕ) → at ≡ vertexPlace v → vertexPlace v + 8 * k ≤ long → at + 8 * count (keptIn t) e ≤ long
+  pub edges-room : (at long : ℕ) → at ≡ vertexPlace v → vertexPlace v + 8 * k ≤ long → at + 8 * count (stepIs es 0) e ≤ long
   edges-room at long ae h = omega (arith, r .edges, h, ae)
 
   -- part after part from the start of d on, and zeros past the last
   pub file-put : (d : List ℕ) → vertexPlace v + 8 * k ≤ length d → (a b c u : List ℕ) (at long : ℕ) → a ≡ sets d 0 (ascii "ZMP" ++ gather (le 2) (1 ∷ v ∷ k ∷ []))
-      → b ≡ sets a mapHead (rows (pointIn ps t e) n) → c ≡ sets b at (rows (edgeIn ls t ns) e) → u ≡ wiped 0 long c
-      → at ≡ vertexPlace v → long ≡ vertexPlace v + 8 * k → u ≡ padded 0 (length d) (fileIn ps ls t ns n e)
+      → b ≡ sets a mapHead (rows (pointIn ps vs) n) → c ≡ sets b at (rows (edgeIn ls t ns es) e) → u ≡ wiped 0 long c
+      → at ≡ vertexPlace v → long ≡ vertexPlace v + 8 * k → u ≡ padded 0 (length d) (fileIn ps ls t ns vs es n e)
   file-put d room a b c u at long p q w z ae le =
       let f = then-behind d 0 head corners a b mapHead (p ∙ ap (sets d 0) head-is) q refl in
       let g = then-behind d 0 (head ++ corners) edges b c at f w (ae ∙ sym front-long ∙ sym (zero-add (length (head ++ corners)))) in
-      stored-wiped 0 d (fileIn ps ls t ns n e) c u long (rw file-long room) g z (le ∙ sym file-long)
+      stored-wiped 0 d (fileIn ps ls t ns vs es n e) c u long (rw file-long room) g z (le ∙ sym file-long)

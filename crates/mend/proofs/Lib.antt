@@ -1,4 +1,6 @@
 pub mod AppendLaws
+pub mod KeyLaws
+pub mod MarkLaws
 pub mod StepLaws
 pub mod ByteLaws
 pub mod ListLaws

@@ -1,13 +1,14 @@
 -- The four steps as the code computes them, on flat tables: `ps` the points and `os` the origins of a map that is read, `is` the vertex into which each is
--- merged, `t` the ends of the half-edges after step 1. Then what a file is refused for before any room. On the tables of a map these are the definitions of 02
+-- merged, `t` the ends of the half-edges after step 1, and tables of steps. Then what a file is refused for before any room. On the tables of a map these are the definitions of 02
 -- (proofs/TableLaws.antt). Assumes nothing.
-use Rattle.seq.specs.Seq.{Bool, not, _&&_, _||_, List, [], _∷_, _++_, Option, ℕ, _+_, _*_, ltb, leb, eqb, length, getD, ℤ, least, someBelow}
+use Rattle.seq.specs.Seq.{Bool, cond, not, _&&_, _||_, List, [], _∷_, _++_, Option, ℕ, _+_, _*_, ltb, leb, eqb, length, getD, ℤ, least, someBelow}
 use Rattle.paper.specs.Graph.{edgeCount}
 use Rattle.paper.specs.Map.{mapOf, formFaults, tooFar}
 use Rattle.paper.specs.Mend.{noVertex}
 use Rattle.paper.specs.Refusal.{firstAt, Refusal}
 use Rattle.graph.specs.Flat.{originAt}
 use Rattle.map_check.specs.Parts.{farAt, liesOn}
+use Rattle.mend.specs.Keys.{edgeKey}
 
 -- 1: the lowest vertex at the point of v
 abbrev pub intoAt : List ℤ → ℕ → ℕ
@@ -24,30 +25,31 @@ nowIn is os h = getD is (getD os h 0) 0
 abbrev pub shrunkIn : List ℕ → ℕ → Bool
 shrunkIn t k = eqb (getD t (2 * k) 0) (getD t (2 * k + 1) 0)
 
--- 3
+-- 3: by the keys of edges k and j
 abbrev pub alikeIn : List ℕ → ℕ → ℕ → Bool
-alikeIn t k j =
-    (eqb (getD t (2 * k) 0) (getD t (2 * j) 0) && eqb (getD t (2 * k + 1) 0) (getD t (2 * j + 1) 0))
-    || (eqb (getD t (2 * k) 0) (getD t (2 * j + 1) 0) && eqb (getD t (2 * k + 1) 0) (getD t (2 * j) 0))
+alikeIn t k j = eqb (edgeKey t k) (edgeKey t j)
 
 abbrev pub repeatedIn : List ℕ → ℕ → Bool
 repeatedIn t k = not (shrunkIn t k) && someBelow (alikeIn t k) k
 
-abbrev pub keptIn : List ℕ → ℕ → Bool
-keptIn t k = not (shrunkIn t k || repeatedIn t k)
+-- the step that drops an edge, or 0: of one that is shrunk or not, repeated or not
+abbrev pub edgeStep : Bool → Bool → ℕ
+edgeStep s r = cond s 2 (cond r 3 0)
 
--- 4
+-- vertex or edge i is dropped in this step, by a table of steps
+abbrev pub stepIs : List ℕ → ℕ → ℕ → Bool
+stepIs ss step i = eqb (getD ss i 0) step
+
+-- 4: an edge that is kept ends at v, of e edges with the steps es
 abbrev pub endsIn : List ℕ → ℕ → ℕ → Bool
 endsIn t v k = eqb v (getD t (2 * k) 0) || eqb v (getD t (2 * k + 1) 0)
 
-abbrev pub keepsIn : List ℕ → ℕ → ℕ → Bool
-keepsIn t v k = keptIn t k && endsIn t v k
+abbrev pub hasIn : List ℕ → List ℕ → ℕ → ℕ → Bool
+hasIn t es e v = someBelow (λ k. stepIs es 0 k && endsIn t v k) e
 
-abbrev pub hasIn : List ℕ → ℕ → ℕ → Bool
-hasIn t e v = someBelow (keepsIn t v) e
-
-abbrev pub bareIn : List ℕ → List ℕ → ℕ → ℕ → Bool
-bareIn is t e v = not (mergedIn is v || hasIn t e v)
+-- the step that drops a vertex, or 0: of one that has an edge or not, merged or not
+abbrev pub vertexStep : Bool → Bool → ℕ
+vertexStep h m = cond h 0 (cond m 1 4)
 
 -- ── refusals ──
 

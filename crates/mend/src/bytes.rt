@@ -1,8 +1,7 @@
 // The mended file: the head, a loop over the vertices, a loop over the edges, each storing what is kept.
 use crate::merge::from_now;
 use crate::merge::to_now;
-use crate::steps::has_edge;
-use crate::steps::kept;
+use crate::steps::is_step;
 use limits::MAP_HEAD;
 use map_file::map_length;
 use map_file::vertex_place;
@@ -24,7 +23,7 @@ ghost use Rattle.paper.specs.Map.{vertexPlace};
 ghost use Rattle.paper.specs.Mend.{cornerBytes};
 ghost use Rattle.plane.specs.Bounds.{Corner};
 ghost use Rattle.map_check.specs.Parts.{cornerIn, Corners};
-ghost use Rattle.mend.specs.Steps.{keptIn, hasIn};
+ghost use Rattle.mend.specs.Steps.{stepIs};
 ghost use Rattle.mend.specs.Stored.{pointIn, rowIn, edgeIn, fileIn, Counted};
 
 // "Mark `ZMP`"
@@ -61,14 +60,14 @@ fn put_corner(points: &[i64], v: u16, out: &mut [u8], at: usize)
 }
 
 // "No corner that stays moves"
-fn put_corners(points: &[i64], ends: &[u16], n: u16, e: u16, out: &mut [u8])
-    requires { ⌜ Corners (now points) n × (mapHead + 4 * count (hasIn (now ends) e) n ≤ length (now out)) ⌝ }
-    ensures { λ _. ⌜ now (out .exit) ≡ sets (now (out .entry)) mapHead (rows (pointIn (now (points .entry)) (now (ends .entry)) e) n) ⌝ }
+fn put_corners(points: &[i64], steps: &[u16], n: u16, out: &mut [u8])
+    requires { ⌜ Corners (now points) n × (n ≤ length (now steps)) × (mapHead + 4 * count (stepIs (now steps) 0) n ≤ length (now out)) ⌝ }
+    ensures { λ _. ⌜ now (out .exit) ≡ sets (now (out .entry)) mapHead (rows (pointIn (now (points .entry)) (now (steps .entry))) n) ⌝ }
 {
     let mut at = MAP_HEAD;
     let mut v: u16 = 0;
     while v < n {
-        if has_edge(ends, e, v) {
+        if is_step(steps, 0, v) {
             put_corner(points, v, out, at);
             at += 4;
         }
@@ -92,14 +91,22 @@ fn put_edge(labels: &[u16], ends: &[u16], numbers: &[u16], k: u16, out: &mut [u8
 }
 
 // "and no kept label changes"
-fn put_edges(labels: &[u16], ends: &[u16], numbers: &[u16], e: u16, out: &mut [u8], start: usize)
-    requires { ⌜ start + 8 * count (keptIn (now ends)) e ≤ length (now out) ⌝ }
-    ensures { λ _. ⌜ now (out .exit) ≡ sets (now (out .entry)) start (rows (edgeIn (now (labels .entry)) (now (ends .entry)) (now (numbers .entry))) e) ⌝ }
+fn put_edges(
+    labels: &[u16],
+    ends: &[u16],
+    numbers: &[u16],
+    steps: &[u16],
+    e: u16,
+    out: &mut [u8],
+    start: usize,
+)
+    requires { ⌜ (e ≤ length (now steps)) × (start + 8 * count (stepIs (now steps) 0) e ≤ length (now out)) ⌝ }
+    ensures { λ _. ⌜ now (out .exit) ≡ sets (now (out .entry)) start (rows (edgeIn (now (labels .entry)) (now (ends .entry)) (now (numbers .entry)) (now (steps .entry))) e) ⌝ }
 {
     let mut at = start;
     let mut k: u16 = 0;
     while k < e {
-        if kept(ends, k) {
+        if is_step(steps, 0, k) {
             put_edge(labels, ends, numbers, k, out, at);
             at += 8;
         }
@@ -107,23 +114,33 @@ fn put_edges(labels: &[u16], ends: &[u16], numbers: &[u16], e: u16, out: &mut [u
     }
 }
 
-// The whole file, and zeros past it: so many of n vertices and e edges are kept.
+// The whole file, and zeros past it: so many of n vertices and e edges are kept, by the tables of their steps.
 pub fn put_file(
     points: &[i64],
     labels: &[u16],
     ends: &[u16],
     numbers: &[u16],
+    corners: &[u16],
+    pieces: &[u16],
     n: u16,
     e: u16,
     vertices: u16,
     edges: u16,
     out: &mut [u8],
 )
-    requires { ⌜ Corners (now points) n × Counted (now ends) n e vertices edges × (vertexPlace vertices + 8 * edges ≤ length (now out)) ⌝ }
-    ensures { λ _. ⌜ now (out .exit) ≡ padded 0 (length (now (out .entry))) (fileIn (now (points .entry)) (now (labels .entry)) (now (ends .entry)) (now (numbers .entry)) n e) ⌝ }
+    requires { ⌜ Corners (now points) n × Counted (now corners) (now pieces) n e vertices edges × (vertexPlace vertices + 8 * edges ≤ length (now out)) ⌝ }
+    ensures { λ _. ⌜ now (out .exit) ≡ padded 0 (length (now (out .entry))) (fileIn (now (points .entry)) (now (labels .entry)) (now (ends .entry)) (now (numbers .entry)) (now (corners .entry)) (now (pieces .entry)) n e) ⌝ }
 {
     put_head(vertices, edges, out);
-    put_corners(points, ends, n, e, out);
-    put_edges(labels, ends, numbers, e, out, vertex_place(vertices));
+    put_corners(points, corners, n, out);
+    put_edges(
+        labels,
+        ends,
+        numbers,
+        pieces,
+        e,
+        out,
+        vertex_place(vertices),
+    );
     wipe_from_u8(out, map_length(vertices, edges));
 }

@@ -8,9 +8,16 @@ use crate::merge::merge;
 use crate::merge::move_ends;
 use crate::numbers::count_kept;
 use crate::numbers::number;
+use crate::steps::edge_steps;
+use crate::steps::vertex_steps;
+use limits::MAP_EDGES;
 use limits::MAP_HALVES;
 use limits::MAP_POINT_CELLS;
 use limits::MAP_VERTICES;
+use limits::SMALL_EDGES;
+use limits::SMALL_HALVES;
+use limits::SMALL_POINT_CELLS;
+use limits::SMALL_VERTICES;
 use map_file::Check;
 use map_file::Header;
 use map_file::Refusal;
@@ -25,7 +32,7 @@ use seq::wipe_u16;
 ghost use mathlib.Core.Path.{_≡_};
 ghost use mathlib.Core.List.{[], _∷_};
 ghost use mathlib.Core.Option.{none};
-ghost use Prim.Native.Nat.{_/_};
+ghost use Prim.Native.Nat.{_*_, _/_, _≤_};
 ghost use lib.Dec.{ltb};
 ghost use lib.ListN.{length};
 ghost use Rattle.paper.specs.Map.{vertexCount, edgesIn, formFaults};
@@ -56,14 +63,15 @@ fn judge(n: usize, l: usize, long: usize, many: u16) -> Check
     first(short, few)
 }
 
-// By the tables of a file that can be mended: so many of its n vertices and e edges are kept.
+// By the tables of a file that can be mended: so many of its n vertices and e edges are kept, and `corners` and `pieces` say in which step each of the others is dropped.
 fn finish(
     file: &[u8],
     points: &[i64],
     labels: &[u16],
-    into: &[u16],
     ends: &[u16],
     numbers: &[u16],
+    corners: &[u16],
+    pieces: &[u16],
     n: u16,
     e: u16,
     vertices: u16,
@@ -71,7 +79,7 @@ fn finish(
     out: &mut [u8],
     list: &mut [u16],
 ) -> Mended
-    requires { ⌜ (n ≡ vertexCount (now file)) × (e ≡ edgesIn (now file)) × Ready (now file) (now points) (now labels) (now into) (now ends) (now numbers) vertices edges ⌝ }
+    requires { ⌜ (n ≡ vertexCount (now file)) × (e ≡ edgesIn (now file)) × Ready (now file) (now points) (now labels) (now ends) (now numbers) (now corners) (now pieces) vertices edges ⌝ }
     ensures { λ r. ⌜ mendingOf r (now (out .exit)) (now (list .exit)) ≡ mend (length (now (out .entry))) (length (now (list .entry))) (now (file .entry)) ⌝ }
 {
     let bytes = map_length(vertices, edges);
@@ -81,8 +89,20 @@ fn finish(
     match check {
         Check::Bad(r) => refuse(r, out, list),
         Check::Fine => {
-            put_file(points, labels, ends, numbers, n, e, vertices, edges, out);
-            put_list(into, ends, n, e, list);
+            put_file(
+                points,
+                labels,
+                ends,
+                numbers,
+                corners,
+                pieces,
+                n,
+                e,
+                vertices,
+                edges,
+                out,
+            );
+            put_list(corners, pieces, n, e, list);
             Mended::Done(Mending { length, entries })
         }
     }
@@ -107,16 +127,21 @@ fn mend_map(
     merge(points, n, &mut into);
     let mut ends = [0u16; MAP_HALVES];
     move_ends(&into, origins, e, &mut ends);
+    let mut pieces = [0u16; MAP_EDGES as usize];
+    edge_steps(&ends, e, &mut pieces);
+    let mut corners = [0u16; MAP_VERTICES as usize];
+    vertex_steps(&into, &ends, &pieces, n, e, &mut corners);
     let mut numbers = [0u16; MAP_VERTICES as usize];
-    let vertices = number(&ends, e, n, &mut numbers);
-    let edges = count_kept(&ends, e);
+    let vertices = number(&corners, n, &mut numbers);
+    let edges = count_kept(&pieces, e);
     finish(
         file,
         points,
         labels,
-        &into,
         &ends,
         &numbers,
+        &corners,
+        &pieces,
         n,
         e,
         vertices,
@@ -126,19 +151,42 @@ fn mend_map(
     )
 }
 
-// A file that passes rules 1 to 4: its map is read once, front to back.
+// A file that passes rules 1 to 4: its map is read once, front to back, into lent tables.
+fn mend_in(
+    file: &[u8],
+    h: Header,
+    points: &mut [i64],
+    origins: &mut [u16],
+    labels: &mut [u16],
+    out: &mut [u8],
+    list: &mut [u16],
+) -> Mended
+    requires { ⌜ h ≡ headerOf (now file) ⌝ ∗ ⌜ firstOf (formFaults (now file)) ≡ none ⌝ ∗ ⌜ (4 * vertexCount (now file) ≤ length (now points)) × (2 * edgesIn (now file) ≤ length (now origins)) × (2 * edgesIn (now file) ≤ length (now labels)) ⌝ }
+    ensures { λ r. ⌜ mendingOf r (now (out .exit)) (now (list .exit)) ≡ mend (length (now (out .entry))) (length (now (list .entry))) (now (file .entry)) ⌝ }
+{
+    read_map(file, h, points, origins, labels);
+    let check = table_fault(points, origins, h.vertices as usize, h.edges as usize);
+    match check {
+        Check::Bad(r) => refuse(r, out, list),
+        Check::Fine => mend_map(file, h, points, origins, labels, out, list),
+    }
+}
+
+// The same, with tables of its own. A small map takes small ones: less to clear.
 fn mend_read(file: &[u8], h: Header, out: &mut [u8], list: &mut [u16]) -> Mended
     requires { ⌜ h ≡ headerOf (now file) ⌝ ∗ ⌜ firstOf (formFaults (now file)) ≡ none ⌝ }
     ensures { λ r. ⌜ mendingOf r (now (out .exit)) (now (list .exit)) ≡ mend (length (now (out .entry))) (length (now (list .entry))) (now (file .entry)) ⌝ }
 {
-    let mut points = [0i64; MAP_POINT_CELLS];
-    let mut origins = [0u16; MAP_HALVES];
-    let mut labels = [0u16; MAP_HALVES];
-    read_map(file, h, &mut points, &mut origins, &mut labels);
-    let check = table_fault(&points, &origins, h.vertices as usize, h.edges as usize);
-    match check {
-        Check::Bad(r) => refuse(r, out, list),
-        Check::Fine => mend_map(file, h, &points, &origins, &labels, out, list),
+    if (h.vertices as usize <= SMALL_VERTICES) & (h.edges as usize <= SMALL_EDGES) {
+        let mut points = [0i64; SMALL_POINT_CELLS];
+        let mut origins = [0u16; SMALL_HALVES];
+        let mut labels = [0u16; SMALL_HALVES];
+        mend_in(file, h, &mut points, &mut origins, &mut labels, out, list)
+    } else {
+        let mut points = [0i64; MAP_POINT_CELLS];
+        let mut origins = [0u16; MAP_HALVES];
+        let mut labels = [0u16; MAP_HALVES];
+        mend_in(file, h, &mut points, &mut origins, &mut labels, out, list)
     }
 }
 

@@ -1,3 +1,1 @@
-pub mod StoredLaws
-pub mod JudgeLaws
 pub mod LayersLaws

@@ -1,6 +1,5 @@
 // From files to tables: the maps laid one after the other in tables that are lent for them, which are small where the maps are, and the overlay from there.
 use crate::stages::from_layers;
-use crate::stages::refuse;
 use limits::LAYER_CARRIER_CELLS;
 use limits::LAYER_HALVES;
 use limits::LAYER_POINT_CELLS;
@@ -13,6 +12,7 @@ use limits::SMALL_VERTICES;
 use map_file::Check;
 use map_file::edge_count;
 use map_file::vertex_count;
+use overlay_fill::refuse;
 use overlay_graph::Way;
 use overlay_maps::lay_maps;
 use tables::Answer;

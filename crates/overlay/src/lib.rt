@@ -1,14 +1,9 @@
 // The overlay of three map files: "Two map files go in", and "Bed type comes as a third map" (02, Ask 13). "Out come three tables (vertices, half-edges, faces)".
-mod judge; // counts over the room
-mod fill; // the lent tables filled
 mod stages; // from layers to tables
 mod layers; // from files to layers
 
 use crate::layers::overlay_with;
-pub use judge::over_room;
 use overlay_graph::Way;
-pub use stages::from_cut;
-pub use stages::refuse;
 use tables::Answer;
 ghost use mathlib.Core.List.{[], _∷_};
 ghost use Rattle.paper.specs.Lent.{lengthsOf};

@@ -7,7 +7,6 @@ pub mod Queue
 pub mod Splice
 pub mod Fans
 pub mod Meets
-pub mod Keys
 pub mod Ahead
 pub mod Neighbours
 pub mod Turned

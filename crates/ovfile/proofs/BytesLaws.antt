@@ -24,6 +24,13 @@ pub number-past : (w : ℕ) (s : List ℕ) (i : ℕ) → length s ≤ i → numb
 number-past zero s i h = refl
 number-past (suc w) s i h = rw (List·getD-eq-default s 0 h, number-past w s (suc i) (omega arith)) (omega arith)
 
+-- four bytes and six, two by two
+pub number-four : (s : List ℕ) (i : ℕ) → number 4 s i ≡ number 2 s i + 65536 * number 2 s (i + 2)
+number-four s i = let e : i + 2 ≡ suc (suc i) = omega arith in rw e (omega arith)
+
+pub number-six : (s : List ℕ) (i : ℕ) → number 6 s i ≡ number 4 s i + 4294967296 * number 2 s (i + 4)
+number-six s i = let e : i + 4 ≡ suc (suc (suc (suc i))) = omega arith in rw e (omega arith)
+
 -- n is the number in the bytes from byte i on of w bytes at a place
 pub record Reading (w : ℕ) (s : List ℕ) (at i n : ℕ) : Type 0 where
   pub within : i ≤ w

@@ -15,6 +15,9 @@ pub fn numbers(width: usize) -> u64
     requires { ⌜ width < 8 ⌝ }
     ensures { λ r. ⌜ r ≡ 256 ^ width ⌝ }
 {
+    if width == 6 {
+        return 281474976710656;
+    }
     let mut n: u64 = 1;
     let mut i = 0;
     while i < width {
@@ -24,8 +27,36 @@ pub fn numbers(width: usize) -> u64
     n
 }
 
+fn wide(x: u8) -> u64
+    ensures { λ r. ⌜ (r ≡ x) × (r < 256) ⌝ }
+{
+    x as u64
+}
+
+// The unsigned number in two bytes at a place, where there are two; and so in four and in six.
+fn two(file: &[u8], at: usize) -> u64
+    requires { ⌜ at + 2 ≤ length (now file) ⌝ }
+    ensures { λ r. ⌜ (r ≡ number 2 (now (file .entry)) at) × (r < 65536) ⌝ }
+{
+    wide(file[at]) + 256 * wide(file[at + 1])
+}
+
+fn four(file: &[u8], at: usize) -> u64
+    requires { ⌜ at + 4 ≤ length (now file) ⌝ }
+    ensures { λ r. ⌜ (r ≡ number 4 (now (file .entry)) at) × (r < 4294967296) ⌝ }
+{
+    two(file, at) + 65536 * two(file, at + 2)
+}
+
+fn six(file: &[u8], at: usize) -> u64
+    requires { ⌜ at + 6 ≤ length (now file) ⌝ }
+    ensures { λ r. ⌜ r ≡ number 6 (now (file .entry)) at ⌝ }
+{
+    four(file, at) + 4294967296 * two(file, at + 4)
+}
+
 // The unsigned number in the bytes at a place, from the high byte down.
-pub fn number_at(file: &[u8], at: usize, width: usize) -> u64
+fn number_by(file: &[u8], at: usize, width: usize) -> u64
     requires { ⌜ width < 8 ⌝ }
     ensures { λ r. ⌜ r ≡ number width (now (file .entry)) at ⌝ }
 {
@@ -39,6 +70,25 @@ pub fn number_at(file: &[u8], at: usize, width: usize) -> u64
         n = byte_at(file, at + i) as u64 + 256 * n;
     }
     n
+}
+
+// The same, and at once where there are four bytes or six, as in the newest layout.
+pub fn number_at(file: &[u8], at: usize, width: usize) -> u64
+    requires { ⌜ width < 8 ⌝ }
+    ensures { λ r. ⌜ r ≡ number width (now (file .entry)) at ⌝ }
+{
+    if file.len() <= at {
+        return 0;
+    }
+    if 6 <= file.len() - at {
+        if width == 6 {
+            return six(file, at);
+        }
+        if width == 4 {
+            return four(file, at);
+        }
+    }
+    number_by(file, at, width)
 }
 
 // The signed number there, two's complement.

@@ -31,7 +31,6 @@ pub use places::vertex_place;
 pub use room::numbers;
 pub use room::over;
 pub use sound::first_places;
-pub use sound::first_unsound;
 pub use sound::sound_edge;
 pub use sound::store;
 pub use sound::twin;

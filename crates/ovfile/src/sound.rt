@@ -3,15 +3,12 @@
 use crate::cells::half_cell;
 use crate::cells::source_cell;
 use crate::cells::u16_at;
-use limits::HALVES;
 use tables::Counts;
 ghost use mathlib.Core.Path.{_≡_};
-ghost use mathlib.Core.Bool.{not};
 ghost use mathlib.Core.List.{[]};
 ghost use Prim.Native.Nat.{_*_, _<_, _≤_};
 ghost use lib.ListN.{set};
-ghost use Rattle.seq.specs.Seq.{least};
-ghost use Rattle.paper.specs.Limits.{maps, overlayEdges};
+ghost use Rattle.paper.specs.Limits.{maps};
 ghost use Rattle.paper.specs.Graph.{twin};
 ghost use Rattle.paper.specs.Ovfile.{soundFollower, hasSource, soundEdge};
 ghost use Rattle.tables.specs.Values.{countsOf};
@@ -81,29 +78,4 @@ pub fn sound_edge(c: Counts, halves: &[u16], sources: &[u32], first: &[u16], k: 
     let followers = sound_follower(edges, halves, first, a)
         & sound_follower(edges, halves, first, b);
     ends & (has_source(sources, k) & (faces & followers))
-}
-
-// The least record that is not sound, or the number of edges.
-fn first_unsound_by(c: Counts, halves: &[u16], sources: &[u32], first: &[u16]) -> u16
-    requires { ⌜ Followed (now halves) (2 * c .edges) (now first) ⌝ }
-    ensures { λ r. ⌜ r ≡ least (λ k. not (soundEdge maps (countsOf c) (edgeTables (now (halves .entry)) (now (sources .entry))) k)) (c .edges) ⌝ }
-{
-    let n = c.edges;
-    let mut k: u16 = 0;
-    while k < n {
-        if !sound_edge(c, halves, sources, first, k) {
-            return k;
-        }
-        k += 1;
-    }
-    n
-}
-
-pub fn first_unsound(c: Counts, halves: &[u16], sources: &[u32]) -> u16
-    requires { ⌜ c .edges ≤ overlayEdges ⌝ }
-    ensures { λ r. ⌜ r ≡ least (λ k. not (soundEdge maps (countsOf c) (edgeTables (now (halves .entry)) (now (sources .entry))) k)) (c .edges) ⌝ }
-{
-    let mut first = [0u16; HALVES];
-    first_places(halves, 2, 2 * c.edges as u32, &mut first);
-    first_unsound_by(c, halves, sources, &first)
 }

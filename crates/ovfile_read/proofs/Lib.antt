@@ -2,3 +2,4 @@
 pub mod HeadLaws
 pub mod FillLaws
 pub mod ReadLaws
+pub mod SoundLaws

@@ -3,19 +3,15 @@ use mathlib.Core.Path.{_≡_, sym, _∙_, ap}
 use Prim.Native.Nat.{_≤_}
 use native.Mathlib.Omega.{arith}
 use borrow.Author.Tests.{ltb-false}
-use Rattle.seq.specs.Seq.{Bool, not, List, _∷_, _++_, ℕ, Option, none, some, length, least}
-use Rattle.seq.specs.Least.{least-ext}
+use Rattle.seq.specs.Seq.{Bool, not, List, _∷_, _++_, ℕ, Option, none, some, length}
 use Rattle.paper.specs.Limits.{maps}
 use Rattle.paper.specs.Bytes.{u16}
 use Rattle.paper.specs.Refusal.{Refusal, firstAt, firstOf, done, refused}
-use Rattle.paper.specs.Tables.{Counts}
 use Rattle.paper.specs.Lent.{Lengths, roomIn, roomFaults, paddedTables, zeroTables, outcome}
 use Rattle.paper.specs.Ovfile.{Layout, layouts, over, soundEdge, layoutOf}
 use Rattle.paper.specs.Reader.{countsIn, tablesIn, numbers, headFaults, readFault, read}
 use Rattle.laws_refusals.specs.Refusals.{nothing, is-nothing, given-none}
 use Rattle.laws_refusals.specs.Room.{not-over}
-use Rattle.laws_file.specs.Agree.{sound-same, padded-agree}
-use Rattle.ovfile.specs.Values.{edgeTables}
 use Rattle.ovfile_read.specs.Filled.{Within, Roomy}
 
 -- the layout that the file's version names
@@ -28,14 +24,6 @@ unsoundIn l s k = not (soundEdge maps (countsIn s) (tablesIn maps l s) k)
 -- 21 and 11
 abbrev pub bodyIn : Layout → List ℕ → Lengths → List (Option Refusal)
 bodyIn l s ls = firstAt 21 (unsoundIn l s) (countsIn s .edges) ∷ roomFaults (roomIn maps ls) (countsIn s)
-
--- zeros past the tables make no edge record sound or unsound
-pub least-padded : (l : Layout) (s : List ℕ) (c : Counts) (hs ss : List ℕ) (ls : Lengths) → hs ≡ paddedTables ls (tablesIn maps l s) .halves → ss ≡ paddedTables ls (tablesIn maps l s) .sources → c ≡ countsIn s
-    → least (λ k. not (soundEdge maps c (edgeTables hs ss) k)) (c .edges) ≡ least (unsoundIn l s) (countsIn s .edges)
-least-padded l s c hs ss ls e g q =
-    (λ i. least (λ k. not (soundEdge maps (q i) (edgeTables (e i) (g i)) k)) (q i .edges))
-    ∙ least-ext (λ k. not (soundEdge maps (countsIn s) (paddedTables ls (tablesIn maps l s)) k)) (unsoundIn l s) (countsIn s .edges)
-    (λ k b. ap not (sound-same maps (countsIn s) (paddedTables ls (tablesIn maps l s)) (tablesIn maps l s) (padded-agree maps (countsIn s) ls (tablesIn maps l s)) k b))
 
 module _ (s : List ℕ) where
   -- ── a file whose form is right ──

@@ -2,8 +2,10 @@
 // vertex's least outgoing half-edge (65,535 if none)". Each table by a function of its own, from the file alone; past the counts it is zero.
 use crate::stored::counts;
 use crate::stored::edge_field;
+use crate::stored::edges_start;
 use crate::stored::face;
 use crate::stored::face_field;
+use crate::stored::faces_start;
 use crate::stored::follower;
 use crate::stored::label;
 use crate::stored::origin;
@@ -43,11 +45,12 @@ ghost use Rattle.paper.specs.Reader.{countsIn, storedSource, halfRead, faceRead
 ghost use Rattle.ovfile.specs.Values.{layoutFrom};
 ghost use Rattle.ovfile.specs.Known.{Known};
 ghost use Rattle.ovfile.specs.Firsts.{FirstPlaces};
+ghost use Rattle.ovfile_read.specs.Starts.{EdgesFrom};
 ghost use Rattle.ovfile_read.specs.Filled.{storedField, followersIn, vertexBy, Within, Predecessors, LeastStarts};
 
 // In each cell of `out` the first of n half-edges that has its number as field j of its edge, or as the one after it. From the last half-edge down.
-fn first_stored(layout: Layout, file: &[u8], j: u16, n: u32, out: &mut [u16])
-    requires { ⌜ Known (layoutFrom layout) × (n ≤ 65536) ⌝ }
+fn first_stored(layout: Layout, file: &[u8], start: usize, j: u16, n: u32, out: &mut [u16])
+    requires { ⌜ EdgesFrom (layoutFrom layout) (now file) start × (n ≤ 65536) ⌝ }
     ensures { λ _. ⌜ FirstPlaces (storedField (layoutFrom layout) (now (file .entry)) j) n (now (out .entry)) (now (out .exit)) ⌝ }
 {
     let mut h = n;
@@ -55,7 +58,7 @@ fn first_stored(layout: Layout, file: &[u8], j: u16, n: u32, out: &mut [u16])
         h -= 1;
         store(
             out,
-            edge_field(layout, file, h / 2, j as u32 + h % 2) as usize,
+            edge_field(layout, file, start, h / 2, j as u32 + h % 2) as usize,
             h as u16,
         );
     }
@@ -68,7 +71,8 @@ fn predecessors(layout: Layout, file: &[u8]) -> [u16; HALVES]
 {
     let n = 2 * counts(file).edges as u32;
     let mut first = [n as u16; HALVES];
-    first_stored(layout, file, 2 + layout.maps as u16, n, &mut first);
+    let start = edges_start(layout, file);
+    first_stored(layout, file, start, 2 + layout.maps as u16, n, &mut first);
     first
 }
 
@@ -77,16 +81,17 @@ fn lay_halves(layout: Layout, file: &[u8], first: &[u16], halves: &mut [u16])
     ensures { λ _. ⌜ now (halves .exit) ≡ sets (now (halves .entry)) 0 (rows (halfRead (layoutFrom layout) (now (file .entry)) (followersIn (layoutFrom layout) (now (file .entry)))) (2 * countsIn (now (file .entry)) .edges)) ⌝ }
 {
     let n = 2 * counts(file).edges as u32;
+    let start = edges_start(layout, file);
     let mut h: u32 = 0;
     while h < n {
         store5_u16(
             halves,
             h as usize,
-            origin(layout, file, h),
+            origin(layout, file, start, h),
             twin(h) as u16,
-            follower(layout, file, h),
+            follower(layout, file, start, h),
             u16_at(first, h as usize),
-            face(layout, file, h),
+            face(layout, file, start, h),
         );
         h += 1;
     }
@@ -108,8 +113,10 @@ fn least_starts(layout: Layout, file: &[u8]) -> [u16; VERTICES]
     requires { ⌜ Known (layoutFrom layout) × Within (countsIn (now file)) ⌝ }
     ensures { λ r. ⌜ LeastStarts (layoutFrom layout) (now (file .entry)) r ⌝ }
 {
+    let n = 2 * counts(file).edges as u32;
     let mut least = [ABSENT; VERTICES];
-    first_stored(layout, file, 0, 2 * counts(file).edges as u32, &mut least);
+    let start = edges_start(layout, file);
+    first_stored(layout, file, start, 0, n, &mut least);
     least
 }
 
@@ -153,14 +160,15 @@ fn lay_sources(layout: Layout, file: &[u8], sources: &mut [u32])
     ensures { λ _. ⌜ now (sources .exit) ≡ sets (now (sources .entry)) 0 (rows (λ k. table (storedSource (layoutFrom layout) (now (file .entry)) k) maps) (countsIn (now (file .entry)) .edges)) ⌝ }
 {
     let n = counts(file).edges as u32;
+    let start = edges_start(layout, file);
     let mut k: u32 = 0;
     while k < n {
         store3_u32(
             sources,
             k as usize,
-            source(layout, file, k, 0) as u32,
-            source(layout, file, k, 1) as u32,
-            source(layout, file, k, 2) as u32,
+            source(layout, file, start, k, 0) as u32,
+            source(layout, file, start, k, 1) as u32,
+            source(layout, file, start, k, 2) as u32,
         );
         k += 1;
     }
@@ -181,16 +189,17 @@ fn lay_faces(layout: Layout, file: &[u8], faces: &mut [u16])
     ensures { λ _. ⌜ now (faces .exit) ≡ sets (now (faces .entry)) 0 (rows (faceRead maps (layoutFrom layout) (now (file .entry))) (countsIn (now (file .entry)) .faces)) ⌝ }
 {
     let n = counts(file).faces as u32;
+    let start = faces_start(layout, file);
     let mut f: u32 = 0;
     while f < n {
         store5_u16(
             faces,
             f as usize,
-            label(layout, file, f, 0),
-            label(layout, file, f, 1),
-            label(layout, file, f, 2),
-            face_field(layout, file, f, layout.maps as u32),
-            face_field(layout, file, f, 1 + layout.maps as u32),
+            label(layout, file, start, f, 0),
+            label(layout, file, start, f, 1),
+            label(layout, file, start, f, 2),
+            face_field(layout, file, start, f, layout.maps as u32),
+            face_field(layout, file, start, f, 1 + layout.maps as u32),
         );
         f += 1;
     }

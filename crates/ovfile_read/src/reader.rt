@@ -5,28 +5,23 @@ use crate::fill::fill_halves;
 use crate::fill::fill_sources;
 use crate::fill::fill_vertices;
 use crate::head::head;
+use crate::sound::unsound;
 use crate::stored::counts;
 use crate::stored::layout_in;
-use limits::HALF_CELLS;
-use limits::SOURCE_CELLS;
 use map_file::Check;
 use map_file::first;
 use map_file::given;
 use ovfile::Layout;
-use ovfile::first_unsound;
 use tables::Answer;
 use tables::room_in;
 use tables::wipe_all;
 ghost use mathlib.Core.Path.{_≡_};
 ghost use mathlib.Core.Bool.{not};
 ghost use mathlib.Core.List.{_∷_};
-ghost use Prim.Native.Nat.{_*_, _≤_};
 ghost use lib.ListN.{length};
-ghost use Rattle.seq.specs.Seq.{least};
 ghost use Rattle.paper.specs.Limits.{maps};
 ghost use Rattle.paper.specs.Bytes.{u16};
 ghost use Rattle.paper.specs.Refusal.{firstAt, firstOf};
-ghost use Rattle.paper.specs.Tables.{halfWidth};
 ghost use Rattle.paper.specs.Lent.{roomIn, roomFaults, paddedTables};
 ghost use Rattle.paper.specs.Ovfile.{layouts, soundEdge, layoutOf};
 ghost use Rattle.paper.specs.Reader.{countsIn, tablesIn, readFault, read};
@@ -35,25 +30,6 @@ ghost use Rattle.tables.specs.Values.{lengthsBy, tablesBy, outcomeOf};
 ghost use Rattle.ovfile.specs.Values.{layoutFrom};
 ghost use Rattle.ovfile.specs.Known.{Known};
 ghost use Rattle.ovfile_read.specs.Filled.{Within, Roomy};
-
-// The least edge record that is not sound, or the number of edges, by tables that the file's edges are read into.
-fn unsound_by(layout: Layout, file: &[u8], halves: &mut [u16], sources: &mut [u32]) -> u16
-    requires { ⌜ Known (layoutFrom layout) × Within (countsIn (now file)) × (halfWidth * (2 * countsIn (now file) .edges) ≤ length (now halves)) × (maps * countsIn (now file) .edges ≤ length (now sources)) ⌝ }
-    ensures { λ r. ⌜ r ≡ least (λ k. not (soundEdge maps (countsIn (now (file .entry))) (tablesIn maps (layoutFrom layout) (now (file .entry))) k)) (countsIn (now (file .entry)) .edges) ⌝ }
-{
-    fill_halves(layout, file, halves);
-    fill_sources(layout, file, sources);
-    first_unsound(counts(file), halves, sources)
-}
-
-fn unsound(layout: Layout, file: &[u8]) -> u16
-    requires { ⌜ Known (layoutFrom layout) × Within (countsIn (now file)) ⌝ }
-    ensures { λ r. ⌜ r ≡ least (λ k. not (soundEdge maps (countsIn (now (file .entry))) (tablesIn maps (layoutFrom layout) (now (file .entry))) k)) (countsIn (now (file .entry)) .edges) ⌝ }
-{
-    let mut halves = [0u16; HALF_CELLS];
-    let mut sources = [0u32; SOURCE_CELLS];
-    unsound_by(layout, file, &mut halves, &mut sources)
-}
 
 // 21 and 11, of a file whose form is right.
 fn body(
@@ -78,7 +54,7 @@ fn body(
 }
 
 // What the file is refused for, by tables of these lengths.
-fn judge(file: &[u8], vertices: usize, halves: usize, sources: usize, faces: usize) -> Check
+pub fn judge(file: &[u8], vertices: usize, halves: usize, sources: usize, faces: usize) -> Check
     ensures { λ r. ⌜ verdict r ≡ readFault maps (length layouts) (layoutOf layouts (u16 (now (file .entry)) 3)) (lengthsBy vertices halves sources faces) (now (file .entry)) (tablesIn maps (layoutOf layouts (u16 (now (file .entry)) 3)) (now (file .entry))) ⌝ }
 {
     let c = head(file);

@@ -9,12 +9,14 @@ use ovfile::field_at;
 use ovfile::layout_of;
 use tables::Counts;
 ghost use mathlib.Core.Path.{_≡_};
+ghost use Prim.Native.Nat.{_<_, _^_};
 ghost use Rattle.paper.specs.Bytes.{u16};
 ghost use Rattle.paper.specs.Ovfile.{layouts, layoutOf};
 ghost use Rattle.paper.specs.Reader.{countsIn, edgeField, faceField, storedOrigin, storedFollower, storedFace, storedSource, storedLabel};
 ghost use Rattle.tables.specs.Values.{countsOf};
 ghost use Rattle.ovfile.specs.Values.{layoutFrom};
 ghost use Rattle.ovfile.specs.Known.{Known};
+ghost use Rattle.ovfile_read.specs.Starts.{EdgesFrom, FacesFrom};
 
 // The layout of the version that the file names.
 pub fn layout_in(file: &[u8]) -> Layout
@@ -33,63 +35,93 @@ pub fn counts(file: &[u8]) -> Counts
     }
 }
 
-// The 16-bit number j of edge k.
-pub fn edge_field(layout: Layout, file: &[u8], k: u32, j: u32) -> u16
+// Where the file's edges start, and its faces.
+pub fn edges_start(layout: Layout, file: &[u8]) -> usize
     requires { ⌜ Known (layoutFrom layout) ⌝ }
+    ensures { λ r. ⌜ EdgesFrom (layoutFrom layout) (now (file .entry)) r ⌝ }
+{
+    edges_at(layout, counts(file))
+}
+
+pub fn faces_start(layout: Layout, file: &[u8]) -> usize
+    requires { ⌜ Known (layoutFrom layout) ⌝ }
+    ensures { λ r. ⌜ FacesFrom (layoutFrom layout) (now (file .entry)) r ⌝ }
+{
+    faces_at(layout, counts(file))
+}
+
+fn wide(x: u8) -> u16
+    ensures { λ r. ⌜ (r ≡ x) × (r < 256) ⌝ }
+{
+    x as u16
+}
+
+// The 16-bit number at a place, both of its bytes by one test.
+pub fn field(file: &[u8], at: usize) -> u16
+    requires { ⌜ at < 2 ^ 60 ⌝ }
+    ensures { λ r. ⌜ r ≡ u16 (now (file .entry)) at ⌝ }
+{
+    if at + 1 < file.len() {
+        return wide(file[at]) + 256 * wide(file[at + 1]);
+    }
+    u16_at(file, at)
+}
+
+// The 16-bit number j of edge k, where the edges start.
+pub fn edge_field(layout: Layout, file: &[u8], start: usize, k: u32, j: u32) -> u16
+    requires { ⌜ EdgesFrom (layoutFrom layout) (now file) start ⌝ }
     ensures { λ r. ⌜ r ≡ edgeField (layoutFrom layout) (now (file .entry)) k j ⌝ }
 {
-    let c = counts(file);
-    u16_at(file, field_at(edges_at(layout, c), edge_size(layout), k, j))
+    field(file, field_at(start, edge_size(layout), k, j))
 }
 
-// The 16-bit number j of face f.
-pub fn face_field(layout: Layout, file: &[u8], f: u32, j: u32) -> u16
-    requires { ⌜ Known (layoutFrom layout) ⌝ }
+// The 16-bit number j of face f, where the faces start.
+pub fn face_field(layout: Layout, file: &[u8], start: usize, f: u32, j: u32) -> u16
+    requires { ⌜ FacesFrom (layoutFrom layout) (now file) start ⌝ }
     ensures { λ r. ⌜ r ≡ faceField (layoutFrom layout) (now (file .entry)) f j ⌝ }
 {
-    let c = counts(file);
-    u16_at(file, field_at(faces_at(layout, c), face_size(layout), f, j))
+    field(file, field_at(start, face_size(layout), f, j))
 }
 
-pub fn origin(layout: Layout, file: &[u8], h: u32) -> u16
-    requires { ⌜ Known (layoutFrom layout) ⌝ }
+pub fn origin(layout: Layout, file: &[u8], start: usize, h: u32) -> u16
+    requires { ⌜ EdgesFrom (layoutFrom layout) (now file) start ⌝ }
     ensures { λ r. ⌜ r ≡ storedOrigin (layoutFrom layout) (now (file .entry)) h ⌝ }
 {
-    edge_field(layout, file, h / 2, h % 2)
+    edge_field(layout, file, start, h / 2, h % 2)
 }
 
-pub fn follower(layout: Layout, file: &[u8], h: u32) -> u16
-    requires { ⌜ Known (layoutFrom layout) ⌝ }
+pub fn follower(layout: Layout, file: &[u8], start: usize, h: u32) -> u16
+    requires { ⌜ EdgesFrom (layoutFrom layout) (now file) start ⌝ }
     ensures { λ r. ⌜ r ≡ storedFollower (layoutFrom layout) (now (file .entry)) h ⌝ }
 {
-    edge_field(layout, file, h / 2, 2 + layout.maps as u32 + h % 2)
+    edge_field(layout, file, start, h / 2, 2 + layout.maps as u32 + h % 2)
 }
 
-pub fn face(layout: Layout, file: &[u8], h: u32) -> u16
-    requires { ⌜ Known (layoutFrom layout) ⌝ }
+pub fn face(layout: Layout, file: &[u8], start: usize, h: u32) -> u16
+    requires { ⌜ EdgesFrom (layoutFrom layout) (now file) start ⌝ }
     ensures { λ r. ⌜ r ≡ storedFace (layoutFrom layout) (now (file .entry)) h ⌝ }
 {
-    edge_field(layout, file, h / 2, 4 + layout.maps as u32 + h % 2)
+    edge_field(layout, file, start, h / 2, 4 + layout.maps as u32 + h % 2)
 }
 
 // The source of edge k in map i + 1, or 0.
-pub fn source(layout: Layout, file: &[u8], k: u32, i: u32) -> u16
-    requires { ⌜ Known (layoutFrom layout) ⌝ }
+pub fn source(layout: Layout, file: &[u8], start: usize, k: u32, i: u32) -> u16
+    requires { ⌜ EdgesFrom (layoutFrom layout) (now file) start ⌝ }
     ensures { λ r. ⌜ r ≡ storedSource (layoutFrom layout) (now (file .entry)) k i ⌝ }
 {
     if i < layout.maps as u32 {
-        return edge_field(layout, file, k, 2 + i);
+        return edge_field(layout, file, start, k, 2 + i);
     }
     0
 }
 
 // The label of face f in map i + 1, or 0.
-pub fn label(layout: Layout, file: &[u8], f: u32, i: u32) -> u16
-    requires { ⌜ Known (layoutFrom layout) ⌝ }
+pub fn label(layout: Layout, file: &[u8], start: usize, f: u32, i: u32) -> u16
+    requires { ⌜ FacesFrom (layoutFrom layout) (now file) start ⌝ }
     ensures { λ r. ⌜ r ≡ storedLabel (layoutFrom layout) (now (file .entry)) f i ⌝ }
 {
     if i < layout.maps as u32 {
-        return face_field(layout, file, f, i);
+        return face_field(layout, file, start, f, i);
     }
     0
 }

@@ -1,8 +1,8 @@
 -- Two coordinates n/d and m/e on the machine. First what is read back of one, and what small and middling ones are bounded by; then that the products
 -- n·e and m·d fit by the short way (`first-fits`, `second-fits`) and are what they say (`short`, `short-test`); that they are factors of `products` in any case (`factors`,
--- `long`); last the coordinates of two points. Assumes nothing.
-use mathlib.Core.Path.{_≡_, sym, _∙_, ap, subst}
-use mathlib.Core.Bool.{true, _&&_}
+-- `long`); one denominator (`level-number`); two points by their numbers alone (`first-level`, `same-level`); last the coordinates of two points. Assumes nothing.
+use mathlib.Core.Path.{_≡_, refl, sym, _∙_, ap, subst}
+use mathlib.Core.Bool.{true, false, _&&_}
 use mathlib.Core.List.{[], _∷_}
 use mathlib.Core.Logic.{_⊎_, inl, inr}
 use Prim.Native.Nat.{_≤_}
@@ -14,13 +14,14 @@ use mir.Val.{SFits, ofZ, toZ}
 use Rattle.exact.specs.Lowest.{pt}
 use Rattle.exact.specs.Mach.{tr, tru, fits, plain, atmost, under, abs-of}
 use Rattle.exact.specs.Order.{zomega, sq}
-use Rattle.exact.specs.Tests.{and-parts, lt-t, lt-sign}
+use Rattle.exact.specs.Tests.{never, not-true, and-parts, lt-t, eqZ, eq-t, lt-sign, eq-sign}
 use Rattle.seq.specs.Tests.{or-cases}
-use Rattle.exact.specs.Sign.{sgn, isNeg}
+use Rattle.exact.specs.Sign.{Sign, neg, zer, plus, sgn, isNeg, isZer, pick, lexS}
 use Rattle.exact.specs.Signs.{sgn-scale}
 use Rattle.exact.specs.Solve.{ring, reify}
 use Rattle.exact.specs.Words.{Factors}
-use Rattle.plane.specs.Bounds.{Near, Coordinate, small, middling, shortWay}
+use Rattle.paper.specs.Plane.{order}
+use Rattle.plane.specs.Bounds.{Near, Coordinate, small, middling, shortWay, level}
 use Rattle.plane.proofs.Machine.{back}
 
 -- what is read back
@@ -136,10 +137,39 @@ module _ (n d m e : ℤ) (P : Coordinate n d) (Q : Coordinate m e) where
   one-read : ofZ w64 d ≡ ofZ w64 e → d ≡ e
   one-read q = sym (denominator-read n d P) ∙ ap (toZ w64) q ∙ denominator-read m e Q
 
-  pub level : ofZ w64 d ≡ ofZ w64 e → sgn (back n -ℤ back m) ≡ sgn (n *ℤ e -ℤ m *ℤ d)
-  level q =
-      (λ i. sgn (number-read n d P i -ℤ number-read m e Q i)) ∙ sym (sgn-scale (n -ℤ m) d (P .positive)) ∙ ap sgn (common n d m)
-      ∙ (λ i. sgn (n *ℤ one-read q i -ℤ m *ℤ d))
+  pub level-number : ofZ w64 d ≡ ofZ w64 e → sgn (n -ℤ m) ≡ sgn (n *ℤ e -ℤ m *ℤ d)
+  level-number q = sym (sgn-scale (n -ℤ m) d (P .positive)) ∙ ap sgn (common n d m) ∙ (λ i. sgn (n *ℤ one-read q i -ℤ m *ℤ d))
+
+  pub level-read : ofZ w64 d ≡ ofZ w64 e → sgn (back n -ℤ back m) ≡ sgn (n *ℤ e -ℤ m *ℤ d)
+  level-read q = (λ i. sgn (number-read n d P i -ℤ number-read m e Q i)) ∙ level-number q
+
+level-none : (y : ℤ) → y -ℤ y ≡ pos 0
+level-none y = ring (y ∷ []) (search reify depth 20) tt
+
+-- two points by their numbers: the test of y first, then that of x
+module _ (px py qx qy : ℤ) where
+  as-high : py ≡ qy → lexS (py -ℤ qy) (px -ℤ qx) ≡ sgn (px -ℤ qx)
+  as-high e = ap (λ (s : Sign). pick s (sgn (px -ℤ qx))) (ap (λ (y : ℤ). sgn (y -ℤ qy)) e ∙ ap sgn (level-none qy))
+
+  pub first-level : py ≡ qy → ltZ px qx ≡ isNeg (lexS (py -ℤ qy) (px -ℤ qx))
+  first-level e = lt-sign px qx ∙ sym (ap isNeg (as-high e))
+
+  pub same-level : py ≡ qy → eqZ px qx ≡ isZer (lexS (py -ℤ qy) (px -ℤ qx))
+  same-level e = eq-sign px qx ∙ sym (ap isZer (as-high e))
+
+  not-zero : (s t : Sign) → isZer s ≡ false → (isNeg s ≡ isNeg (pick s t)) × (false ≡ isZer (pick s t))
+  not-zero neg t e = (refl, refl)
+  not-zero zer t e = never (sym e)
+  not-zero plus t e = (refl, refl)
+
+  apart : (py ≡ qy → ⊥) → isZer (sgn (py -ℤ qy)) ≡ false
+  apart d = sym (eq-sign py qy) ∙ not-true (eqZ py qy) (λ e. d (eq-t py qy e))
+
+  pub first-apart : (py ≡ qy → ⊥) → ltZ py qy ≡ isNeg (lexS (py -ℤ qy) (px -ℤ qx))
+  first-apart d = lt-sign py qy ∙ not-zero (sgn (py -ℤ qy)) (sgn (px -ℤ qx)) (apart d) .0
+
+  pub same-apart : (py ≡ qy → ⊥) → false ≡ isZer (lexS (py -ℤ qy) (px -ℤ qx))
+  same-apart d = not-zero (sgn (py -ℤ qy)) (sgn (px -ℤ qx)) (apart d) .1
 
 -- the coordinates of two points, and how far apart the machine finds them
 module _ (px py pd qx qy qd : ℤ) (P : Near (pt px py pd)) (Q : Near (pt qx qy qd)) where
@@ -160,3 +190,7 @@ module _ (px py pd qx qy qd : ℤ) (P : Near (pt px py pd)) (Q : Near (pt qx qy 
 
   pub by-y : back py *ℤ back qd -ℤ back qy *ℤ back pd ≡ py *ℤ qd -ℤ qy *ℤ pd
   by-y = long py pd qy qd (y-over px py pd P) (y-over qx qy qd Q)
+
+  -- of one denominator the order of two points is that of their numbers
+  pub level-order : ofZ w64 pd ≡ ofZ w64 qd → level (pt px py pd) (pt qx qy qd) ≡ order (pt px py pd) (pt qx qy qd)
+  level-order e i = pick (level-number py pd qy qd (y-over px py pd P) (y-over qx qy qd Q) e i) (level-number px pd qx qd (x-over px py pd P) (x-over qx qy qd Q) e i)

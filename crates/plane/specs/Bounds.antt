@@ -1,10 +1,10 @@
 -- How large the numbers of corners, directions, points and edges are: document 01's limits, by their names. First the numbers, then a record for each kind of
 -- value. Assumes nothing.
 use Prim.Native.Nat.{ℕ, _*_, _≤_}
-use lib.IntN.{ℤ, pos, negsuc, natAbs}
+use lib.IntN.{ℤ, pos, negsuc, natAbs, _-ℤ_}
 use lib.Signed.{ltZ, _<ℤ_}
 use Rattle.paper.specs.Limits.{reach, denominators}
-use Rattle.paper.specs.Plane.{Vec, Pt, Seg, head}
+use Rattle.paper.specs.Plane.{Vec, Pt, Seg, head, Sign, lexS}
 use Rattle.seq.specs.Seq.{Bool, _&&_, _||_, Option, none, some}
 
 -- X and Y lie within the reach times D either way
@@ -53,6 +53,10 @@ middling n d = ltZ d (pos 67108864) && (ltZ (negsuc 68719476735) n && ltZ n (pos
 -- the cross products of n/d and m/e fit
 abbrev pub shortWay : ℤ → ℤ → ℤ → ℤ → Bool
 shortWay n d m e = small m e || (middling n d && middling m e)
+
+-- the order of two points by their numbers alone, which is theirs where they have one denominator
+abbrev pub level : Pt → Pt → Sign
+level p q = lexS (p .Y -ℤ q .Y) (p .X -ℤ q .X)
 
 -- an edge between corners
 pub record Edge (s : Seg) : Type 0 where

@@ -4,11 +4,11 @@ pub use exact::Ordering;
 ghost use mathlib.Core.Path.{_≡_};
 ghost use lib.IntN.{_-ℤ_, _*ℤ_};
 ghost use Rattle.exact.specs.Compare.{signOf};
-ghost use Rattle.exact.specs.Exact.{sgn, isNeg};
+ghost use Rattle.exact.specs.Exact.{sgn, isNeg, isZer};
 ghost use Rattle.exact.specs.Lowest.{pt};
 ghost use Rattle.paper.specs.Plane.{order, before, same, below};
 ghost use Rattle.plane.specs.Values.{ptOf};
-ghost use Rattle.plane.specs.Bounds.{Near, Coordinate, small, middling, shortWay};
+ghost use Rattle.plane.specs.Bounds.{Near, Coordinate, small, middling, shortWay, level};
 
 // Whether n/d is small.
 fn small(n: i64, d: i64) -> bool
@@ -122,12 +122,32 @@ pub fn order(p: Point, q: Point) -> Ordering
     order_of(p.x, p.y, p.d, q.x, q.y, q.d)
 }
 
+// Whether p comes first, of two points with one denominator, as corners have: by their numbers.
+fn level_before(p: Point, q: Point) -> bool
+    requires { ⌜ Near (ptOf p) × Near (ptOf q) ⌝ }
+    ensures { λ r. ⌜ r ≡ isNeg (level (ptOf p) (ptOf q)) ⌝ }
+{
+    if p.y == q.y { p.x < q.x } else { p.y < q.y }
+}
+
+// Whether these are one point.
+fn level_same(p: Point, q: Point) -> bool
+    requires { ⌜ Near (ptOf p) × Near (ptOf q) ⌝ }
+    ensures { λ r. ⌜ r ≡ isZer (level (ptOf p) (ptOf q)) ⌝ }
+{
+    if p.y == q.y { p.x == q.x } else { false }
+}
+
 // Whether p comes first.
 pub fn before(p: Point, q: Point) -> bool
     requires { ⌜ Near (ptOf p) × Near (ptOf q) ⌝ }
     ensures { λ r. ⌜ r ≡ before (ptOf p) (ptOf q) ⌝ }
 {
-    is_less(order(p, q))
+    if p.d == q.d {
+        level_before(p, q)
+    } else {
+        is_less(order(p, q))
+    }
 }
 
 // Whether p and q are one point.
@@ -135,6 +155,9 @@ pub fn same(p: Point, q: Point) -> bool
     requires { ⌜ Near (ptOf p) × Near (ptOf q) ⌝ }
     ensures { λ r. ⌜ r ≡ same (ptOf p) (ptOf q) ⌝ }
 {
+    if p.d == q.d {
+        return level_same(p, q);
+    }
     match order(p, q) {
         Ordering::Less => false,
         Ordering::Equal => true,

@@ -2,6 +2,7 @@ pub mod TallyRows
 pub mod Kept
 pub mod Compared
 pub mod FaceAdded
+pub mod Risen
 pub mod Faced
 pub mod Stated
 pub mod OneFile

@@ -4,7 +4,7 @@ use limits::YEAR_PAIRS;
 use seq::lift_u32;
 use seq::store5_u32;
 ghost use mathlib.Core.Path.{_≡_};
-ghost use mathlib.Core.Bool.{_&&_};
+ghost use mathlib.Core.Bool.{true, _&&_};
 ghost use Prim.Native.Nat.{_+_, _*_, _≤_, _<_};
 ghost use lib.Dec.{ltb};
 ghost use lib.ListN.{length};
@@ -15,7 +15,8 @@ ghost use Rattle.seq.specs.PairOrder.{pairBefore, samePair};
 ghost use Rattle.paper.specs.Limits.{yearPairs};
 ghost use Rattle.laws_year.specs.Step.{firstFace};
 ghost use Rattle.laws_year.specs.Capped.{capFace};
-ghost use Rattle.year.specs.TallyRows.{tallyWidth, tallyAt, pairAt, cellsOf, again};
+ghost use Rattle.year.specs.TallyRows.{tallyWidth, tallyAt, pairAt, talliesIn, cellsOf, again};
+ghost use Rattle.year.specs.Risen.{InOrder};
 ghost use Rattle.year.specs.Kept.{kept, Few, most};
 
 // Whether the pair in row r comes before this one.
@@ -32,8 +33,29 @@ fn earlier(rows: &[u32], r: usize, zone: u32, block: u32) -> bool
     }
 }
 
-// The first of n rows whose pair does not come before this one, or n.
-fn place(rows: &[u32], n: usize, zone: u32, block: u32) -> usize
+// Whether the pairs of the first n rows are in strict order, as after any files: each row is compared with the next.
+pub fn in_order(rows: &[u32], n: usize) -> bool
+    requires { ⌜ tallyWidth * n ≤ length (now rows) ⌝ }
+    ensures { λ b. ⌜ (b ≡ true → InOrder (talliesIn (now (rows .entry)) n)) ⌝ }
+{
+    if n == 0 {
+        return true;
+    }
+    let last = n - 1;
+    let mut k = 0;
+    while k < last {
+        let at = TALLY_WIDTH * k;
+        if earlier(rows, k, rows[at + TALLY_WIDTH], rows[at + TALLY_WIDTH + 1]) {
+            k += 1;
+        } else {
+            return false;
+        }
+    }
+    true
+}
+
+// The first of n rows whose pair does not come before this one, or n: one row after the other.
+fn place_in_turn(rows: &[u32], n: usize, zone: u32, block: u32) -> usize
     requires { ⌜ tallyWidth * n ≤ length (now rows) ⌝ }
     ensures { λ r. ⌜ r ≡ placeBy pairBefore (zone, block) (pairAt (now (rows .entry))) n ⌝ }
 {
@@ -46,6 +68,35 @@ fn place(rows: &[u32], n: usize, zone: u32, block: u32) -> usize
         }
     }
     n
+}
+
+// The same by halves, of rows in order.
+fn place_by_halves(rows: &[u32], n: usize, zone: u32, block: u32) -> usize
+    requires { ⌜ tallyWidth * n ≤ length (now rows) ⌝ ∗ ⌜ InOrder (talliesIn (now rows) n) ⌝ }
+    ensures { λ r. ⌜ r ≡ placeBy pairBefore (zone, block) (pairAt (now (rows .entry))) n ⌝ }
+{
+    let mut low = 0;
+    let mut high = n;
+    while low < high {
+        let mid = low + (high - low) / 2;
+        if earlier(rows, mid, zone, block) {
+            low = mid + 1;
+        } else {
+            high = mid;
+        }
+    }
+    low
+}
+
+// By halves where the rows are known to be in order.
+fn place(rows: &[u32], n: usize, zone: u32, block: u32, ordered: bool) -> usize
+    requires { ⌜ tallyWidth * n ≤ length (now rows) ⌝ ∗ ⌜ (ordered ≡ true → InOrder (talliesIn (now rows) n)) ⌝ }
+    ensures { λ r. ⌜ r ≡ placeBy pairBefore (zone, block) (pairAt (now (rows .entry))) n ⌝ }
+{
+    if ordered {
+        return place_by_halves(rows, n, zone, block);
+    }
+    place_in_turn(rows, n, zone, block)
 }
 
 // Whether row r of n has this pair.
@@ -101,14 +152,21 @@ fn open_row(rows: &mut [u32], n: usize, r: usize, zone: u32, block: u32, file: u
 }
 
 // One face of this file with this pair, in a table of n pairs: how many there are, where a number over 500 says no more than that there are more than 500.
-pub fn add_face(rows: &mut [u32], n: usize, zone: u32, block: u32, file: u32) -> usize
-    requires { ⌜ tallyWidth * yearPairs ≤ length (now rows) ⌝ ∗ ⌜ Few most (kept (now rows) n .tallies) ⌝ }
+pub fn add_face(
+    rows: &mut [u32],
+    n: usize,
+    zone: u32,
+    block: u32,
+    file: u32,
+    ordered: bool,
+) -> usize
+    requires { ⌜ tallyWidth * yearPairs ≤ length (now rows) ⌝ ∗ ⌜ Few most (kept (now rows) n .tallies) ⌝ ∗ ⌜ (ordered ≡ true → InOrder (kept (now rows) n .tallies)) ⌝ }
     ensures { λ r. ⌜ kept (now (rows .exit)) r ≡ capFace file (kept (now (rows .entry)) n) (zone, block) ⌝ }
 {
     if YEAR_PAIRS < n {
         return n;
     }
-    let r = place(rows, n, zone, block);
+    let r = place(rows, n, zone, block, ordered);
     if stands(rows, n, r, zone, block) {
         count(rows, r, file);
         return n;

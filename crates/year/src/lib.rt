@@ -2,7 +2,6 @@
 mod face; // one face more
 mod faces; // the faces of a file
 mod state; // the year so far
-mod sheet; // an overlay file's faces
 mod next; // one file more
 mod answer; // what comes of the whole run
 

@@ -1,27 +1,35 @@
 // One file more.
+use crate::face::in_order;
 use crate::faces::add_faces;
 use crate::faces::gaps;
-use crate::sheet::read_faces;
 use crate::state::Sums;
 use crate::state::Year;
 use crate::state::has_room;
+use crate::state::kept_pairs;
 use limits::FACE_CELLS;
+use limits::HALF_CELLS;
+use limits::SOURCE_CELLS;
+use limits::VERTEX_CELLS;
 use limits::YEAR_FILES;
-use tables::Answer;
+use map_file::Check;
+use ovfile::Layout;
+use ovfile_read::counts;
+use ovfile_read::faces_start;
+use ovfile_read::judge;
+use ovfile_read::layout_in;
 ghost use mathlib.Core.Path.{_≡_};
-ghost use Prim.Native.Nat.{_+_, _-_, _*_, _≤_, _<_};
+ghost use Prim.Native.Nat.{_-_, _*_, _≤_, _<_};
 ghost use lib.ListN.{length};
 ghost use Rattle.seq.specs.Seq.{some};
-ghost use Rattle.paper.specs.Limits.{maps, overlayFaces, yearFiles, yearPairs};
-ghost use Rattle.paper.specs.Tables.{faceWidth};
-ghost use Rattle.paper.specs.Year.{sheetOf, sheetBy};
-ghost use Rattle.tables.specs.Values.{answerOf};
+ghost use Rattle.paper.specs.Limits.{yearFiles, yearPairs};
+ghost use Rattle.paper.specs.Year.{sheetOf};
 ghost use Rattle.laws_year.specs.Step.{orFirst};
 ghost use Rattle.laws_year.specs.Capped.{capRead};
+ghost use Rattle.ovfile.specs.Values.{layoutFrom};
+ghost use Rattle.ovfile.specs.Known.{Known};
 ghost use Rattle.year.specs.TallyRows.{tallyWidth};
 ghost use Rattle.year.specs.Faced.{pairsFrom, others};
 ghost use Rattle.year.specs.Stated.{minusOne, stateOf, yearState, next, Roomy};
-ghost use Rattle.year.specs.OneFile.{facesOnly, FewFaces};
 
 // The first bad file + 1, where the next one is bad.
 fn first_bad(bad: u16, files: u16) -> u16
@@ -39,45 +47,53 @@ fn others(faces: u16) -> usize
 }
 
 // A file that is read, with n faces other than 0.
-fn add_sheet(faces: &[u16], n: usize, rows: &mut [u32], sums: Sums) -> Sums
-    requires { ⌜ faceWidth maps * n + faceWidth maps ≤ length (now faces) ⌝ ∗ ⌜ n ≤ others ⌝ ∗ ⌜ Roomy (now rows) sums ⌝ ∗ ⌜ sums .files < yearFiles ⌝ }
-    ensures { λ r. ⌜ stateOf (now (rows .exit)) r ≡ capRead (stateOf (now (rows .entry)) sums) (some (pairsFrom (now (faces .entry)) n)) ⌝ }
+fn add_sheet(layout: Layout, file: &[u8], n: usize, rows: &mut [u32], sums: Sums) -> Sums
+    requires { ⌜ Known (layoutFrom layout) ⌝ ∗ ⌜ n ≤ others ⌝ ∗ ⌜ Roomy (now rows) sums ⌝ ∗ ⌜ sums .files < yearFiles ⌝ }
+    ensures { λ r. ⌜ stateOf (now (rows .exit)) r ≡ capRead (stateOf (now (rows .entry)) sums) (some (pairsFrom (layoutFrom layout) (now (file .entry)) n)) ⌝ }
 {
-    let file = sums.files + 1;
-    let pairs = add_faces(faces, n, file as u32, rows, sums.pairs);
-    let gaps = sums.gaps + gaps(faces, n);
+    let number = sums.files + 1;
+    let start = faces_start(layout, file);
+    let ordered = in_order(rows, kept_pairs(sums.pairs));
+    let pairs = add_faces(
+        layout,
+        file,
+        start,
+        n,
+        number as u32,
+        rows,
+        sums.pairs,
+        ordered,
+    );
+    let gaps = sums.gaps + gaps(layout, file, start, n);
     Sums {
         pairs,
         gaps,
-        files: file,
+        files: number,
         bad: sums.bad,
     }
 }
 
-// A file among the first 400, as the reader answers.
-fn add_answer(rows: &mut [u32], sums: Sums, faces: &[u16], answer: Answer) -> Sums
-    requires { ⌜ Roomy (now rows) sums ⌝ ∗ ⌜ sums .files < yearFiles ⌝ ∗ ⌜ length (now faces) ≡ faceWidth maps * overlayFaces ⌝ ∗ ⌜ FewFaces (answerOf answer) ⌝ }
-    ensures { λ r. ⌜ stateOf (now (rows .exit)) r ≡ capRead (stateOf (now (rows .entry)) sums) (sheetBy maps (facesOnly (now (faces .entry))) (answerOf answer)) ⌝ }
+// A file among the first 400, as the reader judges it.
+fn add_read(rows: &mut [u32], sums: Sums, file: &[u8]) -> Sums
+    requires { ⌜ Roomy (now rows) sums ⌝ ∗ ⌜ sums .files < yearFiles ⌝ }
+    ensures { λ r. ⌜ stateOf (now (rows .exit)) r ≡ capRead (stateOf (now (rows .entry)) sums) (sheetOf (now (file .entry))) ⌝ }
 {
-    match answer {
-        Answer::Refused(_) => Sums {
+    let check = judge(file, VERTEX_CELLS, HALF_CELLS, SOURCE_CELLS, FACE_CELLS);
+    match check {
+        Check::Bad(_) => Sums {
             pairs: sums.pairs,
             gaps: sums.gaps,
             files: sums.files + 1,
             bad: first_bad(sums.bad, sums.files),
         },
-        Answer::Done(c) => add_sheet(faces, others(c.faces), rows, sums),
+        Check::Fine => add_sheet(
+            layout_in(file),
+            file,
+            others(counts(file).faces),
+            rows,
+            sums,
+        ),
     }
-}
-
-// The same by its bytes.
-fn add_read(rows: &mut [u32], sums: Sums, file: &[u8]) -> Sums
-    requires { ⌜ Roomy (now rows) sums ⌝ ∗ ⌜ sums .files < yearFiles ⌝ }
-    ensures { λ r. ⌜ stateOf (now (rows .exit)) r ≡ capRead (stateOf (now (rows .entry)) sums) (sheetOf (now (file .entry))) ⌝ }
-{
-    let mut faces = [0u16; FACE_CELLS];
-    let answer = read_faces(file, &mut faces);
-    add_answer(rows, sums, &faces, answer)
 }
 
 // Any file: after the first 400 it is only counted, and not read.

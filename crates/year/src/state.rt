@@ -76,7 +76,7 @@ fn full_rows(rows: &[u32], n: usize) -> usize
 }
 
 // The pairs that are in the table.
-fn kept_pairs(pairs: usize) -> usize
+pub fn kept_pairs(pairs: usize) -> usize
     ensures { λ n. ⌜ n ≡ min yearPairs pairs ⌝ }
 {
     if pairs < YEAR_PAIRS {

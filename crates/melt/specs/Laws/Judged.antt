@@ -18,8 +18,8 @@ use Rattle.laws_overlay.specs.Maps.{AllKeep}
 use Rattle.laws_melt.specs.Whole.{melted-fits}
 use Rattle.overlay_graph.specs.Cut.{Cut, CutOf, overlayIn}
 use Rattle.overlay_graph.specs.Laws.Drawing.{overlay-in}
-use Rattle.overlay.specs.Judged.{laidOut, doneWith, refusedWith, Within}
-use Rattle.overlay.proofs.JudgeLaws.{faces-last}
+use Rattle.overlay_fill.specs.Judged.{laidOut, doneWith, refusedWith, Within}
+use Rattle.overlay_fill.proofs.JudgeLaws.{faces-last}
 use Rattle.melt.specs.Melted.{meltedIn}
 
 -- ── the maps ──

@@ -23,7 +23,7 @@ use Rattle.overlay_pairs.specs.Labels.{labelCell}
 use Rattle.overlay_pairs.specs.Pairs.{Outlined, labelOf, labels-are}
 use Rattle.thin.specs.Thinned.{Thinned}
 use Rattle.thin.specs.Laws.Melted.{Labelled, thinned-melted, fewer-vertices, fewer-edges}
-use Rattle.overlay.specs.Judged.{Within}
+use Rattle.overlay_fill.specs.Judged.{Within}
 use Rattle.melt.specs.Melted.{FacesIn}
 use Rattle.melt.specs.Laws.Drawn.{melted-drawable}
 

@@ -12,7 +12,7 @@ use Rattle.laws_plane.specs.Cone.{UpV}
 use Rattle.laws_plane.specs.Boxes.{BoxesApart, boxesApart, boxes-apart, boxes-clear, heights-apart}
 use Rattle.laws_meet.specs.Uses.{clash-meeting}
 use Rattle.graph.specs.Flat.{carrierAt}
-use Rattle.map_check.specs.Laws.Rows.{carried}
+use Rattle.keys.specs.Rows.{carried}
 use Rattle.map_check.proofs.edges.clashes.Statement.{statement}
 use Rattle.map_check.proofs.edges.clashes.Tie as tie
 

@@ -1,6 +1,7 @@
 -- `map_check::few::clear_after` meets its contract: edge i clashes with none that comes after it and below the counter. Assumes nothing.
 use mathlib.Core.Path.{_≡_, sym, _∙_, subst}
 use Prim.Native.Nat.{_-_, _<_}
+use borrow.Author.Count.{below-more}
 use borrow.Author.Needs.{needs}
 use native.Mathlib.Omega.{arith}
 use Rattle.exact.specs.Tests.{never}
@@ -10,8 +11,7 @@ use Rattle.paper.specs.Plane.{Seg, clash}
 use Rattle.laws_plane.specs.Cone.{UpV}
 use Rattle.graph.specs.Flat.{carrierAt}
 use Rattle.map_check.specs.Pass.{ClearAfter}
-use Rattle.map_check.specs.Laws.Rows.{carried}
-use Rattle.map_check.specs.Laws.Rising.{one-more}
+use Rattle.keys.specs.Rows.{carried}
 use Rattle.map_check.proofs.few.clear_after.Statement.{statement}
 use Rattle.map_check.proofs.few.clear_after.Tie as tie
 
@@ -55,7 +55,7 @@ loop-again c =
     let a = start .args in
     let seg = carrierAt (a .carriers .now) in
     λ k l h.
-    one-more {P = λ k. a .i < k → clash (seg (a .i)) (seg k) ≡ false} (λ k h l. at .loop .inv k l h)
+    below-more (λ k. a .i < k → clash (seg (a .i)) (seg k) ≡ false) _ (λ k h l. at .loop .inv k l h)
     (λ l. (λ i. clash (sym (one .carrier-at .ensures .0) i) (sym (two .carrier-at2 .ensures .0) i)) ∙ after .clear .ensures (was-true _ (c .if1 .left))) k h l
 
 returns-2 : tie.Need-returns-2 Inv-loop μ-loop

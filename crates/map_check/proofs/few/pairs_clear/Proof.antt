@@ -1,5 +1,6 @@
 -- `map_check::few::pairs_clear` meets its contract: no edge below the counter clashes with a later one. Assumes nothing.
 use Prim.Native.Nat.{_-_, _<_}
+use borrow.Author.Count.{below-more}
 use borrow.Author.Needs.{needs}
 use native.Mathlib.Omega.{arith}
 use Rattle.exact.specs.Tests.{never}
@@ -7,7 +8,7 @@ use Rattle.seq.specs.Seq.{ℕ}
 use Rattle.seq.specs.Tests.{was-true}
 use Rattle.graph.specs.Flat.{carrierAt}
 use Rattle.map_check.specs.Pass.{ClearAfter}
-use Rattle.map_check.specs.Laws.Rising.{one-more, pairs-least}
+use Rattle.map_check.specs.Laws.Rising.{pairs-least}
 use Rattle.map_check.proofs.few.pairs_clear.Statement.{statement}
 use Rattle.map_check.proofs.few.pairs_clear.Tie as tie
 
@@ -22,7 +23,7 @@ loop-again c =
     let start : tie.Start Inv-loop μ-loop = search needs in
     let at : tie.At-loop Inv-loop μ-loop = search needs in
     let after : tie.After-clear-after Inv-loop μ-loop = search needs in
-    one-more {P = ClearAfter (carrierAt (start .args .carriers .now)) (start .args .e)} (at .loop .inv) (after .clear-after .ensures (was-true _ (c .if1 .left)))
+    below-more (ClearAfter (carrierAt (start .args .carriers .now)) (start .args .e)) _ (at .loop .inv) (after .clear-after .ensures (was-true _ (c .if1 .left)))
 
 returns-2 : tie.Need-returns-2 Inv-loop μ-loop
 returns-2 c =

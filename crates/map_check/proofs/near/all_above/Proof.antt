@@ -1,6 +1,7 @@
 -- `map_check::near::all_above` meets its contract: no edge in a cell below the counter clashes with one in a later cell. Assumes nothing.
 use mathlib.Core.Path.{_≡_, refl}
 use Prim.Native.Nat.{_-_, _<_}
+use borrow.Author.Count.{below-more}
 use borrow.Author.Needs.{needs}
 use lib.ListN.{length}
 use native.Mathlib.Omega.{arith}
@@ -8,7 +9,7 @@ use Rattle.exact.specs.Tests.{never}
 use Rattle.seq.specs.Seq.{ℕ}
 use Rattle.seq.specs.Tests.{was-true}
 use Rattle.map_check.specs.Pass.{ClearAbove}
-use Rattle.map_check.specs.Laws.Rising.{one-more, turn-least}
+use Rattle.map_check.specs.Laws.Rising.{turn-least}
 use Rattle.map_check.proofs.near.all_above.Statement.{statement}
 use Rattle.map_check.proofs.near.all_above.Tie as tie
 
@@ -31,7 +32,7 @@ loop-again c =
     let start : tie.Start Inv-loop μ-loop = search needs in
     let at : tie.At-loop Inv-loop μ-loop = search needs in
     let after : tie.After-clear-above Inv-loop μ-loop = search needs in
-    (search needs, one-more {P = ClearAbove (start .args .carriers .now) (start .args .cells .now) (start .args .e)} (at .loop .inv .1) (after .clear-above .ensures (was-true _ (c .if1 .left))))
+    (search needs, below-more (ClearAbove (start .args .carriers .now) (start .args .cells .now) (start .args .e)) _ (at .loop .inv .1) (after .clear-above .ensures (was-true _ (c .if1 .left))))
 
 returns-2 : tie.Need-returns-2 Inv-loop μ-loop
 returns-2 c =

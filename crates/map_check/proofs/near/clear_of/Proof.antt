@@ -1,6 +1,7 @@
 -- `map_check::near::clear_of` meets its contract: of the edges in the cells that are listed, none below the counter clashes. Assumes nothing.
 use mathlib.Core.Path.{_≡_, sym, _∙_, subst}
 use Prim.Native.Nat.{_-_, _<_}
+use borrow.Author.Count.{below-more}
 use borrow.Author.Needs.{needs}
 use native.Mathlib.Omega.{arith}
 use Rattle.exact.specs.Tests.{never}
@@ -9,9 +10,8 @@ use Rattle.seq.specs.Tests.{was-true}
 use Rattle.paper.specs.Plane.{Seg, clash}
 use Rattle.laws_plane.specs.Cone.{UpV}
 use Rattle.map_check.specs.Near.{carrierIn}
-use Rattle.map_check.specs.Pass.{edgeIn}
+use Rattle.keys.specs.Cells.{edgeIn}
 use Rattle.map_check.specs.Laws.Picks.{pick-clear}
-use Rattle.map_check.specs.Laws.Rising.{one-more}
 use Rattle.map_check.proofs.near.clear_of.Statement.{statement}
 use Rattle.map_check.proofs.near.clear_of.Tie as tie
 
@@ -69,7 +69,7 @@ loop-again c =
     let a = start .args in
     let cs = a .carriers .now in
     let ds = a .cells .now in
-    one-more {P = λ p. clash (carrierIn cs ds (a .i)) (carrierIn cs ds (getD (a .near .now) p 0)) ≡ false} (at .loop .inv)
+    below-more (λ p. clash (carrierIn cs ds (a .i)) (carrierIn cs ds (getD (a .near .now) p 0)) ≡ false) _ (at .loop .inv)
     ((λ i. clash (sym (one .carrier-in .ensures .0) i) (sym (two .carrier-in2 .ensures .0) i)) ∙ after .clear .ensures (was-true _ (c .if1 .left)))
 
 returns-2 : tie.Need-returns-2 Inv-loop μ-loop

@@ -8,7 +8,7 @@ use Rattle.seq.specs.Seq.{ℕ, getD}
 use Rattle.paper.specs.Plane.{Seg, head}
 use Rattle.laws_fast.specs.Keys.{numberOf}
 use Rattle.map_check.specs.Near.{besideOf, carrierIn, Picked}
-use Rattle.map_check.specs.Pass.{edgeIn, cellAt}
+use Rattle.keys.specs.Cells.{base, edgeIn, cellAt}
 use Rattle.map_check.specs.Laws.Picks.{beside-clear, pick-starts, pick-turns, pick-ends}
 use Rattle.map_check.specs.Laws.Rising.{above-clear}
 use Rattle.map_check.proofs.near.near_above.Statement.{statement}
@@ -32,8 +32,8 @@ returns c =
     let cs = a .carriers .now in
     let ds = a .cells .now in
     let j = at .loop .j in
-    let ends : numberOf (head (carrierIn cs ds (a .i))) * 512 ≤ cellAt ds j =
-    subst (λ (x : ℕ). x ≤ cellAt ds j) (two .end-of .ensures ∙ ap (λ (s : Seg). numberOf (head s) * 512) (one .carrier-in .ensures .0)) (c .if1 .taken) in
+    let ends : numberOf (head (carrierIn cs ds (a .i))) * base ≤ cellAt ds j =
+    subst (λ (x : ℕ). x ≤ cellAt ds j) (two .end-of .ensures ∙ ap (λ (s : Seg). numberOf (head s) * base) (one .carrier-in .ensures .0)) (c .if1 .taken) in
     pick-ends (at .loop .inv .2) (at .loop .inv .1) (λ k l h. above-clear cs ds (a .e) (omega (arith, p .3)) (p .2) (p .0) (p .1) (a .i) j k (p .4) ends l h)
 
 loop-again : tie.Need-loop-again Inv-loop μ-loop

@@ -14,7 +14,7 @@ use Rattle.overlay_graph.specs.Cut.{Cut, cutBy}
 use Rattle.overlay_graph.specs.Laws.Standing.{keep}
 use Rattle.overlay_pairs.specs.Pairs.{Outlined, readable}
 use Rattle.thin.specs.Laws.Melted.{Labelled, thinnable}
-use Rattle.overlay.specs.Judged.{laidOut}
+use Rattle.overlay_fill.specs.Judged.{laidOut}
 use Rattle.melt.specs.Laws.Left.{faces-are, face-long, labelled, left-melted, left-drawable, left-within}
 use Rattle.melt.specs.Laws.Judged.{melted-room, faces-fit}
 use Rattle.melt.proofs.stages.melt_faces.Statement.{statement}

@@ -15,7 +15,7 @@ use Rattle.overlay_maps.specs.Layers.{Layers, layersBy}
 use Rattle.overlay_maps.specs.Held.{heldMaps}
 use Rattle.overlay_graph.specs.Cut.{Cut, cutBy}
 use Rattle.overlay_graph.specs.Laws.Drawing.{cut-drawable}
-use Rattle.overlay.proofs.JudgeLaws.{cut-over, cut-within}
+use Rattle.overlay_fill.proofs.JudgeLaws.{cut-over, cut-within}
 use Rattle.melt.specs.Laws.Judged.{room-refused}
 use Rattle.melt.proofs.stages.melt_laid.Statement.{statement}
 use Rattle.melt.proofs.stages.melt_laid.Tie as tie

@@ -6,24 +6,24 @@ use borrow.Author.Needs.{needs}
 use Rattle.seq.specs.Count.{count-below}
 use Rattle.seq.specs.Seq.{_-_, gather}
 use Rattle.paper.specs.Bytes.{le}
-use Rattle.mend.specs.Steps.{keptIn}
+use Rattle.mend.specs.Steps.{stepIs}
 use Rattle.mend.specs.Stored.{rowIn}
 use Rattle.mend.proofs.AppendLaws.{Appending, append-starts, append-takes, append-leaves, append-ends}
 use Rattle.mend.proofs.bytes.put_edges.Statement.{statement}
 use Rattle.mend.proofs.bytes.put_edges.Tie as tie
 
 abbrev Inv-loop : tie.InvT-loop
-Inv-loop labels ends numbers e out₀ start at₀ k₀ out at k = Appending 8 (keptIn ends) (λ j. gather (le 2) (rowIn labels ends numbers j)) start e out₀ out at k
+Inv-loop labels ends numbers steps e out₀ start at₀ k₀ out at k = Appending 8 (stepIs steps 0) (λ j. gather (le 2) (rowIn labels ends numbers j)) start e out₀ out at k
 
 abbrev μ-loop : tie.MeasureT-loop
-μ-loop labels ends numbers e out₀ start at₀ k₀ out at k = e - k
+μ-loop labels ends numbers steps e out₀ start at₀ k₀ out at k = e - k
 
 put-edge-requires : tie.Need-put-edge-requires Inv-loop μ-loop
 put-edge-requires c κs =
     let s : tie.Start Inv-loop μ-loop = search needs in
     let l : tie.At-loop Inv-loop μ-loop = search needs in
     let r = l .loop .inv in
-    let more = count-below (keptIn (s .args .ends .now)) (s .args .e) (l .loop .k) (omega arith) (sym (c .before .before .kept .ensures) ∙ c .before .if1 .taken) in
+    let more = count-below (stepIs (s .args .steps .now) 0) (s .args .e) (l .loop .k) (omega arith) (sym (c .before .before .is-step .ensures) ∙ c .before .if1 .taken) in
     omega (arith, r .place, r .room, r .kept, more)
 
 add-at : tie.Need-add-at Inv-loop μ-loop
@@ -31,14 +31,14 @@ add-at c =
     let s : tie.Start Inv-loop μ-loop = search needs in
     let l : tie.At-loop Inv-loop μ-loop = search needs in
     let r = l .loop .inv in
-    let more = count-below (keptIn (s .args .ends .now)) (s .args .e) (l .loop .k) (omega arith) (sym (c .before .before .before .before .before .kept .ensures) ∙ c .before .before .before .before .if1 .taken) in
+    let more = count-below (stepIs (s .args .steps .now) 0) (s .args .e) (l .loop .k) (omega arith) (sym (c .before .before .before .before .before .is-step .ensures) ∙ c .before .before .before .before .if1 .taken) in
     omega (arith, r .place, r .room, r .kept, more)
 
 loop-again : tie.Need-loop-again Inv-loop μ-loop
 loop-again c =
     let r = c .before .before .before .loop .inv in
     let b = c .before .before .loop-test .taken in
-    let q = sym (c .before .kept .ensures) in
+    let q = sym (c .before .is-step .ensures) in
     ⊎-elim (λ w. append-takes r (λ j. refl) b (q ∙ w .0 .taken) (w .5 ∙ w .2 .ensures) (w .6)) (λ w. append-leaves r b (q ∙ w .0 .left) (w .1) (w .2)) (c .if1 .came)
 
 pub put-edges-spec : {M : Type 1} → statement M

@@ -10,7 +10,7 @@ put-corners-requires c κs =
     let s : tie.Start = search needs in
     let head : tie.After-put-head = search needs in
     let a = s .args in
-    (s .pre .0, corners-room (a .points .now) (a .labels .now) (a .ends .now) (a .numbers .now) (a .n) (a .e) (a .vertices) (a .edges) (s .pre .1) _ (omega (arith, s .pre .2, head .put-head .kept)))
+    (s .pre .0, s .pre .1 .vertices-long, corners-room (a .points .now) (a .labels .now) (a .ends .now) (a .numbers .now) (a .corners .now) (a .pieces .now) (a .n) (a .e) (a .vertices) (a .edges) (s .pre .1) _ (omega (arith, s .pre .2, head .put-head .kept)))
 
 put-edges-requires : tie.Need-put-edges-requires
 put-edges-requires c κs =
@@ -18,13 +18,13 @@ put-edges-requires c κs =
     let head : tie.After-put-head = search needs in
     let corners : tie.After-put-corners = search needs in
     let a = s .args in
-    edges-room (a .points .now) (a .labels .now) (a .ends .now) (a .numbers .now) (a .n) (a .e) (a .vertices) (a .edges) (s .pre .1) _ _ (c .vertex-place .ensures) (omega (arith, s .pre .2, head .put-head .kept, corners .put-corners .kept))
+    (s .pre .1 .edges-long, edges-room (a .points .now) (a .labels .now) (a .ends .now) (a .numbers .now) (a .corners .now) (a .pieces .now) (a .n) (a .e) (a .vertices) (a .edges) (s .pre .1) _ _ (c .vertex-place .ensures) (omega (arith, s .pre .2, head .put-head .kept, corners .put-corners .kept)))
 
 returns : tie.Need-returns
 returns c =
-    let s = c .before .before .before .before .before .before .before .before .before .before .before .before .before .before .before .before .before .before .before .before .before .before in
+    let s = c .before .before .before .before .before .before .before .before .before .before .before .before .before .before .before .before .before .before .before .before .before .before .before .before in
     let a = s .args in
-    file-put (a .points .now) (a .labels .now) (a .ends .now) (a .numbers .now) (a .n) (a .e) (a .vertices) (a .edges) (s .pre .1) (a .out .now) (s .pre .2) _ _ _ _ _ _
+    file-put (a .points .now) (a .labels .now) (a .ends .now) (a .numbers .now) (a .corners .now) (a .pieces .now) (a .n) (a .e) (a .vertices) (a .edges) (s .pre .1) (a .out .now) (s .pre .2) _ _ _ _ _ _
     (c .before .before .before .before .before .before .before .before .before .before .before .before .before .before .before .before .put-head .ensures) (c .before .before .before .before .before .before .before .before .before .before .before .before .put-corners .ensures) (c .before .before .before .before .before .before .before .put-edges .ensures) (c .before .before .wipe-from-u8 .ensures) (c .before .before .before .before .before .before .before .before .vertex-place .ensures) (c .before .before .before .map-length .ensures)
 
 pub put-file-spec : {M : Type 1} → statement M

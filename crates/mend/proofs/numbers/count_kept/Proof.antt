@@ -5,15 +5,15 @@ use native.Mathlib.Omega.{arith}
 use borrow.Author.Needs.{needs}
 use Rattle.seq.specs.Loops.Selecting.{Counting, count-starts, count-most, count-takes, count-skips, count-ends}
 use Rattle.seq.specs.Seq.{_-_}
-use Rattle.mend.specs.Steps.{keptIn}
+use Rattle.mend.specs.Steps.{stepIs}
 use Rattle.mend.proofs.numbers.count_kept.Statement.{statement}
 use Rattle.mend.proofs.numbers.count_kept.Tie as tie
 
 abbrev Inv-loop : tie.InvT-loop
-Inv-loop ends e c₀ k₀ c k = Counting (keptIn ends) e c k
+Inv-loop steps e c₀ k₀ c k = Counting (stepIs steps 0) e c k
 
 abbrev μ-loop : tie.MeasureT-loop
-μ-loop ends e c₀ k₀ c k = e - k
+μ-loop steps e c₀ k₀ c k = e - k
 
 add-c : tie.Need-add-c Inv-loop μ-loop
 add-c c =
@@ -24,7 +24,7 @@ loop-again : tie.Need-loop-again Inv-loop μ-loop
 loop-again c =
     let l = c .before .before .before .loop in
     let b = c .before .before .loop-test .taken in
-    let q = sym (c .before .kept .ensures) in
+    let q = sym (c .before .is-step .ensures) in
     ⊎-elim (λ w. count-takes (l .inv) b (q ∙ w .0 .taken) (w .1)) (λ w. count-skips (l .inv) b (q ∙ w .0 .left) (w .1)) (c .if1 .came)
 
 pub count-kept-spec : {M : Type 1} → statement M

@@ -6,15 +6,15 @@ use borrow.Author.Needs.{needs}
 use Rattle.seq.specs.Loops.Filling.{Filling, fill-starts, fill-turns, fill-ends}
 use Rattle.seq.specs.Loops.Selecting.{Counting, count-starts, count-most, count-takes, count-skips, count-ends}
 use Rattle.seq.specs.Seq.{_-_, count}
-use Rattle.mend.specs.Steps.{hasIn}
+use Rattle.mend.specs.Steps.{stepIs}
 use Rattle.mend.proofs.numbers.number.Statement.{statement}
 use Rattle.mend.proofs.numbers.number.Tie as tie
 
 abbrev Inv-loop : tie.InvT-loop
-Inv-loop ends e n out₀ c₀ v₀ out c v = Filling (count (hasIn ends e)) n out₀ out v × Counting (hasIn ends e) n c v
+Inv-loop steps n out₀ c₀ v₀ out c v = Filling (count (stepIs steps 0)) n out₀ out v × Counting (stepIs steps 0) n c v
 
 abbrev μ-loop : tie.MeasureT-loop
-μ-loop ends e n out₀ c₀ v₀ out c v = n - v
+μ-loop steps n out₀ c₀ v₀ out c v = n - v
 
 slice-write : tie.Need-slice-write-out Inv-loop μ-loop
 slice-write c =
@@ -35,7 +35,7 @@ loop-again : tie.Need-loop-again Inv-loop μ-loop
 loop-again c =
     let l = c .before .before .before .loop in
     let b = c .before .before .loop-test .taken in
-    let q = sym (c .before .has-edge .ensures) in
+    let q = sym (c .before .is-step .ensures) in
     (fill-turns (l .inv .0) b (l .inv .1 .is), ⊎-elim (λ w. count-takes (l .inv .1) b (q ∙ w .0 .taken) (w .1)) (λ w. count-skips (l .inv .1) b (q ∙ w .0 .left) (w .1)) (c .if1 .came))
 
 returns : tie.Need-returns Inv-loop μ-loop

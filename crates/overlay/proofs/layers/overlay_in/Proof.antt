@@ -9,8 +9,8 @@ use Rattle.tables.specs.Values.{tablesBy}
 use Rattle.overlay_maps.proofs.StackLaws.{all-pass}
 use Rattle.overlay_maps.proofs.RoomLaws.{layer-room}
 use Rattle.overlay_maps.proofs.HeldLaws.{held-maps, layers-held}
-use Rattle.overlay.specs.Judged.{overlaid}
-use Rattle.overlay.proofs.JudgeLaws.{maps-refused, maps-pass}
+use Rattle.overlay_fill.specs.Judged.{overlaid}
+use Rattle.overlay_fill.proofs.JudgeLaws.{maps-refused, maps-pass}
 use Rattle.overlay.proofs.layers.overlay_in.Statement.{statement}
 use Rattle.overlay.proofs.layers.overlay_in.Tie as tie
 

@@ -16,8 +16,8 @@ use Rattle.overlay_maps.specs.Layers.{Layers, layersBy}
 use Rattle.overlay_maps.specs.Held.{heldMaps}
 use Rattle.overlay_graph.specs.Cut.{Cut, cutBy}
 use Rattle.overlay_graph.specs.Laws.Drawing.{overlay-in, cut-drawable}
-use Rattle.overlay.specs.Judged.{laidOut}
-use Rattle.overlay.proofs.JudgeLaws.{cut-refused, cut-within}
+use Rattle.overlay_fill.specs.Judged.{laidOut}
+use Rattle.overlay_fill.proofs.JudgeLaws.{cut-refused, cut-within}
 use Rattle.overlay.proofs.stages.lay_cut.Statement.{statement}
 use Rattle.overlay.proofs.stages.lay_cut.Tie as tie
 

@@ -3,7 +3,7 @@ use mathlib.Core.Path.{sym, _∙_}
 use native.Mathlib.Omega.{arith}
 use Rattle.seq.specs.Seq.{_+_, getD}
 use Rattle.plane.specs.Values.{ptOf}
-use Rattle.overlay_sweep.specs.Numbers.{carried}
+use Rattle.keys.specs.Rows.{carried}
 use Rattle.overlay_sweep.specs.Ahead.{strandAt, queued-none, requeued, crossAhead, ahead-same, ahead-other}
 use borrow.Author.Needs.{needs}
 use Rattle.overlay_sweep.proofs.ahead.tested.Statement.{statement}
@@ -30,10 +30,10 @@ returns c =
     (queued-none (a .points .now) (a .n) (s .pre .1 .1 .1))
 
 carrier-at-requires : tie.Need-carrier-at-requires
-carrier-at-requires c κs = let s : tie.Start = search needs in carried (s .pre .0 .0) _ (s .pre .1 .0 .0 .named (s .args .j) (omega (arith, s .pre .1 .0 .1)))
+carrier-at-requires c κs = let s : tie.Start = search needs in carried (s .pre .0 .0) (s .pre .1 .0 .0 .named (s .args .j) (omega (arith, s .pre .1 .0 .1)))
 
 carrier-at-requires-2 : tie.Need-carrier-at-requires-2
-carrier-at-requires-2 c κs = let s : tie.Start = search needs in carried (s .pre .0 .0) _ (s .pre .1 .0 .0 .named (s .args .j + 1) (s .pre .1 .0 .1))
+carrier-at-requires-2 c κs = let s : tie.Start = search needs in carried (s .pre .0 .0) (s .pre .1 .0 .0 .named (s .args .j + 1) (s .pre .1 .0 .1))
 
 cross-in-requires : tie.Need-cross-in-requires
 cross-in-requires c κs =

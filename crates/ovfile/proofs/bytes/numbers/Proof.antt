@@ -18,8 +18,9 @@ abbrev μ-loop : tie.MeasureT-loop
 
 mul-n : tie.Need-mul-n Inv-loop μ-loop
 mul-n c =
+    let start : tie.Start Inv-loop μ-loop = search needs in
     let at = c .before in
-    omega (arith, powers-fit (at .loop .i) (at .before .args .width) (omega arith) (omega arith))
+    omega (arith, powers-fit (at .loop .i) (start .args .width) (omega arith) (omega arith))
 
 loop-again : tie.Need-loop-again Inv-loop μ-loop
 loop-again c =
@@ -27,11 +28,15 @@ loop-again c =
     (omega arith, ap (λ (n : ℕ). 256 * n) (at .inv .1) ∙ sym (rw (add-one (at .i)) (pow-succ' 256 (at .i))))
 
 returns : tie.Need-returns Inv-loop μ-loop
-returns c =
+returns c = ap (λ (i : ℕ). 256 ^ i) (sym (c .if1 .taken))
+
+returns-2 : tie.Need-returns-2 Inv-loop μ-loop
+returns-2 c =
+    let start : tie.Start Inv-loop μ-loop = search needs in
     let at = c .before .loop in
-    let e : at .i ≡ c .before .before .args .width = omega arith in
+    let e : at .i ≡ start .args .width = omega arith in
     at .inv .1 ∙ ap (λ (i : ℕ). 256 ^ i) e
 
 pub numbers-spec : {M : Type 1} → statement M
 numbers-spec =
-    tie.close (tie.spec Inv-loop μ-loop (λ c. search needs) mul-n (λ c. search needs) (λ c. search needs) loop-again returns)
+    tie.close (tie.spec Inv-loop μ-loop returns (λ c. search needs) mul-n (λ c. search needs) (λ c. search needs) loop-again returns-2)

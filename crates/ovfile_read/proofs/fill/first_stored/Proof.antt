@@ -11,10 +11,10 @@ use Rattle.ovfile_read.proofs.fill.first_stored.Statement.{statement}
 use Rattle.ovfile_read.proofs.fill.first_stored.Tie as tie
 
 abbrev Inv-loop : tie.InvT-loop
-Inv-loop layout file j n out₀ h₀ out h = Placing (storedField (layoutFrom layout) file j) n out₀ out h
+Inv-loop layout file start j n out₀ h₀ out h = Placing (storedField (layoutFrom layout) file j) n out₀ out h
 
 abbrev μ-loop : tie.MeasureT-loop
-μ-loop layout file j n out₀ h₀ out h = h
+μ-loop layout file start j n out₀ h₀ out h = h
 
 cast-store-2 : tie.Need-cast-store-2 Inv-loop μ-loop
 cast-store-2 c =

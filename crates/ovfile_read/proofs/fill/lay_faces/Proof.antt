@@ -13,10 +13,10 @@ use Rattle.ovfile_read.proofs.fill.lay_faces.Statement.{statement}
 use Rattle.ovfile_read.proofs.fill.lay_faces.Tie as tie
 
 abbrev Inv-loop : tie.InvT-loop
-Inv-loop layout file faces₀ n f₀ faces f = Laying (faceWidth maps) (faceRead maps (layoutFrom layout) file) (countsIn file .faces) faces₀ faces f
+Inv-loop layout file faces₀ n start f₀ faces f = Laying (faceWidth maps) (faceRead maps (layoutFrom layout) file) (countsIn file .faces) faces₀ faces f
 
 abbrev μ-loop : tie.MeasureT-loop
-μ-loop layout file faces₀ n f₀ faces f = n - f
+μ-loop layout file faces₀ n start f₀ faces f = n - f
 
 counted : (c : tie.After-counts Inv-loop μ-loop) → c .counts .result .faces ≡ countsIn (now (c .before .before .before .args .file)) .faces
 counted c = ap (λ (n : Counts). n .faces) (c .counts .ensures)
@@ -28,12 +28,23 @@ store5-u16-requires c κs =
     let in-loop : tie.In-loop Inv-loop μ-loop = search needs in
     omega (arith, in-loop .loop-test .taken, at .loop .inv .room, at .loop .inv .kept, counted after-counts)
 
+add-f : tie.Need-add-f Inv-loop μ-loop
+add-f c =
+    let after-counts : tie.After-counts Inv-loop μ-loop = search needs in
+    let in-loop : tie.In-loop Inv-loop μ-loop = search needs in
+    omega (arith, in-loop .loop-test .taken, after-counts .counts .ok)
+
+loop-less : tie.Need-loop-less Inv-loop μ-loop
+loop-less c =
+    let in-loop : tie.In-loop Inv-loop μ-loop = search needs in
+    omega (arith, in-loop .loop-test .taken)
+
 loop-again : tie.Need-loop-again Inv-loop μ-loop
 loop-again c =
     let d = c .before .before .before in
     let l : tie.After-label3 Inv-loop μ-loop = d .before .before .before .before in
     let at : tie.At-loop Inv-loop μ-loop = l .before .before .before .before .before in
-    let after-counts : tie.After-counts Inv-loop μ-loop = at .before .before in
+    let after-counts : tie.After-counts Inv-loop μ-loop = at .before .before .before in
     lay-turns (at .loop .inv) (λ k. refl) (omega (arith, counted after-counts)) (c .before .before .store5-u16 .ensures)
     (λ i. l .before .before .label .ensures i ∷ l .before .label2 .ensures i ∷ l .label3 .ensures i ∷ d .before .before .face-field .ensures i ∷ d .face-field2 .ensures i ∷ [])
 
@@ -50,6 +61,7 @@ lay-faces-spec =
     μ-loop
     (λ c κs. search needs)
     (λ c. search needs)
+    (λ c κs. search needs)
     (λ c. lay-starts (search needs))
     (λ c. search needs)
     (λ c κs. search needs)
@@ -61,8 +73,8 @@ lay-faces-spec =
     (λ c. search needs)
     (λ c κs. search needs)
     store5-u16-requires
-    (λ c. search needs)
-    (λ c. search needs)
+    add-f
+    loop-less
     loop-again
     (λ c. c .before .loop .inv .kept)
     returns)

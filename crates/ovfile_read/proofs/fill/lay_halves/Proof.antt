@@ -20,10 +20,10 @@ abbrev row : Layout → List ℕ → ℕ → List ℕ
 row l s = halfRead l s (followersIn l s)
 
 abbrev Inv-loop : tie.InvT-loop
-Inv-loop layout file first halves₀ n h₀ halves h = Laying 5 (row (layoutFrom layout) file) (2 * countsIn file .edges) halves₀ halves h
+Inv-loop layout file first halves₀ n start h₀ halves h = Laying 5 (row (layoutFrom layout) file) (2 * countsIn file .edges) halves₀ halves h
 
 abbrev μ-loop : tie.MeasureT-loop
-μ-loop layout file first halves₀ n h₀ halves h = n - h
+μ-loop layout file first halves₀ n start h₀ halves h = n - h
 
 counted : (c : tie.After-counts Inv-loop μ-loop) → c .counts .result .edges ≡ countsIn (now (c .before .before .before .before .args .file)) .edges
 counted c = ap (λ (n : Counts). n .edges) (c .counts .ensures)
@@ -75,6 +75,7 @@ lay-halves-spec =
     (λ c κs. search needs)
     (λ c. search needs)
     (λ c. search needs)
+    (λ c κs. search needs)
     (λ c. lay-starts (search needs))
     (λ c. search needs)
     (λ c κs. search needs)

@@ -17,10 +17,10 @@ abbrev row : Layout → List ℕ → ℕ → List ℕ
 row l s k = table (storedSource l s k) maps
 
 abbrev Inv-loop : tie.InvT-loop
-Inv-loop layout file sources₀ n k₀ sources k = Laying maps (row (layoutFrom layout) file) (countsIn file .edges) sources₀ sources k
+Inv-loop layout file sources₀ n start k₀ sources k = Laying maps (row (layoutFrom layout) file) (countsIn file .edges) sources₀ sources k
 
 abbrev μ-loop : tie.MeasureT-loop
-μ-loop layout file sources₀ n k₀ sources k = n - k
+μ-loop layout file sources₀ n start k₀ sources k = n - k
 
 counted : (c : tie.After-counts Inv-loop μ-loop) → c .counts .result .edges ≡ countsIn (now (c .before .before .before .args .file)) .edges
 counted c = ap (λ (n : Counts). n .edges) (c .counts .ensures)
@@ -54,6 +54,7 @@ lay-sources-spec =
     μ-loop
     (λ c κs. search needs)
     (λ c. search needs)
+    (λ c κs. search needs)
     (λ c. lay-starts (search needs))
     (λ c. search needs)
     (λ c κs. search needs)

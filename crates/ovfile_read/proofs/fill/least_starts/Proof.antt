@@ -18,15 +18,17 @@ counted c = ap (λ (n : Counts). n .edges) (c .counts .ensures)
 
 first-stored-requires : tie.Need-first-stored-requires
 first-stored-requires c κs =
+    let started : tie.After-edges-start = search needs in
     let start : tie.Start = search needs in
-    (start .pre .0, omega (arith, counted (c .before .before), start .pre .1 .edges))
+    let after-counts : tie.After-counts = search needs in
+    (started .edges-start .ensures, omega (arith, counted after-counts, start .pre .1 .edges))
 
 returns : tie.Need-returns
 returns c =
     let after-counts : tie.After-counts = search needs in
     let start : tie.Start = search needs in
     let e = ap (λ (k : ℕ). 2 * k) (counted after-counts) in
-    starts-by (layoutFrom (start .args .layout)) (now (start .args .file)) (c .before .first-stored .ensures) e (omega (arith, c .before .first-stored .kept .1 .1 .1 .1 .0, start .pre .1 .vertices))
+    starts-by (layoutFrom (start .args .layout)) (now (start .args .file)) (c .before .first-stored .ensures) e (omega (arith, c .before .first-stored .kept .1 .1 .1 .1 .1 .0, start .pre .1 .vertices))
     (λ v l. getD-replicate 1000 v absent 0 (omega (arith, start .pre .1 .vertices)))
 
 pub least-starts-spec : {M : Type 1} → statement M
@@ -36,6 +38,7 @@ least-starts-spec =
     (λ c κs. search needs)
     (λ c. search needs)
     (λ c. search needs)
+    (λ c κs. search needs)
     (λ c. search needs)
     first-stored-requires
     returns)

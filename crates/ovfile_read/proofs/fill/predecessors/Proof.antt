@@ -22,9 +22,10 @@ cast-first c =
 
 first-stored-requires : tie.Need-first-stored-requires
 first-stored-requires c κs =
+    let started : tie.After-edges-start = search needs in
     let start : tie.Start = search needs in
     let after-counts : tie.After-counts = search needs in
-    (start .pre .0, omega (arith, counted after-counts, start .pre .1 .edges))
+    (started .edges-start .ensures, omega (arith, counted after-counts, start .pre .1 .edges))
 
 returns : tie.Need-returns
 returns c =
@@ -32,7 +33,7 @@ returns c =
     let start : tie.Start = search needs in
     let n = after-counts .counts .result .edges in
     let e = ap (λ (k : ℕ). 2 * k) (counted after-counts) in
-    predecessors-by (layoutFrom (start .args .layout)) (now (start .args .file)) (c .before .first-stored .ensures) e (omega (arith, c .before .first-stored .kept .1 .1 .1 .1 .0, start .pre .1 .edges))
+    predecessors-by (layoutFrom (start .args .layout)) (now (start .args .file)) (c .before .first-stored .ensures) e (omega (arith, c .before .first-stored .kept .1 .1 .1 .1 .1 .0, start .pre .1 .edges))
     (λ h l. getD-replicate 4000 h (2 * n) 0 (omega (arith, e, start .pre .1 .edges)))
 
 pub predecessors-spec : {M : Type 1} → statement M
@@ -43,6 +44,7 @@ predecessors-spec =
     (λ c. search needs)
     (λ c. search needs)
     cast-first
+    (λ c κs. search needs)
     (λ c. search needs)
     (λ c. search needs)
     (λ c. search needs)

@@ -2,7 +2,7 @@
 use mathlib.Core.Path.{_∙_, ap}
 use borrow.Author.Needs.{needs}
 use Rattle.exact.specs.Exact.{sgn}
-use Rattle.plane.proofs.Fractions.{read, long, level}
+use Rattle.plane.proofs.Fractions.{read, long, level-read}
 use Rattle.plane.proofs.order.fractions.Statement.{statement}
 use Rattle.plane.proofs.order.fractions.Tie as tie
 
@@ -16,7 +16,7 @@ returns : tie.Need-returns
 returns c =
     let s : tie.Start = search needs in
     let a = s .args in
-    c .order .ensures ∙ level (a .n) (a .d) (a .m) (a .e) (s .pre .0) (s .pre .1) (c .before .if1 .taken)
+    c .order .ensures ∙ level-read (a .n) (a .d) (a .m) (a .e) (s .pre .0) (s .pre .1) (c .before .if1 .taken)
 
 returns-2 : tie.Need-returns-2
 returns-2 c =

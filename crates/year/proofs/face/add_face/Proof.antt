@@ -2,6 +2,7 @@
 use native.Mathlib.Omega.{arith}
 use Prim.Native.Nat.{_<_}
 use Rattle.year.specs.Kept.{most, kept-low}
+use Rattle.year.specs.Risen.{kept-ordered}
 use Rattle.year.specs.FaceAdded.{kept-over, kept-there, kept-within, kept-counts, kept-full, kept-opens}
 use borrow.Author.Needs.{needs}
 use Rattle.year.proofs.face.add_face.Statement.{statement}
@@ -10,13 +11,19 @@ use Rattle.year.proofs.face.add_face.Tie as tie
 returns : tie.Need-returns
 returns c = let a = c .before .before .args in kept-over (a .rows .now) (a .n) (a .file) (a .zone, a .block) (search needs)
 
+place-requires : tie.Need-place-requires
+place-requires c κs =
+    let s : tie.Start = search needs in
+    let a = s .args in
+    (omega (arith, s .pre .0), λ e. kept-ordered (a .rows .now) (a .n) (a .n) (omega arith) (s .pre .1 .1 e))
+
 count-requires : tie.Need-count-requires
 count-requires c κs =
     let s = c .before .before .before .before .before .before .before .before in
     let a = s .args in
     let r = c .before .before .before .before .place .result in
     let h : r < a .n = kept-there (a .rows .now) (a .n) r (a .zone) (a .block) (a .file) (omega arith) (c .before .before .before .before .place .ensures) _ (c .before .before .stands .ensures) (c .before .if2 .taken) in
-    (omega (arith, s .pre .0), kept-low most (a .rows .now) (a .n) r (s .pre .1) (omega arith) h)
+    (omega (arith, s .pre .0), kept-low most (a .rows .now) (a .n) r (s .pre .1 .0) (omega arith) h)
 
 returns-2 : tie.Need-returns-2
 returns-2 c =
@@ -47,7 +54,7 @@ add-face-spec =
     tie.close
     (tie.spec
     returns
-    (λ c κs. search needs)
+    place-requires
     (λ c κs. search needs)
     count-requires
     (λ c. search needs)
