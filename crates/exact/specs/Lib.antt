@@ -22,5 +22,4 @@ pub mod Lowest
 pub mod Compare
 pub mod Words
 pub mod Digits
-pub mod Floor
 pub mod Worked

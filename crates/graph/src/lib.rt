@@ -3,12 +3,9 @@ mod places; // the first place of each number in a table
 mod heading; // which way a half-edge goes
 mod rising; // points in their order
 mod small; // small graphs
-mod stars; // the half-edges out of each vertex by falling angle
-mod followers; // the follower of every half-edge
+mod stars; // the follower of every half-edge: the half-edges out of each vertex by falling angle
 mod look; // looking west
 
-pub use followers::follow;
-pub use followers::heading_at;
 pub use heading::carrier_at;
 pub use heading::headings;
 pub use heading::headings_by;

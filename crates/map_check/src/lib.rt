@@ -17,7 +17,6 @@ use limits::MAP_CARRIER_CELLS;
 use limits::MAP_HALVES;
 use limits::MAP_POINT_CELLS;
 pub use parts::first_too_far;
-pub use parts::first_under;
 ghost use mathlib.Core.Path.{_≡_};
 ghost use Rattle.paper.specs.Map.{check};
 ghost use Rattle.map_check.specs.Answer.{answerOf};

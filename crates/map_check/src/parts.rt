@@ -75,7 +75,7 @@ fn lies_on(points: &[i64], v: usize, u: usize) -> bool
 }
 
 // The least vertex below v that v lies on, or v.
-pub fn first_under(points: &[i64], v: usize) -> usize
+fn first_under(points: &[i64], v: usize) -> usize
     requires { ⌜ 4 * v + 4 ≤ length (now points) ⌝ }
     ensures { λ r. ⌜ r ≡ least (liesOn (now (points .entry)) v) v ⌝ }
 {

@@ -2,7 +2,7 @@
 use mathlib.Core.Path.{_≡_, sym, _∙_, ap}
 use Prim.Native.Nat.{_<_}
 use native.Mathlib.Omega.{arith}
-use Rattle.seq.specs.Seq.{Bool, cond, not, List, [], _∷_, _++_, none, ℕ, _+_, _*_, _-_, eqb, length, getD, ℤ, someBelow, count, rows, gather}
+use Rattle.seq.specs.Seq.{Bool, cond, List, [], _∷_, _++_, none, ℕ, _+_, _*_, _-_, eqb, length, getD, ℤ, someBelow, count, rows, gather}
 use Rattle.seq.specs.Count.{count-ext}
 use Rattle.seq.specs.Rows.{rows-ext}
 use Rattle.seq.specs.Select.{length-select}

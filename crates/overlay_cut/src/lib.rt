@@ -16,5 +16,4 @@ pub use edges::carriers;
 pub use edges::origins;
 pub use edges::source_in;
 pub use ordering::order;
-pub use threads::remember;
 pub use threads::remember_all;

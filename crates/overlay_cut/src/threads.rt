@@ -18,7 +18,7 @@ fn is_of(nodes: &[u16], x: usize, v: u16) -> bool
 }
 
 // Remembers that v is on edge k of e, where that is not remembered yet, with room for so many nodes. Answers how many there are, or `room` where they are no longer kept.
-pub fn remember(
+fn remember(
     last: &mut [u16],
     e: usize,
     nodes: &mut [u16],

@@ -10,7 +10,7 @@ ghost use Rattle.seq.specs.Seq.{gather};
 ghost use Rattle.paper.specs.Bytes.{number, signedAt, le};
 ghost use Rattle.laws_file.specs.Bytes.{wrapped};
 
-// How many numbers w bytes have.
+// How many numbers w bytes have; of six, as most coordinates have, it is known.
 pub fn numbers(width: usize) -> u64
     requires { ⌜ width < 8 ⌝ }
     ensures { λ r. ⌜ r ≡ 256 ^ width ⌝ }

@@ -1,5 +1,5 @@
 -- The reader's refusals as the code finds them: the form first, then the edges and the room, and what is known of a file that is not refused. Assumes nothing.
-use mathlib.Core.Path.{_≡_, sym, _∙_, ap}
+use mathlib.Core.Path.{_≡_, sym, _∙_}
 use Prim.Native.Nat.{_≤_}
 use native.Mathlib.Omega.{arith}
 use borrow.Author.Tests.{ltb-false}

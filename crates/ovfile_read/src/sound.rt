@@ -15,9 +15,9 @@ use ovfile::u16_at;
 use tables::Counts;
 ghost use mathlib.Core.Path.{_≡_};
 ghost use mathlib.Core.Bool.{not};
-ghost use Prim.Native.Nat.{_+_, _*_, _<_, _≤_};
+ghost use Prim.Native.Nat.{_+_, _*_, _/_, _<_, _≤_};
 ghost use Rattle.seq.specs.Seq.{least};
-ghost use Rattle.paper.specs.Limits.{maps};
+ghost use Rattle.paper.specs.Limits.{maps, overlayEdges};
 ghost use Rattle.paper.specs.Graph.{twin};
 ghost use Rattle.paper.specs.Ovfile.{soundFollower, hasSource, soundEdge};
 ghost use Rattle.paper.specs.Reader.{countsIn, storedOrigin, storedFollower, tablesIn};
@@ -104,14 +104,14 @@ fn unsound_by(layout: Layout, file: &[u8], taken: &mut [u16]) -> u16
 
 // The same of a file with few edges, by a small table.
 fn unsound_few(layout: Layout, file: &[u8]) -> u16
-    requires { ⌜ Known (layoutFrom layout) × (2 * countsIn (now file) .edges ≤ 124) ⌝ }
+    requires { ⌜ Known (layoutFrom layout) × (2 * countsIn (now file) .edges ≤ 2 * (overlayEdges / 32)) ⌝ }
     ensures { λ r. ⌜ r ≡ least (λ k. not (soundEdge maps (countsIn (now (file .entry))) (tablesIn maps (layoutFrom layout) (now (file .entry))) k)) (countsIn (now (file .entry)) .edges) ⌝ }
 {
     let mut taken = [0u16; SMALL_HALVES];
     unsound_by(layout, file, &mut taken)
 }
 
-// And of any other.
+// The same of any file, by a table of full length.
 fn unsound_many(layout: Layout, file: &[u8]) -> u16
     requires { ⌜ Known (layoutFrom layout) × Within (countsIn (now file)) ⌝ }
     ensures { λ r. ⌜ r ≡ least (λ k. not (soundEdge maps (countsIn (now (file .entry))) (tablesIn maps (layoutFrom layout) (now (file .entry))) k)) (countsIn (now (file .entry)) .edges) ⌝ }
@@ -120,6 +120,7 @@ fn unsound_many(layout: Layout, file: &[u8]) -> u16
     unsound_by(layout, file, &mut taken)
 }
 
+// The least record that is not sound, or the number of edges: by a small table where the edges are few.
 pub fn unsound(layout: Layout, file: &[u8]) -> u16
     requires { ⌜ Known (layoutFrom layout) × Within (countsIn (now file)) ⌝ }
     ensures { λ r. ⌜ r ≡ least (λ k. not (soundEdge maps (countsIn (now (file .entry))) (tablesIn maps (layoutFrom layout) (now (file .entry))) k)) (countsIn (now (file .entry)) .edges) ⌝ }

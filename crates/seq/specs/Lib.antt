@@ -28,7 +28,6 @@ pub mod Cyclic
 pub mod Sum
 pub mod Firsts
 pub mod Collected
-pub mod Ranked
 pub mod Unique
 pub mod SameRows
 pub mod Halves
@@ -36,18 +35,10 @@ pub mod Range
 pub mod Merging
 pub mod ByHalves
 pub mod Parts
-pub mod Runs
-pub mod Repeats
 pub mod Fewer
-pub mod Buckets
-pub mod Grouped
 pub mod RisingKeys
 pub mod Early
 pub mod Kept
-pub mod Moved
-pub mod Pass
-pub mod PassOfKinds
-pub mod Star
 pub mod Downward
 pub mod Put
 pub mod Slotted

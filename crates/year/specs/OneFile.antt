@@ -1,12 +1,12 @@
 -- What the code knows of one file, by the reader's judgement, is what the state after it asks. Assumes nothing.
-use mathlib.Core.Path.{_≡_, sym, _∙_, ap}
+use mathlib.Core.Path.{_≡_, _∙_, ap}
 use Prim.Native.Nat.{_≤_, _<_}
 use native.Mathlib.Numerals.{add-one}
 use native.Mathlib.Omega.{arith}
 use Rattle.seq.specs.Seq.{List, Option, none, some, ℕ, _+_, _-_, length}
 use Rattle.seq.specs.HowMany.{howMany, many-le}
 use Rattle.seq.specs.Table.{length-table}
-use Rattle.paper.specs.Limits.{maps, overlayFaces}
+use Rattle.paper.specs.Limits.{maps}
 use Rattle.paper.specs.Bytes.{u16}
 use Rattle.paper.specs.Refusal.{Refusal}
 use Rattle.paper.specs.Lent.{outcome}

@@ -1,6 +1,6 @@
 -- A table of pairs in strict order stays so as faces are added (`faces-ordered`); a pair's place in it can be found by halves (`rows-last`); and whether it is so is seen at neighbours
 -- (`next-ordered`). Assumes nothing.
-use mathlib.Core.Path.{_≡_, refl, sym, _∙_, ap, subst}
+use mathlib.Core.Path.{_≡_, sym, _∙_, ap, subst}
 use Prim.Native.Nat.{_≤_, _<_}
 use native.Mathlib.Nat.{not-suc-le-zero}
 use native.Mathlib.Decide.{decLt}

@@ -1,18 +1,13 @@
 -- Threads: a vertex more on some edges, and what it makes of threads of the vertices below it. Assumes nothing.
-use mathlib.Core.Path.{_≡_, refl, sym, _∙_, ap, subst}
+use mathlib.Core.Path.{_≡_, refl, sym, _∙_, ap}
 use mathlib.Core.Logic.{⊎-elim}
 use Prim.Native.Nat.{_≤_, _<_}
 use native.Mathlib.Decide.{ℕ-discrete}
-use native.Mathlib.Numerals.{add-one}
 use native.Mathlib.Omega.{arith}
-use borrow.Author.Tests.{eqb-true, eqb-false, eq-eqb, ne-eqb}
-use lib.ListN.{set, length-set}
-use lib.Seq.{getD-set-same, getD-set-other}
-use Rattle.seq.specs.Seq.{Bool, true, false, cond, _||_, List, [], _∷_, ℕ, zero, suc, _+_, _-_, _*_, ℤ, eqb, length, getD}
-use Rattle.seq.specs.Tests.{way, or-l, or-r, or-cases, clash}
-use Rattle.paper.specs.Plane.{onSeg}
-use Rattle.graph.specs.Flat.{pointAt, carrierAt}
-use Rattle.overlay_cut.specs.Threads.{down, along, thread, threadOf, Chains, Threaded, ThreadedIf, heads, topped, namedIn, Remembered, RememberedIf}
+use borrow.Author.Tests.{eqb-true, eq-eqb, ne-eqb}
+use Rattle.seq.specs.Seq.{Bool, true, false, cond, _||_, List, [], _∷_, ℕ, zero, suc, _+_, _-_, _*_, eqb, getD}
+use Rattle.seq.specs.Tests.{or-l, or-r, or-cases, clash}
+use Rattle.overlay_cut.specs.Threads.{down, along, thread, heads, topped, namedIn}
 
 -- ── along the links ──
 

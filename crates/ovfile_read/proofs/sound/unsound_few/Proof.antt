@@ -1,6 +1,7 @@
 -- `ovfile_read::sound::unsound_few` meets its contract. Assumes nothing.
 use denote.Ref.{now}
-use Rattle.seq.specs.Seq.{_*_}
+use Rattle.seq.specs.Seq.{_*_, _/_}
+use Rattle.paper.specs.Limits.{overlayEdges}
 use Rattle.paper.specs.Reader.{countsIn, storedFollower}
 use Rattle.ovfile.specs.Values.{layoutFrom}
 use Rattle.ovfile_read.proofs.SoundLaws.{taken-starts}
@@ -12,7 +13,7 @@ unsound-by-requires : tie.Need-unsound-by-requires
 unsound-by-requires c κs =
     let start : tie.Start = search needs in
     let s = now (start .args .file) in
-    (start .pre .0, taken-starts (storedFollower (layoutFrom (start .args .layout)) s) (2 * countsIn s .edges) 124 (start .pre .1))
+    (start .pre .0, taken-starts (storedFollower (layoutFrom (start .args .layout)) s) (2 * countsIn s .edges) (2 * (overlayEdges / 32)) (start .pre .1))
 
 pub unsound-few-spec : {M : Type 1} → statement M
 unsound-few-spec = tie.close (tie.spec (λ c. search needs) unsound-by-requires (λ c. search needs))

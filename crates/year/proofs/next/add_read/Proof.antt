@@ -3,16 +3,14 @@ use mathlib.Core.Path.{_≡_, refl, sym, ap, _∙_}
 use Prim.Native.Nat.{_≤_}
 use native.Mathlib.Omega.{arith}
 use denote.Ref.{now}
-use Rattle.seq.specs.Seq.{ℕ, none, some, _-_}
+use Rattle.seq.specs.Seq.{none, some, _-_}
 use Rattle.paper.specs.Tables.{Counts}
-use Rattle.paper.specs.Ovfile.{Layout}
 use Rattle.paper.specs.Reader.{countsIn}
 use Rattle.map_file.specs.Verdict.{verdict}
-use Rattle.ovfile.specs.Values.{layoutFrom}
 use Rattle.laws_year.specs.Capped.{capRead}
 use Rattle.year.specs.Faced.{others, pairsFrom}
 use Rattle.year.specs.Stated.{stateOf}
-use Rattle.year.specs.OneFile.{layoutIn, faultOf, sheet-refused, sheet-fine, fine-few, bad-added}
+use Rattle.year.specs.OneFile.{faultOf, sheet-refused, sheet-fine, fine-few, bad-added}
 use borrow.Author.Needs.{needs}
 use Rattle.year.proofs.next.add_read.Statement.{statement}
 use Rattle.year.proofs.next.add_read.Tie as tie

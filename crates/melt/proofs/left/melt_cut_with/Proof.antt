@@ -1,4 +1,4 @@
--- `melt::stages::melt_cut_with` meets its contract. First what is known from the start; then the needs, call by call. Assumes nothing.
+-- `melt::left::melt_cut_with` meets its contract. First what is known from the start; then the needs, call by call. Assumes nothing.
 use mathlib.Core.Path.{_∙_, ap}
 use Prim.Native.Nat.{_≤_}
 use native.Mathlib.Omega.{arith}
@@ -20,8 +20,8 @@ use Rattle.overlay_graph.specs.Traced.{NetBy, FacesOver, FacesBy}
 use Rattle.overlay_graph.specs.Laws.Zeros.{blank-long, zeroed-long}
 use Rattle.overlay_graph.specs.Laws.Tracing.{net-planar, faces-by}
 use Rattle.melt.specs.Laws.Judged.{room-refused, room-done, faces-over, faces-fit}
-use Rattle.melt.proofs.stages.melt_cut_with.Statement.{statement}
-use Rattle.melt.proofs.stages.melt_cut_with.Tie as tie
+use Rattle.melt.proofs.left.melt_cut_with.Statement.{statement}
+use Rattle.melt.proofs.left.melt_cut_with.Tie as tie
 
 -- ── what is known ──
 

@@ -1,4 +1,4 @@
--- `melt::stages::melt_cut` meets its contract: the tables are zero and have room, small ones where the sheet is small. Assumes nothing.
+-- `melt::left::melt_cut` meets its contract: the tables are zero and have room, small ones where the sheet is small. Assumes nothing.
 use mathlib.Core.Path.{refl}
 use Prim.Native.Nat.{_≤_}
 use native.Mathlib.Omega.{arith}
@@ -9,8 +9,8 @@ use Rattle.seq.specs.Seq.{ℕ, suc, _+_, _*_, replicate}
 use Rattle.graph.specs.Small.{smallEdges}
 use Rattle.graph_faces.specs.Linked.{halfRows}
 use Rattle.overlay_graph.specs.Traced.{Blank}
-use Rattle.melt.proofs.stages.melt_cut.Statement.{statement}
-use Rattle.melt.proofs.stages.melt_cut.Tie as tie
+use Rattle.melt.proofs.left.melt_cut.Statement.{statement}
+use Rattle.melt.proofs.left.melt_cut.Tie as tie
 
 blank : (n cells : ℕ) → n ≤ cells → Blank n (replicate cells 0)
 blank n cells h = record { cells = cells; room = h; is = refl }

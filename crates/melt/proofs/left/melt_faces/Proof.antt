@@ -1,4 +1,4 @@
--- `melt::stages::melt_faces` meets its contract. First the records of the tables and what is known of the labels; then the needs, call by call. Assumes nothing.
+-- `melt::left::melt_faces` meets its contract. First the records of the tables and what is known of the labels; then the needs, call by call. Assumes nothing.
 use mathlib.Core.Path.{_∙_, ap}
 use native.Mathlib.Omega.{arith}
 use borrow.Author.Needs.{needs}
@@ -17,8 +17,8 @@ use Rattle.thin.specs.Laws.Melted.{Labelled, thinnable}
 use Rattle.overlay_fill.specs.Judged.{laidOut}
 use Rattle.melt.specs.Laws.Left.{faces-are, face-long, labelled, left-melted, left-drawable, left-within}
 use Rattle.melt.specs.Laws.Judged.{melted-room, faces-fit}
-use Rattle.melt.proofs.stages.melt_faces.Statement.{statement}
-use Rattle.melt.proofs.stages.melt_faces.Tie as tie
+use Rattle.melt.proofs.left.melt_faces.Statement.{statement}
+use Rattle.melt.proofs.left.melt_faces.Tie as tie
 
 -- ── what is known ──
 
