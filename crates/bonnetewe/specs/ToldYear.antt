@@ -5,29 +5,29 @@ use Rattle.seq.specs.Seq.{List, [], ◌∷◌, map, ℕ, suc, ◌+◌, ◌*◌, 
 use Rattle.seq.specs.Table.{length-table}
 use Rattle.paper.specs.Refusal as refusal
 use Rattle.paper.specs.Year.{Row}
-use Rattle.laws_year.specs.Step.{Tally, rowIs}
+use Rattle.laws_year.specs.Step.{Tally, the_row_is}
 use Rattle.year.specs.declared.answer.Closed.{Closed}
 use Rattle.year.specs.declared.answer.Closed.TheVariants.{Done, Refused}
-use Rattle.year.specs.TallyRows.{tallyAt, talliesIn}
-use Rattle.year.specs.Closing.{closedOf}
+use Rattle.year.specs.TallyRows.{tally_at, tallies_in}
+use Rattle.year.specs.Closing.{closed_of}
 use Rattle.bonnetewe.specs.Told.{four}
 
-abbrev pub toldYear : refusal.Answer (List Row × ℕ) → ℕ
-toldYear (refusal.done y) = 65536 * (length y.0 + 65536 * y.1)
-toldYear (refusal.refused r) = four r.number r.map r.place r.other
+abbrev pub told_year : refusal.Answer (List Row × ℕ) → ℕ
+told_year (refusal.done y) = 65536 * (length y.0 + 65536 * y.1)
+told_year (refusal.refused r) = four r.number r.map r.place r.other
 
 -- by what `close` gives
-abbrev pub toldClosed : Closed → ℕ
-toldClosed (Done t) = 65536 * (t.pairs + 65536 * t.gaps)
-toldClosed (Refused r) = four r.number r.map r.place r.other
+abbrev pub told_closed : Closed → ℕ
+told_closed (Done t) = 65536 * (t.pairs + 65536 * t.gaps)
+told_closed (Refused r) = four r.number r.map r.place r.other
 
-length-rows : (l : List Tally) → length (map rowIs l) ≡ length l
+length-rows : (l : List Tally) → length (map the_row_is l) ≡ length l
 length-rows [] = refl
 length-rows (x ∷ xs) = ap suc (length-rows xs)
 
-closed-told : (t : List ℕ) (c : Closed) → toldClosed c ≡ toldYear (closedOf t c)
-closed-told t (Done x) = ap (λ (n : ℕ). 65536 * (n + 65536 * x.gaps)) (sym (length-rows (talliesIn t x.pairs) ∙ length-table (tallyAt t) x.pairs))
+closed-told : (t : List ℕ) (c : Closed) → told_closed c ≡ told_year (closed_of t c)
+closed-told t (Done x) = ap (λ (n : ℕ). 65536 * (n + 65536 * x.gaps)) (sym (length-rows (tallies_in t x.pairs) ∙ length-table (tally_at t) x.pairs))
 closed-told t (Refused r) = refl
 
-pub told-year : (t : List ℕ) (c : Closed) (x : refusal.Answer (List Row × ℕ)) (r : ℕ) → r ≡ toldClosed c → closedOf t c ≡ x → r ≡ toldYear x
-told-year t c x r e f = e ∙ closed-told t c ∙ ap toldYear f
+pub told-year : (t : List ℕ) (c : Closed) (x : refusal.Answer (List Row × ℕ)) (r : ℕ) → r ≡ told_closed c → closed_of t c ≡ x → r ≡ told_year x
+told-year t c x r e f = e ∙ closed-told t c ∙ ap told_year f

@@ -3,17 +3,17 @@ ghost use Rattle.std.specs.Prelude.{◌≡◌, [], length};
 ghost use Rattle.paper.specs.Map.{check};
 ghost use Rattle.paper.specs.Meeting.{meet};
 ghost use Rattle.paper.specs.Mend.{mend};
-ghost use Rattle.paper.specs.Lent.{lengthsOf};
+ghost use Rattle.paper.specs.Lent.{lengths_of};
 ghost use Rattle.paper.specs.Overlay.{overlay};
 ghost use Rattle.paper.specs.Melt.{melt};
-ghost use Rattle.paper.specs.Record.{edgeRecord};
+ghost use Rattle.paper.specs.Record.{edge_record};
 ghost use Rattle.paper.specs.Reader.{read};
 ghost use Rattle.paper.specs.Writer.{write};
 ghost use Rattle.paper.specs.Tide.{tide};
-ghost use Rattle.tables.specs.Values.{lengthsBy, tablesBy};
-ghost use Rattle.bonnetewe.specs.Told.{toldMap, Told, ToldFile, ToldMending, counts, toldEnds, toldSources};
+ghost use Rattle.tables.specs.Values.{lengths_by, tables_by};
+ghost use Rattle.bonnetewe.specs.Told.{told_map, Told, ToldFile, ToldMending, counts, told_ends, told_sources};
 ghost use Rattle.bonnetewe.specs.Met.{ToldMeeting};
-ghost use Rattle.bonnetewe.specs.ToldTide.{ruleBy, readingBy, toldTide, toldHeight};
+ghost use Rattle.bonnetewe.specs.ToldTide.{rule_by, reading_by, told_tide, told_height};
 
 use crate::answer::{of_answer, of_checked, of_mended, of_written};
 use crate::height::{height_of, of_tide, reading_by, rule_by};
@@ -24,7 +24,7 @@ use tables::Counts;
 // The check of one map file of any bytes: done with its counts of vertices and edges, or refused.
 #[unsafe(no_mangle)]
 pub extern "C" fn bonnetewe_check(file: &[u8]) -> u64
-    ensures { result ≡ toldMap (check file.now) }
+    ensures { result ≡ told_map (check file.now) }
 {
     let answer = map_check::check(file);
     of_checked(answer)
@@ -61,7 +61,7 @@ pub extern "C" fn bonnetewe_overlay(
     sources: &mut [u32],
     faces: &mut [u16],
 ) -> u64
-    ensures { Told (overlay (lengthsOf (tablesBy vertices.old halves.old sources.old faces.old)) zones.now blocks.now bed.now) (tablesBy vertices.new halves.new sources.new faces.new) result }
+    ensures { Told (overlay (lengths_of (tables_by vertices.old halves.old sources.old faces.old)) zones.now blocks.now bed.now) (tables_by vertices.new halves.new sources.new faces.new) result }
 {
     let answer = overlay::overlay(zones, blocks, bed, vertices, halves, sources, faces);
     of_answer(answer)
@@ -78,7 +78,7 @@ pub extern "C" fn bonnetewe_melt(
     sources: &mut [u32],
     faces: &mut [u16],
 ) -> u64
-    ensures { Told (melt (lengthsOf (tablesBy vertices.old halves.old sources.old faces.old)) zones.now blocks.now bed.now) (tablesBy vertices.new halves.new sources.new faces.new) result }
+    ensures { Told (melt (lengths_of (tables_by vertices.old halves.old sources.old faces.old)) zones.now blocks.now bed.now) (tables_by vertices.new halves.new sources.new faces.new) result }
 {
     let answer = melt::melt(zones, blocks, bed, vertices, halves, sources, faces);
     of_answer(answer)
@@ -93,7 +93,7 @@ pub extern "C" fn bonnetewe_read(
     sources: &mut [u32],
     faces: &mut [u16],
 ) -> u64
-    ensures { Told (read (lengthsBy (length vertices.old) (length halves.old) (length sources.old) (length faces.old)) file.now) (tablesBy vertices.new halves.new sources.new faces.new) result }
+    ensures { Told (read (lengths_by (length vertices.old) (length halves.old) (length sources.old) (length faces.old)) file.now) (tables_by vertices.new halves.new sources.new faces.new) result }
 {
     let answer = ovfile_read::read(file, vertices, halves, sources, faces);
     of_answer(answer)
@@ -111,7 +111,7 @@ pub extern "C" fn bonnetewe_write(
     faces: &[u16],
     buffer: &mut [u8],
 ) -> u64
-    ensures { ToldFile (write (length buffer.old) (counts v e f) (tablesBy vertices.now halves.now sources.now faces.now)) buffer.new result }
+    ensures { ToldFile (write (length buffer.old) (counts v e f) (tables_by vertices.now halves.now sources.now faces.now)) buffer.new result }
 {
     let c = Counts {
         vertices: v,
@@ -134,7 +134,7 @@ pub extern "C" fn bonnetewe_mend(file: &[u8], out: &mut [u8], list: &mut [u16]) 
 // "it is handed out by edge number, and a number with no edge is answered as absent": the ends of edge k, in tables of any contents.
 #[unsafe(no_mangle)]
 pub extern "C" fn bonnetewe_edge_ends(halves: &[u16], sources: &[u32], k: usize) -> u64
-    ensures { result ≡ toldEnds (edgeRecord (tablesBy [] halves.now sources.now []) k) }
+    ensures { result ≡ told_ends (edge_record (tables_by [] halves.now sources.now []) k) }
 {
     let found = tables::edge(halves, sources, k);
     ends_of(found)
@@ -143,7 +143,7 @@ pub extern "C" fn bonnetewe_edge_ends(halves: &[u16], sources: &[u32], k: usize)
 // The sources of the same.
 #[unsafe(no_mangle)]
 pub extern "C" fn bonnetewe_edge_sources(halves: &[u16], sources: &[u32], k: usize) -> u64
-    ensures { result ≡ toldSources (edgeRecord (tablesBy [] halves.now sources.now []) k) }
+    ensures { result ≡ told_sources (edge_record (tables_by [] halves.now sources.now []) k) }
 {
     let found = tables::edge(halves, sources, k);
     sources_of(found)
@@ -152,7 +152,7 @@ pub extern "C" fn bonnetewe_edge_sources(halves: &[u16], sources: &[u32], k: usi
 // The height of tide by a zone's rule (`kind` 0 none, 1 the ratio a, any other the weights a and b) and both readings: done with its whole millimetres, or refused.
 #[unsafe(no_mangle)]
 pub extern "C" fn bonnetewe_tide(kind: u16, a: f64, b: f64, first: i32, second: i32) -> u64
-    ensures { result ≡ toldTide (tide (ruleBy kind a b) (readingBy first) (readingBy second)) }
+    ensures { result ≡ told_tide (tide (rule_by kind a b) (reading_by first) (reading_by second)) }
 {
     let answer = tide::height(rule_by(kind, a, b), reading_by(first), reading_by(second));
     of_tide(answer)
@@ -161,7 +161,7 @@ pub extern "C" fn bonnetewe_tide(kind: u16, a: f64, b: f64, first: i32, second: 
 // The same height before rounding, 0 where it is refused.
 #[unsafe(no_mangle)]
 pub extern "C" fn bonnetewe_tide_height(kind: u16, a: f64, b: f64, first: i32, second: i32) -> f64
-    ensures { result ≡ toldHeight (tide (ruleBy kind a b) (readingBy first) (readingBy second)) }
+    ensures { result ≡ told_height (tide (rule_by kind a b) (reading_by first) (reading_by second)) }
 {
     let answer = tide::height(rule_by(kind, a, b), reading_by(first), reading_by(second));
     height_of(answer)

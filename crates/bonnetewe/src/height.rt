@@ -1,7 +1,7 @@
 // The height of tide for C: the rule and the readings from numbers, and the answer as one number and one float.
 ghost use Rattle.std.specs.Prelude.{◌≡◌};
-ghost use Rattle.tide.specs.Answer.{ruleOf, reading_of, answer_of as tideAnswer};
-ghost use Rattle.bonnetewe.specs.ToldTide.{ruleBy, readingBy, toldMillimetres, toldTide, toldHeight};
+ghost use Rattle.tide.specs.Answer.{rule_of, reading_of, answer_of as tideAnswer};
+ghost use Rattle.bonnetewe.specs.ToldTide.{rule_by, reading_by, told_millimetres, told_tide, told_height};
 
 use crate::answer::join;
 use exact::magnitude;
@@ -9,7 +9,7 @@ use tide::{Reading, TideAnswer, TideRule};
 
 // 0 none, 1 a ratio, any other a pair of weights.
 pub fn rule_by(kind: u16, a: f64, b: f64) -> TideRule
-    ensures { ruleOf result ≡ ruleBy kind a b }
+    ensures { rule_of result ≡ rule_by kind a b }
 {
     if kind == 0 {
         return TideRule::Unset;
@@ -22,7 +22,7 @@ pub fn rule_by(kind: u16, a: f64, b: f64) -> TideRule
 
 // The least number of 32 bits stands for a missing reading.
 pub fn reading_by(x: i32) -> Reading
-    ensures { reading_of result ≡ readingBy x }
+    ensures { reading_of result ≡ reading_by x }
 {
     if x == -2147483648 {
         return Reading::Missing;
@@ -32,7 +32,7 @@ pub fn reading_by(x: i32) -> Reading
 
 // The sign and the magnitude of the millimetres, above a 0.
 fn of_millimetres(n: i32) -> u64
-    ensures { result ≡ toldMillimetres n }
+    ensures { result ≡ told_millimetres n }
 {
     let size = magnitude(n as i64);
     if n < 0 {
@@ -43,7 +43,7 @@ fn of_millimetres(n: i32) -> u64
 
 // The millimetres, or the refusal.
 pub fn of_tide(answer: TideAnswer) -> u64
-    ensures { result ≡ toldTide (tideAnswer answer) }
+    ensures { result ≡ told_tide (tideAnswer answer) }
 {
     match answer {
         TideAnswer::Done(h) => of_millimetres(h.millimetres),
@@ -53,7 +53,7 @@ pub fn of_tide(answer: TideAnswer) -> u64
 
 // The height before rounding, 0 where it is refused.
 pub fn height_of(answer: TideAnswer) -> f64
-    ensures { result ≡ toldHeight (tideAnswer answer) }
+    ensures { result ≡ told_height (tideAnswer answer) }
 {
     match answer {
         TideAnswer::Done(h) => h.height,

@@ -2,16 +2,16 @@
 ghost use Rattle.std.specs.Prelude.{◌≡◌, pos, length};
 ghost use Rattle.exact.specs.Lowest.{pt};
 ghost use Rattle.seq.specs.Seq.{table};
-ghost use Rattle.plane.specs.Values.{ptOf, meetingOf};
+ghost use Rattle.plane.specs.Values.{pt_of, meeting_of};
 ghost use Rattle.meet.specs.Answer.{answer_of as metOf};
-ghost use Rattle.bonnetewe.specs.Met.{meetingKind, toldMeeting, pointIn, toldPoint, pointCell};
+ghost use Rattle.bonnetewe.specs.Met.{meeting_kind, told_meeting, point_in, told_point, point_cell};
 
 use crate::answer::join;
 use meet::MeetAnswer;
 use plane::{Meeting, Point};
 
 fn kind(m: Meeting) -> u16
-    ensures { result ≡ meetingKind (meetingOf m) }
+    ensures { result ≡ meeting_kind (meeting_of m) }
 {
     match m {
         Meeting::Apart => 0,
@@ -22,7 +22,7 @@ fn kind(m: Meeting) -> u16
 }
 
 pub fn of_met(answer: MeetAnswer) -> u64
-    ensures { result ≡ toldMeeting (metOf answer) }
+    ensures { result ≡ told_meeting (metOf answer) }
 {
     match answer {
         MeetAnswer::Met(m) => join(0, kind(m), 0, 0),
@@ -32,13 +32,13 @@ pub fn of_met(answer: MeetAnswer) -> u64
 
 // Three zeros.
 fn nowhere() -> Point
-    ensures { ptOf result ≡ pt (pos 0) (pos 0) (pos 0) }
+    ensures { pt_of result ≡ pt (pos 0) (pos 0) (pos 0) }
 {
     Point { x: 0, y: 0, d: 0 }
 }
 
 fn point_in(m: Meeting) -> Point
-    ensures { ptOf result ≡ pointIn (meetingOf m) }
+    ensures { pt_of result ≡ point_in (meeting_of m) }
 {
     match m {
         Meeting::Apart => nowhere(),
@@ -50,7 +50,7 @@ fn point_in(m: Meeting) -> Point
 
 // The point where there is one, three zeros where there is none.
 pub fn point_of(answer: MeetAnswer) -> Point
-    ensures { ptOf result ≡ toldPoint (metOf answer) }
+    ensures { pt_of result ≡ told_point (metOf answer) }
 {
     match answer {
         MeetAnswer::Met(m) => point_in(m),
@@ -60,7 +60,7 @@ pub fn point_of(answer: MeetAnswer) -> Point
 
 // Cell i of a lent table: X, Y, D, and zeros behind.
 fn point_cell(p: Point, i: usize) -> i64
-    ensures { result ≡ pointCell (ptOf p) i }
+    ensures { result ≡ point_cell (pt_of p) i }
 {
     if i == 0 {
         return p.x;
@@ -76,7 +76,7 @@ fn point_cell(p: Point, i: usize) -> i64
 
 // As many of X, Y and D as the table has room for, and zeros behind.
 pub fn lay_point(p: Point, point: &mut [i64])
-    ensures { point.new ≡ table (pointCell (ptOf p)) (length point.old) }
+    ensures { point.new ≡ table (point_cell (pt_of p)) (length point.old) }
 {
     let n = point.len();
     let mut i = 0;

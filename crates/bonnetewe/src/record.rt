@@ -1,14 +1,14 @@
 // An edge record as two numbers, each 0 where it is absent: its ends, and its sources. Both begin with which maps it came from, 1 for the first, 2 for the second
 // and 4 for the third, added up: one number has no room for two vertices and three edges.
 ghost use Rattle.std.specs.Prelude.{◌≡◌};
-ghost use Rattle.tables.specs.Found.{foundOf, sourceFrom};
-ghost use Rattle.bonnetewe.specs.Told.{kind as kind_of, inFirst, inSecond, inThird, toldEnds, toldSources};
+ghost use Rattle.tables.specs.Found.{found_of, source_from};
+ghost use Rattle.bonnetewe.specs.Told.{kind as kind_of, in_first, in_second, in_third, told_ends, told_sources};
 
 use crate::answer::join;
 use tables::{Found, Source};
 
 fn kind(source: Source) -> u16
-    ensures { result ≡ kind_of (sourceFrom source) }
+    ensures { result ≡ kind_of (source_from source) }
 {
     match source {
         Source::First(_) => 1,
@@ -22,7 +22,7 @@ fn kind(source: Source) -> u16
 }
 
 fn in_first(source: Source) -> u16
-    ensures { result ≡ inFirst (sourceFrom source) }
+    ensures { result ≡ in_first (source_from source) }
 {
     match source {
         Source::First(j) => j,
@@ -36,7 +36,7 @@ fn in_first(source: Source) -> u16
 }
 
 fn in_second(source: Source) -> u16
-    ensures { result ≡ inSecond (sourceFrom source) }
+    ensures { result ≡ in_second (source_from source) }
 {
     match source {
         Source::First(_) => 0,
@@ -50,7 +50,7 @@ fn in_second(source: Source) -> u16
 }
 
 fn in_third(source: Source) -> u16
-    ensures { result ≡ inThird (sourceFrom source) }
+    ensures { result ≡ in_third (source_from source) }
 {
     match source {
         Source::First(_) => 0,
@@ -64,7 +64,7 @@ fn in_third(source: Source) -> u16
 }
 
 pub fn ends_of(found: Found) -> u64
-    ensures { result ≡ toldEnds (foundOf found) }
+    ensures { result ≡ told_ends (found_of found) }
 {
     match found {
         Found::Edge(e) => {
@@ -76,7 +76,7 @@ pub fn ends_of(found: Found) -> u64
 }
 
 pub fn sources_of(found: Found) -> u64
-    ensures { result ≡ toldSources (foundOf found) }
+    ensures { result ≡ told_sources (found_of found) }
 {
     match found {
         Found::Edge(e) => {

@@ -4,17 +4,17 @@ ghost use Rattle.seq.specs.Seq.{table};
 ghost use Rattle.paper.specs.Soundings.{soundings};
 ghost use Rattle.laws_soundings.specs.Run.{next, closed};
 ghost use Rattle.laws_soundings.specs.RunClosed.{started};
-ghost use Rattle.soundings_count.specs.Entries.{pairWidth};
-ghost use Rattle.soundings.specs.Answer.{roomBy};
+ghost use Rattle.soundings_count.specs.Entries.{pair_width};
+ghost use Rattle.soundings.specs.Answer.{room_by};
 ghost use Rattle.soundings.specs.State.{run_of};
-ghost use Rattle.bonnetewe.specs.Sounded.{toldCounted, read_of, readCell, ToldCells};
+ghost use Rattle.bonnetewe.specs.Sounded.{told_counted, read_of, read_cell, ToldCells};
 
 use crate::answer::join;
 use soundings::{Count, Counted};
 
 // The pairs and the soundings above a 0, or the refusal. Both fit 16 bits.
 fn of_counted(answer: Counted) -> u64
-    ensures { result ≡ toldCounted answer }
+    ensures { result ≡ told_counted answer }
 {
     match answer {
         Counted::Done(c) => join(0, c.entries, c.soundings, 0),
@@ -34,7 +34,7 @@ fn read_of(answer: Counted) -> u32
 
 // Cell i of a lent table: the number, and zeros behind.
 fn read_cell(n: u32, i: usize) -> u32
-    ensures { result ≡ readCell n i }
+    ensures { result ≡ read_cell n i }
 {
     if i == 0 {
         return n;
@@ -44,7 +44,7 @@ fn read_cell(n: u32, i: usize) -> u32
 
 // The number where the table has a cell, and zeros behind.
 fn lay_read(n: u32, read: &mut [u32])
-    ensures { read.new ≡ table (readCell n) (length read.old) }
+    ensures { read.new ≡ table (read_cell n) (length read.old) }
 {
     let m = read.len();
     let mut i = 0;
@@ -64,7 +64,7 @@ pub extern "C" fn bonnetewe_soundings(
     counts: &mut [u32],
     read: &mut [u32],
 ) -> u64
-    ensures { ToldCells (soundings (roomBy (length labels.old) (length counts.old)) (zones.now ∷ blocks.now ∷ []) list.now) (length read.old) labels.new counts.new read.new result }
+    ensures { ToldCells (soundings (room_by (length labels.old) (length counts.old)) (zones.now ∷ blocks.now ∷ []) list.now) (length read.old) labels.new counts.new read.new result }
 {
     let answer = soundings::soundings(zones, blocks, list, labels, counts);
     lay_read(read_of(answer), read);
@@ -95,7 +95,7 @@ pub extern "C" fn bonnetewe_soundings_close(
     counts: &mut [u32],
     read: &mut [u32],
 ) -> u64
-    ensures { ToldCells (closed pairWidth (roomBy (length labels.old) (length counts.old)) (run_of count)) (length read.old) labels.new counts.new read.new result }
+    ensures { ToldCells (closed pair_width (room_by (length labels.old) (length counts.old)) (run_of count)) (length read.old) labels.new counts.new read.new result }
 {
     let answer = soundings::close(count, labels, counts);
     lay_read(read_of(answer), read);

@@ -1,7 +1,7 @@
 // The overlay for C with the way to collect the vertices chosen: "For all files both give the same answer and the same tables, refusals included" (02, Ask 10).
-ghost use Rattle.paper.specs.Lent.{lengthsOf};
+ghost use Rattle.paper.specs.Lent.{lengths_of};
 ghost use Rattle.paper.specs.Overlay.{overlay};
-ghost use Rattle.tables.specs.Values.{tablesBy};
+ghost use Rattle.tables.specs.Values.{tables_by};
 ghost use Rattle.bonnetewe.specs.Told.{Told};
 
 use crate::answer::of_answer;
@@ -27,7 +27,7 @@ pub extern "C" fn bonnetewe_overlay_by(
     sources: &mut [u32],
     faces: &mut [u16],
 ) -> u64
-    ensures { Told (overlay (lengthsOf (tablesBy vertices.old halves.old sources.old faces.old)) zones.now blocks.now bed.now) (tablesBy vertices.new halves.new sources.new faces.new) result }
+    ensures { Told (overlay (lengths_of (tables_by vertices.old halves.old sources.old faces.old)) zones.now blocks.now bed.now) (tables_by vertices.new halves.new sources.new faces.new) result }
 {
     let answer = overlay::overlay_by(
         way_by(way),

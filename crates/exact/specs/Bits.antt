@@ -8,8 +8,8 @@ use Rattle.std.specs.Int.Signed.{non_neg, yes_non_neg}
 use Rattle.std.specs.Int.{Width, w16, w32, w64}
 use mir.Val.{Fits, SFits, to_z, of_z, sel, bits, hbits}
 use mir.ValLaws.{to_z-of_z, of_z-to_z, to_z-Fits, to_z_pos, pow-bits}
-use Rattle.exact.specs.Parts.{is-+, is-neg, ≡-of}
-use Rattle.exact.specs.Tests.{eqZ, eqZ→, →eqZ, bool_iff}
+use Rattle.exact.specs.Parts.{is-+, is_neg_lem, ≡-of}
+use Rattle.exact.specs.Tests.{eq_z, eq_z→, →eq_z, bool_iff}
 use Rattle.exact.specs.Terms.{Tr, ◌&◌, &-l, &-r, sfits-abs, tr}
 use Rattle.exact.specs.Flags.{TrB, trb}
 
@@ -18,10 +18,10 @@ use Rattle.exact.specs.Flags.{TrB, trb}
 pub nat-is : (w : Width) (n B : ℕ) → n < B → T (leb B (2 ^ hbits w)) → to_z w n ≡ pos n
 nat-is w n B h t = to_z_pos w n (lt_of_lt_of_le h (leb→le B (2 ^ hbits w) t))
 
-abbrev pub tr-nat : (w : Width) {n B : ℕ} → n < B → Tr (to_z w n)
-tr-nat w {n} {B} h = record { z = pos n; B = B; ok = leb B (2 ^ hbits w); is = nat-is w n B h; bd = le_of_lt h }
+abbrev pub tr_nat : (w : Width) {n B : ℕ} → n < B → Tr (to_z w n)
+tr_nat w {n} {B} h = record { z = pos n; B = B; ok = leb B (2 ^ hbits w); is = nat-is w n B h; bd = le_of_lt h }
 
-pub ruleset trn = (tr-nat, tr)
+pub ruleset trn = (tr_nat, tr)
 
 -- ---- the bits n are those of a plain integer z
 pub record TrN (w : Width) (n : ℕ) : Type 0 where
@@ -31,21 +31,21 @@ pub record TrN (w : Width) (n : ℕ) : Type 0 where
   pub sf : T ok → SFits w z
 
 -- the bits of a machine term, and a literal's
-abbrev pub trn-of : {w : Width} {x : ℤ} → Tr x → TrN w (of_z w x)
-trn-of {w} a =
+abbrev pub trn_of : {w : Width} {x : ℤ} → Tr x → TrN w (of_z w x)
+trn_of {w} a =
     record { z = a.z; ok = a.ok & ltb a.B (2 ^ hbits w); is = λ t. ap (of_z w) (a.is (&-l a.ok _ t)); sf = λ t. sfits-abs a.B a.bd (&-r a.ok _ t) }
 
-abbrev pub trn-sfits : {w : Width} {x : ℤ} → SFits w x → TrN w (of_z w x)
-trn-sfits {w} {x} f = record { z = x; ok = true; is = λ _. refl; sf = λ _. f }
+abbrev pub trn_sfits : {w : Width} {x : ℤ} → SFits w x → TrN w (of_z w x)
+trn_sfits {w} {x} f = record { z = x; ok = true; is = λ _. refl; sf = λ _. f }
 
 pub lit_is : (w : Width) (n : ℕ) → T (ltb n (2 ^ bits w)) → n ≡ of_z w (to_z w n)
 lit_is w n t = sym (of_z-to_z w n (record { fits = ltb→lt n (2 ^ bits w) t }))
 
-pub lit-fits : (w : Width) (n : ℕ) → T (ltb n (2 ^ bits w)) → SFits w (to_z w n)
-lit-fits w n t = to_z-Fits w n (record { fits = ltb→lt n (2 ^ bits w) t })
+pub lit_fits : (w : Width) (n : ℕ) → T (ltb n (2 ^ bits w)) → SFits w (to_z w n)
+lit_fits w n t = to_z-Fits w n (record { fits = ltb→lt n (2 ^ bits w) t })
 
-abbrev pub trn-lit : {w : Width} {n : ℕ} → T (ltb n (2 ^ bits w)) → TrN w n
-trn-lit {w} {n} t = record { z = to_z w n; ok = true; is = λ _. lit_is w n t; sf = λ _. lit-fits w n t }
+abbrev pub trn_lit : {w : Width} {n : ℕ} → T (ltb n (2 ^ bits w)) → TrN w n
+trn_lit {w} {n} t = record { z = to_z w n; ok = true; is = λ _. lit_is w n t; sf = λ _. lit_fits w n t }
 
 -- `if x == y` on signed locals tells of the bits, n ≡ m or n ≡ m → ⊥
 pub eq_yes : (w : Width) {n m : ℕ} → n ≡ m → (a : TrN w n) (b : TrN w m) → T (a.ok & b.ok) → a.z ≡ b.z
@@ -57,25 +57,25 @@ eq_yes w e a b t =
 pub eq_no : (w : Width) {n m : ℕ} → (n ≡ m → ⊥) → (a : TrN w n) (b : TrN w m) → T (a.ok & b.ok) → a.z ≡ b.z → ⊥
 eq_no w f a b t e = f (a.is (&-l a.ok b.ok t) ∙ ap (of_z w) e ∙ sym (b.is (&-r a.ok b.ok t)))
 
--- a flag made by == is a test of the bits, and in plain terms `eqZ`
-pub eqb_is : (w : Width) {n m : ℕ} (a : TrN w n) (b : TrN w m) → T (a.ok & b.ok) → eqb n m ≡ eqZ a.z b.z
+-- a flag made by == is a test of the bits, and in plain terms `eq_z`
+pub eqb_is : (w : Width) {n m : ℕ} (a : TrN w n) (b : TrN w m) → T (a.ok & b.ok) → eqb n m ≡ eq_z a.z b.z
 eqb_is w {n} {m} a b t =
-    bool_iff (eqb n m) (eqZ a.z b.z) (λ q. →eqZ (eq_yes w (eqb→eq n m q) a b t))
-    (λ q. subst (λ (k : ℕ). T (eqb n k)) (a.is (&-l a.ok b.ok t) ∙ ap (of_z w) (eqZ→ {a = a.z} {b = b.z} q) ∙ sym (b.is (&-r a.ok b.ok t))) (eqb_refl n))
+    bool_iff (eqb n m) (eq_z a.z b.z) (λ q. →eq_z (eq_yes w (eqb→eq n m q) a b t))
+    (λ q. subst (λ (k : ℕ). T (eqb n k)) (a.is (&-l a.ok b.ok t) ∙ ap (of_z w) (eq_z→ {a = a.z} {b = b.z} q) ∙ sym (b.is (&-r a.ok b.ok t))) (eqb_refl n))
 
-abbrev pub tr-eqb : (w : Width) {n m : ℕ} → TrN w n → TrN w m → TrB (eqb n m)
-tr-eqb w a b = record { p = eqZ a.z b.z; ok = a.ok & b.ok; is = eqb_is w a b }
+abbrev pub tr_eqb : (w : Width) {n m : ℕ} → TrN w n → TrN w m → TrB (eqb n m)
+tr_eqb w a b = record { p = eq_z a.z b.z; ok = a.ok & b.ok; is = eqb_is w a b }
 
-abbrev pub tr-eqb64 : {n m : ℕ} → TrN w64 n → TrN w64 m → TrB (eqb n m)
-tr-eqb64 a b = tr-eqb w64 a b
+abbrev pub tr_eqb64 : {n m : ℕ} → TrN w64 n → TrN w64 m → TrB (eqb n m)
+tr_eqb64 a b = tr_eqb w64 a b
 
-abbrev pub tr-eqb32 : {n m : ℕ} → TrN w32 n → TrN w32 m → TrB (eqb n m)
-tr-eqb32 a b = tr-eqb w32 a b
+abbrev pub tr_eqb32 : {n m : ℕ} → TrN w32 n → TrN w32 m → TrB (eqb n m)
+tr_eqb32 a b = tr_eqb w32 a b
 
-abbrev pub tr-eqb16 : {n m : ℕ} → TrN w16 n → TrN w16 m → TrB (eqb n m)
-tr-eqb16 a b = tr-eqb w16 a b
+abbrev pub tr_eqb16 : {n m : ℕ} → TrN w16 n → TrN w16 m → TrB (eqb n m)
+tr_eqb16 a b = tr_eqb w16 a b
 
-pub ruleset trbits = (tr-eqb64, tr-eqb32, tr-eqb16, trn-of, trn-sfits, trn-lit, tt, tr)
+pub ruleset trbits = (tr_eqb64, tr_eqb32, tr_eqb16, trn_of, trn_sfits, trn_lit, tt, tr)
 
 -- ---- a divisor that is not 0 has bits that are not 0, as `/` and `%` ask beside the quotient's range
 some_bits : (w : Width) (z : ℤ) → SFits w z → (z ≡ pos 0 → ⊥) → 0 < of_z w z
@@ -95,14 +95,14 @@ pub record TrU (n : ℕ) : Type 0 where
   pub is : T ok → n ≡ m
   pub bd : m ≤ B
 
-abbrev pub tru-abs : {x : ℤ} → Tr x → TrU (nat_abs x)
-tru-abs a = record { m = nat_abs a.z; B = a.B; ok = a.ok; is = λ t. ap nat_abs (a.is t); bd = a.bd }
+abbrev pub tru_abs : {x : ℤ} → Tr x → TrU (nat_abs x)
+tru_abs a = record { m = nat_abs a.z; B = a.B; ok = a.ok; is = λ t. ap nat_abs (a.is t); bd = a.bd }
 
-pub ruleset tru = (tru-abs, trb)
+pub ruleset tru = (tru_abs, trb)
 
 -- the term x is written out: neither `T` nor `non_neg` shows it. What is cast is  to_z w (of_z w x)
-pub cast-u : (w w' : Width) (x : ℤ) (a : Tr x) → T (a.ok & ltb a.B (2 ^ hbits w) & ltb a.B (2 ^ bits w')) → pos 0 ≤ℤ a.z → T (non_neg (to_z w (of_z w x))) × Fits w' (nat_abs (to_z w (of_z w x)))
-cast-u w w' x a t h =
+pub cast_u : (w w' : Width) (x : ℤ) (a : Tr x) → T (a.ok & ltb a.B (2 ^ hbits w) & ltb a.B (2 ^ bits w')) → pos 0 ≤ℤ a.z → T (non_neg (to_z w (of_z w x))) × Fits w' (nat_abs (to_z w (of_z w x)))
+cast_u w w' x a t h =
     let t' = &-r a.ok _ t in
     let e : a.z ≡ to_z w (of_z w x) = sym (to_z-of_z w a.z (sfits-abs a.B a.bd (&-l (ltb a.B (2 ^ hbits w)) (ltb a.B (2 ^ bits w')) t'))) ∙ ap (λ (y : ℤ). to_z w (of_z w y)) (sym (a.is (&-l a.ok _ t))) in
     (subst (λ (y : ℤ). T (non_neg y)) e (yes_non_neg h), subst (λ (y : ℤ). Fits w' (nat_abs y)) e (record { fits = lt_of_le_of_lt a.bd (ltb→lt a.B (2 ^ bits w') (&-r (ltb a.B (2 ^ hbits w)) _ t')) }))
@@ -118,8 +118,8 @@ pub cast_is : {n : ℕ} (u : TrU n) → T u.ok → n ≡ u.m
 cast_is u t = u.is t
 
 -- ---- the upper half of the bits, as a difference
-pub toZ-high : (w : Width) (n : ℕ) → 2 ^ hbits w ≤ n → n < 2 ^ bits w → to_z w n ≡ pos n -ℤ pos (2 ^ bits w)
-toZ-high w n h l = sel_no (ltb n (2 ^ hbits w)) _ _ (λ t. no (2 ^ hbits w) h (ltb→lt n (2 ^ hbits w) t)) ∙ high (2 ^ bits w) n l
+pub to_z_high : (w : Width) (n : ℕ) → 2 ^ hbits w ≤ n → n < 2 ^ bits w → to_z w n ≡ pos n -ℤ pos (2 ^ bits w)
+to_z_high w n h l = sel_no (ltb n (2 ^ hbits w)) _ _ (λ t. no (2 ^ hbits w) h (ltb→lt n (2 ^ hbits w) t)) ∙ high (2 ^ bits w) n l
   where
     no : (m : ℕ) → m ≤ n → n < m → ⊥
     no m h k = omega arith
@@ -129,4 +129,4 @@ toZ-high w n h l = sel_no (ltb n (2 ^ hbits w)) _ _ (λ t. no (2 ^ hbits w) h (l
     sel_no false x y f = refl
 
     high : (m n : ℕ) → n < m → negsuc (m - suc n) ≡ pos n -ℤ pos m
-    high m n h = ≡-of (negsuc (m - suc n)) (pos n -ℤ pos m) (omega (arith, is-+ (pos n) (neg_ℤ (pos m)), is-neg (pos m)))
+    high m n h = ≡-of (negsuc (m - suc n)) (pos n -ℤ pos m) (omega (arith, is-+ (pos n) (neg_ℤ (pos m)), is_neg_lem (pos m)))

@@ -1,4 +1,4 @@
--- What the contract of compare.rt cites: the sign that an answer stands for; and that the sign determines the answer (`answer-is`). Assumes nothing.
+-- What the contract of compare.rt cites: the sign that an answer stands for; and that the sign determines the answer (`answer_is`). Assumes nothing.
 use Rattle.std.specs.Prelude.{◌≡◌, refl}
 use Rattle.std.proofs.Common.{◌∙◌, ap}
 use Rattle.exact.specs.Exact.{Sign, neg, zer, plus}
@@ -17,8 +17,8 @@ answer neg = Less
 answer zer = Equal
 answer plus = Greater
 
-pub answer-is : (r : Ordering) {s : Sign} → sign_of r ≡ s → r ≡ answer s
-answer-is r e = back r ∙ ap answer e
+pub answer_is : (r : Ordering) {s : Sign} → sign_of r ≡ s → r ≡ answer s
+answer_is r e = back r ∙ ap answer e
   where
     back : (r : Ordering) → r ≡ answer (sign_of r)
     back Less = refl

@@ -11,15 +11,15 @@ pub in_rows : (w m i j : ℕ) → i < m → j < w → w * i + j < w * m
 in_rows w m i j a b = omega (arith, mul-suc w i, mul-le-mul_left w a)
 
 -- of a row past them: past them
-pub past-rows : (w m i j : ℕ) → m ≤ i → w * m ≤ w * i + j
-past-rows w m i j a = omega (arith, mul-le-mul_left w a)
+pub past_rows : (w m i j : ℕ) → m ≤ i → w * m ≤ w * i + j
+past_rows w m i j a = omega (arith, mul-le-mul_left w a)
 
 -- the rows that there is room for
 pub rows_fit : (w m x : ℕ) → m ≤ x / w → w * m ≤ x
 rows_fit w m x h = omega (arith, mul-le-mul_left w h, div-add-mod x w)
 
-pub digits-less : (m a b x y : ℕ) → x < m → a * m + y < b * m + x → a ≤ b
-digits-less m a b x y h l = elim (dec_lt b a) [ yes q ↦ absurd (omega (arith, mul-le-mul_right {m = suc b} {n = a} m q, suc-mul b m)) | no q ↦ omega arith ]
+pub digits_less : (m a b x y : ℕ) → x < m → a * m + y < b * m + x → a ≤ b
+digits_less m a b x y h l = elim (dec_lt b a) [ yes q ↦ absurd (omega (arith, mul-le-mul_right {m = suc b} {n = a} m q, suc-mul b m)) | no q ↦ omega arith ]
 
 pub div-rises : (a b d : ℕ) → 0 < d → a ≤ b → a / d ≤ b / d
 div-rises a b d h l =

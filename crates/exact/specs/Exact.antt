@@ -15,25 +15,25 @@ sgn (pos (suc n)) = plus
 sgn (negsuc n) = neg
 
 -- the tests on signs
-abbrev pub isNeg : Sign → Bool
-isNeg neg = true
-isNeg zer = false
-isNeg plus = false
+abbrev pub is_neg : Sign → Bool
+is_neg neg = true
+is_neg zer = false
+is_neg plus = false
 
-abbrev pub isZer : Sign → Bool
-isZer neg = false
-isZer zer = true
-isZer plus = false
+abbrev pub is_zer : Sign → Bool
+is_zer neg = false
+is_zer zer = true
+is_zer plus = false
 
-abbrev pub isPlus : Sign → Bool
-isPlus neg = false
-isPlus zer = false
-isPlus plus = true
+abbrev pub is_plus : Sign → Bool
+is_plus neg = false
+is_plus zer = false
+is_plus plus = true
 
-abbrev pub negS : Sign → Sign
-negS neg = plus
-negS zer = zer
-negS plus = neg
+abbrev pub neg_s : Sign → Sign
+neg_s neg = plus
+neg_s zer = zer
+neg_s plus = neg
 
 -- ── the sign of a pair (y, x) in point order: that of y, or of x where y is 0 ──
 
@@ -42,24 +42,24 @@ pick neg s = neg
 pick zer s = s
 pick plus s = plus
 
-abbrev pub lexS : ℤ → ℤ → Sign
-lexS y x = pick (sgn y) (sgn x)
+abbrev pub lex_s : ℤ → ℤ → Sign
+lex_s y x = pick (sgn y) (sgn x)
 
 -- ── the greatest common divisor: "Euclid's recursion on remainders, the second number falling" ──
 
 -- with fuel that bounds the second number
-unfoldable pub gcdF : ℕ → ℕ → ℕ → ℕ
-gcdF zero a b = a
-gcdF (suc f) a zero = a
-gcdF (suc f) a (suc b) = gcdF f (suc b) (a % suc b)
+unfoldable pub gcd_f : ℕ → ℕ → ℕ → ℕ
+gcd_f zero a b = a
+gcd_f (suc f) a zero = a
+gcd_f (suc f) a (suc b) = gcd_f f (suc b) (a % suc b)
 
-unfoldable pub gcdOf : ℕ → ℕ → ℕ
-unfolding gcdF
-gcdOf a b = gcdF b a b
+unfoldable pub gcd_of : ℕ → ℕ → ℕ
+unfolding gcd_f
+gcd_of a b = gcd_f b a b
 
 -- of three
 abbrev pub gcd3 : ℕ → ℕ → ℕ → ℕ
-gcd3 x y d = gcdOf (gcdOf x y) d
+gcd3 x y d = gcd_of (gcd_of x y) d
 
 -- ── a point ──
 

@@ -14,56 +14,56 @@ pub is_sum : (x y : ℤ) (p n q k : ℕ) → Is x p n → Is y q k → Is (x +�
 is_sum x y p n q k e f = omega (arith, is-+ x y)
 
 -- m times a coefficient
-abbrev pub pC : ℤ → ℤ → ℕ
-pC m (pos n) = n * pp m
-pC m (negsuc n) = suc n * np m
+abbrev pub p_c : ℤ → ℤ → ℕ
+p_c m (pos n) = n * pp m
+p_c m (negsuc n) = suc n * np m
 
-abbrev pub nC : ℤ → ℤ → ℕ
-nC m (pos n) = n * np m
-nC m (negsuc n) = suc n * pp m
+abbrev pub n_c : ℤ → ℤ → ℕ
+n_c m (pos n) = n * np m
+n_c m (negsuc n) = suc n * pp m
 
-is-C : (m c : ℤ) → Is (m *ℤ c) (pC m c) (nC m c)
-is-C m (pos n) = omega (arith, is-* m (pos n))
-is-C m (negsuc n) = omega (arith, is-* m (negsuc n))
+is_C : (m c : ℤ) → Is (m *ℤ c) (p_c m c) (n_c m c)
+is_C m (pos n) = omega (arith, is-* m (pos n))
+is_C m (negsuc n) = omega (arith, is-* m (negsuc n))
 
 module _ (ρ : List ℤ) where
   -- m times a polynomial, and a polynomial
-  abbrev pub pM : ℤ → Poly → ℕ
-  pM m (pc c) = pC m c
-  pM m (px i p q) = pM (m *ℤ nth ρ i) p + pM m q
+  abbrev pub p_m : ℤ → Poly → ℕ
+  p_m m (pc c) = p_c m c
+  p_m m (px i p q) = p_m (m *ℤ nth ρ i) p + p_m m q
 
-  abbrev pub nM : ℤ → Poly → ℕ
-  nM m (pc c) = nC m c
-  nM m (px i p q) = nM (m *ℤ nth ρ i) p + nM m q
+  abbrev pub n_m : ℤ → Poly → ℕ
+  n_m m (pc c) = n_c m c
+  n_m m (px i p q) = n_m (m *ℤ nth ρ i) p + n_m m q
 
-  abbrev pub pT : Poly → ℕ
-  pT (pc c) = pp c
-  pT (px i p q) = pM (nth ρ i) p + pT q
+  abbrev pub p_t : Poly → ℕ
+  p_t (pc c) = pp c
+  p_t (px i p q) = p_m (nth ρ i) p + p_t q
 
-  abbrev pub nT : Poly → ℕ
-  nT (pc c) = np c
-  nT (px i p q) = nM (nth ρ i) p + nT q
+  abbrev pub n_t : Poly → ℕ
+  n_t (pc c) = np c
+  n_t (px i p q) = n_m (nth ρ i) p + n_t q
 
-  is-M : (m : ℤ) (p : Poly) → Is (m *ℤ ev ρ p) (pM m p) (nM m p)
-  is-M m (pc c) = is-C m c
-  is-M m (px i p q) =
-      subst (λ (z : ℤ). Is z (pM m (px i p q)) (nM m (px i p q)))
+  is_M : (m : ℤ) (p : Poly) → Is (m *ℤ ev ρ p) (p_m m p) (n_m m p)
+  is_M m (pc c) = is_C m c
+  is_M m (px i p q) =
+      subst (λ (z : ℤ). Is z (p_m m (px i p q)) (n_m m (px i p q)))
       (sym (*ℤ-distl m (nth ρ i *ℤ ev ρ p) (ev ρ q) ∙ ap (λ (z : ℤ). z +ℤ m *ℤ ev ρ q) (sym (*ℤ-assoc m (nth ρ i) (ev ρ p)))))
-      (is_sum ((m *ℤ nth ρ i) *ℤ ev ρ p) (m *ℤ ev ρ q) (pM (m *ℤ nth ρ i) p) (nM (m *ℤ nth ρ i) p) (pM m q) (nM m q) (is-M (m *ℤ nth ρ i) p) (is-M m q))
+      (is_sum ((m *ℤ nth ρ i) *ℤ ev ρ p) (m *ℤ ev ρ q) (p_m (m *ℤ nth ρ i) p) (n_m (m *ℤ nth ρ i) p) (p_m m q) (n_m m q) (is_M (m *ℤ nth ρ i) p) (is_M m q))
 
-  is_T : (p : Poly) → Is (ev ρ p) (pT p) (nT p)
+  is_T : (p : Poly) → Is (ev ρ p) (p_t p) (n_t p)
   is_T (pc c) = omega arith
-  is_T (px i p q) = is_sum (nth ρ i *ℤ ev ρ p) (ev ρ q) (pM (nth ρ i) p) (nM (nth ρ i) p) (pT q) (nT q) (is-M (nth ρ i) p) (is_T q)
+  is_T (px i p q) = is_sum (nth ρ i *ℤ ev ρ p) (ev ρ q) (p_m (nth ρ i) p) (n_m (nth ρ i) p) (p_t q) (n_t q) (is_M (nth ρ i) p) (is_T q)
 
   -- of a term that was read
   abbrev pub P : {x : ℤ} → Re ρ x → ℕ
-  P r = pT (norm r.e)
+  P r = p_t (norm r.e)
 
   abbrev pub N : {x : ℤ} → Re ρ x → ℕ
-  N r = nT (norm r.e)
+  N r = n_t (norm r.e)
 
-  is-re : {x : ℤ} (r : Re ρ x) → Is x (P r) (N r)
-  is-re r = subst (λ (z : ℤ). Is z (P r) (N r)) (ev-norm ρ r.e ∙ r.is) (is_T (norm r.e))
+  is_re : {x : ℤ} (r : Re ρ x) → Is x (P r) (N r)
+  is_re r = subst (λ (z : ℤ). Is z (P r) (N r)) (ev-norm ρ r.e ∙ r.is) (is_T (norm r.e))
 
 -- ---- sequents: a statement of ℤ and the statement of ℕ that it is equivalent to
 pub record Sq (ρ : List ℤ) (A : Type 0) : Type 1 where
@@ -73,22 +73,22 @@ pub record Sq (ρ : List ℤ) (A : Type 0) : Type 1 where
 
 module _ {ρ : List ℤ} where
   pub ≤to : {x y : ℤ} (a : Re ρ x) (b : Re ρ y) → x ≤ℤ y → P ρ a + N ρ b ≤ P ρ b + N ρ a
-  ≤to {x} {y} a b h = omega (arith, ≤-to x y h, is-re ρ a, is-re ρ b)
+  ≤to {x} {y} a b h = omega (arith, ≤-to x y h, is_re ρ a, is_re ρ b)
 
   pub ≤of : {x y : ℤ} (a : Re ρ x) (b : Re ρ y) → P ρ a + N ρ b ≤ P ρ b + N ρ a → x ≤ℤ y
-  ≤of {x} {y} a b h = ≤-of x y (omega (arith, is-re ρ a, is-re ρ b))
+  ≤of {x} {y} a b h = ≤-of x y (omega (arith, is_re ρ a, is_re ρ b))
 
   pub <to : {x y : ℤ} (a : Re ρ x) (b : Re ρ y) → x <ℤ y → P ρ a + N ρ b < P ρ b + N ρ a
-  <to {x} {y} a b h = omega (arith, <-to x y h, is-re ρ a, is-re ρ b)
+  <to {x} {y} a b h = omega (arith, <-to x y h, is_re ρ a, is_re ρ b)
 
   pub <of : {x y : ℤ} (a : Re ρ x) (b : Re ρ y) → P ρ a + N ρ b < P ρ b + N ρ a → x <ℤ y
-  <of {x} {y} a b h = <-of x y (omega (arith, is-re ρ a, is-re ρ b))
+  <of {x} {y} a b h = <-of x y (omega (arith, is_re ρ a, is_re ρ b))
 
   pub ≡to : {x y : ℤ} (a : Re ρ x) (b : Re ρ y) → x ≡ y → P ρ a + N ρ b ≡ P ρ b + N ρ a
-  ≡to {x} {y} a b h = omega (arith, ≡-to x y h, is-re ρ a, is-re ρ b)
+  ≡to {x} {y} a b h = omega (arith, ≡-to x y h, is_re ρ a, is_re ρ b)
 
   pub ≡of : {x y : ℤ} (a : Re ρ x) (b : Re ρ y) → P ρ a + N ρ b ≡ P ρ b + N ρ a → x ≡ y
-  ≡of {x} {y} a b h = ≡-of x y (omega (arith, is-re ρ a, is-re ρ b))
+  ≡of {x} {y} a b h = ≡-of x y (omega (arith, is_re ρ a, is_re ρ b))
 
   abbrev pub sq≤ : {x y : ℤ} → Re ρ x → Re ρ y → Sq ρ (x ≤ℤ y)
   sq≤ a b = record { nat = P ρ a + N ρ b ≤ P ρ b + N ρ a; to = ≤to a b; of = ≤of a b }

@@ -33,8 +33,8 @@ pub 0<-+ : {a b : ℤ} → pos 0 <ℤ a → pos 0 ≤ℤ b → pos 0 <ℤ (a +�
 pub drop-zero : (a b l m : ℤ) → m ≡ pos 0 → a *ℤ l -ℤ b *ℤ m ≡ a *ℤ l
 drop-zero a b l m e = ap (λ (z : ℤ). a *ℤ l -ℤ b *ℤ z) e ∙ ring (a ∷ b ∷ l ∷ []) (search reify depth 20) tt
 
-pub drop-first : (b m a l : ℤ) → b ≡ pos 0 → a *ℤ l ≡ a *ℤ l -ℤ b *ℤ m
-drop-first b m a l e = ≡-by₁ e m (ring (a ∷ b ∷ l ∷ m ∷ []) (search reify depth 20) tt)
+pub drop_first : (b m a l : ℤ) → b ≡ pos 0 → a *ℤ l ≡ a *ℤ l -ℤ b *ℤ m
+drop_first b m a l e = ≡-by₁ e m (ring (a ∷ b ∷ l ∷ m ∷ []) (search reify depth 20) tt)
 
 -- ---- monotone
 pub *-mono-≤ : {a b c : ℤ} → pos 0 ≤ℤ c → a ≤ℤ b → (c *ℤ a) ≤ℤ (c *ℤ b)
@@ -44,8 +44,8 @@ pub *-mono-< : {a b c : ℤ} → pos 0 <ℤ c → a <ℤ b → (c *ℤ a) <ℤ (
 *-mono-< {a} {b} {c} h l = zomega (a ∷ b ∷ c ∷ []) {A = pos 0 <ℤ (c *ℤ (b -ℤ a)) → (c *ℤ a) <ℤ (c *ℤ b)} (search sq depth 20) (omega arith) (0<-* h (<→0< l))
 
 -- ---- a positive factor cancels
-not-both : (c z : ℤ) → pos 0 <ℤ (c *ℤ neg_ℤ z) → pos 0 ≤ℤ (c *ℤ z) → ⊥
-not-both c z = zomega (c ∷ z ∷ []) (search sq depth 20) (omega arith)
+not_both : (c z : ℤ) → pos 0 <ℤ (c *ℤ neg_ℤ z) → pos 0 ≤ℤ (c *ℤ z) → ⊥
+not_both c z = zomega (c ∷ z ∷ []) (search sq depth 20) (omega arith)
 
 pub 0<-cancel : (c z : ℤ) → pos 0 <ℤ c → pos 0 <ℤ (c *ℤ z) → pos 0 <ℤ z
 0<-cancel c z h l = go (tri (pos 0) z)
@@ -53,7 +53,7 @@ pub 0<-cancel : (c z : ℤ) → pos 0 <ℤ c → pos 0 <ℤ (c *ℤ z) → pos 0
     go : Tri (pos 0) z → pos 0 <ℤ z
     go (lt p) = p
     go (eq e) = absurd (<→≢ l (sym (ap (λ (t : ℤ). c *ℤ t) (sym e) ∙ *ℤ-zero c)))
-    go (gt p) = absurd (not-both c z (0<-* h (0<-neg z p)) (<→≤ l))
+    go (gt p) = absurd (not_both c z (0<-* h (0<-neg z p)) (<→≤ l))
 
 pub 0≤-cancel : (c z : ℤ) → pos 0 <ℤ c → pos 0 ≤ℤ (c *ℤ z) → pos 0 ≤ℤ z
 0≤-cancel c z h l = go (tri (pos 0) z)
@@ -61,7 +61,7 @@ pub 0≤-cancel : (c z : ℤ) → pos 0 <ℤ c → pos 0 ≤ℤ (c *ℤ z) → p
     go : Tri (pos 0) z → pos 0 ≤ℤ z
     go (lt p) = <→≤ p
     go (eq e) = zomega (z ∷ []) {A = pos 0 ≡ z → pos 0 ≤ℤ z} (search sq depth 20) (omega arith) e
-    go (gt p) = absurd (not-both c z (0<-* h (0<-neg z p)) l)
+    go (gt p) = absurd (not_both c z (0<-* h (0<-neg z p)) l)
 
 pub *-cancel-≤ : (c a b : ℤ) → pos 0 <ℤ c → (c *ℤ a) ≤ℤ (c *ℤ b) → a ≤ℤ b
 *-cancel-≤ c a b h l =

@@ -4,8 +4,8 @@
 use Rattle.std.specs.Prelude.{◌≡◌, refl, [], ◌∷◌, ◌⊎◌, ℕ, zero, suc, ◌+◌, ◌*◌, ◌<◌, ℤ, pos, negsuc, neg_ℤ, nat_abs, ◌+ℤ◌, ◌-ℤ◌, ◌*ℤ◌, ◌≤ℤ◌, ◌<ℤ◌}
 use Rattle.std.proofs.Common.{sym, ◌∙◌, ap, inl, inr, ⊎_elim, mul-pos, arith}
 use Rattle.exact.specs.Abs.{abs-*}
-pub use Rattle.exact.specs.Parts.{pp, np, ≤-to, ≤-of, <-to, <-of, ≡-to, ≡-of, pos-≤, ≤-pos, pos-<, <-pos, 0≤pos, pos≮0, Is, is-+, is-neg, is-*}
-pub use Rattle.exact.specs.Linear.{is_sum, pC, nC, pM, nM, pT, nT, P, N, Sq, ≤to, ≤of, <to, <of, ≡to, ≡of, sq≤, sq<, sq≡, sq→, sq×, sq⊥, sq, zomega}
+pub use Rattle.exact.specs.Parts.{pp, np, ≤-to, ≤-of, <-to, <-of, ≡-to, ≡-of, pos-≤, ≤-pos, pos-<, <-pos, 0≤pos, pos≮0, Is, is-+, is_neg_lem, is-*}
+pub use Rattle.exact.specs.Linear.{is_sum, p_c, n_c, p_m, n_m, p_t, n_t, P, N, Sq, ≤to, ≤of, <to, <of, ≡to, ≡of, sq≤, sq<, sq≡, sq→, sq×, sq⊥, sq, zomega}
 pub use Rattle.exact.specs.Exact.{Sign, neg, zer, plus, sgn}
 
 -- ---- by `zomega`
@@ -59,15 +59,15 @@ pub 0<→< : (a b : ℤ) → pos 0 <ℤ (b -ℤ a) → a <ℤ b
 0<→< a b = zomega (a ∷ b ∷ []) (search sq depth 20) (omega arith)
 
 -- there is no number between a and b = a + 1
-pub less-gap : (a b : ℤ) → a <ℤ b → pos 0 ≤ℤ (b -ℤ a -ℤ pos 1)
-less-gap a b = zomega (a ∷ b ∷ []) (search sq depth 20) (omega arith)
+pub less_gap : (a b : ℤ) → a <ℤ b → pos 0 ≤ℤ (b -ℤ a -ℤ pos 1)
+less_gap a b = zomega (a ∷ b ∷ []) (search sq depth 20) (omega arith)
 
 -- ---- the sign of a difference and of a negation
-pub less-neg : (a b : ℤ) → a <ℤ b → (a -ℤ b) <ℤ pos 0
-less-neg a b = zomega (a ∷ b ∷ []) (search sq depth 20) (omega arith)
+pub less_neg : (a b : ℤ) → a <ℤ b → (a -ℤ b) <ℤ pos 0
+less_neg a b = zomega (a ∷ b ∷ []) (search sq depth 20) (omega arith)
 
-pub neg-less : (a b : ℤ) → (a -ℤ b) <ℤ pos 0 → a <ℤ b
-neg-less a b = zomega (a ∷ b ∷ []) (search sq depth 20) (omega arith)
+pub neg_less : (a b : ℤ) → (a -ℤ b) <ℤ pos 0 → a <ℤ b
+neg_less a b = zomega (a ∷ b ∷ []) (search sq depth 20) (omega arith)
 
 pub sub_back : (a b : ℤ) → b -ℤ a ≡ neg_ℤ (a -ℤ b)
 sub_back a b = zomega (a ∷ b ∷ []) (search sq depth 20) (omega arith)

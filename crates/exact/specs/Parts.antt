@@ -1,5 +1,5 @@
 -- The two parts of a whole number: `pp z` and `np z` are the two natural numbers, one of them 0, whose difference is z. Every fact of ℤ is a fact of these:
--- a ≤ b is pp a + np b ≤ pp b + np a, and so for < and ≡; and `is-+`, `is-neg`, `is-*` say what the parts of a sum, a negation and a product are.
+-- a ≤ b is pp a + np b ≤ pp b + np a, and so for < and ≡; and `is-+`, `is_neg_lem`, `is-*` say what the parts of a sum, a negation and a product are.
 -- So `omega`, which reads no ℤ, proves it. Assumes nothing.
 use Rattle.std.specs.Prelude.{◌≡◌, refl, Bool, true, false, not, cond, ℕ, zero, suc, ◌+◌, ◌*◌, ◌-◌, ◌≤◌, ◌<◌, T, ltb, ℤ, pos, negsuc, neg_ℤ, ◌+ℤ◌, ◌*ℤ◌, ◌≤ℤ◌, ◌<ℤ◌}
 use Rattle.std.proofs.Common.{ap, subst, arith, ltb→lt, nltb→le, leb→le, le→leb, lt→ltb}
@@ -97,12 +97,12 @@ pub ≡-of : (a b : ℤ) → pp a + np b ≡ pp b + np a → a ≡ b
 abbrev pub Is : ℤ → ℕ → ℕ → Type 0
 Is x p n = pp x + n ≡ np x + p
 
-is-cond : (c : Bool) (x y : ℤ) (P : ℤ → Type 0) → (T c → P x) → (T (not c) → P y) → P (cond c x y)
-is-cond true x y P f g = f tt
-is-cond false x y P f g = g tt
+is_cond : (c : Bool) (x y : ℤ) (P : ℤ → Type 0) → (T c → P x) → (T (not c) → P y) → P (cond c x y)
+is_cond true x y P f g = f tt
+is_cond false x y P f g = g tt
 
-is-sub : (a b : ℕ) → Is (sub_ℕ a b) a b
-is-sub a b = is-cond (ltb a b) (negsuc (b - suc a)) (pos (a - b)) (λ (z : ℤ). Is z a b) (λ t. lo a b (ltb→lt a b t)) (λ t. hi a b (nltb→le a b t))
+is_sub : (a b : ℕ) → Is (sub_ℕ a b) a b
+is_sub a b = is_cond (ltb a b) (negsuc (b - suc a)) (pos (a - b)) (λ (z : ℤ). Is z a b) (λ t. lo a b (ltb→lt a b t)) (λ t. hi a b (nltb→le a b t))
   where
     lo : (a b : ℕ) → a < b → 0 + b ≡ suc (b - suc a) + a
     lo a b h = omega arith
@@ -110,23 +110,23 @@ is-sub a b = is-cond (ltb a b) (negsuc (b - suc a)) (pos (a - b)) (λ (z : ℤ).
     hi : (a b : ℕ) → b ≤ a → (a - b) + b ≡ 0 + a
     hi a b h = omega arith
 
-is-neg-pos : (r : ℕ) → Is (neg_ℤ (pos r)) 0 r
-is-neg-pos zero = refl
-is-neg-pos (suc r) = omega arith
+is_neg-pos : (r : ℕ) → Is (neg_ℤ (pos r)) 0 r
+is_neg-pos zero = refl
+is_neg-pos (suc r) = omega arith
 
 pub is-+ : (x y : ℤ) → Is (x +ℤ y) (pp x + pp y) (np x + np y)
 is-+ (pos a) (pos b) = omega arith
-is-+ (pos a) (negsuc b) = omega (arith, is-sub a (suc b))
-is-+ (negsuc a) (pos b) = omega (arith, is-sub b (suc a))
+is-+ (pos a) (negsuc b) = omega (arith, is_sub a (suc b))
+is-+ (negsuc a) (pos b) = omega (arith, is_sub b (suc a))
 is-+ (negsuc a) (negsuc b) = omega arith
 
-pub is-neg : (x : ℤ) → Is (neg_ℤ x) (np x) (pp x)
-is-neg (pos zero) = refl
-is-neg (pos (suc n)) = omega arith
-is-neg (negsuc n) = omega arith
+pub is_neg_lem : (x : ℤ) → Is (neg_ℤ x) (np x) (pp x)
+is_neg_lem (pos zero) = refl
+is_neg_lem (pos (suc n)) = omega arith
+is_neg_lem (negsuc n) = omega arith
 
 pub is-* : (x y : ℤ) → Is (x *ℤ y) (pp x * pp y + np x * np y) (pp x * np y + np x * pp y)
 is-* (pos a) (pos b) = omega arith
-is-* (pos a) (negsuc b) = omega (arith, is-neg-pos (a * suc b))
-is-* (negsuc a) (pos b) = omega (arith, is-neg-pos (suc a * b))
+is-* (pos a) (negsuc b) = omega (arith, is_neg-pos (a * suc b))
+is-* (negsuc a) (pos b) = omega (arith, is_neg-pos (suc a * b))
 is-* (negsuc a) (negsuc b) = omega arith

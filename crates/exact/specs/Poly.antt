@@ -42,17 +42,17 @@ pub data P : Type 0 where
   pc : ℤ → P
   px : ℕ → P → P → P
 
-abbrev pub isZ : ℤ → Bool
-isZ (pos zero) = true
-isZ (pos (suc n)) = false
-isZ (negsuc n) = false
+abbrev pub is_z : ℤ → Bool
+is_z (pos zero) = true
+is_z (pos (suc n)) = false
+is_z (negsuc n) = false
 
 abbrev pub mkc : Bool → ℕ → ℤ → P → P
 mkc true i c q = q
 mkc false i c q = px i (pc c) q
 
 abbrev pub mk : ℕ → P → P → P
-mk i (pc c) q = mkc (isZ c) i c q
+mk i (pc c) q = mkc (is_z c) i c q
 mk i (px j r s) q = px i (px j r s) q
 
 abbrev pub addc : ℤ → P → P
@@ -74,9 +74,9 @@ abbrev pub add : P → P → P
 add (pc c) t = addc c t
 add (px i p q) t = addx i p q (add p) (add q) t
 
-abbrev pub negP : P → P
-negP (pc c) = pc (neg_ℤ c)
-negP (px i p q) = px i (negP p) (negP q)
+abbrev pub neg_p : P → P
+neg_p (pc c) = pc (neg_ℤ c)
+neg_p (px i p q) = px i (neg_p p) (neg_p q)
 
 abbrev pub scl : ℤ → P → P
 scl c (pc a) = pc (c *ℤ a)
@@ -91,7 +91,7 @@ mulv i (pc a) = mk i (pc a) (pc (pos 0))
 mulv i (px j p q) = sel3 (compare i j) (λ _. px i (px j p q) (pc (pos 0))) (λ _. px i (px j p q) (pc (pos 0))) (λ _. px j (mulv i p) (mulv i q))
 
 abbrev pub mul : P → P → P
-mul (pc c) t = sclb (isZ c) c t
+mul (pc c) t = sclb (is_z c) c t
 mul (px i p q) t = add (mulv i (mul p t)) (mul q t)
 
 abbrev pub norm : Expr → P
@@ -99,17 +99,17 @@ norm (v i) = px i (pc (pos 1)) (pc (pos 0))
 norm (k c) = pc c
 norm (a ⊞ b) = add (norm a) (norm b)
 norm (a ⊠ b) = mul (norm a) (norm b)
-norm (⊖ a) = negP (norm a)
+norm (⊖ a) = neg_p (norm a)
 
-abbrev pub isZeroP : P → Bool
-isZeroP (pc c) = isZ c
-isZeroP (px i p q) = false
+abbrev pub is_zero_p : P → Bool
+is_zero_p (pc c) = is_z c
+is_zero_p (px i p q) = false
 
 -- ---- each step keeps the value
-isZ→0 : (c : ℤ) → T (isZ c) → c ≡ pos 0
-isZ→0 (pos zero) t = refl
-isZ→0 (pos (suc n)) t = absurd t
-isZ→0 (negsuc n) t = absurd t
+is_z→0 : (c : ℤ) → T (is_z c) → c ≡ pos 0
+is_z→0 (pos zero) t = refl
+is_z→0 (pos (suc n)) t = absurd t
+is_z→0 (negsuc n) t = absurd t
 
 eq→ : (i j : ℕ) → compare i j ≡ Ordering.eq → i ≡ j
 eq→ i j e = eqb→eq i j (subst (λ (o : Ordering). T (compare_is_eq o)) (sym e) tt)
@@ -133,7 +133,7 @@ module _ (ρ : List ℤ) where
   ev-mkc false i c q h = refl
 
   ev-mk : (i : ℕ) (p q : P) → ev (mk i p q) ≡ nth ρ i *ℤ ev p +ℤ ev q
-  ev-mk i (pc c) q = ev-mkc (isZ c) i c q (isZ→0 c)
+  ev-mk i (pc c) q = ev-mkc (is_z c) i c q (is_z→0 c)
   ev-mk i (px j r s) q = refl
 
   -- a + (c + b) = c + (a + b)
@@ -164,7 +164,7 @@ module _ (ρ : List ℤ) where
   ev-add (pc c) t = ev-addc c t
   ev-add (px i p q) t = ev-addx i p q (add p) (add q) (ev-add p) (ev-add q) t
 
-  ev-neg : (a : P) → ev (negP a) ≡ neg_ℤ (ev a)
+  ev-neg : (a : P) → ev (neg_p a) ≡ neg_ℤ (ev a)
   ev-neg (pc c) = refl
   ev-neg (px i p q) =
       (λ l. nth ρ i *ℤ ev-neg p l +ℤ ev-neg q l) ∙ ap (λ (y : ℤ). y +ℤ neg_ℤ (ev q)) (*ℤ-neg (nth ρ i) (ev p)) ∙ sym (neg_ℤ-+ℤ (nth ρ i *ℤ ev p) (ev q))
@@ -194,7 +194,7 @@ module _ (ρ : List ℤ) where
   mul-step x p q t = ap (λ (y : ℤ). y +ℤ q *ℤ t) (sym (*ℤ-assoc x p t)) ∙ sym (*ℤ-distr (x *ℤ p) q t)
 
   ev-mul : (a t : P) → ev (mul a t) ≡ ev a *ℤ ev t
-  ev-mul (pc c) t = ev-sclb (isZ c) c t (isZ→0 c)
+  ev-mul (pc c) t = ev-sclb (is_z c) c t (is_z→0 c)
   ev-mul (px i p q) t =
       ev-add (mulv i (mul p t)) (mul q t) ∙ ap (λ (y : ℤ). y +ℤ ev (mul q t)) (ev-mulv i (mul p t)) ∙ (λ l. nth ρ i *ℤ ev-mul p t l +ℤ ev-mul q t l) ∙ mul-step (nth ρ i) (ev p) (ev q) (ev t)
 
@@ -206,13 +206,13 @@ module _ (ρ : List ℤ) where
   ev-norm (a ⊠ b) = ev-mul (norm a) (norm b) ∙ (λ l. ev-norm a l *ℤ ev-norm b l)
   ev-norm (⊖ a) = ev-neg (norm a) ∙ ap neg_ℤ (ev-norm a)
 
-  zeroP : (a : P) → T (isZeroP a) → ev a ≡ pos 0
-  zeroP (pc c) t = isZ→0 c t
-  zeroP (px i p q) t = absurd t
+  zero_p : (a : P) → T (is_zero_p a) → ev a ≡ pos 0
+  zero_p (pc c) t = is_z→0 c t
+  zero_p (px i p q) t = absurd t
 
 -- a - b = 0 gives a = b
 pub sub-zero→ : (a b : ℤ) → a -ℤ b ≡ pos 0 → a ≡ b
 sub-zero→ a b e = neg_unique (neg_ℤ b) a e ∙ neg_ℤ-neg_ℤ b
 
-pub solve : (ρ : List ℤ) (a b : Expr) → T (isZeroP (norm (a ⊟ b))) → eval ρ a ≡ eval ρ b
-solve ρ a b t = sub-zero→ (eval ρ a) (eval ρ b) (sym (ev-norm ρ (a ⊟ b)) ∙ zeroP ρ (norm (a ⊟ b)) t)
+pub solve : (ρ : List ℤ) (a b : Expr) → T (is_zero_p (norm (a ⊟ b))) → eval ρ a ≡ eval ρ b
+solve ρ a b t = sub-zero→ (eval ρ a) (eval ρ b) (sym (ev-norm ρ (a ⊟ b)) ∙ zero_p ρ (norm (a ⊟ b)) t)

@@ -16,23 +16,23 @@ pub cast-range : (w w' : Width) (x : ℤ) → SFits w x → T (leb (2 ^ hbits w)
 cast-range w w' x f t h = subst (λ (z : ℤ). T (non_neg z) × Fits w' (nat_abs z)) (sym (to_z-of_z w x f)) (not_negative w w' x f t h)
 
 -- of what the machine reads back
-pub quot-read : (w : Width) (x : ℤ) (g : ℕ) → SFits w x → quot_z (to_z w (of_z w x)) (pos g) ≡ quot_z x (pos g)
-quot-read w x g f = ap (λ (z : ℤ). quot_z z (pos g)) (to_z-of_z w x f)
+pub quot_read : (w : Width) (x : ℤ) (g : ℕ) → SFits w x → quot_z (to_z w (of_z w x)) (pos g) ≡ quot_z x (pos g)
+quot_read w x g f = ap (λ (z : ℤ). quot_z z (pos g)) (to_z-of_z w x f)
 
 pub rem_read : (w : Width) (x : ℤ) (g : ℕ) → SFits w x → rem_z (to_z w (of_z w x)) (pos g) ≡ rem_z x (pos g)
 rem_read w x g f = ap (λ (z : ℤ). rem_z z (pos g)) (to_z-of_z w x f)
 
 -- a quotient by a positive number has the range of the number that is divided
-pub mag-quot : (x : ℤ) (g : ℕ) → mag (quot_z x (pos g)) ≤ mag x
-mag-quot (pos a) g = div-le_self a g
-mag-quot (negsuc a) g = least (suc a / g) (div-le_self (suc a) g)
+pub mag_quot : (x : ℤ) (g : ℕ) → mag (quot_z x (pos g)) ≤ mag x
+mag_quot (pos a) g = div-le_self a g
+mag_quot (negsuc a) g = least (suc a / g) (div-le_self (suc a) g)
   where
     least : (r : ℕ) → r ≤ suc a → mag (neg_ℤ (pos r)) ≤ a
     least zero h = zero-le
     least (suc r) h = omega arith
 
-pub quot-range : (w : Width) (x : ℤ) (g : ℕ) → SFits w x → SFits w (quot_z x (pos g))
-quot-range w x g f = sfits_le (mag-quot x g) f
+pub quot_range : (w : Width) (x : ℤ) (g : ℕ) → SFits w x → SFits w (quot_z x (pos g))
+quot_range w x g f = sfits_le (mag_quot x g) f
 
 pub quot_fits : (w : Width) (x : ℤ) (g : ℕ) → SFits w x → SFits w (quot_z (to_z w (of_z w x)) (pos g))
-quot_fits w x g f = subst (SFits w) (sym (quot-read w x g f)) (quot-range w x g f)
+quot_fits w x g f = subst (SFits w) (sym (quot_read w x g f)) (quot_range w x g f)

@@ -5,7 +5,7 @@
 -- Assumes nothing.
 use Rattle.std.specs.Prelude.{◌≡◌, refl, List, ◌∷◌, ℕ, T, ℤ, pos, negsuc, neg_ℤ, ◌+ℤ◌, ◌*ℤ◌}
 use Rattle.std.proofs.Common.{sym, ◌∙◌, subst}
-pub use Rattle.exact.specs.Poly.{Expr, v, k, ◌⊞◌, ◌⊠◌, ⊖◌, ◌⊟◌, nth, eval, P, pc, px, isZ, mkc, mk, addc, sel3, addx, add, negP, scl, sclb, mulv, mul, norm, isZeroP, ev, ev-norm, sub-zero→, solve}
+pub use Rattle.exact.specs.Poly.{Expr, v, k, ◌⊞◌, ◌⊠◌, ⊖◌, ◌⊟◌, nth, eval, P, pc, px, is_z, mkc, mk, addc, sel3, addx, add, neg_p, scl, sclb, mulv, mul, norm, is_zero_p, ev, ev-norm, sub-zero→, solve}
 
 -- ---- reading a goal: `search reify` writes the expression of a plain ℤ term, so that an identity is proved with no `Expr` written
 pub record Re (ρ : List ℤ) (x : ℤ) : Type 0 where
@@ -22,11 +22,11 @@ module _ {ρ : List ℤ} where
   abbrev pub re- : {x : ℤ} → Re ρ x → Re ρ (neg_ℤ x)
   re- a = record { e = ⊖ a.e; is = λ l. neg_ℤ (a.is l) }
 
-  abbrev pub re-pos : {n : ℕ} → Re ρ (pos n)
-  re-pos {n} = record { e = k (pos n); is = refl }
+  abbrev pub re_pos : {n : ℕ} → Re ρ (pos n)
+  re_pos {n} = record { e = k (pos n); is = refl }
 
-  abbrev pub re-neg : {n : ℕ} → Re ρ (negsuc n)
-  re-neg {n} = record { e = k (negsuc n); is = refl }
+  abbrev pub re_neg : {n : ℕ} → Re ρ (negsuc n)
+  re_neg {n} = record { e = k (negsuc n); is = refl }
 
 -- the variable at each place of ρ, a lemma each: no chain, so `search` goes no deeper than the expression
 module _ {ρ : List ℤ} where
@@ -128,12 +128,12 @@ pub record Re₂ (ρ : List ℤ) (x y : ℤ) : Type 0 where
 abbrev pub re₂ : {ρ : List ℤ} {x y : ℤ} → Re ρ x → Re ρ y → Re₂ ρ x y
 re₂ a b = record { l = a; r = b }
 
-pub ruleset reify = (re₂, re0, re1, re2, re3, re4, re5, re6, re7, re8, re9, re10, re11, re12, re13, re14, re15, re16, re17, re18, re19, re20, re21, re22, re23, re24, re25, re26, re27, re28, re29, re+, re*, re-, re-pos, re-neg)
+pub ruleset reify = (re₂, re0, re1, re2, re3, re4, re5, re6, re7, re8, re9, re10, re11, re12, re13, re14, re15, re16, re17, re18, re19, re20, re21, re22, re23, re24, re25, re26, re27, re28, re29, re+, re*, re-, re_pos, re_neg)
 
 -- `ring (a ∷ b ∷ []) (search reify depth 20) tt` proves an identity in a and b; ρ lists the atoms, which may be any terms
-pub ring : (ρ : List ℤ) {x y : ℤ} (q : Re₂ ρ x y) → T (isZeroP (norm (q.l.e ⊟ q.r.e))) → x ≡ y
+pub ring : (ρ : List ℤ) {x y : ℤ} (q : Re₂ ρ x y) → T (is_zero_p (norm (q.l.e ⊟ q.r.e))) → x ≡ y
 ring ρ q t = sym q.l.is ∙ solve ρ q.l.e q.r.e t ∙ q.r.is
 
 -- to find out why an identity is refused: `ring-show ρ (search reify depth 20) ?` under --allow-holes. The goal at the hole has the difference of the two sides, as a polynomial
 pub ring-show : (ρ : List ℤ) {x y : ℤ} (q : Re₂ ρ x y) → norm (q.l.e ⊟ q.r.e) ≡ pc (pos 0) → x ≡ y
-ring-show ρ q e = ring ρ q (subst (λ (p : P). T (isZeroP p)) (sym e) tt)
+ring-show ρ q e = ring ρ q (subst (λ (p : P). T (is_zero_p p)) (sym e) tt)

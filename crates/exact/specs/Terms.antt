@@ -8,7 +8,7 @@ use Rattle.std.specs.Int.Signed.{mag, quot_z, rem_z, nat_abs-le}
 use Rattle.std.specs.Int.{Width}
 use mir.Val.{SFits, to_z, of_z, hbits}
 use Rattle.std.proofs.lemmas.Int.{to_z-of_z}
-use Rattle.exact.specs.Abs.{abs_neg, bd-+, bd-*, bd-quot, bd-rem}
+use Rattle.exact.specs.Abs.{abs_neg, bd-+, bd-*, bd_quot, bd-rem}
 
 -- ---- what fits a width
 mag-abs : (z : ℤ) → mag z ≤ nat_abs z
@@ -45,24 +45,24 @@ tr-+ a b = record { z = a.z +ℤ b.z; B = a.B + b.B; ok = a.ok & b.ok; is = λ t
 abbrev pub tr-* : {x y : ℤ} → Tr x → Tr y → Tr (x *ℤ y)
 tr-* a b = record { z = a.z *ℤ b.z; B = a.B * b.B; ok = a.ok & b.ok; is = λ t i. a.is (&-l a.ok b.ok t) i *ℤ b.is (&-r a.ok b.ok t) i; bd = bd-* a.z b.z a.B b.B a.bd b.bd }
 
-abbrev pub tr-neg : {x : ℤ} → Tr x → Tr (neg_ℤ x)
-tr-neg a = record { z = neg_ℤ a.z; B = a.B; ok = a.ok; is = λ t i. neg_ℤ (a.is t i); bd = le_trans (le_of_eq (abs_neg a.z)) a.bd }
+abbrev pub tr_neg : {x : ℤ} → Tr x → Tr (neg_ℤ x)
+tr_neg a = record { z = neg_ℤ a.z; B = a.B; ok = a.ok; is = λ t i. neg_ℤ (a.is t i); bd = le_trans (le_of_eq (abs_neg a.z)) a.bd }
 
-abbrev pub tr-quot : {x y : ℤ} → Tr x → Tr y → Tr (quot_z x y)
-tr-quot a b = record { z = quot_z a.z b.z; B = a.B; ok = a.ok & b.ok; is = λ t i. quot_z (a.is (&-l a.ok b.ok t) i) (b.is (&-r a.ok b.ok t) i); bd = bd-quot a.z b.z a.B a.bd }
+abbrev pub tr_quot : {x y : ℤ} → Tr x → Tr y → Tr (quot_z x y)
+tr_quot a b = record { z = quot_z a.z b.z; B = a.B; ok = a.ok & b.ok; is = λ t i. quot_z (a.is (&-l a.ok b.ok t) i) (b.is (&-r a.ok b.ok t) i); bd = bd_quot a.z b.z a.B a.bd }
 
-abbrev pub tr-rem : {x y : ℤ} → Tr x → Tr y → Tr (rem_z x y)
-tr-rem a b = record { z = rem_z a.z b.z; B = a.B; ok = a.ok & b.ok; is = λ t i. rem_z (a.is (&-l a.ok b.ok t) i) (b.is (&-r a.ok b.ok t) i); bd = bd-rem a.z b.z a.B a.bd }
+abbrev pub tr_rem : {x y : ℤ} → Tr x → Tr y → Tr (rem_z x y)
+tr_rem a b = record { z = rem_z a.z b.z; B = a.B; ok = a.ok & b.ok; is = λ t i. rem_z (a.is (&-l a.ok b.ok t) i) (b.is (&-r a.ok b.ok t) i); bd = bd-rem a.z b.z a.B a.bd }
 
 -- a literal, and an atom whose bound is a hypothesis
-abbrev pub tr-pos : {n : ℕ} → Tr (pos n)
-tr-pos {n} = record { z = pos n; B = n; ok = true; is = λ _. refl; bd = le_refl n }
+abbrev pub tr_pos : {n : ℕ} → Tr (pos n)
+tr_pos {n} = record { z = pos n; B = n; ok = true; is = λ _. refl; bd = le_refl n }
 
-abbrev pub tr-negsuc : {n : ℕ} → Tr (negsuc n)
-tr-negsuc {n} = record { z = negsuc n; B = suc n; ok = true; is = λ _. refl; bd = le_refl (suc n) }
+abbrev pub tr_negsuc : {n : ℕ} → Tr (negsuc n)
+tr_negsuc {n} = record { z = negsuc n; B = suc n; ok = true; is = λ _. refl; bd = le_refl (suc n) }
 
-abbrev pub tr-atom : {x : ℤ} {B : ℕ} → nat_abs x ≤ B → Tr x
-tr-atom {x} {B} h = record { z = x; B = B; ok = true; is = λ _. refl; bd = h }
+abbrev pub tr_atom : {x : ℤ} {B : ℕ} → nat_abs x ≤ B → Tr x
+tr_atom {x} {B} h = record { z = x; B = B; ok = true; is = λ _. refl; bd = h }
 
 -- the same with a bound by <
 abbrev pub tr-atom< : {x : ℤ} {B : ℕ} → nat_abs x < B → Tr x
@@ -73,17 +73,17 @@ pub back_is : (w : Width) {x : ℤ} (a : Tr x) → T (a.ok & ltb a.B (2 ^ hbits 
 back_is w {x} a t =
     ap (λ (y : ℤ). to_z w (of_z w y)) (a.is (&-l a.ok _ t)) ∙ to_z-of_z w a.z (sfits-abs a.B a.bd (&-r a.ok _ t))
 
-abbrev pub tr-back : (w : Width) {x : ℤ} → Tr x → Tr (to_z w (of_z w x))
-tr-back w a = record { z = a.z; B = a.B; ok = a.ok & ltb a.B (2 ^ hbits w); is = back_is w a; bd = a.bd }
+abbrev pub tr_back : (w : Width) {x : ℤ} → Tr x → Tr (to_z w (of_z w x))
+tr_back w a = record { z = a.z; B = a.B; ok = a.ok & ltb a.B (2 ^ hbits w); is = back_is w a; bd = a.bd }
 
 -- the same for an atom of which only the type's range is known
-abbrev pub tr-sfits : (w : Width) {x : ℤ} → SFits w x → Tr (to_z w (of_z w x))
-tr-sfits w {x} f = record { z = x; B = 2 ^ hbits w; ok = true; is = λ _. to_z-of_z w x f; bd = nat_abs-le x f.sfits }
+abbrev pub tr_sfits : (w : Width) {x : ℤ} → SFits w x → Tr (to_z w (of_z w x))
+tr_sfits w {x} f = record { z = x; B = 2 ^ hbits w; ok = true; is = λ _. to_z-of_z w x f; bd = nat_abs-le x f.sfits }
 
-pub ruleset tr = (tr-back, tr-+, tr-*, tr-neg, tr-quot, tr-rem, tr-pos, tr-negsuc, tr-atom, tr-atom<)
+pub ruleset tr = (tr_back, tr-+, tr-*, tr_neg, tr_quot, tr_rem, tr_pos, tr_negsuc, tr_atom, tr-atom<)
 
--- where the range of the type is all that is known of the atoms, as in a comparison. Apart, since `search` would take `tr-sfits` for an atom that has a bound too
-pub ruleset trs = (tr-sfits, tr)
+-- where the range of the type is all that is known of the atoms, as in a comparison. Apart, since `search` would take `tr_sfits` for an atom that has a bound too
+pub ruleset trs = (tr_sfits, tr)
 
 pub fits : {w : Width} {x : ℤ} (a : Tr x) → T (a.ok & ltb a.B (2 ^ hbits w)) → SFits w x
 fits {w} {x} a t = subst (λ (y : ℤ). SFits w y) (sym (a.is (&-l a.ok _ t))) (sfits-abs a.B a.bd (&-r a.ok _ t))

@@ -6,7 +6,7 @@ use Rattle.std.proofs.Common.{Fits, SFits, to_z, of_z, arith}
 use Rattle.std.specs.Int.Signed.{lt_z, lt_z_yes, non_neg, quot_z, rem_z}
 use Rattle.exact.specs.Solve.{ring, reify, solve, v, k, ◌⊞◌, ◌⊠◌}
 use Rattle.exact.specs.Order.{zomega, sq, <→0<, 0<→<, 0<-*, 0≤-*, ≤→0≤}
-use Rattle.exact.specs.Mach.{tr, trs, trn, tru, trb, fits, plain, atmost, taken, divisor, cast-u}
+use Rattle.exact.specs.Mach.{tr, trs, trn, tru, trb, fits, plain, atmost, taken, divisor, cast_u}
 use Rattle.exact.specs.Mul.{0<-cancel, ≡-by₂}
 
 -- ---- identities
@@ -54,12 +54,12 @@ rearrange a b c d h l =
 
 -- fractions x1/d1 < x2/d2 < x3/d3, cross-multiplied, with d1, d2, d3 > 0: x1/d1 < x3/d3.
 -- d2·(x3·d1 - x1·d3) = (x2·d1 - x1·d2)·d3 + (x3·d2 - x2·d3)·d1, which `zomega` finds
-frac-sum : (x1 d1 x2 d2 x3 d3 : ℤ) → pos 0 <ℤ ((x2 *ℤ d1 -ℤ x1 *ℤ d2) *ℤ d3) → pos 0 <ℤ ((x3 *ℤ d2 -ℤ x2 *ℤ d3) *ℤ d1) → pos 0 <ℤ (d2 *ℤ (x3 *ℤ d1 -ℤ x1 *ℤ d3))
-frac-sum x1 d1 x2 d2 x3 d3 = zomega (x1 ∷ d1 ∷ x2 ∷ d2 ∷ x3 ∷ d3 ∷ []) (search sq depth 20) (omega arith)
+frac_sum : (x1 d1 x2 d2 x3 d3 : ℤ) → pos 0 <ℤ ((x2 *ℤ d1 -ℤ x1 *ℤ d2) *ℤ d3) → pos 0 <ℤ ((x3 *ℤ d2 -ℤ x2 *ℤ d3) *ℤ d1) → pos 0 <ℤ (d2 *ℤ (x3 *ℤ d1 -ℤ x1 *ℤ d3))
+frac_sum x1 d1 x2 d2 x3 d3 = zomega (x1 ∷ d1 ∷ x2 ∷ d2 ∷ x3 ∷ d3 ∷ []) (search sq depth 20) (omega arith)
 
-frac-trans : (x1 d1 x2 d2 x3 d3 : ℤ) → pos 0 <ℤ d1 → pos 0 <ℤ d2 → pos 0 <ℤ d3 → (x1 *ℤ d2) <ℤ (x2 *ℤ d1) → (x2 *ℤ d3) <ℤ (x3 *ℤ d2) → (x1 *ℤ d3) <ℤ (x3 *ℤ d1)
-frac-trans x1 d1 x2 d2 x3 d3 p1 p2 p3 h l =
-    0<→< (x1 *ℤ d3) (x3 *ℤ d1) (0<-cancel d2 (x3 *ℤ d1 -ℤ x1 *ℤ d3) p2 (frac-sum x1 d1 x2 d2 x3 d3 (0<-* (<→0< h) p3) (0<-* (<→0< l) p1)))
+frac_trans : (x1 d1 x2 d2 x3 d3 : ℤ) → pos 0 <ℤ d1 → pos 0 <ℤ d2 → pos 0 <ℤ d3 → (x1 *ℤ d2) <ℤ (x2 *ℤ d1) → (x2 *ℤ d3) <ℤ (x3 *ℤ d2) → (x1 *ℤ d3) <ℤ (x3 *ℤ d1)
+frac_trans x1 d1 x2 d2 x3 d3 p1 p2 p3 h l =
+    0<→< (x1 *ℤ d3) (x3 *ℤ d1) (0<-cancel d2 (x3 *ℤ d1 -ℤ x1 *ℤ d3) p2 (frac_sum x1 d1 x2 d2 x3 d3 (0<-* (<→0< h) p3) (0<-* (<→0< l) p1)))
 
 -- ---- machine terms. `r x` is what the machine reads back of x
 abbrev r : ℤ → ℤ
@@ -89,8 +89,8 @@ module _ (a b : ℤ) (h : nat_abs a ≤ 4000) (l : nat_abs b ≤ 4000) where
   remainder_is = plain (search tr depth 20) tt
 
   -- a as u16
-  as-u16 : pos 0 ≤ℤ a → T (non_neg (r a)) × Fits w16 (nat_abs (r a))
-  as-u16 p = cast-u w64 w16 a (search tr depth 20) tt p
+  as_u16 : pos 0 ≤ℤ a → T (non_neg (r a)) × Fits w16 (nat_abs (r a))
+  as_u16 p = cast_u w64 w16 a (search tr depth 20) tt p
 
 -- an i16 and a u16 as i64, of which no more than the range is known
 wide-sum : (x : ℤ) → SFits w16 x → r (r (to_z w16 (of_z w16 x)) +ℤ pos 1) ≡ x +ℤ pos 1

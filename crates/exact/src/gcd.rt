@@ -1,11 +1,11 @@
 // The greatest common divisor of two numbers.
 ghost use Rattle.std.specs.Prelude.{◌≡◌, ◌%◌};
-ghost use Rattle.exact.specs.Gcd.{gcdOf};
+ghost use Rattle.exact.specs.Gcd.{gcd_of};
 
 // Of an odd number and any other: the other loses its factors of 2, and the less is taken from the greater.
 fn odd_gcd(a: u64, b: u64) -> u64
     requires { a % 2 ≡ 1 }
-    ensures { result ≡ gcdOf a b }
+    ensures { result ≡ gcd_of a b }
 {
     let mut x = a;
     let mut y = b;
@@ -23,7 +23,7 @@ fn odd_gcd(a: u64, b: u64) -> u64
 
 // Of any two: by one of Euclid's remainders and then by halving. Of two even numbers it is twice that of their halves.
 pub fn gcd(a: u64, b: u64) -> u64
-    ensures { result ≡ gcdOf a b }
+    ensures { result ≡ gcd_of a b }
 {
     if b == 0 {
         return a;

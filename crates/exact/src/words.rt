@@ -1,7 +1,7 @@
 // The order of two products that need not fit 64 bits: each number in two words of base 2^31, its quotient and its remainder. Both have the number's sign, so there is no carry and no case on signs.
 ghost use Rattle.std.specs.Prelude.{◌≡◌, ◌≤◌, ◌^◌, pos, nat_abs, ◌-ℤ◌, ◌*ℤ◌};
 ghost use Rattle.std.specs.Int.Signed.{quot_z, rem_z};
-ghost use Rattle.exact.specs.Exact.{sgn, lexS};
+ghost use Rattle.exact.specs.Exact.{sgn, lex_s};
 ghost use Rattle.exact.specs.Compare.{sign_of};
 ghost use Rattle.exact.specs.Words.{base, Factors};
 
@@ -26,7 +26,7 @@ fn low(x: i64) -> i64
 
 // The order of y and 0, or that of x and 0 where y is 0.
 fn lex(y: i64, x: i64) -> Ordering
-    ensures { sign_of result ≡ lexS y x }
+    ensures { sign_of result ≡ lex_s y x }
 {
     match order(y, 0) {
         Ordering::Less => Ordering::Less,

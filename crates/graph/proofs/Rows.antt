@@ -28,8 +28,8 @@ module _ (t : List ℤ) (i : ℕ) (h : mag (get_or t i (pos 0)) < 2 ^ hbits w16)
   pub widened : back (to_z w16 (of_z w16 (get_or t i (pos 0)))) ≡ get_or t i (pos 0)
   widened = to_z-of_z w64 _ wide ∙ to_z-of_z w16 (get_or t i (pos 0)) (record { sfits = h })
 
-pub widened-first : (w : ℕ) (t : List ℤ) (i : ℕ) → mag (get_or t (w * i) (pos 0)) < 2 ^ hbits w16 → back (to_z w16 (of_z w16 (get_or t (w * i) (pos 0)))) ≡ cell (pos 0) w t i 0
-widened-first w t i h = widened t (w * i) h ∙ ap (λ (k : ℕ). get_or t k (pos 0)) (sym (add-zero (w * i)))
+pub widened_first : (w : ℕ) (t : List ℤ) (i : ℕ) → mag (get_or t (w * i) (pos 0)) < 2 ^ hbits w16 → back (to_z w16 (of_z w16 (get_or t (w * i) (pos 0)))) ≡ cell (pos 0) w t i 0
+widened_first w t i h = widened t (w * i) h ∙ ap (λ (k : ℕ). get_or t k (pos 0)) (sym (add-zero (w * i)))
 
 pub minus : (z : ℤ) → pos 0 -ℤ z ≡ neg_ℤ z
 minus z = ring (z ∷ []) (search reify depth 20) tt

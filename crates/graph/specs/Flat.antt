@@ -9,43 +9,43 @@ use Rattle.paper.specs.Graph.{Graph, Edge}
 use Rattle.plane.specs.Values.{seg}
 use Rattle.plane.specs.Bounds as Bounds
 
-abbrev pub pointWidth : ℕ
-pointWidth = 4
+abbrev pub point_width : ℕ
+point_width = 4
 
-abbrev pub carrierWidth : ℕ
-carrierWidth = 4
+abbrev pub carrier_width : ℕ
+carrier_width = 4
 
 abbrev pub number_at : List ℤ → ℕ → ℕ → ℤ
 number_at t i j = cell (pos 0) 4 t i j
 
 -- the point in row v
-abbrev pub pointAt : List ℤ → ℕ → Pt
-pointAt ps v = pt (number_at ps v 0) (number_at ps v 1) (number_at ps v 2)
+abbrev pub the_point_at : List ℤ → ℕ → Pt
+the_point_at ps v = pt (number_at ps v 0) (number_at ps v 1) (number_at ps v 2)
 
 -- the carrier in row k
-abbrev pub carrierAt : List ℤ → ℕ → Seg
-carrierAt cs k = seg (number_at cs k 0) (number_at cs k 1) (number_at cs k 2) (number_at cs k 3)
+abbrev pub carrier_at : List ℤ → ℕ → Seg
+carrier_at cs k = seg (number_at cs k 0) (number_at cs k 1) (number_at cs k 2) (number_at cs k 3)
 
-abbrev pub originAt : List ℕ → ℕ → ℕ
-originAt os h = get_or os h 0
+abbrev pub origin_at : List ℕ → ℕ → ℕ
+origin_at os h = get_or os h 0
 
 -- edge k
-abbrev pub edgeAt : List ℕ → List ℤ → ℕ → Edge
-edgeAt os cs k = record { from = originAt os (2 * k); to = originAt os (2 * k + 1); carrier = carrierAt cs k }
+abbrev pub the_edge_at : List ℕ → List ℤ → ℕ → Edge
+the_edge_at os cs k = record { from = origin_at os (2 * k); to = origin_at os (2 * k + 1); carrier = carrier_at cs k }
 
 -- the graph of n points and e edges
-unfoldable pub flatGraph : List ℤ → List ℕ → List ℤ → ℕ → ℕ → Graph
-flatGraph ps os cs n e = record { points = table (pointAt ps) n; edges = table (edgeAt os cs) e }
+unfoldable pub flat_graph : List ℤ → List ℕ → List ℤ → ℕ → ℕ → Graph
+flat_graph ps os cs n e = record { points = table (the_point_at ps) n; edges = table (the_edge_at os cs) e }
 
 -- ── how large ──
 
 -- row v of the points is a point of an edge between corners
 abbrev pub NearAt : List ℤ → ℕ → Type 0
-NearAt ps v = Bounds.Near (pointAt ps v)
+NearAt ps v = Bounds.Near (the_point_at ps v)
 
 -- row k of the carriers is an edge between corners
 abbrev pub EdgeAt : List ℤ → ℕ → Type 0
-EdgeAt cs k = Bounds.Edge (carrierAt cs k)
+EdgeAt cs k = Bounds.Edge (carrier_at cs k)
 
 -- n points
 pub record Points (ps : List ℤ) (n : ℕ) : Type 0 where
@@ -76,13 +76,13 @@ pub record Flat (ps : List ℤ) (os : List ℕ) (cs : List ℤ) (n e : ℕ) : Ty
 
 -- where half-edge h starts
 abbrev pub start_at : List ℤ → List ℕ → ℕ → Pt
-start_at ps os h = pointAt ps (originAt os h)
+start_at ps os h = the_point_at ps (origin_at os h)
 
 -- half-edge h has an origin, that has a row, and it is a point
 pub record Starts (ps : List ℤ) (os : List ℕ) (h : ℕ) : Type 0 where
   pub named : h < length os
-  pub row : 4 * originAt os h + 4 ≤ length ps
-  pub near : NearAt ps (originAt os h)
+  pub row : 4 * origin_at os h + 4 ≤ length ps
+  pub near : NearAt ps (origin_at os h)
 
 -- edge k has a carrier
 pub record Carried (cs : List ℤ) (k : ℕ) : Type 0 where

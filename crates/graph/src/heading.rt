@@ -1,14 +1,14 @@
 // Which way a half-edge goes.
 ghost use Rattle.std.specs.Prelude.{◌≡◌, [], ◌∷◌, ◌+◌, ◌*◌, ◌/◌, ◌≤◌, ◌<◌, length, neg_ℤ};
-ghost use Rattle.seq.specs.Seq.{laid, rowStored};
+ghost use Rattle.seq.specs.Seq.{laid, row_stored};
 ghost use Rattle.paper.specs.Limits.{absent};
 ghost use Rattle.paper.specs.Plane.{opposite};
 ghost use Rattle.paper.specs.Graph.{twin, heading};
-ghost use Rattle.plane.specs.Values.{ptOf, vec_of, segOf};
+ghost use Rattle.plane.specs.Values.{pt_of, vec_of, seg_of};
 ghost use Rattle.plane.specs.Bounds.{Direction, Near, Edge};
-ghost use Rattle.graph.specs.Flat.{pointAt, carrierAt, originAt, start_at, flatGraph, Flat, Starts, Carried};
+ghost use Rattle.graph.specs.Flat.{the_point_at, carrier_at, origin_at, start_at, flat_graph, Flat, Starts, Carried};
 ghost use Rattle.graph.specs.Rising.{RisesIf};
-ghost use Rattle.graph.specs.Heading.{upAt, headingAt, row};
+ghost use Rattle.graph.specs.Heading.{the_up_at, heading_at, row};
 
 use super::rising::{rise, starts_first};
 use limits::{CARRIER_WIDTH, HEADING_WIDTH, POINT_WIDTH};
@@ -25,7 +25,7 @@ pub fn twin(h: usize) -> usize
 // The point in row v.
 pub fn point_at(points: &[i64], v: usize) -> Point
     requires { 4 * v + 4 ≤ length points.now }
-    ensures { ptOf result ≡ pointAt points.now v }
+    ensures { pt_of result ≡ the_point_at points.now v }
 {
     let at = POINT_WIDTH * v;
     Point {
@@ -38,8 +38,8 @@ pub fn point_at(points: &[i64], v: usize) -> Point
 // The carrier in row k.
 pub fn carrier_at(carriers: &[i16], k: usize) -> Seg
     requires { Carried carriers.now k }
-    ensures is { segOf result ≡ carrierAt carriers.now k }
-    ensures near { Edge (segOf result) }
+    ensures is { seg_of result ≡ carrier_at carriers.now k }
+    ensures near { Edge (seg_of result) }
 {
     let at = CARRIER_WIDTH * k;
     Seg {
@@ -53,8 +53,8 @@ pub fn carrier_at(carriers: &[i16], k: usize) -> Seg
 // Stores a carrier as row k.
 pub fn store_carrier(out: &mut [i16], k: usize, s: Seg)
     requires fact_1 { 4 * k + 4 ≤ length out.old }
-    requires fact_2 { Edge (segOf s) }
-    ensures { out.new ≡ rowStored 4 out.old k (s.x ∷ s.y ∷ s.u ∷ s.v ∷ []) }
+    requires fact_2 { Edge (seg_of s) }
+    ensures { out.new ≡ row_stored 4 out.old k (s.x ∷ s.y ∷ s.u ∷ s.v ∷ []) }
 {
     let at = CARRIER_WIDTH * k;
     let x = s.x as i16;
@@ -70,8 +70,8 @@ pub fn store_carrier(out: &mut [i16], k: usize, s: Seg)
 // The point where half-edge h starts.
 pub fn start(points: &[i64], origins: &[u16], h: usize) -> Point
     requires { Starts points.now origins.now h }
-    ensures is { ptOf result ≡ start_at points.now origins.now h }
-    ensures near { Near (ptOf result) }
+    ensures is { pt_of result ≡ start_at points.now origins.now h }
+    ensures near { Near (pt_of result) }
 {
     point_at(points, origins[h] as usize)
 }
@@ -79,7 +79,7 @@ pub fn start(points: &[i64], origins: &[u16], h: usize) -> Point
 // Whether half-edge h goes up.
 pub fn goes_up(points: &[i64], origins: &[u16], h: usize) -> bool
     requires { (h ≤ absent) × Starts points.now origins.now h × Starts points.now origins.now (twin h) }
-    ensures { result ≡ upAt points.now origins.now h }
+    ensures { result ≡ the_up_at points.now origins.now h }
 {
     before(start(points, origins, h), start(points, origins, twin(h)))
 }
@@ -103,8 +103,8 @@ fn heading(
 ) -> Vector
     requires fact_1 { (h ≤ absent) × Starts points.now origins.now h × Starts points.now origins.now (twin h) × Carried carriers.now (h / 2) }
     requires fact_2 { RisesIf rising points.now n }
-    requires fact_3 { (originAt origins.now h < n) × (originAt origins.now (twin h) < n) }
-    ensures is { vec_of result ≡ headingAt points.now origins.now carriers.now h }
+    requires fact_3 { (origin_at origins.now h < n) × (origin_at origins.now (twin h) < n) }
+    ensures is { vec_of result ≡ heading_at points.now origins.now carriers.now h }
     ensures near { Direction (vec_of result) }
 {
     let s = carrier_at(carriers, h / 2);
@@ -121,7 +121,7 @@ fn heading(
 fn store(out: &mut [i16], h: usize, u: Vector)
     requires fact_1 { 2 * h + 2 ≤ length out.old }
     requires fact_2 { Direction (vec_of u) }
-    ensures { out.new ≡ rowStored 2 out.old h (row (vec_of u)) }
+    ensures { out.new ≡ row_stored 2 out.old h (row (vec_of u)) }
 {
     let at = HEADING_WIDTH * h;
     let x = u.x as i16;
@@ -144,7 +144,7 @@ pub fn headings_by(
     requires fact_2 { RisesIf rising points.now n }
     requires fact_3 { 2 * e ≤ absent }
     requires fact_4 { 2 * (2 * e) ≤ length out.old }
-    ensures { out.new ≡ laid (2 * e) (λ h. row (heading (flatGraph points.now origins.now carriers.now n e) h)) out.old }
+    ensures { out.new ≡ laid (2 * e) (λ h. row (heading (flat_graph points.now origins.now carriers.now n e) h)) out.old }
 {
     let m = 2 * e;
     let mut h = 0;
@@ -164,7 +164,7 @@ pub fn headings(
     out: &mut [i16],
 )
     requires { (Flat points.now origins.now carriers.now n e) × ((2 * e ≤ absent) × (2 * (2 * e) ≤ length out.old)) }
-    ensures { out.new ≡ laid (2 * e) (λ h. row (heading (flatGraph points.now origins.now carriers.now n e) h)) out.old }
+    ensures { out.new ≡ laid (2 * e) (λ h. row (heading (flat_graph points.now origins.now carriers.now n e) h)) out.old }
 {
     let rising = rise(points, n);
     headings_by(points, origins, carriers, n, rising, e, out);

@@ -4,11 +4,11 @@ ghost use Rattle.seq.specs.Seq.{best};
 ghost use Rattle.paper.specs.Limits.{absent};
 ghost use Rattle.paper.specs.Graph.{twin, nearer, west};
 ghost use Rattle.laws_graph.specs.West.{candidate};
-ghost use Rattle.plane.specs.Values.{ptOf, vec_of, segOf};
+ghost use Rattle.plane.specs.Values.{pt_of, vec_of, seg_of};
 ghost use Rattle.plane.specs.Bounds.{Direction, Near, Edge};
-ghost use Rattle.graph.specs.Flat.{flatGraph, Flat, Starts, Carried};
+ghost use Rattle.graph.specs.Flat.{flat_graph, Flat, Starts, Carried};
 ghost use Rattle.graph.specs.Pick.{better};
-ghost use Rattle.graph.specs.Look.{seenOf, westOf, heightAt, westwardOf, nearerOf, candidateAt, nearerAt, eastAt, seenLabel};
+ghost use Rattle.graph.specs.Look.{the_seen_of, west_of, height_at, westward_of, nearer_of, candidate_at, nearer_at, east_at, seen_label};
 
 use super::heading::{carrier_at, goes_up, start};
 use exact::{Ordering, products};
@@ -30,8 +30,8 @@ pub enum West {
 
 // "lower y ≤ y of p < upper y": one end of edge k is above p and the other is not.
 fn at_height(points: &[i64], origins: &[u16], k: usize, p: Point) -> bool
-    requires { (2 * k ≤ absent) × Starts points.now origins.now (2 * k) × Starts points.now origins.now (2 * k + 1) × Near (ptOf p) }
-    ensures { result ≡ heightAt points.now origins.now (ptOf p) k }
+    requires { (2 * k ≤ absent) × Starts points.now origins.now (2 * k) × Starts points.now origins.now (2 * k + 1) × Near (pt_of p) }
+    ensures { result ≡ height_at points.now origins.now (pt_of p) k }
 {
     let from = below(p, start(points, origins, 2 * k));
     let to = below(p, start(points, origins, 2 * k + 1));
@@ -40,8 +40,8 @@ fn at_height(points: &[i64], origins: &[u16], k: usize, p: Point) -> bool
 
 // "lie west of p, or go through or start at p with an upward direction of greater angle than" d.
 fn westward(s: Seg, p: Point, d: Vector) -> bool
-    requires { Edge (segOf s) × Near (ptOf p) × Direction (vec_of d) }
-    ensures { result ≡ westwardOf (segOf s) (ptOf p) (vec_of d) }
+    requires { Edge (seg_of s) × Near (pt_of p) × Direction (vec_of d) }
+    ensures { result ≡ westward_of (seg_of s) (pt_of p) (vec_of d) }
 {
     let turn = cross_of(d.x, d.y, s.u, s.v);
     let left = left_by(s, p);
@@ -50,8 +50,8 @@ fn westward(s: Seg, p: Point, d: Vector) -> bool
 
 // "The nearest has the greatest x at that height; among equals, the smallest upward angle": whether s is nearer than t.
 fn nearer(s: Seg, t: Seg, p: Point) -> bool
-    requires { Edge (segOf s) × Edge (segOf t) × Near (ptOf p) }
-    ensures { result ≡ nearerOf (segOf s) (segOf t) (ptOf p) }
+    requires { Edge (seg_of s) × Edge (seg_of t) × Near (pt_of p) }
+    ensures { result ≡ nearer_of (seg_of s) (seg_of t) (pt_of p) }
 {
     match products(left_by(s, p), t.v, left_by(t, p), s.v) {
         Ordering::Less => false,
@@ -69,8 +69,8 @@ pub fn candidate(
     p: Point,
     d: Vector,
 ) -> bool
-    requires { (2 * k ≤ absent) × Starts points.now origins.now (2 * k) × Starts points.now origins.now (2 * k + 1) × Carried carriers.now k × Near (ptOf p) × Direction (vec_of d) }
-    ensures { result ≡ candidateAt points.now origins.now carriers.now (ptOf p) (vec_of d) k }
+    requires { (2 * k ≤ absent) × Starts points.now origins.now (2 * k) × Starts points.now origins.now (2 * k + 1) × Carried carriers.now k × Near (pt_of p) × Direction (vec_of d) }
+    ensures { result ≡ candidate_at points.now origins.now carriers.now (pt_of p) (vec_of d) k }
 {
     if at_height(points, origins, k, p) {
         westward(carrier_at(carriers, k), p, d)
@@ -81,8 +81,8 @@ pub fn candidate(
 
 // With r the nearest candidate so far, `none` where there is none yet: k too.
 pub fn nearest(carriers: &[i16], none: usize, k: usize, r: usize, p: Point) -> usize
-    requires { Carried carriers.now k × (r < none → Carried carriers.now r) × (r ≤ none) × Near (ptOf p) }
-    ensures { result ≡ better (nearerAt carriers.now (ptOf p)) none k r }
+    requires { Carried carriers.now k × (r < none → Carried carriers.now r) × (r ≤ none) × Near (pt_of p) }
+    ensures { result ≡ better (nearer_at carriers.now (pt_of p)) none k r }
 {
     if r == none {
         return k;
@@ -106,9 +106,9 @@ pub fn look(
 ) -> Seen
     requires fact_1 { Flat points.now origins.now carriers.now n e }
     requires fact_2 { 2 * e ≤ absent }
-    requires fact_3 { Near (ptOf p) }
+    requires fact_3 { Near (pt_of p) }
     requires fact_4 { Direction (vec_of d) }
-    ensures { seenOf result ≡ best (candidate (flatGraph points.now origins.now carriers.now n e) (ptOf p) (vec_of d)) (nearer (flatGraph points.now origins.now carriers.now n e) (ptOf p)) e }
+    ensures { the_seen_of result ≡ best (candidate (flat_graph points.now origins.now carriers.now n e) (pt_of p) (vec_of d)) (nearer (flat_graph points.now origins.now carriers.now n e) (pt_of p)) e }
 {
     let mut r = e;
     let mut k = 0;
@@ -128,7 +128,7 @@ pub fn look(
 // "the half-edge on its east side": the one that goes down.
 pub fn east_side(points: &[i64], origins: &[u16], k: usize) -> usize
     requires { (2 * k ≤ absent) × Starts points.now origins.now (2 * k) × Starts points.now origins.now (2 * k + 1) }
-    ensures { result ≡ eastAt points.now origins.now k }
+    ensures { result ≡ east_at points.now origins.now k }
 {
     if goes_up(points, origins, 2 * k) {
         2 * k + 1
@@ -149,9 +149,9 @@ pub fn seen_half(
 ) -> West
     requires fact_1 { Flat points.now origins.now carriers.now n e }
     requires fact_2 { 2 * e ≤ absent }
-    requires fact_3 { Near (ptOf p) }
+    requires fact_3 { Near (pt_of p) }
     requires fact_4 { Direction (vec_of d) }
-    ensures { westOf result ≡ west (flatGraph points.now origins.now carriers.now n e) (ptOf p) (vec_of d) }
+    ensures { west_of result ≡ west (flat_graph points.now origins.now carriers.now n e) (pt_of p) (vec_of d) }
 {
     let seen = look(points, origins, carriers, n, e, p, d);
     match seen {
@@ -174,9 +174,9 @@ pub fn seen_label(
     requires fact_1 { Flat points.now origins.now carriers.now n e }
     requires fact_2 { 2 * e ≤ absent }
     requires fact_3 { 2 * e ≤ length labels.now }
-    requires fact_4 { Near (ptOf p) }
+    requires fact_4 { Near (pt_of p) }
     requires fact_5 { Direction (vec_of d) }
-    ensures { result ≡ seenLabel (flatGraph points.now origins.now carriers.now n e) labels.now (ptOf p) (vec_of d) }
+    ensures { result ≡ seen_label (flat_graph points.now origins.now carriers.now n e) labels.now (pt_of p) (vec_of d) }
 {
     let seen = seen_half(points, origins, carriers, n, e, p, d);
     match seen {

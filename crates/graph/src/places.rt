@@ -3,7 +3,7 @@ ghost use Rattle.std.specs.Prelude.{◌≡◌, ◌≤◌, length};
 ghost use Rattle.seq.specs.Seq.{filled};
 ghost use Rattle.paper.specs.Limits.{absent};
 ghost use Rattle.graph.specs.Flat.{Numbers};
-ghost use Rattle.graph.specs.Places.{firstPlace};
+ghost use Rattle.graph.specs.Places.{first_place};
 
 // Stores one value in the first n cells.
 pub fn fill(out: &mut [u16], n: usize, value: u16)
@@ -22,7 +22,7 @@ pub fn first_places(xs: &[u16], m: usize, none: u16, out: &mut [u16], n: usize)
     requires fact_1 { Numbers xs.now m n }
     requires fact_2 { m ≤ absent }
     requires fact_3 { n ≤ length out.old }
-    ensures { out.new ≡ filled n (firstPlace xs.now m none) out.old }
+    ensures { out.new ≡ filled n (first_place xs.now m none) out.old }
 {
     fill(out, n, none);
     let mut i = m;

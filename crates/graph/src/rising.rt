@@ -1,7 +1,7 @@
 // Points in their order: the vertices of an overlay stand so. Then which of two comes first is told by their numbers, and no product is reckoned.
 ghost use Rattle.std.specs.Prelude.{false, ◌≡◌, ◌<◌};
 ghost use Rattle.paper.specs.Plane.{before};
-ghost use Rattle.graph.specs.Flat.{originAt, start_at, Points, Starts};
+ghost use Rattle.graph.specs.Flat.{origin_at, start_at, Points, Starts};
 ghost use Rattle.graph.specs.Rising.{Rises, RisesIf};
 
 use super::heading::{point_at, start};
@@ -34,7 +34,7 @@ pub fn starts_first(
 ) -> bool
     requires fact_1 { RisesIf rising points.now n }
     requires fact_2 { Starts points.now origins.now h × Starts points.now origins.now k }
-    requires fact_3 { (originAt origins.now h < n) × (originAt origins.now k < n) }
+    requires fact_3 { (origin_at origins.now h < n) × (origin_at origins.now k < n) }
     ensures { result ≡ before (start_at points.now origins.now h) (start_at points.now origins.now k) }
 {
     if rising {

@@ -12,74 +12,74 @@ use Rattle.seq.specs.Position.{among-elem, elem-among}
 use Rattle.seq.specs.Members.{among_one}
 use Rattle.seq.specs.Loops.Choosing.{has_key}
 use Rattle.paper.specs.Limits.{absent}
-use Rattle.paper.specs.Plane.{lessAngle, before}
-use Rattle.paper.specs.Graph.{Graph, halfCount, origin, follower, followers, walk, smallest, leaves, heading, greatestOut, makesHole}
-use Rattle.paper.specs.Faces.{walksOf, leadAt, holeAt}
-use Rattle.laws_plane.specs.Points.{before-irr, before-trans}
+use Rattle.paper.specs.Plane.{less_angle, before}
+use Rattle.paper.specs.Graph.{Graph, the_half_count, origin, follower, followers, walk, smallest, leaves, heading, greatest_out, makes_hole}
+use Rattle.paper.specs.Faces.{walks_of, lead_at, hole_at}
+use Rattle.laws_plane.specs.Points.{before_irr, before_trans}
 use Rattle.laws_graph.specs.Plane.{Plane}
-use Rattle.laws_graph.specs.Follow.{followers-inject, lesser, greatest-is}
-use Rattle.laws_graph.specs.Walks.{Along, lead_is, lead-below, lead-same, lead-one, along-walk, walk-along, along-below, hole-is}
-use Rattle.laws_graph.specs.Holes.{smallest-start, smallest-is, smallest-below}
-use Rattle.graph.specs.Flat.{originAt, start_at, flatGraph, Flat}
+use Rattle.laws_graph.specs.Follow.{followers_inject, lesser, greatest_is}
+use Rattle.laws_graph.specs.Walks.{Along, lead_is, lead_below, lead_same, lead_one, along-walk, walk-along, along_below, hole_is}
+use Rattle.laws_graph.specs.Holes.{smallest-start, smallest_is, smallest_below}
+use Rattle.graph.specs.Flat.{origin_at, start_at, flat_graph, Flat}
 use Rattle.graph.specs.Laws.Decode.{flat-points, flat-halves, flat_origin, flat_start}
 use Rattle.seq.specs.Filled.{Holds, front-table}
 use Rattle.graph.specs.Follow.{Heads}
 use Rattle.graph_faces.specs.Lead.{Permutes}
-use Rattle.graph.specs.Stars.{greaterAt, greatestAt}
-use Rattle.graph_faces.specs.Turns.{earlierAt, lowAt, topAt}
+use Rattle.graph.specs.Stars.{greater_at, greatest_at}
+use Rattle.graph_faces.specs.Turns.{earlier_at, low_at, top_at}
 
 -- the half-edge of greatest angle out of the smallest vertex of h's walk
 abbrev pub top_of : Graph → ℕ → ℕ
-top_of g h = Option·getD (greatestOut g (smallest g (followers g) h)) absent
+top_of g h = Option·getD (greatest_out g (smallest g (followers g) h)) absent
 
 module _ (g : Graph) (P : Plane g) where
   -- ── the table of followers ──
 
-  module _ (t : List ℕ) (H : Holds (follower g) t (halfCount g)) where
-    pub front-followers : take (halfCount g) t ≡ followers g
-    front-followers = front-table (follower g) t (halfCount g) H
+  module _ (t : List ℕ) (H : Holds (follower g) t (the_half_count g)) where
+    pub front-followers : take (the_half_count g) t ≡ followers g
+    front-followers = front-table (follower g) t (the_half_count g) H
 
-    pub next-permutes : Permutes t (halfCount g)
-    next-permutes = record { long = H.long; once = subst (λ (x : List ℕ). Injects (step x) (length x)) (sym front-followers) (followers-inject g P) }
+    pub next_permutes : Permutes t (the_half_count g)
+    next_permutes = record { long = H.long; once = subst (λ (x : List ℕ). Injects (step x) (length x)) (sym front-followers) (followers_inject g P) }
 
-    pub front-leader : (h : ℕ) → h < halfCount g → leader (take (halfCount g) t) h ≡ leadAt (walksOf g) h
+    pub front-leader : (h : ℕ) → h < the_half_count g → leader (take (the_half_count g) t) h ≡ lead_at (walks_of g) h
     front-leader h l = ap (λ (x : List ℕ). leader x h) front-followers ∙ sym (lead_is g P h l)
 
   -- ── what top_of says ──
 
-  module _ (h : ℕ) (l : h < halfCount g) where
-    top-by : (o : Option ℕ) → BestIs (leaves g (smallest g (followers g) h)) (λ k r. lesser g r k) (halfCount g) o → (o ≡ some (Option·getD o absent)) × Has (leaves g (smallest g (followers g) h)) (halfCount g) (Option·getD o absent)
-    top-by none b = absurd (let s = smallest-start g P h l in b s.0 (record { below = along-below g P l s.1; has = eq-eqb (origin g s.0) (smallest g (followers g) h) s.2 }))
-    top-by (some r) b = (refl, b.is)
+  module _ (h : ℕ) (l : h < the_half_count g) where
+    top_by : (o : Option ℕ) → BestIs (leaves g (smallest g (followers g) h)) (λ k r. lesser g r k) (the_half_count g) o → (o ≡ some (Option·getD o absent)) × Has (leaves g (smallest g (followers g) h)) (the_half_count g) (Option·getD o absent)
+    top_by none b = absurd (let s = smallest-start g P h l in b s.0 (record { below = along_below g P l s.1; has = eq-eqb (origin g s.0) (smallest g (followers g) h) s.2 }))
+    top_by (some r) b = (refl, b.is)
 
     -- there is one, since a half-edge of the walk leaves its smallest vertex
-    pub top-greatest : greatestOut g (smallest g (followers g) h) ≡ some (top_of g h)
-    top-greatest = (top-by (greatestOut g (smallest g (followers g) h)) (greatest-is g P (smallest g (followers g) h))).0
+    pub top-greatest : greatest_out g (smallest g (followers g) h) ≡ some (top_of g h)
+    top-greatest = (top_by (greatest_out g (smallest g (followers g) h)) (greatest_is g P (smallest g (followers g) h))).0
 
-    top-has : Has (leaves g (smallest g (followers g) h)) (halfCount g) (top_of g h)
-    top-has = (top-by (greatestOut g (smallest g (followers g) h)) (greatest-is g P (smallest g (followers g) h))).1
+    top_has : Has (leaves g (smallest g (followers g) h)) (the_half_count g) (top_of g h)
+    top_has = (top_by (greatest_out g (smallest g (followers g) h)) (greatest_is g P (smallest g (followers g) h))).1
 
-    pub top_below : top_of g h < halfCount g
-    top_below = top-has.below
+    pub top_below : top_of g h < the_half_count g
+    top_below = top_has.below
 
     -- it starts at the smallest vertex
     pub top-origin : origin g (top_of g h) ≡ smallest g (followers g) h
-    top-origin = eqb-true (origin g (top_of g h)) (smallest g (followers g) h) top-has.has
+    top-origin = eqb-true (origin g (top_of g h)) (smallest g (followers g) h) top_has.has
 
     -- "a hole walk exactly if it holds" it
-    hole-yes : eqb (leadAt (walksOf g) (top_of g h)) (leadAt (walksOf g) h) ≡ true → among (some (top_of g h)) (walk (followers g) h) ≡ true
-    hole-yes e = among-elem (top_of g h) (walk (followers g) h) (along-walk g P h l (top_of g h) (lead-one g P h (top_of g h) l top_below (sym (eqb-true _ _ e))))
+    hole_yes : eqb (lead_at (walks_of g) (top_of g h)) (lead_at (walks_of g) h) ≡ true → among (some (top_of g h)) (walk (followers g) h) ≡ true
+    hole_yes e = among-elem (top_of g h) (walk (followers g) h) (along-walk g P h l (top_of g h) (lead_one g P h (top_of g h) l top_below (sym (eqb-true _ _ e))))
 
-    yes-hole : among (some (top_of g h)) (walk (followers g) h) ≡ true → eqb (leadAt (walksOf g) (top_of g h)) (leadAt (walksOf g) h) ≡ true
-    yes-hole e = eq-eqb (leadAt (walksOf g) (top_of g h)) (leadAt (walksOf g) h) (lead-same g P h (top_of g h) l (walk-along g P h l (top_of g h) (elem-among (top_of g h) (walk (followers g) h) e)))
+    yes_hole : among (some (top_of g h)) (walk (followers g) h) ≡ true → eqb (lead_at (walks_of g) (top_of g h)) (lead_at (walks_of g) h) ≡ true
+    yes_hole e = eq-eqb (lead_at (walks_of g) (top_of g h)) (lead_at (walks_of g) h) (lead_same g P h (top_of g h) l (walk-along g P h l (top_of g h) (elem-among (top_of g h) (walk (followers g) h) e)))
 
-    pub top-hole : eqb (leadAt (walksOf g) (top_of g h)) (leadAt (walksOf g) h) ≡ holeAt (walksOf g) h
+    pub top-hole : eqb (lead_at (walks_of g) (top_of g h)) (lead_at (walks_of g) h) ≡ hole_at (walks_of g) h
     top-hole =
-        bool-ext (eqb (leadAt (walksOf g) (top_of g h)) (leadAt (walksOf g) h)) (among (some (top_of g h)) (walk (followers g) h)) hole-yes yes-hole
-        ∙ ap (λ (o : Option ℕ). among o (walk (followers g) h)) (sym top-greatest) ∙ sym (hole-is g P h l)
+        bool-ext (eqb (lead_at (walks_of g) (top_of g h)) (lead_at (walks_of g) h)) (among (some (top_of g h)) (walk (followers g) h)) hole_yes yes_hole
+        ∙ ap (λ (o : Option ℕ). among o (walk (followers g) h)) (sym top-greatest) ∙ sym (hole_is g P h l)
 
     -- the half-edge that makes its walk a hole walk
-    pub top-makes : eqb (top_of g h) h ≡ makesHole g (followers g) h
+    pub top-makes : eqb (top_of g h) h ≡ makes_hole g (followers g) h
     top-makes =
         bool-ext (eqb (top_of g h) h) (among (some (top_of g h)) (h ∷ [])) (λ e. among-elem (top_of g h) (h ∷ []) (inl (eqb-true (top_of g h) h e)))
         (λ e. eq-eqb (top_of g h) h (among_one (top_of g h) h (elem-among (top_of g h) (h ∷ []) e)))
@@ -89,68 +89,68 @@ module _ (g : Graph) (P : Plane g) where
 
 module _ (ps : List ℤ) (os : List ℕ) (cs : List ℤ) (n e : ℕ) (F : Flat ps os cs n e) where
   abbrev g : Graph
-  g = flatGraph ps os cs n e
+  g = flat_graph ps os cs n e
 
-  pub flat-greatest : (hs : List ℤ) → Heads ps os cs n e hs → (v : ℕ) → greatestAt os hs (2 * e) v ≡ Option·getD (greatestOut g v) absent
+  pub flat-greatest : (hs : List ℤ) → Heads ps os cs n e hs → (v : ℕ) → greatest_at os hs (2 * e) v ≡ Option·getD (greatest_out g v) absent
   flat-greatest hs H v =
       ap (λ (o : Option ℕ). Option·getD o absent)
-      (best-ext (has_key (λ h. originAt os h) (greaterAt hs) v) (leaves g v) (greaterAt hs) (λ h r. lessAngle (heading g r) (heading g h)) (2 * e)
+      (best-ext (has_key (λ h. origin_at os h) (greater_at hs) v) (leaves g v) (greater_at hs) (λ h r. less_angle (heading g r) (heading g h)) (2 * e)
       (λ k b. ap (λ (x : ℕ). eqb x v) (sym (flat_origin ps os cs n e k b)))
-      (λ j k a b. λ i. lessAngle (H k b i) (H j a i))
-      ∙ ap (best (leaves g v) (λ h r. lessAngle (heading g r) (heading g h))) (sym (flat-halves ps os cs n e)))
+      (λ j k a b. λ i. less_angle (H k b i) (H j a i))
+      ∙ ap (best (leaves g v) (λ h r. less_angle (heading g r) (heading g h))) (sym (flat-halves ps os cs n e)))
 
-  module _ (P : Plane g) (ls : List ℕ) (L : Holds (leadAt (walksOf g)) ls (2 * e)) (h : ℕ) (l : h < 2 * e) where
-    below : h < halfCount g
+  module _ (P : Plane g) (ls : List ℕ) (L : Holds (lead_at (walks_of g)) ls (2 * e)) (h : ℕ) (l : h < 2 * e) where
+    below : h < the_half_count g
     below = omega (arith, flat-halves ps os cs n e)
 
     -- of the half-edges with h's leader
     abbrev mates : ℕ → Bool
-    mates x = eqb (get_or ls x 0) (leadAt (walksOf g) h)
+    mates x = eqb (get_or ls x 0) (lead_at (walks_of g) h)
 
-    order : Strict mates (earlierAt ps os) (2 * e)
+    order : Strict mates (earlier_at ps os) (2 * e)
     order = record {
-      irr = λ x b. before-irr (start_at ps os x);
-      trans = λ x y z bx by bz. before-trans (start_at ps os x) (start_at ps os y) (start_at ps os z) (real x bx.below) (real y by.below) (real z bz.below);
+      irr = λ x b. before_irr (start_at ps os x);
+      trans = λ x y z bx by bz. before_trans (start_at ps os x) (start_at ps os y) (start_at ps os z) (real x bx.below) (real y by.below) (real z bz.below);
     }
       where
         real : (x : ℕ) → x < 2 * e → pos 0 <ℤ (start_at ps os x).D
-        real x b = (F.points.near (originAt os x) (F.origins.named x b)).positive
+        real x b = (F.points.near (origin_at os x) (F.origins.named x b)).positive
 
     mate : (x : ℕ) → x < 2 * e → mates x ≡ true → Along g h x
     mate x b q =
-        let k : x < halfCount g = omega (arith, flat-halves ps os cs n e) in
-        lead-one g P h x below k (sym (sym (L.at x b) ∙ eqb-true (get_or ls x 0) (leadAt (walksOf g) h) q))
+        let k : x < the_half_count g = omega (arith, flat-halves ps os cs n e) in
+        lead_one g P h x below k (sym (sym (L.at x b) ∙ eqb-true (get_or ls x 0) (lead_at (walks_of g) h) q))
 
     along-mate : (x : ℕ) → Along g h x → Has mates (2 * e) x
     along-mate x a =
-        let b : x < 2 * e = omega (arith, along-below g P below a, flat-halves ps os cs n e) in
-        record { below = b; has = eq-eqb (get_or ls x 0) (leadAt (walksOf g) h) (L.at x b ∙ lead-same g P h x below a) }
+        let b : x < 2 * e = omega (arith, along_below g P below a, flat-halves ps os cs n e) in
+        record { below = b; has = eq-eqb (get_or ls x 0) (lead_at (walks_of g) h) (L.at x b ∙ lead_same g P h x below a) }
 
-    low_by : (o : Option ℕ) → TopIs mates (earlierAt ps os) (2 * e) o → (Option·getD o absent < 2 * e) × (origin g (Option·getD o absent) ≡ smallest g (followers g) h)
+    low_by : (o : Option ℕ) → TopIs mates (earlier_at ps os) (2 * e) o → (Option·getD o absent < 2 * e) × (origin g (Option·getD o absent) ≡ smallest g (followers g) h)
     low_by none t = absurd (t h (along-mate h (0, refl)))
     low_by (some x) t = (
       t.is.below,
-      sym (smallest-is g P h below x (mate x t.is.below t.is.has)
+      sym (smallest_is g P h below x (mate x t.is.below t.is.has)
           (λ j a. let m = along-mate j a in
-          (λ i. before (flat_start ps os cs n e F.origins j m.below i) (flat_start ps os cs n e F.origins x t.is.below i)) ∙ t.none-better j m)),
+          (λ i. before (flat_start ps os cs n e F.origins j m.below i) (flat_start ps os cs n e F.origins x t.is.below i)) ∙ t.none_better j m)),
     )
 
     -- the low half-edge of h's walk is one of the half-edges, and starts at the smallest vertex
-    pub low_origin : (lowAt ps os ls (2 * e) (leadAt (walksOf g) h) < 2 * e) × (origin g (lowAt ps os ls (2 * e) (leadAt (walksOf g) h)) ≡ smallest g (followers g) h)
-    low_origin = low_by (best mates (earlierAt ps os) (2 * e)) (best-top mates (earlierAt ps os) (2 * e) order)
+    pub low_origin : (low_at ps os ls (2 * e) (lead_at (walks_of g) h) < 2 * e) × (origin g (low_at ps os ls (2 * e) (lead_at (walks_of g) h)) ≡ smallest g (followers g) h)
+    low_origin = low_by (best mates (earlier_at ps os) (2 * e)) (best-top mates (earlier_at ps os) (2 * e) order)
 
     -- so the tables give the half-edge of greatest angle out of it
-    pub flat-top : (lo gs : List ℕ) → Holds (lowAt ps os ls (2 * e)) lo (2 * e) → Holds (λ v. Option·getD (greatestOut g v) absent) gs n → topAt os ls lo gs h ≡ top_of g h
+    pub flat-top : (lo gs : List ℕ) → Holds (low_at ps os ls (2 * e)) lo (2 * e) → Holds (λ v. Option·getD (greatest_out g v) absent) gs n → top_at os ls lo gs h ≡ top_of g h
     flat-top lo gs O G =
         let r = low_origin in
-        let m : leadAt (walksOf g) h < 2 * e = omega (arith, lead-below g P h below, flat-halves ps os cs n e) in
-        let v : originAt os (get_or lo (get_or ls h 0) 0) ≡ smallest g (followers g) h =
-        ap (originAt os) (ap (λ (x : ℕ). get_or lo x 0) (L.at h l) ∙ O.at (leadAt (walksOf g) h) m) ∙ sym (flat_origin ps os cs n e _ r.0) ∙ r.1 in
-        ap (λ (x : ℕ). get_or gs x 0) v ∙ G.at (smallest g (followers g) h) (omega (arith, smallest-below g P h below, flat-points ps os cs n e))
+        let m : lead_at (walks_of g) h < 2 * e = omega (arith, lead_below g P h below, flat-halves ps os cs n e) in
+        let v : origin_at os (get_or lo (get_or ls h 0) 0) ≡ smallest g (followers g) h =
+        ap (origin_at os) (ap (λ (x : ℕ). get_or lo x 0) (L.at h l) ∙ O.at (lead_at (walks_of g) h) m) ∙ sym (flat_origin ps os cs n e _ r.0) ∙ r.1 in
+        ap (λ (x : ℕ). get_or gs x 0) v ∙ G.at (smallest g (followers g) h) (omega (arith, smallest_below g P h below, flat-points ps os cs n e))
 
     -- and each cell that is read is there
-    pub low-cell : (lo : List ℕ) → Holds (lowAt ps os ls (2 * e)) lo (2 * e) → get_or lo (get_or ls h 0) 0 < 2 * e
-    low-cell lo O =
-        let m : leadAt (walksOf g) h < 2 * e = omega (arith, lead-below g P h below, flat-halves ps os cs n e) in
-        let q : get_or lo (get_or ls h 0) 0 ≡ lowAt ps os ls (2 * e) (leadAt (walksOf g) h) = ap (λ (x : ℕ). get_or lo x 0) (L.at h l) ∙ O.at (leadAt (walksOf g) h) m in
+    pub low_cell : (lo : List ℕ) → Holds (low_at ps os ls (2 * e)) lo (2 * e) → get_or lo (get_or ls h 0) 0 < 2 * e
+    low_cell lo O =
+        let m : lead_at (walks_of g) h < 2 * e = omega (arith, lead_below g P h below, flat-halves ps os cs n e) in
+        let q : get_or lo (get_or ls h 0) 0 ≡ low_at ps os ls (2 * e) (lead_at (walks_of g) h) = ap (λ (x : ℕ). get_or lo x 0) (L.at h l) ∙ O.at (lead_at (walks_of g) h) m in
         omega (arith, low_origin.0)

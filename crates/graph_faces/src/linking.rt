@@ -1,8 +1,8 @@
 // The walks and the faces of a graph in flat tables, all at once.
 ghost use Rattle.std.specs.Prelude.{◌*◌, ◌≤◌, ◌<◌, length};
-ghost use Rattle.paper.specs.Limits.{overlayVertices, overlayEdges};
+ghost use Rattle.paper.specs.Limits.{overlay_vertices, overlay_edges};
 ghost use Rattle.laws_graph.specs.Plane.{Plane};
-ghost use Rattle.graph.specs.Flat.{flatGraph, Flat};
+ghost use Rattle.graph.specs.Flat.{flat_graph, Flat};
 ghost use Rattle.graph_faces.specs.Linked.{Linked, Led, Numbered};
 
 use super::links::link_in;
@@ -25,11 +25,11 @@ pub fn link(
     top: &mut [u16],
 )
     requires fact_1 { Flat points.now origins.now carriers.now n e }
-    requires fact_2 { n ≤ overlayVertices }
-    requires fact_3 { e ≤ overlayEdges }
-    requires fact_4 { Plane (flatGraph points.now origins.now carriers.now n e) }
+    requires fact_2 { n ≤ overlay_vertices }
+    requires fact_3 { e ≤ overlay_edges }
+    requires fact_4 { Plane (flat_graph points.now origins.now carriers.now n e) }
     requires fact_5 { (2 * e ≤ length next.old) × (2 * e ≤ length lead.old) × (2 * e ≤ length top.old) }
-    ensures { Linked (flatGraph points.now origins.now carriers.now n e) next.old lead.old top.old next.new lead.new top.new }
+    ensures { Linked (flat_graph points.now origins.now carriers.now n e) next.old lead.old top.old next.new lead.new top.new }
 {
     if is_small(n, e) {
         let mut ways = [0i16; SMALL_HEADING_CELLS];
@@ -61,11 +61,11 @@ fn enclose_in(
     inside: &mut [u16],
 ) -> usize
     requires fact_1 { Flat points.now origins.now carriers.now n e }
-    requires fact_2 { e ≤ overlayEdges }
-    requires fact_3 { Plane (flatGraph points.now origins.now carriers.now n e) }
-    requires fact_4 { Led (flatGraph points.now origins.now carriers.now n e) lead.now top.now }
+    requires fact_2 { e ≤ overlay_edges }
+    requires fact_3 { Plane (flat_graph points.now origins.now carriers.now n e) }
+    requires fact_4 { Led (flat_graph points.now origins.now carriers.now n e) lead.now top.now }
     requires fact_5 { (2 * e ≤ length known.old) × (2 * e ≤ length face.old) × (2 * e ≤ length leaders.old) × (2 * e < length inside.old) }
-    ensures { Numbered (flatGraph points.now origins.now carriers.now n e) face.old leaders.old inside.old face.new leaders.new inside.new result }
+    ensures { Numbered (flat_graph points.now origins.now carriers.now n e) face.old leaders.old inside.old face.new leaders.new inside.new result }
 {
     let m = 2 * e;
     let rising = rise(points, n);
@@ -91,11 +91,11 @@ pub fn enclose(
     inside: &mut [u16],
 ) -> usize
     requires fact_1 { Flat points.now origins.now carriers.now n e }
-    requires fact_2 { e ≤ overlayEdges }
-    requires fact_3 { Plane (flatGraph points.now origins.now carriers.now n e) }
-    requires fact_4 { Led (flatGraph points.now origins.now carriers.now n e) lead.now top.now }
+    requires fact_2 { e ≤ overlay_edges }
+    requires fact_3 { Plane (flat_graph points.now origins.now carriers.now n e) }
+    requires fact_4 { Led (flat_graph points.now origins.now carriers.now n e) lead.now top.now }
     requires fact_5 { (2 * e ≤ length face.old) × (2 * e ≤ length leaders.old) × (2 * e < length inside.old) }
-    ensures { Numbered (flatGraph points.now origins.now carriers.now n e) face.old leaders.old inside.old face.new leaders.new inside.new result }
+    ensures { Numbered (flat_graph points.now origins.now carriers.now n e) face.old leaders.old inside.old face.new leaders.new inside.new result }
 {
     if e <= SMALL_EDGES {
         let mut known = [0u16; SMALL_HALVES];

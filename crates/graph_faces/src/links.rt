@@ -3,11 +3,11 @@ ghost use Rattle.std.specs.Prelude.{◌≡◌, ◌*◌, ◌≤◌, length};
 ghost use Rattle.std.proofs.Math.Option.{get_or};
 ghost use Rattle.seq.specs.Seq.{filled};
 ghost use Rattle.seq.specs.Filled.{Holds};
-ghost use Rattle.paper.specs.Limits.{overlayEdges, absent};
-ghost use Rattle.paper.specs.Graph.{greatestOut};
-ghost use Rattle.paper.specs.Faces.{walksOf, leadAt};
+ghost use Rattle.paper.specs.Limits.{overlay_edges, absent};
+ghost use Rattle.paper.specs.Graph.{greatest_out};
+ghost use Rattle.paper.specs.Faces.{walks_of, lead_at};
 ghost use Rattle.laws_graph.specs.Plane.{Plane};
-ghost use Rattle.graph.specs.Flat.{flatGraph, Flat};
+ghost use Rattle.graph.specs.Flat.{flat_graph, Flat};
 ghost use Rattle.graph.specs.Rising.{RisesIf};
 ghost use Rattle.graph_faces.specs.Linked.{Linked};
 ghost use Rattle.graph_faces.specs.Walked.{top_of};
@@ -30,11 +30,11 @@ fn tops_of(
     top: &mut [u16],
 )
     requires fact_1 { Flat points.now origins.now carriers.now n e }
-    requires fact_2 { (e ≤ overlayEdges) × (2 * e ≤ length top.old) }
-    requires fact_3 { Plane (flatGraph points.now origins.now carriers.now n e) }
+    requires fact_2 { (e ≤ overlay_edges) × (2 * e ≤ length top.old) }
+    requires fact_3 { Plane (flat_graph points.now origins.now carriers.now n e) }
     requires fact_4 { RisesIf rising points.now n }
-    requires fact_5 { Holds (leadAt (walksOf (flatGraph points.now origins.now carriers.now n e))) lead.now (2 * e) × Holds (λ v. get_or (greatestOut (flatGraph points.now origins.now carriers.now n e) v) absent) greatest.now n }
-    ensures { top.new ≡ filled (2 * e) (top_of (flatGraph points.now origins.now carriers.now n e)) top.old }
+    requires fact_5 { Holds (lead_at (walks_of (flat_graph points.now origins.now carriers.now n e))) lead.now (2 * e) × Holds (λ v. get_or (greatest_out (flat_graph points.now origins.now carriers.now n e) v) absent) greatest.now n }
+    ensures { top.new ≡ filled (2 * e) (top_of (flat_graph points.now origins.now carriers.now n e)) top.old }
 {
     let m = 2 * e;
     if climb(origins, e, rising) {
@@ -60,11 +60,11 @@ pub fn link_in(
     top: &mut [u16],
 )
     requires fact_1 { Flat points.now origins.now carriers.now n e }
-    requires fact_2 { e ≤ overlayEdges }
-    requires fact_3 { Plane (flatGraph points.now origins.now carriers.now n e) }
+    requires fact_2 { e ≤ overlay_edges }
+    requires fact_3 { Plane (flat_graph points.now origins.now carriers.now n e) }
     requires fact_4 { (2 * (2 * e) ≤ length ways.old) × (n ≤ length out.old) }
     requires fact_5 { (2 * e ≤ length next.old) × (2 * e ≤ length lead.old) × (2 * e ≤ length top.old) }
-    ensures { Linked (flatGraph points.now origins.now carriers.now n e) next.old lead.old top.old next.new lead.new top.new }
+    ensures { Linked (flat_graph points.now origins.now carriers.now n e) next.old lead.old top.old next.new lead.new top.new }
 {
     let m = 2 * e;
     let rising = rise(points, n);

@@ -4,11 +4,11 @@ ghost use Rattle.seq.specs.Seq.{best};
 ghost use Rattle.paper.specs.Plane.{nowhere};
 ghost use Rattle.paper.specs.Graph.{nearer};
 ghost use Rattle.laws_graph.specs.West.{candidate};
-ghost use Rattle.plane.specs.Values.{ptOf};
-ghost use Rattle.graph.specs.Flat.{pointAt, flatGraph};
-ghost use Rattle.graph.specs.Look.{seenOf, candidateAt};
-ghost use Rattle.graph_faces.specs.Kinds.{seenFrom};
-ghost use Rattle.graph_faces.specs.Sides.{Sighted, oneSide};
+ghost use Rattle.plane.specs.Values.{pt_of};
+ghost use Rattle.graph.specs.Flat.{the_point_at, flat_graph};
+ghost use Rattle.graph.specs.Look.{the_seen_of, candidate_at};
+ghost use Rattle.graph_faces.specs.Kinds.{seen_from};
+ghost use Rattle.graph_faces.specs.Sides.{Sighted, the_one_side};
 
 use graph::{Seen, candidate, east_side, nearest, point_at};
 use limits::ABSENT;
@@ -17,7 +17,7 @@ use plane::{Point, Vector};
 // Whether both ends of edge k have numbers after v, or neither has.
 fn one_side(origins: &[u16], k: usize, v: usize) -> bool
     requires { 2 * k + 1 < length origins.now }
-    ensures { result ≡ oneSide origins.now k v }
+    ensures { result ≡ the_one_side origins.now k v }
 {
     let to = v < origins[2 * k + 1] as usize;
     if v < origins[2 * k] as usize { to } else { !to }
@@ -36,8 +36,8 @@ fn strictly_west(
     p: Point,
 ) -> bool
     requires fact_1 { Sighted points.now origins.now carriers.now n e rising }
-    requires fact_2 { (k < e) × (v < n) × (ptOf p ≡ pointAt points.now v) }
-    ensures { result ≡ candidateAt points.now origins.now carriers.now (ptOf p) nowhere k }
+    requires fact_2 { (k < e) × (v < n) × (pt_of p ≡ the_point_at points.now v) }
+    ensures { result ≡ candidate_at points.now origins.now carriers.now (pt_of p) nowhere k }
 {
     if rising {
         if one_side(origins, k, v) {
@@ -59,8 +59,8 @@ fn look_from(
     p: Point,
 ) -> Seen
     requires fact_1 { Sighted points.now origins.now carriers.now n e rising }
-    requires fact_2 { (v < n) × (ptOf p ≡ pointAt points.now v) }
-    ensures { seenOf result ≡ best (candidate (flatGraph points.now origins.now carriers.now n e) (ptOf p) nowhere) (nearer (flatGraph points.now origins.now carriers.now n e) (ptOf p)) e }
+    requires fact_2 { (v < n) × (pt_of p ≡ the_point_at points.now v) }
+    ensures { the_seen_of result ≡ best (candidate (flat_graph points.now origins.now carriers.now n e) (pt_of p) nowhere) (nearer (flat_graph points.now origins.now carriers.now n e) (pt_of p)) e }
 {
     let mut r = e;
     let mut k = 0;
@@ -89,7 +89,7 @@ pub fn seen_from(
 ) -> u16
     requires fact_1 { Sighted points.now origins.now carriers.now n e rising }
     requires fact_2 { v < n }
-    ensures { result ≡ seenFrom points.now origins.now carriers.now n e v }
+    ensures { result ≡ seen_from points.now origins.now carriers.now n e v }
 {
     let p = point_at(points, v);
     let seen = look_from(points, origins, carriers, n, e, rising, v, p);

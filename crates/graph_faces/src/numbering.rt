@@ -4,7 +4,7 @@ ghost use Rattle.seq.specs.Seq.{count, select, filled, over};
 ghost use Rattle.paper.specs.Limits.{absent};
 ghost use Rattle.graph.specs.Flat.{Numbers};
 ghost use Rattle.graph_faces.specs.Sides.{Sighted};
-ghost use Rattle.graph_faces.specs.Kinds.{Kinded, Known, Faced, holeOf, outerLead, holeLead, known_with, known_by, faceFrom, holesIn};
+ghost use Rattle.graph_faces.specs.Kinds.{Kinded, Known, Faced, hole_of, outer_lead, hole_lead, known_with, known_by, face_from, holes_in};
 
 use super::looking::seen_from;
 use graph::fill;
@@ -13,7 +13,7 @@ use limits::ABSENT;
 // Whether h is of a hole walk: whether its walk "holds the half-edge of greatest angle out of its own smallest vertex".
 pub fn is_hole(lead: &[u16], top: &[u16], h: usize) -> bool
     requires { Kinded lead.now top.now h }
-    ensures { result ≡ holeOf lead.now top.now h }
+    ensures { result ≡ hole_of lead.now top.now h }
 {
     let t = top[h] as usize;
     lead[t] == lead[h]
@@ -22,7 +22,7 @@ pub fn is_hole(lead: &[u16], top: &[u16], h: usize) -> bool
 // Whether h is the least half-edge of a hole walk.
 pub fn leads_hole(lead: &[u16], top: &[u16], h: usize) -> bool
     requires { Kinded lead.now top.now h }
-    ensures { result ≡ holeLead lead.now top.now h }
+    ensures { result ≡ hole_lead lead.now top.now h }
 {
     if is_hole(lead, top, h) {
         lead[h] as usize == h
@@ -51,8 +51,8 @@ fn tell_walk(
     requires fact_2 { Kinded lead.now top.now h × (get_or top.now h 0 < 2 * e) × (h < 2 * e) × (c ≤ h) }
     requires fact_3 { (h < length known.old) × (c < length leaders.old) }
     ensures known { known.new ≡ set known.old h (known_with points.now origins.now carriers.now n e lead.now top.now h (c + 1)) }
-    ensures leaders { leaders.new ≡ cond (holeOf lead.now top.now h) leaders.old (set leaders.old c h) }
-    ensures counted { result ≡ cond (holeOf lead.now top.now h) c (c + 1) }
+    ensures leaders { leaders.new ≡ cond (hole_of lead.now top.now h) leaders.old (set leaders.old c h) }
+    ensures counted { result ≡ cond (hole_of lead.now top.now h) c (c + 1) }
 {
     if is_hole(lead, top, h) {
         let v = origins[top[h] as usize] as usize;
@@ -82,8 +82,8 @@ pub fn tell(
     requires fact_2 { Numbers lead.now (2 * e) (2 * e) × Numbers top.now (2 * e) (2 * e) }
     requires fact_3 { (2 * e ≤ length known.old) × (2 * e ≤ length leaders.old) }
     ensures known { Known (known_by points.now origins.now carriers.now n e lead.now top.now) lead.now known.new (2 * e) }
-    ensures leaders { leaders.new ≡ over (select (outerLead lead.now top.now) (2 * e)) leaders.old }
-    ensures counted { result ≡ count (outerLead lead.now top.now) (2 * e) }
+    ensures leaders { leaders.new ≡ over (select (outer_lead lead.now top.now) (2 * e)) leaders.old }
+    ensures counted { result ≡ count (outer_lead lead.now top.now) (2 * e) }
 {
     let m = 2 * e;
     let mut c = 0;
@@ -103,7 +103,7 @@ pub fn tell(
 fn face(lead: &[u16], top: &[u16], known: &[u16], n: usize, m: usize, h: usize) -> u16
     requires fact_1 { Faced lead.now top.now known.now m }
     requires fact_2 { h < m }
-    ensures { result ≡ faceFrom lead.now top.now known.now n h }
+    ensures { result ≡ face_from lead.now top.now known.now n h }
 {
     let mut x = h;
     let mut left = n;
@@ -134,10 +134,10 @@ pub fn settle(
 )
     requires fact_1 { Faced lead.now top.now known.now m }
     requires fact_2 { m ≤ absent }
-    requires fact_3 { ((h : ℕ) → h < m → faceFrom lead.now top.now known.now n h < f) }
+    requires fact_3 { ((h : ℕ) → h < m → face_from lead.now top.now known.now n h < f) }
     requires fact_4 { (m ≤ length faces.old) × (f ≤ length inside.old) }
-    ensures faces { faces.new ≡ filled m (faceFrom lead.now top.now known.now n) faces.old }
-    ensures inside { inside.new ≡ filled f (holesIn lead.now top.now (faceFrom lead.now top.now known.now n) m) inside.old }
+    ensures faces { faces.new ≡ filled m (face_from lead.now top.now known.now n) faces.old }
+    ensures inside { inside.new ≡ filled f (holes_in lead.now top.now (face_from lead.now top.now known.now n) m) inside.old }
 {
     fill(inside, f, 0);
     let mut h = 0;

@@ -2,12 +2,12 @@
 ghost use Rattle.std.specs.Prelude.{◌≡◌, true, ℕ, ◌*◌, ◌≤◌, ◌<◌, length, get_or, take};
 ghost use Rattle.seq.specs.Seq.{walk, leader, filled};
 ghost use Rattle.paper.specs.Limits.{absent};
-ghost use Rattle.graph.specs.Flat.{originAt, Numbers, Starts};
+ghost use Rattle.graph.specs.Flat.{origin_at, Numbers, Starts};
 ghost use Rattle.graph.specs.Rising.{RisesIf};
 ghost use Rattle.graph.specs.Pick.{better};
-ghost use Rattle.graph_faces.specs.Climbs.{Climbs, topByLead};
+ghost use Rattle.graph_faces.specs.Climbs.{Climbs, top_by_lead};
 ghost use Rattle.graph_faces.specs.Lead.{marks, Permutes};
-ghost use Rattle.graph_faces.specs.Turns.{earlierAt, lowAt, topAt};
+ghost use Rattle.graph_faces.specs.Turns.{earlier_at, low_at, top_at};
 
 use graph::{fill, starts_first};
 use limits::ABSENT;
@@ -54,8 +54,8 @@ pub fn leads(next: &[u16], m: usize, lead: &mut [u16])
 fn earlier(points: &[i64], origins: &[u16], n: usize, rising: bool, h: usize, r: u16) -> u16
     requires fact_1 { (h < absent) × Starts points.now origins.now h × ((r ≡ absent → ⊥) → Starts points.now origins.now r) }
     requires fact_2 { RisesIf rising points.now n }
-    requires fact_3 { (originAt origins.now h < n) × ((r ≡ absent → ⊥) → originAt origins.now r < n) }
-    ensures { result ≡ better (earlierAt points.now origins.now) absent h r }
+    requires fact_3 { (origin_at origins.now h < n) × ((r ≡ absent → ⊥) → origin_at origins.now r < n) }
+    ensures { result ≡ better (earlier_at points.now origins.now) absent h r }
 {
     if r == ABSENT {
         return h as u16;
@@ -82,7 +82,7 @@ pub fn lows(
     requires fact_3 { m ≤ absent }
     requires fact_4 { m ≤ length out.old }
     requires fact_5 { RisesIf rising points.now n × Numbers origins.now m n }
-    ensures { out.new ≡ filled m (lowAt points.now origins.now lead.now m) out.old }
+    ensures { out.new ≡ filled m (low_at points.now origins.now lead.now m) out.old }
 {
     fill(out, m, ABSENT);
     let mut h = 0;
@@ -101,7 +101,7 @@ pub fn tops(origins: &[u16], lead: &[u16], low: &[u16], greatest: &[u16], m: usi
     requires fact_3 { ((h : ℕ) → h < m → get_or low.now (get_or lead.now h 0) 0 < m) }
     requires fact_4 { Numbers origins.now m (length greatest.now) }
     requires fact_5 { m ≤ length top.old }
-    ensures { top.new ≡ filled m (topAt origins.now lead.now low.now greatest.now) top.old }
+    ensures { top.new ≡ filled m (top_at origins.now lead.now low.now greatest.now) top.old }
 {
     let mut h = 0;
     while h < m {
@@ -144,7 +144,7 @@ pub fn tops_by_leads(origins: &[u16], lead: &[u16], greatest: &[u16], m: usize, 
     requires fact_2 { m ≤ absent }
     requires fact_3 { Numbers origins.now m (length greatest.now) }
     requires fact_4 { m ≤ length top.old }
-    ensures { top.new ≡ filled m (topByLead origins.now lead.now greatest.now) top.old }
+    ensures { top.new ≡ filled m (top_by_lead origins.now lead.now greatest.now) top.old }
 {
     let mut h = 0;
     while h < m {

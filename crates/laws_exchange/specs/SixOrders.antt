@@ -1,21 +1,21 @@
 -- "Ask 11 then holds for every order of the maps" (02, Ask 13): the six orders of three map files (`Order`, `arranged`), each an order as AnyOrder asks for it (`six-orders`), so that everything there holds of each (`ThreeExchanged`, `every-order`). Then two maps
--- handed in the other way round, with the empty map third, in the customer's words (`TwoExchanged`, `two-exchanged`). Assumes nothing.
+-- handed in the other way round, with the empty map third, in the customer's words (`TwoExchanged`, `two_exchanged`). Assumes nothing.
 use Rattle.std.specs.Prelude.{◌≡◌, refl, ◌<◌}
 use Rattle.std.proofs.Common.{arith}
 use Rattle.seq.specs.Seq.{List, [], ◌∷◌, ℕ, zero, suc, length, get_or}
 use Rattle.paper.specs.Limits.{maps}
 use Rattle.paper.specs.Refusal.{Refusal, done, refused}
 use Rattle.paper.specs.Map.{check}
-use Rattle.paper.specs.Sample.{emptyFile}
+use Rattle.paper.specs.Sample.{empty_file}
 use Rattle.paper.specs.Tables.{Counts, Tables}
-use Rattle.paper.specs.Lent.{Lengths, zeroTables}
+use Rattle.paper.specs.Lent.{Lengths, zero_tables}
 use Rattle.laws_orders.specs.Orders.{FilesRenumbered, named}
 use Rattle.laws_orders.specs.FromCheck.{Good, AllGood, FirstBad, passes-good}
 use Rattle.laws_orders.specs.TwoMaps.{empty-passes}
 use Rattle.tables.specs.declared.answer.Answer as code
 use Rattle.tables.specs.Values.{answer_of}
 use Rattle.tables.specs.Promise.{Promised}
-use Rattle.laws_exchange.specs.AnyOrder.{Exchanged, JustBad, exchanged-answer, exchanged-done, exchanged-room, exchanged-bad, first-handed-in}
+use Rattle.laws_exchange.specs.AnyOrder.{Exchanged, JustBad, exchanged-answer, exchanged-done, exchanged_room, exchanged-bad, first_handed_in}
 
 -- ── three files ──
 
@@ -50,13 +50,13 @@ place_in cab = placed 1 2 0
 place_in cba = placed 2 1 0
 
 -- and which of them stands first, second and third
-abbrev pub standsIn : Order → ℕ → ℕ
-standsIn abc = placed 0 1 2
-standsIn acb = placed 0 2 1
-standsIn bac = placed 1 0 2
-standsIn bca = placed 1 2 0
-standsIn cab = placed 2 0 1
-standsIn cba = placed 2 1 0
+abbrev pub stands_in : Order → ℕ → ℕ
+stands_in abc = placed 0 1 2
+stands_in acb = placed 0 2 1
+stands_in bac = placed 1 0 2
+stands_in bca = placed 1 2 0
+stands_in cab = placed 2 0 1
+stands_in cba = placed 2 1 0
 
 -- of each of three
 module _ (P : ℕ → Type 0) (p : P 0) (q : P 1) (r : P 2) where
@@ -72,7 +72,7 @@ module _ (a b c : List ℕ) where
     to = place_in o
 
     abbrev back : ℕ → ℕ
-    back = standsIn o
+    back = stands_in o
 
     abbrev gs : List (List ℕ)
     gs = arranged o a b c
@@ -90,7 +90,7 @@ module _ (a b c : List ℕ) where
     }
 
   -- each of the six is an order of a, b and c
-  pub six-orders : (o : Order) → FilesRenumbered (a ∷ b ∷ c ∷ []) (arranged o a b c) (place_in o) (standsIn o)
+  pub six-orders : (o : Order) → FilesRenumbered (a ∷ b ∷ c ∷ []) (arranged o a b c) (place_in o) (stands_in o)
   six-orders abc = by_order abc refl (omega arith, omega arith, omega arith) (omega arith, omega arith, omega arith) (refl, refl, refl) (refl, refl, refl) (refl, refl, refl)
   six-orders acb = by_order acb refl (omega arith, omega arith, omega arith) (omega arith, omega arith, omega arith) (refl, refl, refl) (refl, refl, refl) (refl, refl, refl)
   six-orders bac = by_order bac refl (omega arith, omega arith, omega arith) (omega arith, omega arith, omega arith) (refl, refl, refl) (refl, refl, refl) (refl, refl, refl)
@@ -102,28 +102,28 @@ module _ (a b c : List ℕ) where
 pub record ThreeExchanged (l : Lengths) (a b c : List ℕ) (o : Order) (r s : code.Answer) (t u : Tables) : Type 0 where
   pub answers : AllGood (a ∷ b ∷ c ∷ []) → answer_of s ≡ answer_of r
   pub same : (n : Counts) → answer_of r ≡ done n → (answer_of s ≡ done n) × Exchanged maps (place_in o) n t u
-  pub room : (q : Refusal) → answer_of r ≡ refused q → q.number ≡ 11 → (answer_of s ≡ refused q) × (t ≡ zeroTables l) × (u ≡ zeroTables l)
-  pub one-bad : (i : ℕ) (q : Refusal) → JustBad (a ∷ b ∷ c ∷ []) i q →
-      (answer_of r ≡ refused (named (suc i) q)) × (answer_of s ≡ refused (named (suc (place_in o i)) q)) × (t ≡ zeroTables l) × (u ≡ zeroTables l)
-  pub several-bad : (i j : ℕ) (q p : Refusal) → FirstBad (a ∷ b ∷ c ∷ []) i q → FirstBad (arranged o a b c) j p →
-      (answer_of r ≡ refused (named (suc i) q)) × (answer_of s ≡ refused (named (suc j) p)) × (t ≡ zeroTables l) × (u ≡ zeroTables l)
+  pub room : (q : Refusal) → answer_of r ≡ refused q → q.number ≡ 11 → (answer_of s ≡ refused q) × (t ≡ zero_tables l) × (u ≡ zero_tables l)
+  pub one_bad : (i : ℕ) (q : Refusal) → JustBad (a ∷ b ∷ c ∷ []) i q →
+      (answer_of r ≡ refused (named (suc i) q)) × (answer_of s ≡ refused (named (suc (place_in o i)) q)) × (t ≡ zero_tables l) × (u ≡ zero_tables l)
+  pub several_bad : (i j : ℕ) (q p : Refusal) → FirstBad (a ∷ b ∷ c ∷ []) i q → FirstBad (arranged o a b c) j p →
+      (answer_of r ≡ refused (named (suc i) q)) × (answer_of s ≡ refused (named (suc j) p)) × (t ≡ zero_tables l) × (u ≡ zero_tables l)
 
 -- "Ask 11 then holds for every order of the maps"
 pub every-order : (l : Lengths) (a b c : List ℕ) (o : Order) (r s : code.Answer) (t u : Tables) → Promised l (a ∷ b ∷ c ∷ []) r t → Promised l (arranged o a b c) s u → ThreeExchanged l a b c o r s t u
 every-order l a b c o r s t u one two =
     let R = six-orders a b c o in
     record {
-      answers = exchanged-answer l (a ∷ b ∷ c ∷ []) (arranged o a b c) (place_in o) (standsIn o) R r s t u one two;
-      same = exchanged-done l (a ∷ b ∷ c ∷ []) (arranged o a b c) (place_in o) (standsIn o) R r s t u one two;
-      room = exchanged-room l (a ∷ b ∷ c ∷ []) (arranged o a b c) (place_in o) (standsIn o) R r s t u one two;
-      one-bad = exchanged-bad l (a ∷ b ∷ c ∷ []) (arranged o a b c) (place_in o) (standsIn o) R r s t u one two;
-      several-bad = first-handed-in l (a ∷ b ∷ c ∷ []) (arranged o a b c) (place_in o) (standsIn o) R r s t u one two;
+      answers = exchanged-answer l (a ∷ b ∷ c ∷ []) (arranged o a b c) (place_in o) (stands_in o) R r s t u one two;
+      same = exchanged-done l (a ∷ b ∷ c ∷ []) (arranged o a b c) (place_in o) (stands_in o) R r s t u one two;
+      room = exchanged_room l (a ∷ b ∷ c ∷ []) (arranged o a b c) (place_in o) (stands_in o) R r s t u one two;
+      one_bad = exchanged-bad l (a ∷ b ∷ c ∷ []) (arranged o a b c) (place_in o) (stands_in o) R r s t u one two;
+      several_bad = first_handed_in l (a ∷ b ∷ c ∷ []) (arranged o a b c) (place_in o) (stands_in o) R r s t u one two;
     }
 
 -- ── two files, the third map empty ──
 
-empty-good : Good emptyFile
-empty-good = passes-good emptyFile empty-passes
+empty-good : Good empty_file
+empty-good = passes-good empty_file empty-passes
 
 -- "Two offices load the maps in opposite order": r and t come out of a, b and the empty map, s and u of b, a and the empty map, in lent tables of the same lengths l
 pub record TwoExchanged (l : Lengths) (a b : List ℕ) (r s : code.Answer) (t u : Tables) : Type 0 where
@@ -132,39 +132,39 @@ pub record TwoExchanged (l : Lengths) (a b : List ℕ) (r s : code.Answer) (t u 
   -- "exchanging them must give the same vertices, followers and faces, with only the sources and the labels of each pair exchanged": 0 for 1 and 1 for 0
   pub same : (c : Counts) → answer_of r ≡ done c → (answer_of s ≡ done c) × Exchanged maps (place_in bac) c t u
   -- "a refusal for room is the same too"
-  pub room : (q : Refusal) → answer_of r ≡ refused q → q.number ≡ 11 → (answer_of s ≡ refused q) × (t ≡ zeroTables l) × (u ≡ zeroTables l)
+  pub room : (q : Refusal) → answer_of r ≡ refused q → q.number ≡ 11 → (answer_of s ≡ refused q) × (t ≡ zero_tables l) × (u ≡ zero_tables l)
   -- "If just one map is bad, the refusal names the other map number"
-  pub first-bad : (q : Refusal) → check a ≡ refused q → Good b → (answer_of r ≡ refused (named 1 q)) × (answer_of s ≡ refused (named 2 q)) × (t ≡ zeroTables l) × (u ≡ zeroTables l)
-  pub second-bad : (q : Refusal) → Good a → check b ≡ refused q → (answer_of r ≡ refused (named 2 q)) × (answer_of s ≡ refused (named 1 q)) × (t ≡ zeroTables l) × (u ≡ zeroTables l)
+  pub first_bad : (q : Refusal) → check a ≡ refused q → Good b → (answer_of r ≡ refused (named 1 q)) × (answer_of s ≡ refused (named 2 q)) × (t ≡ zero_tables l) × (u ≡ zero_tables l)
+  pub second-bad : (q : Refusal) → Good a → check b ≡ refused q → (answer_of r ≡ refused (named 2 q)) × (answer_of s ≡ refused (named 1 q)) × (t ≡ zero_tables l) × (u ≡ zero_tables l)
   -- "and if both are bad the first one handed in is named"
-  pub both-bad : (q p : Refusal) → check a ≡ refused q → check b ≡ refused p → (answer_of r ≡ refused (named 1 q)) × (answer_of s ≡ refused (named 1 p)) × (t ≡ zeroTables l) × (u ≡ zeroTables l)
+  pub both_bad : (q p : Refusal) → check a ≡ refused q → check b ≡ refused p → (answer_of r ≡ refused (named 1 q)) × (answer_of s ≡ refused (named 1 p)) × (t ≡ zero_tables l) × (u ≡ zero_tables l)
 
-module _ (l : Lengths) (a b : List ℕ) (r s : code.Answer) (t u : Tables) (one : Promised l (a ∷ b ∷ emptyFile ∷ []) r t) (two : Promised l (b ∷ a ∷ emptyFile ∷ []) s u) where
-  E : ThreeExchanged l a b emptyFile bac r s t u
-  E = every-order l a b emptyFile bac r s t u one two
+module _ (l : Lengths) (a b : List ℕ) (r s : code.Answer) (t u : Tables) (one : Promised l (a ∷ b ∷ empty_file ∷ []) r t) (two : Promised l (b ∷ a ∷ empty_file ∷ []) s u) where
+  E : ThreeExchanged l a b empty_file bac r s t u
+  E = every-order l a b empty_file bac r s t u one two
 
-  pub two-exchanged : TwoExchanged l a b r s t u
-  two-exchanged = record {
-    answers = λ g h. E.answers (all-good g h);
+  pub two_exchanged : TwoExchanged l a b r s t u
+  two_exchanged = record {
+    answers = λ g h. E.answers (all_good g h);
     same = E.same;
     room = E.room;
-    first-bad = λ q e g. E.one-bad 0 q (record { in_list = omega arith; refuses = e; others = but_first g });
-    second-bad = λ q g e. E.one-bad 1 q (record { in_list = omega arith; refuses = e; others = but-second g });
-    both-bad = λ q p e f.
-        E.several-bad 0 0 q p (record { in_list = omega arith; good-before = λ j b. absurd (omega arith); refuses = e })
-        (record { in_list = omega arith; good-before = λ j b. absurd (omega arith); refuses = f });
+    first_bad = λ q e g. E.one_bad 0 q (record { in_list = omega arith; refuses = e; others = but_first g });
+    second-bad = λ q g e. E.one_bad 1 q (record { in_list = omega arith; refuses = e; others = but-second g });
+    both_bad = λ q p e f.
+        E.several_bad 0 0 q p (record { in_list = omega arith; good_before = λ j b. absurd (omega arith); refuses = e })
+        (record { in_list = omega arith; good_before = λ j b. absurd (omega arith); refuses = f });
   }
     where
-      all-good : Good a → Good b → (j : ℕ) → j < maps → Good (get_or (a ∷ b ∷ emptyFile ∷ []) j [])
-      all-good g h = each (λ j. Good (get_or (a ∷ b ∷ emptyFile ∷ []) j [])) g h empty-good
+      all_good : Good a → Good b → (j : ℕ) → j < maps → Good (get_or (a ∷ b ∷ empty_file ∷ []) j [])
+      all_good g h = each (λ j. Good (get_or (a ∷ b ∷ empty_file ∷ []) j [])) g h empty-good
 
-      but_first : Good b → (j : ℕ) → j < maps → (j ≡ 0 → ⊥) → Good (get_or (a ∷ b ∷ emptyFile ∷ []) j [])
+      but_first : Good b → (j : ℕ) → j < maps → (j ≡ 0 → ⊥) → Good (get_or (a ∷ b ∷ empty_file ∷ []) j [])
       but_first g zero l d = absurd (d refl)
       but_first g (suc zero) l d = g
       but_first g (suc (suc zero)) l d = empty-good
       but_first g (suc (suc (suc j))) l d = absurd (omega arith)
 
-      but-second : Good a → (j : ℕ) → j < maps → (j ≡ 1 → ⊥) → Good (get_or (a ∷ b ∷ emptyFile ∷ []) j [])
+      but-second : Good a → (j : ℕ) → j < maps → (j ≡ 1 → ⊥) → Good (get_or (a ∷ b ∷ empty_file ∷ []) j [])
       but-second g zero l d = g
       but-second g (suc zero) l d = absurd (d refl)
       but-second g (suc (suc zero)) l d = empty-good

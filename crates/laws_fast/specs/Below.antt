@@ -1,11 +1,11 @@
--- Edges whose boxes lie side by side: from which x to which an edge reaches (`Box`), and that two of which the one ends west of where the other starts have no common point (`aside-disjoint`). Assumes nothing.
+-- Edges whose boxes lie side by side: from which x to which an edge reaches (`Box`), and that two of which the one ends west of where the other starts have no common point (`aside_disjoint`). Assumes nothing.
 use Rattle.std.specs.Prelude.{[], ◌∷◌, ◌≤◌, ◌<◌, ◌≤ℤ◌, ◌<ℤ◌}
 use Rattle.std.proofs.Common.{arith}
 use Rattle.exact.specs.Order.{zomega, sq}
 use Rattle.seq.specs.Seq.{ℤ, pos, ◌+ℤ◌}
 use Rattle.paper.specs.Plane.{Seg, head}
 use Rattle.laws_plane.specs.Cone.{UpV}
-use Rattle.laws_plane.specs.Extent.{on-west, on-east, no_room}
+use Rattle.laws_plane.specs.Extent.{on_west, on_east, no_room}
 use Rattle.laws_plane.specs.Disjoint.{Disjoint}
 
 -- both ends of s have an x from w to e
@@ -16,10 +16,10 @@ pub record Box (s : Seg) (w e : ℤ) : Type 0 where
   pub head-east : (head s).x ≤ℤ e
 
 -- the box of s lies west of the box of t
-pub aside-disjoint : (s t : Seg) → UpV s.up → UpV t.up → (w e v f : ℤ) → Box s w e → Box t v f → e <ℤ v → Disjoint s t
-aside-disjoint s t us ut w e v f A B l p h a b =
-    no_room e p.X p.D h (on-west s us p h a e A.foot-east A.head-east)
-    (on-east t ut p h b (e +ℤ pos 1) (past-east e v t.foot.x l B.foot-west) (past-east e v (head t).x l B.head-west))
+pub aside_disjoint : (s t : Seg) → UpV s.up → UpV t.up → (w e v f : ℤ) → Box s w e → Box t v f → e <ℤ v → Disjoint s t
+aside_disjoint s t us ut w e v f A B l p h a b =
+    no_room e p.X p.D h (on_west s us p h a e A.foot-east A.head-east)
+    (on_east t ut p h b (e +ℤ pos 1) (past_east e v t.foot.x l B.foot-west) (past_east e v (head t).x l B.head-west))
   where
-    past-east : (e v x : ℤ) → e <ℤ v → v ≤ℤ x → (e +ℤ pos 1) ≤ℤ x
-    past-east e v x = zomega (e ∷ v ∷ x ∷ []) {A = e <ℤ v → v ≤ℤ x → (e +ℤ pos 1) ≤ℤ x} (search sq depth 20) (omega arith)
+    past_east : (e v x : ℤ) → e <ℤ v → v ≤ℤ x → (e +ℤ pos 1) ≤ℤ x
+    past_east e v x = zomega (e ∷ v ∷ x ∷ []) {A = e <ℤ v → v ≤ℤ x → (e +ℤ pos 1) ≤ℤ x} (search sq depth 20) (omega arith)

@@ -1,19 +1,19 @@
--- Rule 8 in any order of the edges in which no edge clashes with a later one: then no two clash (`order-no-clash`), so the search for the least edge that clashes finds nothing (`order_least`). The edges are
+-- Rule 8 in any order of the edges in which no edge clashes with a later one: then no two clash (`order_no_clash`), so the search for the least edge that clashes finds nothing (`order_least`). The edges are
 -- given by their segments: carriers in a table, or of a graph. Assumes nothing.
 use Rattle.std.specs.Prelude.{◌≡◌, ◌<◌}
 use Rattle.std.proofs.Common.{sym, ◌∙◌, ap, arith, eq-eqb, ne_eqb}
 use Rattle.std.proofs.Math.Decide.{dec_lt, ℕ_discrete}
-use Rattle.seq.specs.Seq.{Bool, false, not, ◌&&◌, ℕ, eqb, least, someBelow}
+use Rattle.seq.specs.Seq.{Bool, false, not, ◌&&◌, ℕ, eqb, least, the_some_below}
 use Rattle.seq.specs.Terms.{Injects}
-use Rattle.seq.specs.Least.{least-none, no-some}
+use Rattle.seq.specs.Least.{least_none, no_some}
 use Rattle.seq.specs.Perm.{onto}
 use Rattle.paper.specs.Plane.{Seg, clash}
 use Rattle.laws_plane.specs.Cone.{UpV}
 use Rattle.laws_plane.specs.Clash.{clash-swap}
 
 -- edge k shares with another of n a point that is not an end of both: of a graph's carriers `clashing`, of carriers in a table what the code tests
-abbrev pub clashingBy : (ℕ → Seg) → ℕ → ℕ → Bool
-clashingBy seg n k = someBelow (λ j. not (eqb k j) && clash (seg k) (seg j)) n
+abbrev pub clashing_by : (ℕ → Seg) → ℕ → ℕ → Bool
+clashing_by seg n k = the_some_below (λ j. not (eqb k j) && clash (seg k) (seg j)) n
 
 module _ (seg : ℕ → Seg) (n : ℕ) where
   -- the edges go up
@@ -33,19 +33,19 @@ module _ (seg : ℕ → Seg) (n : ℕ) where
           | no l ↦ clash-swap (seg (f i)) (seg (f j)) (up (f i) (I.into i li)) (up (f j) (I.into j lj)) ∙ along j i (omega arith) li
         ]
 
-    pub order-no-clash : NoClash
-    order-no-clash k j lk lj d =
+    pub order_no_clash : NoClash
+    order_no_clash k j lk lj d =
         let (a, la, p) = onto f n I k lk in
         let (b, lb, q) = onto f n I j lj in
         sym (λ i. clash (seg (p i)) (seg (q i))) ∙ either a b la lb (λ s. d (sym p ∙ ap f s ∙ q))
 
-    one-clear : (k j : ℕ) → k < n → j < n → (not (eqb k j) && clash (seg k) (seg j)) ≡ false
-    one-clear k j lk lj =
+    one_clear : (k j : ℕ) → k < n → j < n → (not (eqb k j) && clash (seg k) (seg j)) ≡ false
+    one_clear k j lk lj =
         elim (ℕ_discrete k j) [
           | yes q ↦ ap (λ (c : Bool). not c && clash (seg k) (seg j)) (eq-eqb k j q)
-          | no q ↦ (λ i. not (ne_eqb k j q i) && order-no-clash k j lk lj q i)
+          | no q ↦ (λ i. not (ne_eqb k j q i) && order_no_clash k j lk lj q i)
         ]
 
     -- so the search for the least that does finds nothing
-    pub order_least : least (clashingBy seg n) n ≡ n
-    order_least = least-none (clashingBy seg n) n (λ k lk. no-some (λ j. not (eqb k j) && clash (seg k) (seg j)) n (λ j lj. one-clear k j lk lj))
+    pub order_least : least (clashing_by seg n) n ≡ n
+    order_least = least_none (clashing_by seg n) n (λ k lk. no_some (λ j. not (eqb k j) && clash (seg k) (seg j)) n (λ j lj. one_clear k j lk lj))

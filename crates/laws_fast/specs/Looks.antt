@@ -4,21 +4,21 @@ use Rattle.std.specs.Prelude.{◌≡◌, [], ◌∷◌, ◌≤◌, ◌<◌, ◌�
 use Rattle.std.proofs.Common.{ap, arith}
 use Rattle.std.specs.Int.Signed.{lt_z}
 use Rattle.exact.specs.Order.{zomega, sq, 0≤-*, 0<-*, <→≤, 0<-neg}
-use Rattle.exact.specs.Tests.{lt-t, t-lt}
+use Rattle.exact.specs.Tests.{lt_t, t_lt}
 use Rattle.seq.specs.Seq.{Bool, true, not, ◌&&◌, ℕ, ℤ, pos, neg_ℤ, ◌-ℤ◌, ◌*ℤ◌}
 use Rattle.seq.specs.Tests.{bool-ext, clash, not-true, and_parts, and_both, was-false}
 use Rattle.paper.specs.Plane.{Pt, Vec, nowhere, dir, before, below}
-use Rattle.paper.specs.Graph.{Graph, edge_count, edge, low, high, upward, left_of, atHeight, westward}
-use Rattle.laws_plane.specs.Cone.{Up, above, level, rises-up}
-use Rattle.laws_plane.specs.Points.{before-up}
-use Rattle.laws_plane.specs.Ends.{below-before, lt-below}
-use Rattle.laws_plane.specs.Sides.{left-chord}
-use Rattle.laws_graph.specs.Plane.{Plane, ends-real, ends_on}
-use Rattle.laws_graph.specs.West.{candidate, height-is, nowhere-westward, right-westward}
+use Rattle.paper.specs.Graph.{Graph, edge_count, edge, low, high, upward, left_of, at_height, westward}
+use Rattle.laws_plane.specs.Cone.{Up, above, level, rises_up}
+use Rattle.laws_plane.specs.Points.{before_up}
+use Rattle.laws_plane.specs.Ends.{below_before, lt_below}
+use Rattle.laws_plane.specs.Sides.{left_chord}
+use Rattle.laws_graph.specs.Plane.{Plane, ends_real, ends_on}
+use Rattle.laws_graph.specs.West.{candidate, height_is, nowhere-westward, right_westward}
 
 -- edge k is strictly west of p, by point order
-abbrev pub westBy : Graph → Pt → ℕ → Bool
-westBy g p k = (not (before p (low g k)) && before p (high g k)) && lt_z (left_of g p k) (pos 0)
+abbrev pub west_by : Graph → Pt → ℕ → Bool
+west_by g p k = (not (before p (low g k)) && before p (high g k)) && lt_z (left_of g p k) (pos 0)
 
 -- ── strictly west, by point order ──
 
@@ -33,36 +33,36 @@ module _ (g : Graph) (P : Plane g) (p : Pt) (hp : pos 0 <ℤ p.D) (k : ℕ) (l :
   abbrev u : Vec
   u = upward g k
 
-  not-down : pos 0 ≤ℤ (upward g k).y
-  not-down = go (rises-up u (P.rising k l))
+  not_down : pos 0 ≤ℤ (upward g k).y
+  not_down = go (rises_up u (P.rising k l))
     where
       go : Up u.x u.y → pos 0 ≤ℤ u.y
       go (above h) = zomega (u.y ∷ []) {A = pos 0 <ℤ u.y → pos 0 ≤ℤ u.y} (search sq depth 20) (omega arith) h
       go (level e h) = zomega (u.y ∷ []) {A = u.y ≡ pos 0 → pos 0 ≤ℤ u.y} (search sq depth 20) (omega arith) e
 
   -- p is before a point q of the edge's line, and the edge is strictly west: then p is lower
-  before-lower : (q : Pt) → pos 0 <ℤ q.D → left_of g q k ≡ pos 0 → left_of g p k <ℤ pos 0 → before p q ≡ true → below p q ≡ true
-  before-lower q hq on w b = go (before-up p q b)
+  before_lower : (q : Pt) → pos 0 <ℤ q.D → left_of g q k ≡ pos 0 → left_of g p k <ℤ pos 0 → before p q ≡ true → below p q ≡ true
+  before_lower q hq on w b = go (before_up p q b)
     where
       go : Up (dir p q).x (dir p q).y → below p q ≡ true
-      go (above h) = lt-below p q (zomega (p.Y ∷ q.D ∷ q.Y ∷ p.D ∷ []) {A = pos 0 <ℤ (q.Y *ℤ p.D -ℤ p.Y *ℤ q.D) → (p.Y *ℤ q.D) <ℤ (q.Y *ℤ p.D)} (search sq depth 20) (omega arith) h)
+      go (above h) = lt_below p q (zomega (p.Y ∷ q.D ∷ q.Y ∷ p.D ∷ []) {A = pos 0 <ℤ (q.Y *ℤ p.D -ℤ p.Y *ℤ q.D) → (p.Y *ℤ q.D) <ℤ (q.Y *ℤ p.D)} (search sq depth 20) (omega arith) h)
       go (level e h) =
-          absurd (level-west u.x u.y (dir p q).x (dir p q).y p.D q.D (left_of g p k) (left_of g q k) (left-chord (edge g k).carrier p q) on e not-down h hq w)
+          absurd (level-west u.x u.y (dir p q).x (dir p q).y p.D q.D (left_of g p k) (left_of g q k) (left_chord (edge g k).carrier p q) on e not_down h hq w)
 
   -- "counting only edges strictly west", by point order
-  pub order-candidate : candidate g p nowhere k ≡ westBy g p k
+  pub order-candidate : candidate g p nowhere k ≡ west_by g p k
   order-candidate =
-      bool-ext (candidate g p nowhere k) (westBy g p k)
-      (λ e. let r = and_parts (atHeight g p k) (westward g p nowhere k) e in
-      let h = height-is g p k r.0 in
+      bool-ext (candidate g p nowhere k) (west_by g p k)
+      (λ e. let r = and_parts (at_height g p k) (westward g p nowhere k) e in
+      let h = height_is g p k r.0 in
       let w = nowhere-westward g p k r.1 in
       and_both {a = not (before p (low g k)) && before p (high g k)}
-      (and_both {a = not (before p (low g k))} (ap not (not-true (before p (low g k)) (λ b. clash (before-lower (low g k) (ends-real g P k).0 (ends_on g P k l).0 w b) h.0))) (below-before p (high g k) h.1))
-      (t-lt {a = left_of g p k} {b = pos 0} w))
+      (and_both {a = not (before p (low g k))} (ap not (not-true (before p (low g k)) (λ b. clash (before_lower (low g k) (ends_real g P k).0 (ends_on g P k l).0 w b) h.0))) (below_before p (high g k) h.1))
+      (t_lt {a = left_of g p k} {b = pos 0} w))
       (λ e. let r = and_parts (not (before p (low g k)) && before p (high g k)) (lt_z (left_of g p k) (pos 0)) e in
       let s = and_parts (not (before p (low g k))) (before p (high g k)) r.0 in
-      let w : left_of g p k <ℤ pos 0 = lt-t {a = left_of g p k} {b = pos 0} r.1 in
-      and_both {a = atHeight g p k}
-      (and_both {a = not (below p (low g k))} (ap not (not-true (below p (low g k)) (λ b. clash (below-before p (low g k) b) (was-false (before p (low g k)) s.0))))
-      (before-lower (high g k) (ends-real g P k).1 (ends_on g P k l).1 w s.1))
-      (right-westward g p k nowhere w))
+      let w : left_of g p k <ℤ pos 0 = lt_t {a = left_of g p k} {b = pos 0} r.1 in
+      and_both {a = at_height g p k}
+      (and_both {a = not (below p (low g k))} (ap not (not-true (below p (low g k)) (λ b. clash (below_before p (low g k) b) (was-false (before p (low g k)) s.0))))
+      (before_lower (high g k) (ends_real g P k).1 (ends_on g P k l).1 w s.1))
+      (right_westward g p k nowhere w))

@@ -4,7 +4,7 @@ use Rattle.std.specs.Prelude.{◌≡◌, refl, ◌<◌}
 use Rattle.std.proofs.Common.{sym, ◌∙◌, ap, arith, ltb-true, ltb-false, lt-ltb, le-ltb}
 use Rattle.std.proofs.Math.Nat.{one-le-pow}
 use Rattle.seq.specs.Seq.{Bool, true, false, cond, List, [], ◌∷◌, ℕ, zero, suc, ◌+◌, ◌*◌, ◌-◌, ◌/◌, ◌%◌, ◌^◌, ltb, length, ℤ, pos, negsuc}
-use Rattle.paper.specs.Bytes.{byte_at, number, signedAt, le, leSigned, fitsSigned}
+use Rattle.paper.specs.Bytes.{byte_at, number, signed_at, le, le_signed, the_fits_signed}
 
 -- every cell is a byte
 abbrev pub Bytes : List ℕ → Type 0
@@ -18,22 +18,22 @@ pub length-le : (w n : ℕ) → length (le w n) ≡ w
 length-le zero n = refl
 length-le (suc w) n = ap suc (length-le w (n / 256))
 
-pub length-leSigned : (w : ℕ) (z : ℤ) → length (leSigned w z) ≡ w
-length-leSigned w (pos n) = length-le w n
-length-leSigned w (negsuc n) = length-le w (256 ^ w - suc n)
+pub length-le_signed : (w : ℕ) (z : ℤ) → length (le_signed w z) ≡ w
+length-le_signed w (pos n) = length-le w n
+length-le_signed w (negsuc n) = length-le w (256 ^ w - suc n)
 
 -- the unsigned number whose bytes a signed one has
 abbrev pub wrapped : ℕ → ℤ → ℕ
 wrapped w (pos n) = n
 wrapped w (negsuc n) = 256 ^ w - suc n
 
-pub leSigned-wrapped : (w : ℕ) (z : ℤ) → leSigned w z ≡ le w (wrapped w z)
-leSigned-wrapped w (pos n) = refl
-leSigned-wrapped w (negsuc n) = refl
+pub le_signed-wrapped : (w : ℕ) (z : ℤ) → le_signed w z ≡ le w (wrapped w z)
+le_signed-wrapped w (pos n) = refl
+le_signed-wrapped w (negsuc n) = refl
 
 -- how many numbers w bytes have
-pub some-numbers : (w : ℕ) → 0 < 256 ^ w
-some-numbers w = one-le-pow w 256 (omega arith)
+pub some_numbers : (w : ℕ) → 0 < 256 ^ w
+some_numbers w = one-le-pow w 256 (omega arith)
 
 -- ── what is written is read ──
 
@@ -43,11 +43,11 @@ number_of (suc w) n s i h b = rw (b.0, number_of w (n / 256) s (suc i) (omega ar
 
 module _ (w : ℕ) (s : List ℕ) (i : ℕ) where
   -- the lower half of the numbers stands for itself, the upper half for the negative ones
-  pub signed_by : (n : ℕ) (c : Bool) → ltb n (256 ^ w / 2) ≡ c → number w s i ≡ n → signedAt w s i ≡ cond c (pos n) (negsuc (256 ^ w - suc n))
+  pub signed_by : (n : ℕ) (c : Bool) → ltb n (256 ^ w / 2) ≡ c → number w s i ≡ n → signed_at w s i ≡ cond c (pos n) (negsuc (256 ^ w - suc n))
   signed_by n c e q = rw (q, e)
 
   -- a number that fits
-  pub signed_of : (z : ℤ) → fitsSigned w z ≡ true → Stands s i (leSigned w z) → signedAt w s i ≡ z
+  pub signed_of : (z : ℤ) → the_fits_signed w z ≡ true → Stands s i (le_signed w z) → signed_at w s i ≡ z
   signed_of (pos n) f b =
       let h : n < 256 ^ w / 2 = ltb-true n (256 ^ w / 2) f in
       signed_by n true f (number_of w n s i (omega arith) b)
@@ -55,13 +55,13 @@ module _ (w : ℕ) (s : List ℕ) (i : ℕ) where
       let h : n < 256 ^ w / 2 = ltb-true n (256 ^ w / 2) f in
       let m : ℕ = 256 ^ w - suc n in
       let back : 256 ^ w - suc m ≡ n = omega arith in
-      signed_by m false (le-ltb m (256 ^ w / 2) (omega arith)) (number_of w m s i (omega (arith, some-numbers w)) b) ∙ ap negsuc back
+      signed_by m false (le-ltb m (256 ^ w / 2) (omega arith)) (number_of w m s i (omega (arith, some_numbers w)) b) ∙ ap negsuc back
 
 -- ── what is read is written ──
 
-pub number-below : (w : ℕ) (s : List ℕ) (i : ℕ) → Bytes s → number w s i < 256 ^ w
-number-below zero s i h = omega arith
-number-below (suc w) s i h = omega (arith, h i, number-below w s (suc i) h)
+pub number_below : (w : ℕ) (s : List ℕ) (i : ℕ) → Bytes s → number w s i < 256 ^ w
+number_below zero s i h = omega arith
+number_below (suc w) s i h = omega (arith, h i, number_below w s (suc i) h)
 
 pub le-number : (w : ℕ) (s : List ℕ) (i : ℕ) → Bytes s → Stands s i (le w (number w s i))
 le-number zero s i h = tt
@@ -72,16 +72,16 @@ le-number (suc w) s i h =
     (sym low, rw rest (le-number w s (suc i) h))
 
 module _ (w : ℕ) (s : List ℕ) (i : ℕ) (h : Bytes s) where
-  same_bytes : (n : ℕ) (c : Bool) → n < 256 ^ w → leSigned w (cond c (pos n) (negsuc (256 ^ w - suc n))) ≡ le w n
+  same_bytes : (n : ℕ) (c : Bool) → n < 256 ^ w → le_signed w (cond c (pos n) (negsuc (256 ^ w - suc n))) ≡ le w n
   same_bytes n true l = refl
   same_bytes n false l = let e : 256 ^ w - suc (256 ^ w - suc n) ≡ n = omega arith in rw e
 
-  pub leSigned-signed : leSigned w (signedAt w s i) ≡ le w (number w s i)
-  leSigned-signed = same_bytes (number w s i) (ltb (number w s i) (256 ^ w / 2)) (number-below w s i h)
+  pub le_signed-signed : le_signed w (signed_at w s i) ≡ le w (number w s i)
+  le_signed-signed = same_bytes (number w s i) (ltb (number w s i) (256 ^ w / 2)) (number_below w s i h)
 
-pub signed-fits : (w : ℕ) (s : List ℕ) (i : ℕ) → Bytes s → fitsSigned (suc w) (signedAt (suc w) s i) ≡ true
-signed-fits w s i h = by (number (suc w) s i) (ltb (number (suc w) s i) (256 ^ suc w / 2)) refl (number-below (suc w) s i h)
+pub signed_fits : (w : ℕ) (s : List ℕ) (i : ℕ) → Bytes s → the_fits_signed (suc w) (signed_at (suc w) s i) ≡ true
+signed_fits w s i h = by (number (suc w) s i) (ltb (number (suc w) s i) (256 ^ suc w / 2)) refl (number_below (suc w) s i h)
   where
-    by : (n : ℕ) (c : Bool) → ltb n (256 ^ suc w / 2) ≡ c → n < 256 ^ suc w → fitsSigned (suc w) (cond c (pos n) (negsuc (256 ^ suc w - suc n))) ≡ true
+    by : (n : ℕ) (c : Bool) → ltb n (256 ^ suc w / 2) ≡ c → n < 256 ^ suc w → the_fits_signed (suc w) (cond c (pos n) (negsuc (256 ^ suc w - suc n))) ≡ true
     by n true e l = e
     by n false e l = lt-ltb (256 ^ suc w - suc n) (256 ^ suc w / 2) (omega (arith, ltb-false n (256 ^ suc w / 2) e))

@@ -6,57 +6,57 @@ use Rattle.std.proofs.Math.Decide.{dec_lt}
 use Rattle.std.proofs.Math.ListN.{get_or-append}
 use Rattle.seq.specs.Seq.{List, [], ◌∷◌, ◌++◌, ℕ, zero, suc, ◌+◌, ◌*◌, ◌-◌, length, get_or, table}
 use Rattle.seq.specs.Table.{length-table, table_at}
-use Rattle.paper.specs.Tables.{origin_of, followerOf, faceOf, sourceCell, Tables}
-use Rattle.paper.specs.Ovfile.{edgeFields}
-use Rattle.laws_file.specs.Placed.{edgeWidth}
+use Rattle.paper.specs.Tables.{origin_of, follower_of, face_of, source_cell, Tables}
+use Rattle.paper.specs.Ovfile.{edge_fields}
+use Rattle.laws_file.specs.Placed.{edge_width}
 
 module _ (n : ℕ) (t : Tables) (k : ℕ) where
   abbrev fields : List ℕ
-  fields = edgeFields n t k
+  fields = edge_fields n t k
 
   abbrev sources : List ℕ
-  sources = table (sourceCell n t k) n
+  sources = table (source_cell n t k) n
 
   abbrev ends : List ℕ
-  ends = followerOf t (2 * k) ∷ followerOf t (2 * k + 1) ∷ faceOf t (2 * k) ∷ faceOf t (2 * k + 1) ∷ []
+  ends = follower_of t (2 * k) ∷ follower_of t (2 * k + 1) ∷ face_of t (2 * k) ∷ face_of t (2 * k + 1) ∷ []
 
   -- past the origins, and past the sources
-  past-origins : (i : ℕ) → get_or fields (2 + i) 0 ≡ get_or (sources ++ ends) i 0
-  past-origins i = let e : 2 + i ≡ suc (suc i) = omega arith in ap (λ (j : ℕ). get_or fields j 0) e
+  past_origins : (i : ℕ) → get_or fields (2 + i) 0 ≡ get_or (sources ++ ends) i 0
+  past_origins i = let e : 2 + i ≡ suc (suc i) = omega arith in ap (λ (j : ℕ). get_or fields j 0) e
 
-  past-sources : (j : ℕ) → get_or fields (2 + n + j) 0 ≡ get_or ends j 0
-  past-sources j =
-      let e : 2 + n + j ≡ 2 + (length sources + j) = omega (arith, length-table (sourceCell n t k) n) in
-      ap (λ (i : ℕ). get_or fields i 0) e ∙ past-origins (length sources + j) ∙ get_or-append-add sources ends j 0
+  past_sources : (j : ℕ) → get_or fields (2 + n + j) 0 ≡ get_or ends j 0
+  past_sources j =
+      let e : 2 + n + j ≡ 2 + (length sources + j) = omega (arith, length-table (source_cell n t k) n) in
+      ap (λ (i : ℕ). get_or fields i 0) e ∙ past_origins (length sources + j) ∙ get_or-append-add sources ends j 0
 
   -- ── the fields ──
 
-  pub field-origin : (b : ℕ) → b < 2 → get_or (edgeFields n t k) b 0 ≡ origin_of t (2 * k + b)
+  pub field-origin : (b : ℕ) → b < 2 → get_or (edge_fields n t k) b 0 ≡ origin_of t (2 * k + b)
   field-origin zero l = ap (origin_of t) (sym (add-zero (2 * k)))
   field-origin (suc zero) l = refl
   field-origin (suc (suc b)) l = absurd (omega arith)
 
-  pub field-source : (i : ℕ) → i < n → get_or (edgeFields n t k) (2 + i) 0 ≡ sourceCell n t k i
-  field-source i l = past-origins i ∙ get_or-append sources ends 0 i (omega (arith, length-table (sourceCell n t k) n)) ∙ table_at (sourceCell n t k) n i 0 l
+  pub field-source : (i : ℕ) → i < n → get_or (edge_fields n t k) (2 + i) 0 ≡ source_cell n t k i
+  field-source i l = past_origins i ∙ get_or-append sources ends 0 i (omega (arith, length-table (source_cell n t k) n)) ∙ table_at (source_cell n t k) n i 0 l
 
-  pub field-follower : (b : ℕ) → b < 2 → get_or (edgeFields n t k) (2 + n + b) 0 ≡ followerOf t (2 * k + b)
-  field-follower zero l = past-sources 0 ∙ ap (followerOf t) (sym (add-zero (2 * k)))
-  field-follower (suc zero) l = past-sources 1
+  pub field-follower : (b : ℕ) → b < 2 → get_or (edge_fields n t k) (2 + n + b) 0 ≡ follower_of t (2 * k + b)
+  field-follower zero l = past_sources 0 ∙ ap (follower_of t) (sym (add-zero (2 * k)))
+  field-follower (suc zero) l = past_sources 1
   field-follower (suc (suc b)) l = absurd (omega arith)
 
-  pub field-face : (b : ℕ) → b < 2 → get_or (edgeFields n t k) (4 + n + b) 0 ≡ faceOf t (2 * k + b)
-  field-face b l = let e : 4 + n + b ≡ 2 + n + (2 + b) = omega arith in ap (λ (i : ℕ). get_or fields i 0) e ∙ past-sources (2 + b) ∙ by b l
+  pub field-face : (b : ℕ) → b < 2 → get_or (edge_fields n t k) (4 + n + b) 0 ≡ face_of t (2 * k + b)
+  field-face b l = let e : 4 + n + b ≡ 2 + n + (2 + b) = omega arith in ap (λ (i : ℕ). get_or fields i 0) e ∙ past_sources (2 + b) ∙ by b l
     where
-      by : (b : ℕ) → b < 2 → get_or ends (2 + b) 0 ≡ faceOf t (2 * k + b)
-      by zero l = ap (faceOf t) (sym (add-zero (2 * k)))
+      by : (b : ℕ) → b < 2 → get_or ends (2 + b) 0 ≡ face_of t (2 * k + b)
+      by zero l = ap (face_of t) (sym (add-zero (2 * k)))
       by (suc zero) l = refl
       by (suc (suc b)) l = absurd (omega arith)
 
   -- ── and there are no others: numbers that are the fields by name are all the fields ──
 
-  pub fields-are : (e : ℕ → ℕ) → ((b : ℕ) → b < 2 → origin_of t (2 * k + b) ≡ e b) → ((i : ℕ) → i < n → sourceCell n t k i ≡ e (2 + i))
-      → ((b : ℕ) → b < 2 → followerOf t (2 * k + b) ≡ e (2 + n + b)) → ((b : ℕ) → b < 2 → faceOf t (2 * k + b) ≡ e (4 + n + b))
-      → (j : ℕ) → j < edgeWidth n → get_or (edgeFields n t k) j 0 ≡ e j
+  pub fields-are : (e : ℕ → ℕ) → ((b : ℕ) → b < 2 → origin_of t (2 * k + b) ≡ e b) → ((i : ℕ) → i < n → source_cell n t k i ≡ e (2 + i))
+      → ((b : ℕ) → b < 2 → follower_of t (2 * k + b) ≡ e (2 + n + b)) → ((b : ℕ) → b < 2 → face_of t (2 * k + b) ≡ e (4 + n + b))
+      → (j : ℕ) → j < edge_width n → get_or (edge_fields n t k) j 0 ≡ e j
   fields-are e os ss fs cs j l =
       elim (dec_lt j 2) [
         | yes q ↦ field-origin j q ∙ os j q

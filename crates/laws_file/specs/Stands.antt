@@ -16,13 +16,13 @@ module _ (s : List ℕ) where
   front-stands i [] b h = tt
   front-stands i (x ∷ a) b h = (h.0, front-stands (suc i) a b h.1)
 
-  pub back-stands : (i : ℕ) (a b : List ℕ) → Stands s i (a ++ b) → Stands s (i + length a) b
-  back-stands i [] b h = rw (add-zero i) h
-  back-stands i (x ∷ a) b h = rw (add-suc i (length a), ← suc-add i (length a)) (back-stands (suc i) a b h.1)
+  pub back_stands : (i : ℕ) (a b : List ℕ) → Stands s i (a ++ b) → Stands s (i + length a) b
+  back_stands i [] b h = rw (add-zero i) h
+  back_stands i (x ∷ a) b h = rw (add-suc i (length a), ← suc-add i (length a)) (back_stands (suc i) a b h.1)
 
-  pub both-stand : (i : ℕ) (a b : List ℕ) → Stands s i a → Stands s (i + length a) b → Stands s i (a ++ b)
-  both-stand i [] b h k = rw (add-zero i) at k
-  both-stand i (x ∷ a) b h k = (h.0, both-stand (suc i) a b h.1 (rw (suc-add i (length a), ← add-suc i (length a)) k))
+  pub both_stand : (i : ℕ) (a b : List ℕ) → Stands s i a → Stands s (i + length a) b → Stands s i (a ++ b)
+  both_stand i [] b h k = rw (add-zero i) at k
+  both_stand i (x ∷ a) b h k = (h.0, both_stand (suc i) a b h.1 (rw (suc-add i (length a), ← add-suc i (length a)) k))
 
   -- ── rows of w bytes ──
 
@@ -32,13 +32,13 @@ module _ (s : List ℕ) where
     row-stands (suc n) k each l h =
         elim (dec_lt k n) [
           | yes q ↦ row-stands n k (λ j m. each j (omega arith)) q (front-stands i (rows f n) (f n) h)
-          | no q ↦ let e : k ≡ n = omega arith in rw (e, ← length-rows w f n (λ j m. each j (omega arith))) (back-stands i (rows f n) (f n) h)
+          | no q ↦ let e : k ≡ n = omega arith in rw (e, ← length-rows w f n (λ j m. each j (omega arith))) (back_stands i (rows f n) (f n) h)
         ]
 
     pub rows-stand : (n : ℕ) → ((j : ℕ) → j < n → length (f j) ≡ w) → ((k : ℕ) → k < n → Stands s (i + w * k) (f k)) → Stands s i (rows f n)
     rows-stand zero each h = tt
     rows-stand (suc n) each h =
-        both-stand i (rows f n) (f n) (rows-stand n (λ j m. each j (omega arith)) (λ k l. h k (omega arith)))
+        both_stand i (rows f n) (f n) (rows-stand n (λ j m. each j (omega arith)) (λ k l. h k (omega arith)))
         (rw (length-rows w f n (λ j m. each j (omega arith))) (h n (omega arith)))
 
   -- ── the fields of a record ──
@@ -54,12 +54,12 @@ module _ (s : List ℕ) where
     field-stands [] i j l h = absurd (not-suc-le-zero l)
     field-stands (x ∷ fs) i zero l h = rw (first_field i) (front-stands i (le w x) (gather (le w) fs) h)
     field-stands (x ∷ fs) i (suc j) l h =
-        rw (← next_field i x j) (field-stands fs (i + length (le w x)) j (le_of_suc-le-suc l) (back-stands i (le w x) (gather (le w) fs) h))
+        rw (← next_field i x j) (field-stands fs (i + length (le w x)) j (le_of_suc-le-suc l) (back_stands i (le w x) (gather (le w) fs) h))
 
     pub fields-stand : (fs : List ℕ) (i : ℕ) → ((j : ℕ) → j < length fs → Stands s (i + w * j) (le w (get_or fs j 0))) → Stands s i (gather (le w) fs)
     fields-stand [] i h = tt
     fields-stand (x ∷ fs) i h =
-        both-stand i (le w x) (gather (le w) fs) (rw (first_field i) at (h 0 (omega arith)))
+        both_stand i (le w x) (gather (le w) fs) (rw (first_field i) at (h 0 (omega arith)))
         (fields-stand fs (i + length (le w x)) (λ j l. rw (next_field i x j) (h (suc j) (suc-le-suc l))))
 
     pub length_fields : (fs : List ℕ) → length (gather (le w) fs) ≡ w * length fs

@@ -6,46 +6,46 @@ use Rattle.std.proofs.Common.{sym, ◌∙◌, ap, subst, arith}
 use Rattle.exact.specs.Solve.{ring, reify}
 use Rattle.exact.specs.Order.{zomega, sq, 0<-*, Tri, lt, eq, gt, tri, <→≢, ≤→≯, 0<→<}
 use Rattle.exact.specs.Mul.{≡-by₁, 0<-cancel}
-use Rattle.exact.specs.Sign.{Sign, neg, zer, plus, sgn, isPlus, negS, sums, sgn-sums, sgn-negℤ, plus→, isNeg}
+use Rattle.exact.specs.Sign.{Sign, neg, zer, plus, sgn, is_plus, neg_s, sums, sgn-sums, sgn-negℤ, plus→, is_neg}
 use Rattle.exact.specs.Tests.{never, clash, not-true, and_parts, and_both}
 use Rattle.seq.specs.Tests.{bool-ext}
-use Rattle.paper.specs.Plane.{Pt, Vec, Seg, dir, cross, before, below, leftBy}
+use Rattle.paper.specs.Plane.{Pt, Vec, Seg, dir, cross, before, below, the_left_by}
 use Rattle.laws_plane.specs.Cone.{above as rising, level, UpV}
-use Rattle.laws_plane.specs.Points.{before-up}
-use Rattle.laws_plane.specs.Ends.{0<1, lt-below, below-before}
+use Rattle.laws_plane.specs.Points.{before_up}
+use Rattle.laws_plane.specs.Ends.{0<1, lt_below, below_before}
 use Rattle.laws_plane.specs.Angles.{turn-trans}
 use Rattle.laws_plane.specs.Sides.{chord}
 use Rattle.laws_labels.specs.Spans.{Span, Good}
 use Rattle.laws_labels.specs.Near.{near}
 use Rattle.laws_labels.specs.Cuts.{lo, hi, above}
-use Rattle.laws_labels.specs.Height.{scaled, atHeightOf, above-height, right-height, span-steep}
+use Rattle.laws_labels.specs.Height.{scaled, at_height_of, above_height, right_height, span-steep}
 
 -- ── the point ──
 
 abbrev pub across : Seg → Pt → Pt
-across W p = record { X = p.X *ℤ W.up.y +ℤ leftBy W p; Y = p.Y *ℤ W.up.y; D = p.D *ℤ W.up.y }
+across W p = record { X = p.X *ℤ W.up.y +ℤ the_left_by W p; Y = p.Y *ℤ W.up.y; D = p.D *ℤ W.up.y }
 
 module _ (W : Seg) (p : Pt) where
-  pub across-line : leftBy W (across W p) ≡ pos 0
+  pub across-line : the_left_by W (across W p) ≡ pos 0
   across-line = ring (W.foot.x ∷ W.foot.y ∷ W.up.x ∷ W.up.y ∷ p.X ∷ p.Y ∷ p.D ∷ []) (search reify depth 20) tt
 
   -- an edge there and here
-  pub across-left : (e : Seg) → leftBy e (across W p) ≡ leftBy e p *ℤ W.up.y -ℤ leftBy W p *ℤ e.up.y
-  across-left e = ring (W.foot.x ∷ W.foot.y ∷ W.up.x ∷ W.up.y ∷ e.foot.x ∷ e.foot.y ∷ e.up.x ∷ e.up.y ∷ p.X ∷ p.Y ∷ p.D ∷ []) (search reify depth 20) tt
+  pub across_left : (e : Seg) → the_left_by e (across W p) ≡ the_left_by e p *ℤ W.up.y -ℤ the_left_by W p *ℤ e.up.y
+  across_left e = ring (W.foot.x ∷ W.foot.y ∷ W.up.x ∷ W.up.y ∷ e.foot.x ∷ e.foot.y ∷ e.up.x ∷ e.up.y ∷ p.X ∷ p.Y ∷ p.D ∷ []) (search reify depth 20) tt
 
   -- it is at the height of p
-  pub across-below : pos 0 <ℤ W.up.y → (z : Pt) → below (across W p) z ≡ below p z
-  across-below h z = ap isNeg (scaled W.up.y (p.Y *ℤ z.D -ℤ z.Y *ℤ p.D) ((across W p).Y *ℤ z.D -ℤ z.Y *ℤ (across W p).D) h (ring (W.up.y ∷ z.Y ∷ z.D ∷ p.Y ∷ p.D ∷ []) (search reify depth 20) tt))
+  pub across_below : pos 0 <ℤ W.up.y → (z : Pt) → below (across W p) z ≡ below p z
+  across_below h z = ap is_neg (scaled W.up.y (p.Y *ℤ z.D -ℤ z.Y *ℤ p.D) ((across W p).Y *ℤ z.D -ℤ z.Y *ℤ (across W p).D) h (ring (W.up.y ∷ z.Y ∷ z.D ∷ p.Y ∷ p.D ∷ []) (search reify depth 20) tt))
 
 -- ── one edge ──
 
-turned : (k : Sign) → T (isPlus k) → near false zer k ≡ true
+turned : (k : Sign) → T (is_plus k) → near false zer k ≡ true
 turned neg t = absurd t
 turned zer t = absurd t
 turned plus t = refl
 
 -- w, kw: of W at p and against d; s, k': of e at p and against d; t: of e at q; k: of e against W
-seen-signs : (w kw s t k k' : Sign) → near false w kw ≡ true → T (sums s (negS w) t) → (kw ≡ plus → T (sums kw k k')) → near true t k ≡ true → near false s k' ≡ true
+seen-signs : (w kw s t k k' : Sign) → near false w kw ≡ true → T (sums s (neg_s w) t) → (kw ≡ plus → T (sums kw k k')) → near true t k ≡ true → near false s k' ≡ true
 seen-signs plus kw s t k k' h a b n = never h
 seen-signs neg kw neg t k k' h a b n = refl
 seen-signs neg kw zer neg k k' h a b n = absurd a
@@ -67,8 +67,8 @@ seen-signs zer plus plus zer k k' h a b n = absurd a
 seen-signs zer plus plus plus k k' h a b n = never n
 
 -- a direction that does not fall, and has one that climbs on its left, rises
-left-rises : (d u : Vec) → pos 0 ≤ℤ d.y → pos 0 <ℤ u.y → pos 0 <ℤ cross d u → UpV d
-left-rises d u h uy c = go (tri (pos 0) d.y)
+left_rises : (d u : Vec) → pos 0 ≤ℤ d.y → pos 0 <ℤ u.y → pos 0 <ℤ cross d u → UpV d
+left_rises d u h uy c = go (tri (pos 0) d.y)
   where
     flat : d.y ≡ pos 0 → cross d u ≡ u.y *ℤ d.x
     flat z = ≡-by₁ z (neg_ℤ u.x) (ring (d.x ∷ d.y ∷ u.x ∷ u.y ∷ []) (search reify depth 20) tt)
@@ -82,8 +82,8 @@ module _ (p : Pt) (hp : pos 0 <ℤ p.D) (d : Vec) (hd : pos 0 ≤ℤ d.y) (VW : 
   abbrev W : Seg
   W = VW.line
 
-  counted : (atHeightOf p VW ≡ true) × (near false (sgn (leftBy W p)) (sgn (cross d W.up)) ≡ true)
-  counted = and_parts (atHeightOf p VW) (near false (sgn (leftBy W p)) (sgn (cross d W.up))) (sym (above-height p d VW uW hd) ∙ counts)
+  counted : (at_height_of p VW ≡ true) × (near false (sgn (the_left_by W p)) (sgn (cross d W.up)) ≡ true)
+  counted = and_parts (at_height_of p VW) (near false (sgn (the_left_by W p)) (sgn (cross d W.up))) (sym (above_height p d VW uW hd) ∙ counts)
 
   steep : pos 0 <ℤ W.up.y
   steep = span-steep p VW uW hp counted.0
@@ -92,41 +92,41 @@ module _ (p : Pt) (hp : pos 0 <ℤ p.D) (d : Vec) (hd : pos 0 ≤ℤ d.y) (VW : 
   q = across W p
 
   module _ (e : Span) (ue : Good e) where
-    sides : pos 0 <ℤ e.line.up.y → T (sums (sgn (leftBy e.line p)) (negS (sgn (leftBy W p))) (sgn (leftBy e.line q)))
+    sides : pos 0 <ℤ e.line.up.y → T (sums (sgn (the_left_by e.line p)) (neg_s (sgn (the_left_by W p))) (sgn (the_left_by e.line q)))
     sides h =
-        subst (λ (s : Sign). T (sums (sgn (leftBy e.line p)) s (sgn (leftBy e.line q)))) (sgn-negℤ (leftBy W p))
-        (sgn-sums W.up.y e.line.up.y (pos 1) (leftBy e.line p) (neg_ℤ (leftBy W p)) (leftBy e.line q) steep h 0<1
-        (law W.up.y e.line.up.y (leftBy e.line p) (leftBy W p) (leftBy e.line q) (across-left W p e.line)))
+        subst (λ (s : Sign). T (sums (sgn (the_left_by e.line p)) s (sgn (the_left_by e.line q)))) (sgn-negℤ (the_left_by W p))
+        (sgn-sums W.up.y e.line.up.y (pos 1) (the_left_by e.line p) (neg_ℤ (the_left_by W p)) (the_left_by e.line q) steep h 0<1
+        (law W.up.y e.line.up.y (the_left_by e.line p) (the_left_by W p) (the_left_by e.line q) (across_left W p e.line)))
       where
         law : (a b x y z : ℤ) → z ≡ x *ℤ a -ℤ y *ℤ b → a *ℤ x +ℤ b *ℤ neg_ℤ y ≡ pos 1 *ℤ z
         law a b x y z h = ≡-by₁ h (neg_ℤ (pos 1)) (ring (a ∷ b ∷ x ∷ y ∷ z ∷ []) (search reify depth 20) tt)
 
-    same-height : atHeightOf p e ≡ atHeightOf q e
-    same-height i = not (sym (across-below W p steep (lo e)) i) && sym (across-below W p steep (hi e)) i
+    same_height : at_height_of p e ≡ at_height_of q e
+    same_height i = not (sym (across_below W p steep (lo e)) i) && sym (across_below W p steep (hi e)) i
 
     abbrev here : Bool
-    here = near false (sgn (leftBy e.line p)) (sgn (cross d e.line.up))
+    here = near false (sgn (the_left_by e.line p)) (sgn (cross d e.line.up))
 
     abbrev there : Bool
-    there = near true (sgn (leftBy e.line q)) (sgn (cross W.up e.line.up))
+    there = near true (sgn (the_left_by e.line q)) (sgn (cross W.up e.line.up))
 
     pub look-across : (above false p d e ≡ true → there ≡ true) → above false p d e ≡ above true q W.up e
     look-across nearest =
-        above-height p d e ue hd ∙ go (atHeightOf p e) refl ∙ ap (λ (b : Bool). b && there) same-height ∙ sym (right-height q W.up e ue steep)
+        above_height p d e ue hd ∙ go (at_height_of p e) refl ∙ ap (λ (b : Bool). b && there) same_height ∙ sym (right_height q W.up e ue steep)
       where
-        back : atHeightOf p e ≡ true → there ≡ true → here ≡ true
-        back h n = seen-signs (sgn (leftBy W p)) (sgn (cross d W.up)) (sgn (leftBy e.line p)) (sgn (leftBy e.line q)) (sgn (cross W.up e.line.up)) (sgn (cross d e.line.up)) counted.1
-            (sides (span-steep p e ue hp h)) (λ k. turn-trans d W.up e.line.up (left-rises d W.up hd steep (plus→ k)) uW.rises ue.rises) n
+        back : at_height_of p e ≡ true → there ≡ true → here ≡ true
+        back h n = seen-signs (sgn (the_left_by W p)) (sgn (cross d W.up)) (sgn (the_left_by e.line p)) (sgn (the_left_by e.line q)) (sgn (cross W.up e.line.up)) (sgn (cross d e.line.up)) counted.1
+            (sides (span-steep p e ue hp h)) (λ k. turn-trans d W.up e.line.up (left_rises d W.up hd steep (plus→ k)) uW.rises ue.rises) n
 
-        go : (b : Bool) → atHeightOf p e ≡ b → (b && here) ≡ (b && there)
+        go : (b : Bool) → at_height_of p e ≡ b → (b && here) ≡ (b && there)
         go false h = refl
-        go true h = bool-ext here there (λ t. nearest (above-height p d e ue hd ∙ and_both h t)) (back h)
+        go true h = bool-ext here there (λ t. nearest (above_height p d e ue hd ∙ and_both h t)) (back h)
 
 -- ── the point on its edge ──
 
 -- along a line that climbs, what comes before is below
-pub lower-below : (W : Seg) → pos 0 <ℤ W.up.y → (x z : Pt) → leftBy W x ≡ pos 0 → leftBy W z ≡ pos 0 → before x z ≡ true → below x z ≡ true
-lower-below W steep x z a b e = lt-below x z (0<→< (x.Y *ℤ z.D) (z.Y *ℤ x.D) (go (before-up x z e)))
+pub lower_below : (W : Seg) → pos 0 <ℤ W.up.y → (x z : Pt) → the_left_by W x ≡ pos 0 → the_left_by W z ≡ pos 0 → before x z ≡ true → below x z ≡ true
+lower_below W steep x z a b e = lt_below x z (0<→< (x.Y *ℤ z.D) (z.Y *ℤ x.D) (go (before_up x z e)))
   where
     flat : (ux uy x y : ℤ) → y ≡ pos 0 → ux *ℤ y -ℤ uy *ℤ x ≡ pos 0 → pos 0 ≡ uy *ℤ x
     flat ux uy x y z c = zomega (ux ∷ uy ∷ x ∷ y ∷ []) {A = ux *ℤ y ≡ pos 0 → ux *ℤ y -ℤ uy *ℤ x ≡ pos 0 → pos 0 ≡ uy *ℤ x} (search sq depth 20) (omega arith) (≡-by₁ z ux (ring (ux ∷ y ∷ []) (search reify depth 20) tt)) c
@@ -136,9 +136,9 @@ lower-below W steep x z a b e = lt-below x z (0<→< (x.Y *ℤ z.D) (z.Y *ℤ x.
     go (level y h) = absurd (<→≢ (0<-* steep h) (flat W.up.x W.up.y (dir x z).x (dir x z).y y (chord W x z a b)))
 
 -- between two points of its line that stand at the heights of an edge, p at its height
-module _ (W : Seg) (steep : pos 0 <ℤ W.up.y) (p : Pt) (z : Pt) (on : leftBy W z ≡ pos 0) where
-  pub across-after : below p z ≡ false → before (across W p) z ≡ false
-  across-after h = not-true (before (across W p) z) (λ e. clash (sym (across-below W p steep z) ∙ lower-below W steep (across W p) z (across-line W p) on e) h)
+module _ (W : Seg) (steep : pos 0 <ℤ W.up.y) (p : Pt) (z : Pt) (on : the_left_by W z ≡ pos 0) where
+  pub across_after : below p z ≡ false → before (across W p) z ≡ false
+  across_after h = not-true (before (across W p) z) (λ e. clash (sym (across_below W p steep z) ∙ lower_below W steep (across W p) z (across-line W p) on e) h)
 
-  pub across-before : below p z ≡ true → before (across W p) z ≡ true
-  across-before h = below-before (across W p) z (across-below W p steep z ∙ h)
+  pub across_before : below p z ≡ true → before (across W p) z ≡ true
+  across_before h = below_before (across W p) z (across_below W p steep z ∙ h)

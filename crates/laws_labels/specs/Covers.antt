@@ -3,24 +3,24 @@
 -- (`left_along`). Assumes nothing.
 use Rattle.std.specs.Prelude.{◌≡◌, refl, Bool, true, false, not, ◌&&◌, ℕ, ◌<◌, pos, ◌<ℤ◌}
 use Rattle.std.proofs.Common.{sym, ◌∙◌, ap, subst}
-use Rattle.exact.specs.Sign.{isZer}
+use Rattle.exact.specs.Sign.{is_zer}
 use Rattle.exact.specs.Tests.{clash, and_parts}
 use Rattle.exact.specs.Signs.{zero_is}
 use Rattle.seq.specs.Seq.{length}
-use Rattle.paper.specs.Plane.{Pt, Vec, Seg, opposite, cross, before, same, leftBy}
-use Rattle.paper.specs.Graph.{Graph, edge_count, halfCount, point, edge, origin, low, high, upward, heading, eastSide}
+use Rattle.paper.specs.Plane.{Pt, Vec, Seg, opposite, cross, before, same, the_left_by}
+use Rattle.paper.specs.Graph.{Graph, edge_count, the_half_count, point, edge, origin, low, high, upward, heading, east_side}
 use Rattle.paper.specs.Map.{Map}
-use Rattle.laws_plane.specs.Cone.{up-rises, up-nonzero}
+use Rattle.laws_plane.specs.Cone.{up_rises, up_nonzero}
 use Rattle.laws_plane.specs.Points.{neither}
-use Rattle.laws_plane.specs.Angles.{cross-self, SameWay, same-way-opposite}
-use Rattle.laws_graph.specs.Plane.{Plane, upward-up}
-use Rattle.laws_graph.specs.East.{east-below, east-start, east-heading, westSide, west-below, west-start, west-heading}
+use Rattle.laws_plane.specs.Angles.{cross-self, SameWay, same_way-opposite}
+use Rattle.laws_graph.specs.Plane.{Plane, upward_up}
+use Rattle.laws_graph.specs.East.{east_below, east-start, east-heading, west_side, west_below, west-start, west-heading}
 use Rattle.laws_map.specs.Keeps.{seg, edges}
 use Rattle.laws_labels.specs.Lawful.{Lawful}
 use Rattle.laws_labels.specs.Spans.{Span, span}
 use Rattle.laws_labels.specs.Cuts.{lo, hi, reach, Leaves}
 use Rattle.laws_labels.specs.Clear.{Within, Clear}
-use Rattle.laws_labels.specs.Edges.{clear, no-through}
+use Rattle.laws_labels.specs.Edges.{clear, no_through}
 use Rattle.laws_labels.specs.Pot.{Jumps}
 use Rattle.laws_labels.specs.Sector.{arrow}
 
@@ -34,18 +34,18 @@ pub record PieceAt (O : Graph) (s : Seg) (q : Pt) (b : Bool) : Type 0 where
   pub piece : ℕ
   pub below : piece < edge_count O
   pub parallel : cross (upward O piece) s.up ≡ pos 0
-  pub on : leftBy (edge O piece).carrier q ≡ pos 0
+  pub on : the_left_by (edge O piece).carrier q ≡ pos 0
   pub reaches : spans b q (low O piece) (high O piece) ≡ true
 
 pub record Covers (O : Graph) (m : Map) : Type 0 where
   pub plane : Plane O
   -- a piece is a part of its carrier, with no vertex inside
   pub within : (k : ℕ) → k < edge_count O → Within (edge O k).carrier (low O k) (high O k)
-  pub no-inside : (z k : ℕ) → z < length O.points → k < edge_count O → leftBy (edge O k).carrier (point O z) ≡ pos 0 → before (low O k) (point O z) ≡ true → before (point O z) (high O k) ≡ true → ⊥
+  pub no_inside : (z k : ℕ) → z < length O.points → k < edge_count O → the_left_by (edge O k).carrier (point O z) ≡ pos 0 → before (low O k) (point O z) ≡ true → before (point O z) (high O k) ≡ true → ⊥
   -- the map's edges stay clear of its inside
   pub clear : (k j : ℕ) → k < edge_count O → j < edges m → Clear (edge O k).carrier (low O k) (high O k) (span m j)
   -- where an edge of the map leaves a point, a piece does, if the labels on its two sides differ
-  pub piece-at : (j : ℕ) → j < edges m → Jumps m j → (q : Pt) → pos 0 <ℤ q.D → (b : Bool) → Leaves q b (span m j) → PieceAt O (seg m j) q b
+  pub piece_at_lem : (j : ℕ) → j < edges m → Jumps m j → (q : Pt) → pos 0 <ℤ q.D → (b : Bool) → Leaves q b (span m j) → PieceAt O (seg m j) q b
 
 -- ── a map covers itself ──
 
@@ -62,7 +62,7 @@ module _ (m : Map) (K : Lawful m) where
     piece = j;
     below = l;
     parallel = cross-self (seg m j).up;
-    on = zero_is (leftBy (seg m j) q) (ap isZer o.on);
+    on = zero_is (the_left_by (seg m j) q) (ap is_zer o.on);
     reaches = sym (reach-spans b q (span m j)) ∙ o.reaches;
   }
 
@@ -70,9 +70,9 @@ module _ (m : Map) (K : Lawful m) where
   self-covers = record {
     plane = K.plane;
     within = K.within;
-    no-inside = λ z k lz l o a b. no-through m K z k lz l (record { line = o; low = a; high = b });
+    no_inside = λ z k lz l o a b. no_through m K z k lz l (record { line = o; low = a; high = b });
     clear = λ k j l i. clear m K k j l i;
-    piece-at = λ j l w q h b o. self-piece j l q b o;
+    piece_at_lem = λ j l w q h b o. self-piece j l q b o;
   }
 
 -- ── an edge that leaves a vertex leaves it along a half-edge ──
@@ -80,7 +80,7 @@ module _ (m : Map) (K : Lawful m) where
 -- a half-edge that leaves z the way of u
 pub record Out (O : Graph) (z : ℕ) (u : Vec) : Type 0 where
   pub half : ℕ
-  pub below : half < halfCount O
+  pub below : half < the_half_count O
   pub leaves : origin O half ≡ z
   pub along : SameWay (heading O half) u
 
@@ -89,24 +89,24 @@ module _ (O : Graph) (m : Map) (K : Lawful m) (C : Covers O m) (z : ℕ) (lz : z
   v = point O z
 
   up_way : (k : ℕ) → k < edge_count O → cross (upward O k) (seg m j).up ≡ pos 0 → SameWay (upward O k) (seg m j).up
-  up_way k l p = record { parallel = p; half = C.plane.rising k l ∙ sym (up-rises (seg m j).up (upward-up m.graph K.plane j lj)) }
+  up_way k l p = record { parallel = p; half = C.plane.rising k l ∙ sym (up_rises (seg m j).up (upward_up m.graph K.plane j lj)) }
 
   -- the piece starts at v
-  up-out : PieceAt O (seg m j) v true → Out O z (seg m j).up
-  up-out p =
+  up_out : PieceAt O (seg m j) v true → Out O z (seg m j).up
+  up_out p =
       let k = p.piece in
       let l = p.below in
       let r = and_parts (not (before v (low O k))) (before v (high O k)) p.reaches in
       record {
-        half = westSide O k;
-        below = west-below O k l;
-        leaves = C.plane.distinct (origin O (westSide O k)) z (C.plane.starts (westSide O k) (west-below O k l)) lz (ap (λ (x : Pt). same x v) (west-start O C.plane k l) ∙ at k l p.on (before (low O k) v) (before v (low O k)) refl refl r.0 r.1);
+        half = west_side O k;
+        below = west_below O k l;
+        leaves = C.plane.distinct (origin O (west_side O k)) z (C.plane.starts (west_side O k) (west_below O k l)) lz (ap (λ (x : Pt). same x v) (west-start O C.plane k l) ∙ at k l p.on (before (low O k) v) (before v (low O k)) refl refl r.0 r.1);
         along = subst (λ (u : Vec). SameWay u (seg m j).up) (sym (west-heading O C.plane k l)) (up_way k l p.parallel);
       }
     where
-      at : (k : ℕ) → k < edge_count O → leftBy (edge O k).carrier v ≡ pos 0 → (a b : Bool) → before (low O k) v ≡ a → before v (low O k) ≡ b → not b ≡ true → before v (high O k) ≡ true → same (low O k) v ≡ true
+      at : (k : ℕ) → k < edge_count O → the_left_by (edge O k).carrier v ≡ pos 0 → (a b : Bool) → before (low O k) v ≡ a → before v (low O k) ≡ b → not b ≡ true → before v (high O k) ≡ true → same (low O k) v ≡ true
       at k l o a true x y n u = absurd (clash n refl)
-      at k l o true false x y n u = absurd (C.no-inside z k lz l o x u)
+      at k l o true false x y n u = absurd (C.no_inside z k lz l o x u)
       at k l o false false x y n u = neither (low O k) v x y
 
   -- or ends there
@@ -116,18 +116,18 @@ module _ (O : Graph) (m : Map) (K : Lawful m) (C : Covers O m) (z : ℕ) (lz : z
       let l = p.below in
       let r = and_parts (before (low O k) v) (not (before (high O k) v)) p.reaches in
       record {
-        half = eastSide O k;
-        below = east-below O k l;
-        leaves = C.plane.distinct (origin O (eastSide O k)) z (C.plane.starts (eastSide O k) (east-below O k l)) lz (ap (λ (x : Pt). same x v) (east-start O C.plane k l) ∙ at k l p.on (before v (high O k)) (before (high O k) v) refl refl r.0 r.1);
+        half = east_side O k;
+        below = east_below O k l;
+        leaves = C.plane.distinct (origin O (east_side O k)) z (C.plane.starts (east_side O k) (east_below O k l)) lz (ap (λ (x : Pt). same x v) (east-start O C.plane k l) ∙ at k l p.on (before v (high O k)) (before (high O k) v) refl refl r.0 r.1);
         along = subst (λ (u : Vec). SameWay u (opposite (seg m j).up)) (sym (east-heading O C.plane k l))
-            (same-way-opposite (upward O k) (seg m j).up (up-nonzero (upward O k) (upward-up O C.plane k l)) (up-nonzero (seg m j).up (upward-up m.graph K.plane j lj)) (up_way k l p.parallel));
+            (same_way-opposite (upward O k) (seg m j).up (up_nonzero (upward O k) (upward_up O C.plane k l)) (up_nonzero (seg m j).up (upward_up m.graph K.plane j lj)) (up_way k l p.parallel));
       }
     where
-      at : (k : ℕ) → k < edge_count O → leftBy (edge O k).carrier v ≡ pos 0 → (a b : Bool) → before v (high O k) ≡ a → before (high O k) v ≡ b → before (low O k) v ≡ true → not b ≡ true → same (high O k) v ≡ true
+      at : (k : ℕ) → k < edge_count O → the_left_by (edge O k).carrier v ≡ pos 0 → (a b : Bool) → before v (high O k) ≡ a → before (high O k) v ≡ b → before (low O k) v ≡ true → not b ≡ true → same (high O k) v ≡ true
       at k l o a true x y u n = absurd (clash n refl)
-      at k l o true false x y u n = absurd (C.no-inside z k lz l o u x)
+      at k l o true false x y u n = absurd (C.no_inside z k lz l o u x)
       at k l o false false x y u n = neither (high O k) v y x
 
   pub left_along : pos 0 <ℤ v.D → (b : Bool) → Leaves v b (span m j) → Out O z (arrow b (seg m j).up)
-  left_along h true o = up-out (C.piece-at j lj wj v h true o)
-  left_along h false o = down_out (C.piece-at j lj wj v h false o)
+  left_along h true o = up_out (C.piece_at_lem j lj wj v h true o)
+  left_along h false o = down_out (C.piece_at_lem j lj wj v h false o)

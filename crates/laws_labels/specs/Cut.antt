@@ -11,7 +11,7 @@ use Rattle.exact.specs.Ring.{*ℤ-swapl}
 use Rattle.exact.specs.Solve.{ring, reify, sub-zero→}
 use Rattle.exact.specs.Mul.{≡-by₁}
 use Rattle.seq.specs.Terms.{sum, upto, ind}
-use Rattle.seq.specs.Sum.{upto-<, sum-ext, sum-*, exchange, delta, sum-none, sum--}
+use Rattle.seq.specs.Sum.{upto-<, sum-ext, sum-*, exchange, delta, sum_none, sum--}
 use Rattle.seq.specs.Tests.{eqb_swap}
 
 -- the potential of a cut
@@ -19,13 +19,13 @@ unfoldable pub Φ : ℕ → (ℕ → ℤ) → (ℕ → Bool) → ℤ
 Φ m w C = sum (upto m) (λ e. ind (C e) *ℤ w e)
 
 -- the weight of the edges that have the end z, by the end that `end` picks
-unfoldable pub weightAt : ℕ → (ℕ → ℤ) → (ℕ → ℕ) → ℕ → ℤ
-weightAt m w end z = sum (upto m) (λ e. ind (eqb (end e) z) *ℤ w e)
+unfoldable pub weight_at : ℕ → (ℕ → ℤ) → (ℕ → ℕ) → ℕ → ℤ
+weight_at m w end z = sum (upto m) (λ e. ind (eqb (end e) z) *ℤ w e)
 
 pub record Balanced (m n : ℕ) (low high : ℕ → ℕ) (w : ℕ → ℤ) : Type 0 where
   pub low-< : (e : ℕ) → e < m → low e < n
   pub high-< : (e : ℕ) → e < m → high e < n
-  pub balance : (z : ℕ) → weightAt m w low z ≡ weightAt m w high z
+  pub balance : (z : ℕ) → weight_at m w low z ≡ weight_at m w high z
 
 module _ (m : ℕ) (w : ℕ → ℤ) where
   -- a term of the sum changes only where the edge weighs something
@@ -44,7 +44,7 @@ module _ (m : ℕ) (w : ℕ → ℤ) where
   -- no edge that weighs something passes
   pub Φ-none : (C : ℕ → Bool) → ((e : ℕ) → e < m → (w e ≡ pos 0 → ⊥) → C e ≡ false) → Φ m w C ≡ pos 0
   unfolding Φ
-  Φ-none C h = sum-none (upto m) (λ e i. term (C e) false e (h e (upto-< m i)) ∙ zero-*ℤ (w e))
+  Φ-none C h = sum_none (upto m) (λ e i. term (C e) false e (h e (upto-< m i)) ∙ zero-*ℤ (w e))
 
   -- two tests that differ at one edge only
   pub Φ-one : (C₁ C₂ : ℕ → Bool) (k : ℕ) → k < m → ((e : ℕ) → e < m → ind (C₂ e) -ℤ ind (C₁ e) ≡ ind (eqb e k)) → Φ m w C₂ -ℤ Φ m w C₁ ≡ w k
@@ -58,10 +58,10 @@ module _ (m : ℕ) (w : ℕ → ℤ) where
       law a b c = ring (a ∷ b ∷ c ∷ []) (search reify depth 20) tt
 
   -- a test of one end, summed over edges, is summed over vertices
-  by-vertex : (n : ℕ) (end : ℕ → ℕ) → ((e : ℕ) → e < m → end e < n) → (Z : ℕ → Bool) →
-      sum (upto m) (λ e. ind (Z (end e)) *ℤ w e) ≡ sum (upto n) (λ z. ind (Z z) *ℤ weightAt m w end z)
-  unfolding weightAt
-  by-vertex n end bound Z =
+  by_vertex : (n : ℕ) (end : ℕ → ℕ) → ((e : ℕ) → e < m → end e < n) → (Z : ℕ → Bool) →
+      sum (upto m) (λ e. ind (Z (end e)) *ℤ w e) ≡ sum (upto n) (λ z. ind (Z z) *ℤ weight_at m w end z)
+  unfolding weight_at
+  by_vertex n end bound Z =
       sum-ext (upto m) (λ e i. sym (delta n (end e) (λ z. ind (Z z) *ℤ w e) (bound e (upto-< m i))))
       ∙ exchange (upto m) (upto n) (λ e z. ind (eqb z (end e)) *ℤ (ind (Z z) *ℤ w e))
       ∙ sum-ext (upto n) (λ z i. sum-ext (upto m) (λ e k. turn e z) ∙ sum-* (upto m) (ind (Z z)) (λ e. ind (eqb (end e) z) *ℤ w e))
@@ -74,9 +74,9 @@ module _ (m : ℕ) (w : ℕ → ℤ) where
 module _ {m n : ℕ} {low high : ℕ → ℕ} {w : ℕ → ℤ} (b : Balanced m n low high w) where
   flow : (Z : ℕ → Bool) → sum (upto m) (λ e. ind (Z (low e)) *ℤ w e) ≡ sum (upto m) (λ e. ind (Z (high e)) *ℤ w e)
   flow Z =
-      by-vertex m w n low b.low-< Z
+      by_vertex m w n low b.low-< Z
       ∙ sum-ext (upto n) (λ z i. ap (λ (t : ℤ). ind (Z z) *ℤ t) (b.balance z))
-      ∙ sym (by-vertex m w n high b.high-< Z)
+      ∙ sym (by_vertex m w n high b.high-< Z)
 
   -- the cut lemma
   pub cut : (C₁ C₂ Z : ℕ → Bool) → ((e : ℕ) → e < m → ind (C₂ e) -ℤ ind (C₁ e) ≡ ind (Z (low e)) -ℤ ind (Z (high e))) → Φ m w C₂ ≡ Φ m w C₁

@@ -1,15 +1,15 @@
 -- The theorems at one file, so that no premise of them is empty: a square of side 4 with label 7 within. What is seen looking west along east from (1, 1) has label
 -- 7, and from (9, 1), beyond the square, 0; so these are the potentials there, by the theorem, and the sum itself says so too. Then the last theorem at S11. Assumes nothing.
 use Rattle.std.specs.Prelude.{◌≡◌, refl}
-use Rattle.exact.specs.Exact.{gcdOf}
+use Rattle.exact.specs.Exact.{gcd_of}
 use Rattle.seq.specs.Seq.{List, [], ◌∷◌, false, none, ℕ, pos}
 use Rattle.seq.specs.Terms.{sum, upto}
 use Rattle.paper.specs.Limits.{maps}
 use Rattle.paper.specs.Plane.{Vec, vec, whole}
-use Rattle.paper.specs.Map.{fault, mapOf}
-use Rattle.paper.specs.Sample.{at, emptyFile, zone}
+use Rattle.paper.specs.Map.{fault, map_of}
+use Rattle.paper.specs.Sample.{at, empty_file, zone}
 use Rattle.paper.specs.Tables.{Counts}
-use Rattle.paper.specs.Faces.{overlayOf}
+use Rattle.paper.specs.Faces.{overlay_of}
 use Rattle.paper.specs.Refusal.{done}
 use Rattle.paper.specs.Sheets.{ample, run}
 use Rattle.laws_plane.specs.Ends.{0<1}
@@ -29,13 +29,13 @@ passes = refl
 abbrev east : Vec
 east = vec (pos 1) (pos 0)
 
-pub within : pos 7 ≡ pot (mapOf file) (above false (whole (at 1 1)) east)
+pub within : pos 7 ≡ pot (map_of file) (above false (whole (at 1 1)) east)
 within = file-seen file passes (whole (at 1 1)) 0<1 east refl
 
-pub beyond : pos 0 ≡ pot (mapOf file) (above false (whole (at 9 1)) east)
+pub beyond : pos 0 ≡ pot (map_of file) (above false (whole (at 9 1)) east)
 beyond = file-seen file passes (whole (at 9 1)) 0<1 east refl
 
-pub computed : (pot (mapOf file) (above false (whole (at 1 1)) east) ≡ pos 7) × (pot (mapOf file) (above false (whole (at 9 1)) east) ≡ pos 0)
+pub computed : (pot (map_of file) (above false (whole (at 1 1)) east) ≡ pos 7) × (pot (map_of file) (above false (whole (at 9 1)) east) ≡ pos 0)
 unfolding pot Φ sum upto above
 computed = (refl, refl)
 
@@ -50,9 +50,9 @@ inner = zone 4 4 2 7
 abbrev counts : Counts
 counts = record { vertices = 8; edges = 8; faces = 3 }
 
-is-done : (run outer inner).answer ≡ done counts
-unfolding gcdOf fault overlayOf
-is-done = refl
+is_done : (run outer inner).answer ≡ done counts
+unfolding gcd_of fault overlay_of
+is_done = refl
 
-pub s11-agrees : Agrees maps counts (run outer inner).tables (triple_of outer inner emptyFile)
-s11-agrees = labels-agree (ample maps) (outer ∷ inner ∷ emptyFile ∷ []) counts is-done
+pub s11-agrees : Agrees maps counts (run outer inner).tables (triple_of outer inner empty_file)
+s11-agrees = labels-agree (ample maps) (outer ∷ inner ∷ empty_file ∷ []) counts is_done

@@ -7,27 +7,27 @@ use Rattle.std.proofs.Common.{sym, ◌∙◌, ap, subst}
 use Rattle.seq.specs.Seq.{Bool, true, false, not, Option·map, ℕ, pos, least, count, best}
 use Rattle.seq.specs.Terms.{Has, Injects}
 use Rattle.seq.specs.Tests.{clash, and_parts, not-true}
-use Rattle.seq.specs.Sum.{count-perm}
+use Rattle.seq.specs.Sum.{count_perm}
 use Rattle.seq.specs.Least.{least-le}
-use Rattle.seq.specs.Halves.{from-least, least-counts}
-use Rattle.seq.specs.Early.{some-best}
-use Rattle.exact.specs.Sign.{sgn, isZer}
+use Rattle.seq.specs.Halves.{from_least, least-counts}
+use Rattle.seq.specs.Early.{some_best}
+use Rattle.exact.specs.Sign.{sgn, is_zer}
 use Rattle.exact.specs.Signs.{zero_is}
 use Rattle.paper.specs.Plane.{Pt, Vec, before, below}
-use Rattle.paper.specs.Graph.{Graph, edge_count, edge, low, high, left_of, atHeight, westward, nearer}
+use Rattle.paper.specs.Graph.{Graph, edge_count, edge, low, high, left_of, at_height, westward, nearer}
 use Rattle.paper.specs.Map.{Map}
-use Rattle.laws_plane.specs.Ends.{below-before, below-level}
+use Rattle.laws_plane.specs.Ends.{below_before, below_level}
 use Rattle.laws_plane.specs.Points.{neither}
-use Rattle.laws_graph.specs.Plane.{Plane, ends-real, ends_on, upward-up}
+use Rattle.laws_graph.specs.Plane.{Plane, ends_real, ends_on, upward_up}
 use Rattle.laws_graph.specs.Nearest.{Clear, nearer-order}
-use Rattle.laws_graph.specs.West.{candidate, nearer-strict, height-is}
+use Rattle.laws_graph.specs.West.{candidate, nearer-strict, height_is}
 use Rattle.laws_map.specs.Keeps.{Keeps}
 use Rattle.laws_labels.specs.Spans.{span, InsideSpan}
 use Rattle.laws_labels.specs.Lawful.{Lawful, keeps-lawful}
 use Rattle.laws_labels.specs.Pot.{low_end}
-use Rattle.laws_labels.specs.Edges.{at_low, no-through, one-start}
-use Rattle.laws_plane.specs.Parallel.{same-side}
-use Rattle.laws_graph.specs.East.{westSide, west-below}
+use Rattle.laws_labels.specs.Edges.{at_low, no_through, one_start}
+use Rattle.laws_plane.specs.Parallel.{same_side}
+use Rattle.laws_graph.specs.East.{west_side, west_below}
 
 module _ (g : Graph) (f : ℕ → ℕ) where
   -- f numbers the edges afresh, by their lower ends
@@ -48,12 +48,12 @@ module _ (g : Graph) (P : Plane g) (f : ℕ → ℕ) (I : InOrder g f) (p : Pt) 
 
   higher : (i j : ℕ) → i < j → j < n → below p (low g (f i)) ≡ true → below p (low g (f j)) ≡ true
   higher i j l h e =
-      below-level p (low g (f i)) (low g (f j)) hp (ends-real g P (f i)).0 (ends-real g P (f j)).0 e
-      (not-true (below (low g (f j)) (low g (f i))) (λ b. clash (below-before (low g (f j)) (low g (f i)) b) (I.rising i j l h)))
+      below_level p (low g (f i)) (low g (f j)) hp (ends_real g P (f i)).0 (ends_real g P (f j)).0 e
+      (not-true (below (low g (f j)) (low g (f i))) (λ b. clash (below_before (low g (f j)) (low g (f i)) b) (I.rising i j l h)))
 
   -- "equals the number of edges of that map whose lower y is not above the sounding's y, and is never more than the map's edges"
   pub reads-are : reads g f p ≡ count (λ k. not (below p (low g k))) (edge_count g)
-  reads-are = least-counts (λ i. below p (low g (f i))) n higher ∙ count-perm f n I.each (λ k. not (below p (low g k)))
+  reads-are = least-counts (λ i. below p (low g (f i))) n higher ∙ count_perm f n I.each (λ k. not (below p (low g k)))
 
   pub reads-most : reads g f p ≤ edge_count g
   reads-most = least-le (λ i. below p (low g (f i))) n
@@ -65,12 +65,12 @@ module _ (g : Graph) (P : Plane g) (f : ℕ → ℕ) (I : InOrder g f) (p : Pt) 
     -- an edge that is not read starts above, and is no candidate
     unread : (i : ℕ) → r ≤ i → i < n → candidate g p d (f i) ≡ false
     unread i h l =
-        not-true (candidate g p d (f i)) (λ c. clash (from-least (λ x. below p (low g (f x))) n higher i h l)
-        (height-is g p (f i) (and_parts (atHeight g p (f i)) (westward g p d (f i)) c).0).0)
+        not-true (candidate g p d (f i)) (λ c. clash (from_least (λ x. below p (low g (f x))) n higher i h l)
+        (height_is g p (f i) (and_parts (at_height g p (f i)) (westward g p d (f i)) c).0).0)
 
     -- the answer is the same
     pub ordered-look : Option·map f (best (λ i. candidate g p d (f i)) (λ i j. nearer g p (f i) (f j)) (reads g f p)) ≡ best (candidate g p d) (nearer g p) (edge_count g)
-    ordered-look = some-best (candidate g p d) (nearer g p) n (nearer-order g P p hp C d) asym f I.each r reads-most unread
+    ordered-look = some_best (candidate g p d) (nearer g p) n (nearer-order g P p hp C d) asym f I.each r reads-most unread
 
 -- ── no two edges of a map share a stretch ──
 
@@ -84,7 +84,7 @@ module _ (m : Map) (K : Keeps m) where
   -- no vertex lies inside an edge
   off : (k r : ℕ) → k < edge_count gm → r < edge_count gm → left_of gm (low gm r) k ≡ pos 0 → before (low gm k) (low gm r) ≡ true → before (low gm r) (high gm k) ≡ true → ⊥
   off k r lk lr o a b =
-      no-through m L (low_end m r) k (K.plane.starts (westSide gm r) (west-below gm r lr)) lk
+      no_through m L (low_end m r) k (K.plane.starts (west_side gm r) (west_below gm r lr)) lk
       (subst (InsideSpan (span m k)) (sym (at_low m L r lr)) (record { line = o; low = a; high = b }))
 
   pub keeps-clear : Clear m.graph
@@ -93,10 +93,10 @@ module _ (m : Map) (K : Keeps m) where
       back : left_of gm (low gm k) r ≡ pos 0
       back =
           let P = K.plane in
-          let S = same-side (edge gm k).carrier (edge gm r).carrier (upward-up gm P k lk) (upward-up gm P r lr) z (low gm r) (ends-real gm P r).0 o (ends_on gm P r lr).0 in
-          zero_is (left_of gm (low gm k) r) (ap isZer (sym (S (low gm k)) ∙ ap sgn (ends_on gm P k lk).0))
+          let S = same_side (edge gm k).carrier (edge gm r).carrier (upward_up gm P k lk) (upward_up gm P r lr) z (low gm r) (ends_real gm P r).0 o (ends_on gm P r lr).0 in
+          zero_is (left_of gm (low gm k) r) (ap is_zer (sym (S (low gm k)) ∙ ap sgn (ends_on gm P k lk).0))
 
       go : (x y : Bool) → before (low gm k) (low gm r) ≡ x → before (low gm r) (low gm k) ≡ y → k ≡ r
       go true y e f = absurd (off k r lk lr o e b)
       go false true e f = absurd (off r k lr lk back f a)
-      go false false e f = one-start m L k r lk lr (neither (low gm k) (low gm r) e f) z
+      go false false e f = one_start m L k r lk lr (neither (low gm k) (low gm r) e f) z

@@ -5,21 +5,21 @@ use Rattle.std.specs.Prelude.{◌≡◌, ◌<◌, ◌≤◌}
 use Rattle.std.proofs.Common.{sym, ◌∙◌, ap, not-suc-le-zero, arith}
 use Rattle.std.proofs.Math.Decide.{dec_lt, ℕ_discrete}
 use Rattle.std.proofs.lemmas.List.{length-map}
-use Rattle.seq.specs.Seq.{Bool, true, false, not, ◌||◌, List, map, none, ℕ, zero, suc, ◌*◌, ◌+◌, eqb, length, get_or, select, someBelow}
+use Rattle.seq.specs.Seq.{Bool, true, false, not, ◌||◌, List, map, none, ℕ, zero, suc, ◌*◌, ◌+◌, eqb, length, get_or, select, the_some_below}
 use Rattle.seq.specs.Tests.{bool-ext, clash}
-use Rattle.seq.specs.Least.{some-has, some-witness, some-ext}
+use Rattle.seq.specs.Least.{some_has, some_witness, some_ext}
 use Rattle.seq.specs.Count.{count-ext}
-use Rattle.seq.specs.Select.{select-ext, select-from}
-use Rattle.seq.specs.Put.{put, put-before, put-default, put-past}
+use Rattle.seq.specs.Select.{select-ext, select_from_lem}
+use Rattle.seq.specs.Put.{put, put_before, put-default, put_past}
 use Rattle.seq.specs.Members.{map-ext, map_at}
 use Rattle.paper.specs.Graph.{point}
 use Rattle.paper.specs.Map.{Map}
 use Rattle.paper.specs.Pieces.{Piece, edge_of}
-use Rattle.paper.specs.Faces.{Overlay, overlayOf, overlayBy, walksOf, net, labelsOf}
+use Rattle.paper.specs.Faces.{Overlay, overlay_of, overlay_by, walks_of, net, labels_of}
 use Rattle.laws_overlay.specs.Pieces.{no_piece, piece_at}
-use Rattle.laws_overlay.specs.EmptyMap.{withEmpty, withNone, one_more, edges-same}
-use Rattle.laws_overlay.specs.EmptyTables.{withNones, empty-overlay, empty-labels}
-use Rattle.paper.specs.Melt.{separates, keptEdges, keptPieces, isEnd, keptVertices, afresh, meltedPieces, meltedGraph, meltedOf}
+use Rattle.laws_overlay.specs.EmptyMap.{with_empty, with_none, one_more, edges_same}
+use Rattle.laws_overlay.specs.EmptyTables.{with_nones, empty-overlay, empty-labels}
+use Rattle.paper.specs.Melt.{separates, kept_edges, kept_pieces, is_end, kept_vertices, afresh, melted_pieces, melted_graph, melted_of}
 
 -- ── two lists with the same number put in differ where they did ──
 
@@ -28,107 +28,107 @@ module _ (a n : ℕ) (h : a ≤ n) (l r : List ℕ) where
   differ x y i = not (eqb (get_or x i 0) (get_or y i 0))
 
   before : (i : ℕ) → i < a → differ (put a 0 l) (put a 0 r) i ≡ differ l r i
-  before i q = λ t. not (eqb (put-before a 0 l 0 i q t) (put-before a 0 r 0 i q t))
+  before i q = λ t. not (eqb (put_before a 0 l 0 i q t) (put_before a 0 r 0 i q t))
 
   own : differ (put a 0 l) (put a 0 r) a ≡ false
   own = (λ t. not (eqb (put-default a l 0 t) (put-default a r 0 t)))
 
   past : (i : ℕ) → a ≤ i → differ (put a 0 l) (put a 0 r) (suc i) ≡ differ l r i
-  past i q = λ t. not (eqb (put-past a 0 l 0 i q t) (put-past a 0 r 0 i q t))
+  past i q = λ t. not (eqb (put_past a 0 l 0 i q t) (put_past a 0 r 0 i q t))
 
-  there : someBelow (differ (put a 0 l) (put a 0 r)) (suc n) ≡ true → someBelow (differ l r) n ≡ true
+  there : the_some_below (differ (put a 0 l) (put a 0 r)) (suc n) ≡ true → the_some_below (differ l r) n ≡ true
   there e =
-      let (i, b, w) = some-witness (differ (put a 0 l) (put a 0 r)) (suc n) e in
+      let (i, b, w) = some_witness (differ (put a 0 l) (put a 0 r)) (suc n) e in
       elim (dec_lt i a) [
-        | yes q ↦ some-has (differ l r) n i (omega arith) (sym (before i q) ∙ w)
+        | yes q ↦ some_has (differ l r) n i (omega arith) (sym (before i q) ∙ w)
         | no q ↦ elim (ℕ_discrete i a) [
           | yes z ↦ absurd (clash (ap (differ (put a 0 l) (put a 0 r)) (sym z) ∙ w) own)
           | no z ↦ later i (omega arith) b w
         ]
       ]
     where
-      later : (i : ℕ) → a < i → i < suc n → differ (put a 0 l) (put a 0 r) i ≡ true → someBelow (differ l r) n ≡ true
+      later : (i : ℕ) → a < i → i < suc n → differ (put a 0 l) (put a 0 r) i ≡ true → the_some_below (differ l r) n ≡ true
       later zero q b w = absurd (not-suc-le-zero q)
-      later (suc i) q b w = some-has (differ l r) n i (omega arith) (sym (past i (omega arith)) ∙ w)
+      later (suc i) q b w = some_has (differ l r) n i (omega arith) (sym (past i (omega arith)) ∙ w)
 
-  back : someBelow (differ l r) n ≡ true → someBelow (differ (put a 0 l) (put a 0 r)) (suc n) ≡ true
+  back : the_some_below (differ l r) n ≡ true → the_some_below (differ (put a 0 l) (put a 0 r)) (suc n) ≡ true
   back e =
-      let (i, b, w) = some-witness (differ l r) n e in
+      let (i, b, w) = some_witness (differ l r) n e in
       elim (dec_lt i a) [
-        | yes q ↦ some-has (differ (put a 0 l) (put a 0 r)) (suc n) i (omega arith) (before i q ∙ w)
-        | no q ↦ some-has (differ (put a 0 l) (put a 0 r)) (suc n) (suc i) (omega arith) (past i (omega arith) ∙ w)
+        | yes q ↦ some_has (differ (put a 0 l) (put a 0 r)) (suc n) i (omega arith) (before i q ∙ w)
+        | no q ↦ some_has (differ (put a 0 l) (put a 0 r)) (suc n) (suc i) (omega arith) (past i (omega arith) ∙ w)
       ]
 
-  same-differ : someBelow (differ (put a 0 l) (put a 0 r)) (suc n) ≡ someBelow (differ l r) n
-  same-differ = bool-ext (someBelow (differ (put a 0 l) (put a 0 r)) (suc n)) (someBelow (differ l r) n) there back
+  same_differ : the_some_below (differ (put a 0 l) (put a 0 r)) (suc n) ≡ the_some_below (differ l r) n
+  same_differ = bool-ext (the_some_below (differ (put a 0 l) (put a 0 r)) (suc n)) (the_some_below (differ l r) n) there back
 
 -- ── what is kept ──
 
 module _ (a : ℕ) where
   -- an end is an end
-  end_same : (ps : List Piece) (v : ℕ) → isEnd (map (withNone a) ps) v ≡ isEnd ps v
+  end_same : (ps : List Piece) (v : ℕ) → is_end (map (with_none a) ps) v ≡ is_end ps v
   end_same ps v =
-      ap (someBelow (λ k. eqb (piece_at (map (withNone a) ps) k).lo v || eqb (piece_at (map (withNone a) ps) k).hi v)) (length-map ps (withNone a))
-      ∙ some-ext (λ k. eqb (piece_at (map (withNone a) ps) k).lo v || eqb (piece_at (map (withNone a) ps) k).hi v) (λ k. eqb (piece_at ps k).lo v || eqb (piece_at ps k).hi v) (length ps)
-      (λ k l. ap (λ (p : Piece). eqb p.lo v || eqb p.hi v) (map_at (withNone a) ps k no_piece no_piece l))
+      ap (the_some_below (λ k. eqb (piece_at (map (with_none a) ps) k).lo v || eqb (piece_at (map (with_none a) ps) k).hi v)) (length-map ps (with_none a))
+      ∙ some_ext (λ k. eqb (piece_at (map (with_none a) ps) k).lo v || eqb (piece_at (map (with_none a) ps) k).hi v) (λ k. eqb (piece_at ps k).lo v || eqb (piece_at ps k).hi v) (length ps)
+      (λ k l. ap (λ (p : Piece). eqb p.lo v || eqb p.hi v) (map_at (with_none a) ps k no_piece no_piece l))
 
 module _ (ms : List Map) (a : ℕ) (h : a ≤ length ms) where
   abbrev more : List Map
-  more = withEmpty a ms
+  more = with_empty a ms
 
   abbrev o : Overlay
-  o = overlayOf ms
+  o = overlay_of ms
 
   abbrev o' : Overlay
-  o' = overlayOf more
+  o' = overlay_of more
 
-  pub separates-empty : (k : ℕ) → separates (withEmpty a ms) (overlayOf (withEmpty a ms)) k ≡ separates ms (overlayOf ms) k
+  pub separates-empty : (k : ℕ) → separates (with_empty a ms) (overlay_of (with_empty a ms)) k ≡ separates ms (overlay_of ms) k
   separates-empty k =
-      (λ t. someBelow (λ i. not (eqb (get_or (empty-labels ms a h (2 * k) t) i 0) (get_or (empty-labels ms a h (2 * k + 1) t) i 0))) (one_more ms a h t))
-      ∙ same-differ a (length ms) h (labelsOf ms o (2 * k)) (labelsOf ms o (2 * k + 1))
+      (λ t. the_some_below (λ i. not (eqb (get_or (empty-labels ms a h (2 * k) t) i 0) (get_or (empty-labels ms a h (2 * k + 1) t) i 0))) (one_more ms a h t))
+      ∙ same_differ a (length ms) h (labels_of ms o (2 * k)) (labels_of ms o (2 * k + 1))
 
-  pieces_are : o'.pieces ≡ map (withNone a) o.pieces
+  pieces_are : o'.pieces ≡ map (with_none a) o.pieces
   pieces_are = ap (λ (x : Overlay). x.pieces) (empty-overlay ms a h)
 
-  same_kept : keptEdges more o' ≡ keptEdges ms o
+  same_kept : kept_edges more o' ≡ kept_edges ms o
   same_kept =
       ap (λ (l : List Piece). select (separates more o') (length l)) pieces_are
-      ∙ ap (select (separates more o')) (length-map o.pieces (withNone a))
+      ∙ ap (select (separates more o')) (length-map o.pieces (with_none a))
       ∙ select-ext (separates more o') (separates ms o) (length o.pieces) (λ k l. separates-empty k)
 
-  same-pieces : keptPieces more o' ≡ map (withNone a) (keptPieces ms o)
-  same-pieces =
+  same_pieces : kept_pieces more o' ≡ map (with_none a) (kept_pieces ms o)
+  same_pieces =
       (λ t. map (piece_at (pieces_are t)) (same_kept t))
-      ∙ map-ext (piece_at (map (withNone a) o.pieces)) (λ k. withNone a (piece_at o.pieces k)) (keptEdges ms o)
-      (λ k i. map_at (withNone a) o.pieces k no_piece no_piece (select-from (separates ms o) (length o.pieces) k i).0)
-      ∙ sym (map-map (withNone a) (piece_at o.pieces) (keptEdges ms o))
+      ∙ map-ext (piece_at (map (with_none a) o.pieces)) (λ k. with_none a (piece_at o.pieces k)) (kept_edges ms o)
+      (λ k i. map_at (with_none a) o.pieces k no_piece no_piece (select_from_lem (separates ms o) (length o.pieces) k i).0)
+      ∙ sym (map-map (with_none a) (piece_at o.pieces) (kept_edges ms o))
 
-  same-used : (v : ℕ) → isEnd (keptPieces more o') v ≡ isEnd (keptPieces ms o) v
-  same-used v = ap (λ (l : List Piece). isEnd l v) same-pieces ∙ end_same a (keptPieces ms o) v
+  same_used : (v : ℕ) → is_end (kept_pieces more o') v ≡ is_end (kept_pieces ms o) v
+  same_used v = ap (λ (l : List Piece). is_end l v) same_pieces ∙ end_same a (kept_pieces ms o) v
 
-  same-afresh : (p : Piece) → afresh (isEnd (keptPieces more o')) (withNone a p) ≡ withNone a (afresh (isEnd (keptPieces ms o)) p)
-  same-afresh p = λ t. record {
-    lo = count-ext (isEnd (keptPieces more o')) (isEnd (keptPieces ms o)) p.lo (λ v l. same-used v) t;
-    hi = count-ext (isEnd (keptPieces more o')) (isEnd (keptPieces ms o)) p.hi (λ v l. same-used v) t;
+  same_afresh : (p : Piece) → afresh (is_end (kept_pieces more o')) (with_none a p) ≡ with_none a (afresh (is_end (kept_pieces ms o)) p)
+  same_afresh p = λ t. record {
+    lo = count-ext (is_end (kept_pieces more o')) (is_end (kept_pieces ms o)) p.lo (λ v l. same_used v) t;
+    hi = count-ext (is_end (kept_pieces more o')) (is_end (kept_pieces ms o)) p.hi (λ v l. same_used v) t;
     sources = put a none p.sources;
   }
 
-  same-melted : meltedPieces more o' ≡ map (withNone a) (meltedPieces ms o)
-  same-melted =
-      ap (map (afresh (isEnd (keptPieces more o')))) same-pieces
-      ∙ map-map (afresh (isEnd (keptPieces more o'))) (withNone a) (keptPieces ms o)
-      ∙ map-ext (λ p. afresh (isEnd (keptPieces more o')) (withNone a p)) (λ p. withNone a (afresh (isEnd (keptPieces ms o)) p)) (keptPieces ms o) (λ p i. same-afresh p)
-      ∙ sym (map-map (withNone a) (afresh (isEnd (keptPieces ms o))) (keptPieces ms o))
+  same_melted : melted_pieces more o' ≡ map (with_none a) (melted_pieces ms o)
+  same_melted =
+      ap (map (afresh (is_end (kept_pieces more o')))) same_pieces
+      ∙ map-map (afresh (is_end (kept_pieces more o'))) (with_none a) (kept_pieces ms o)
+      ∙ map-ext (λ p. afresh (is_end (kept_pieces more o')) (with_none a p)) (λ p. with_none a (afresh (is_end (kept_pieces ms o)) p)) (kept_pieces ms o) (λ p i. same_afresh p)
+      ∙ sym (map-map (with_none a) (afresh (is_end (kept_pieces ms o))) (kept_pieces ms o))
 
-  same-vertices : keptVertices (isEnd (keptPieces more o')) (net o') ≡ keptVertices (isEnd (keptPieces ms o)) (net o)
-  same-vertices =
-      ap (λ (x : Overlay). keptVertices (isEnd (keptPieces more o')) (net x)) (empty-overlay ms a h)
-      ∙ ap (map (point (net o))) (select-ext (isEnd (keptPieces more o')) (isEnd (keptPieces ms o)) (length (net o).points) (λ v l. same-used v))
+  same_vertices : kept_vertices (is_end (kept_pieces more o')) (net o') ≡ kept_vertices (is_end (kept_pieces ms o)) (net o)
+  same_vertices =
+      ap (λ (x : Overlay). kept_vertices (is_end (kept_pieces more o')) (net x)) (empty-overlay ms a h)
+      ∙ ap (map (point (net o))) (select-ext (is_end (kept_pieces more o')) (is_end (kept_pieces ms o)) (length (net o).points) (λ v l. same_used v))
 
-  pub melted-graph : meltedGraph (withEmpty a ms) (overlayOf (withEmpty a ms)) ≡ meltedGraph ms (overlayOf ms)
-  melted-graph = λ t. record { points = same-vertices t; edges = (ap (map (edge_of more)) same-melted ∙ edges-same a ms (meltedPieces ms o)) t }
+  pub melted-graph : melted_graph (with_empty a ms) (overlay_of (with_empty a ms)) ≡ melted_graph ms (overlay_of ms)
+  melted-graph = λ t. record { points = same_vertices t; edges = (ap (map (edge_of more)) same_melted ∙ edges_same a ms (melted_pieces ms o)) t }
 
   -- the same but for one source more, none
-  pub melted-empty : meltedOf (withEmpty a ms) ≡ withNones a (meltedOf ms)
-  unfolding meltedOf
-  melted-empty = λ t. overlayBy (same-melted t) (walksOf (melted-graph t))
+  pub melted-empty : melted_of (with_empty a ms) ≡ with_nones a (melted_of ms)
+  unfolding melted_of
+  melted-empty = λ t. overlay_by (same_melted t) (walks_of (melted-graph t))

@@ -8,15 +8,15 @@ use Rattle.std.proofs.lemmas.List.{length-map}
 use Rattle.seq.specs.Seq.{List, ℕ, ◌*◌, length, get_or}
 use Rattle.paper.specs.Refusal.{done}
 use Rattle.paper.specs.Map.{Map}
-use Rattle.paper.specs.Pieces.{verticesOf, edgesOf, edge_of}
-use Rattle.paper.specs.Faces.{overlayOf}
+use Rattle.paper.specs.Pieces.{vertices_of, edges_of, edge_of}
+use Rattle.paper.specs.Faces.{overlay_of}
 use Rattle.paper.specs.Tables.{Counts, Tables}
 use Rattle.paper.specs.Lent.{Lengths}
-use Rattle.paper.specs.Melt.{meltedPieces, meltedGraph, meltedOf}
+use Rattle.paper.specs.Melt.{melted_pieces, melted_graph, melted_of}
 use Rattle.laws_refusals.specs.Room.{Fits}
 use Rattle.laws_overlay.specs.Maps.{AllKeep}
 use Rattle.laws_overlay.specs.Parts.{vertex-count, edge-count}
-use Rattle.laws_overlay.specs.Files.{mapsOf, maps-count, files-keep, files-bounded}
+use Rattle.laws_overlay.specs.Files.{maps_of, maps-count, files-keep, files-bounded}
 use Rattle.laws_labels.specs.Demand3.{Agrees}
 use Rattle.laws_melt.specs.Stored.{fewer-vertices, fewer-edges}
 use Rattle.laws_melt.specs.Fewer.{melted-faces}
@@ -25,13 +25,13 @@ use Rattle.laws_promise.specs.Rows.{Rows}
 use Rattle.laws_promise.specs.Held.{Held}
 use Rattle.laws_promise.specs.HalfRows.{half-rows}
 use Rattle.laws_promise.specs.FaceRows.{pair-labelled, face-rows}
-use Rattle.laws_promise.specs.Demands.{countsFor, pairFor, Overlaid, done-is-overlaid}
+use Rattle.laws_promise.specs.Demands.{counts_for, pair_for, Overlaid, done_is-overlaid}
 use Rattle.laws_promise.specs.Promised.{held}
 use Rattle.tables.specs.declared.answer.Answer as code
 use Rattle.tables.specs.Values.{answer_of}
 use Rattle.tables.specs.Promise.{Promised, PromisedMelted}
 use Rattle.laws_melted.specs.Rows.{melted-pieced, melted-rows}
-use Rattle.laws_melted.specs.Answers.{Melted, meltedCounts, meltedPair, melted-passes}
+use Rattle.laws_melted.specs.Answers.{Melted, melted_counts, melted_pair, melted-passes}
 use Rattle.laws_melted.specs.Order.{Ordered, melted-ordered}
 use Rattle.laws_melted.specs.Kept.{Kept, rows-kept}
 
@@ -41,66 +41,66 @@ module _ (l : Lengths) (files : List (List ℕ)) (r : code.Answer) (t : Tables) 
   M : Melted l files c t
   M = melted-passes l files r t promise c e
 
-  pub melted-keep : AllKeep (mapsOf files)
+  pub melted-keep : AllKeep (maps_of files)
   melted-keep = files-keep files M.passes
 
   -- they hold the melted pieces and their graph
-  pub melted-hold : Rows (mapsOf files) (meltedPieces (mapsOf files) (overlayOf (mapsOf files))) (meltedGraph (mapsOf files) (overlayOf (mapsOf files))) c t
+  pub melted-hold : Rows (maps_of files) (melted_pieces (maps_of files) (overlay_of (maps_of files))) (melted_graph (maps_of files) (overlay_of (maps_of files))) c t
   melted-hold =
-      let ms = mapsOf files in
-      let o = overlayOf ms in
-      subst (λ (k : Counts). Rows ms (meltedPieces ms o) (meltedGraph ms o) k t) (sym M.counts-are)
-      (subst (λ (u : Tables). Rows ms (meltedPieces ms o) (meltedGraph ms o) (meltedCounts files) u) (sym M.tables-are) (melted-rows ms melted-keep l))
+      let ms = maps_of files in
+      let o = overlay_of ms in
+      subst (λ (k : Counts). Rows ms (melted_pieces ms o) (melted_graph ms o) k t) (sym M.counts-are)
+      (subst (λ (u : Tables). Rows ms (melted_pieces ms o) (melted_graph ms o) (melted_counts files) u) (sym M.tables-are) (melted-rows ms melted-keep l))
 
   -- demand 3
-  pub melted-agrees : Agrees (length (mapsOf files)) c t (meltedPair files)
-  melted-agrees = subst (λ (n : ℕ). Agrees n c t (meltedPair files)) (sym (maps-count files)) M.agrees
+  pub melted-agrees : Agrees (length (maps_of files)) c t (melted_pair files)
+  melted-agrees = subst (λ (n : ℕ). Agrees n c t (melted_pair files)) (sym (maps-count files)) M.agrees
 
   -- "vertices, edges, followers and faces are numbered afresh by 01's rules": vertices and edges;
   pub melted-numbered : Ordered c t
-  melted-numbered = melted-ordered (mapsOf files) melted-keep c t melted-hold (files-bounded files M.passes)
+  melted-numbered = melted-ordered (maps_of files) melted-keep c t melted-hold (files-bounded files M.passes)
 
   -- half-edges, followers and predecessors, in 01's words over the tables' own points;
   pub melted-half-rows : HalfRows c t
   melted-half-rows =
-      let ms = mapsOf files in
-      half-rows ms (meltedPieces ms (overlayOf ms)) (meltedGraph ms (overlayOf ms)) (melted-pieced ms melted-keep) c t melted-hold
+      let ms = maps_of files in
+      half-rows ms (melted_pieces ms (overlay_of ms)) (melted_graph ms (overlay_of ms)) (melted-pieced ms melted-keep) c t melted-hold
 
   -- faces: outer walks and hole walks, least half-edges, counts of hole walks, labels
-  pub melted-face-rows : FaceRows (mapsOf files) c t
+  pub melted-face-rows : FaceRows (maps_of files) c t
   melted-face-rows =
-      let ms = mapsOf files in
-      face-rows ms melted-keep (meltedPieces ms (overlayOf ms)) (meltedGraph ms (overlayOf ms)) (melted-pieced ms melted-keep) c t melted-hold
+      let ms = maps_of files in
+      face-rows ms melted-keep (melted_pieces ms (overlay_of ms)) (melted_graph ms (overlay_of ms)) (melted-pieced ms melted-keep) c t melted-hold
 
   -- the labels of each half-edge, in 01's words: along an edge of the map, or seen looking west in it
-  pub melted-labelled : (h i : ℕ) → h < 2 * c.edges → i < length (mapsOf files) → Labelled (mapsOf files) c t i h (get_or (meltedPair files h) i 0)
-  unfolding meltedOf
+  pub melted-labelled : (h i : ℕ) → h < 2 * c.edges → i < length (maps_of files) → Labelled (maps_of files) c t i h (get_or (melted_pair files h) i 0)
+  unfolding melted_of
   melted-labelled =
-      let ms = mapsOf files in
-      pair-labelled ms melted-keep (meltedPieces ms (overlayOf ms)) (meltedGraph ms (overlayOf ms)) (melted-pieced ms melted-keep) c t melted-hold
+      let ms = maps_of files in
+      pair-labelled ms melted-keep (melted_pieces ms (overlay_of ms)) (melted_graph ms (overlay_of ms)) (melted-pieced ms melted-keep) c t melted-hold
 
 -- ── beside the overlay's ──
 
 module _ (k l : Lengths) (files : List (List ℕ)) (q r : code.Answer) (u t : Tables) (overlay : Promised k files q u) (d : Counts) (e : answer_of q ≡ done d)
     (promise : PromisedMelted l files r t) (c : Counts) (f : answer_of r ≡ done c) where
   abbrev ms : List Map
-  ms = mapsOf files
+  ms = maps_of files
 
   O : Overlaid k files d u
-  O = done-is-overlaid k files q u overlay d e
+  O = done_is-overlaid k files q u overlay d e
 
-  keep : AllKeep (mapsOf files)
+  keep : AllKeep (maps_of files)
   keep = melted-keep l files r t promise c f
 
-  overlay-hold : Held (mapsOf files) d u
+  overlay-hold : Held (maps_of files) d u
   overlay-hold =
       subst (λ (x : Counts). Held ms x u) (sym O.counts-are)
-      (subst (λ (x : Tables). Held ms (countsFor files) x) (sym O.tables-are) (held files O.passes k))
+      (subst (λ (x : Tables). Held ms (counts_for files) x) (sym O.tables-are) (held files O.passes k))
 
   pub melted-keeps : Kept (length files) d u c t
   melted-keeps =
       subst (λ (n : ℕ). Kept n d u c t) (maps-count files)
-      (rows-kept ms keep d u overlay-hold (subst (λ (n : ℕ). Agrees n d u (pairFor files)) (sym (maps-count files)) O.agrees)
+      (rows-kept ms keep d u overlay-hold (subst (λ (n : ℕ). Agrees n d u (pair_for files)) (sym (maps-count files)) O.agrees)
       c t (melted-hold l files r t promise c f) (melted-agrees l files r t promise c f))
 
   -- no more vertices, edges and faces
@@ -109,6 +109,6 @@ module _ (k l : Lengths) (files : List (List ℕ)) (q r : code.Answer) (u t : Ta
       let m = (melted-passes l files r t promise c f).counts-are in
       record {
         vertices = omega (arith, ap (λ (x : Counts). x.vertices) m, ap (λ (x : Counts). x.vertices) O.counts-are, fewer-vertices ms keep, vertex-count ms);
-        edges = omega (arith, ap (λ (x : Counts). x.edges) m, ap (λ (x : Counts). x.edges) O.counts-are, fewer-edges ms keep, edge-count ms, length-map (edgesOf ms (verticesOf ms)) (edge_of ms));
+        edges = omega (arith, ap (λ (x : Counts). x.edges) m, ap (λ (x : Counts). x.edges) O.counts-are, fewer-edges ms keep, edge-count ms, length-map (edges_of ms (vertices_of ms)) (edge_of ms));
         faces = omega (arith, ap (λ (x : Counts). x.faces) m, ap (λ (x : Counts). x.faces) O.counts-are, melted-faces ms keep);
       }

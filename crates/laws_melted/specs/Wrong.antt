@@ -3,37 +3,37 @@
 -- (crates/paper/specs/MeltSample.antt). Assumes nothing.
 use Rattle.std.specs.Prelude.{◌≡◌, refl, ◌<◌}
 use Rattle.std.proofs.Common.{sym, ◌∙◌, ap, subst, arith}
-use Rattle.exact.specs.Exact.{gcdOf}
+use Rattle.exact.specs.Exact.{gcd_of}
 use Rattle.exact.specs.Order.{pos-once}
 use Rattle.seq.specs.Seq.{List, [], ◌∷◌, ℕ, ℤ, ◌+◌, ◌*◌, pos}
 use Rattle.seq.specs.Wiped.{length-padded}
 use Rattle.paper.specs.Limits.{maps}
 use Rattle.paper.specs.Refusal.{Refusal, Answer, done, refused}
 use Rattle.paper.specs.Map.{fault}
-use Rattle.paper.specs.Faces.{overlayOf}
-use Rattle.paper.specs.Tables.{Counts, Tables, vertexWidth, vertexCell, faceCell, tables_of}
+use Rattle.paper.specs.Faces.{overlay_of}
+use Rattle.paper.specs.Tables.{Counts, Tables, vertex_width, vertex_cell, face_cell, tables_of}
 use Rattle.paper.specs.Tables as T
-use Rattle.paper.specs.Lent.{Lengths, Outcome, lengthsOf, roomIn, zeroTables}
+use Rattle.paper.specs.Lent.{Lengths, Outcome, lengths_of, room_in, zero_tables}
 use Rattle.paper.specs.Overlay.{overlay}
-use Rattle.paper.specs.Melt.{meltedOf, melt}
+use Rattle.paper.specs.Melt.{melted_of, melt}
 use Rattle.paper.specs.MeltSample.{zones, block, merged, melted-refused}
-use Rattle.paper.specs.Sample.{emptyFile}
+use Rattle.paper.specs.Sample.{empty_file}
 use Rattle.paper.specs.Sheets.{ample, counted}
 use Rattle.laws_refusals.specs.Room.{Fits}
 use Rattle.laws_promise.specs.Wrong.{Operation}
 use Rattle.tables.specs.declared.answer.Answer as code
 use Rattle.tables.specs.Values.{answer_of}
 use Rattle.tables.specs.Promise.{Promised, PromisedMelted}
-use Rattle.laws_melted.specs.Answers.{meltedCounts}
+use Rattle.laws_melted.specs.Answers.{melted_counts}
 
 -- it keeps the promise
 abbrev pub Melts : Operation → Type 0
-Melts f = (t : Tables) (a b z : List ℕ) → PromisedMelted (lengthsOf t) (a ∷ b ∷ z ∷ []) (f t a b z).0 (f t a b z).1
+Melts f = (t : Tables) (a b z : List ℕ) → PromisedMelted (lengths_of t) (a ∷ b ∷ z ∷ []) (f t a b z).0 (f t a b z).1
 
 -- ── what is right, in lent tables that are zero before ──
 
-zeros-long : (l : Lengths) → lengthsOf (zeroTables l) ≡ l
-zeros-long l i = record {
+zeros_long : (l : Lengths) → lengths_of (zero_tables l) ≡ l
+zeros_long l i = record {
   vertices = length-padded (pos 0) l.vertices [] (omega arith) i;
   halves = length-padded {A = ℕ} 0 l.halves [] (omega arith) i;
   sources = length-padded {A = ℕ} 0 l.sources [] (omega arith) i;
@@ -42,26 +42,26 @@ zeros-long l i = record {
 
 module _ (f : Operation) (m : Melts f) (l : Lengths) where
   abbrev given : code.Answer × Tables
-  given = f (zeroTables l) zones block emptyFile
+  given = f (zero_tables l) zones block empty_file
 
-  right : PromisedMelted l (zones ∷ block ∷ emptyFile ∷ []) given.0 given.1
-  right = subst (λ (k : Lengths). PromisedMelted k (zones ∷ block ∷ emptyFile ∷ []) given.0 given.1) (zeros-long l) (m (zeroTables l) zones block emptyFile)
+  right : PromisedMelted l (zones ∷ block ∷ empty_file ∷ []) given.0 given.1
+  right = subst (λ (k : Lengths). PromisedMelted k (zones ∷ block ∷ empty_file ∷ []) given.0 given.1) (zeros_long l) (m (zero_tables l) zones block empty_file)
 
-  right_answer : answer_of (f (zeroTables l) zones block emptyFile).0 ≡ (melt l zones block emptyFile).answer
+  right_answer : answer_of (f (zero_tables l) zones block empty_file).0 ≡ (melt l zones block empty_file).answer
   right_answer = ap (λ (o : Outcome). o.answer) right
 
-  right-tables : (f (zeroTables l) zones block emptyFile).1 ≡ (melt l zones block emptyFile).tables
-  right-tables = ap (λ (o : Outcome). o.tables) right
+  right_tables : (f (zero_tables l) zones block empty_file).1 ≡ (melt l zones block empty_file).tables
+  right_tables = ap (λ (o : Outcome). o.tables) right
 
 -- the answers of both, and of both the first coordinate of vertex 6: (0, 4) melted, (5, 3) in the overlay; of edge 4 the zones on its two sides, and its first end's coordinates
 computed : ◌≡◌ {A = (Answer Counts × Answer Counts) × (ℤ × ℤ) × (ℕ × ℕ × ℕ) × (ℤ × ℤ)} (
-  (merged.answer, (overlay (ample maps) zones block emptyFile).answer),
-  (vertexCell merged.tables 6 0, vertexCell (overlay (ample maps) zones block emptyFile).tables 6 0),
-  (faceCell maps merged.tables (T.faceOf merged.tables 8) 0, faceCell maps merged.tables (T.faceOf merged.tables 9) 0, faceCell maps merged.tables (T.faceOf merged.tables 8) 1),
-  (vertexCell merged.tables 4 0, vertexCell merged.tables 4 1),
+  (merged.answer, (overlay (ample maps) zones block empty_file).answer),
+  (vertex_cell merged.tables 6 0, vertex_cell (overlay (ample maps) zones block empty_file).tables 6 0),
+  (face_cell maps merged.tables (T.face_of merged.tables 8) 0, face_cell maps merged.tables (T.face_of merged.tables 9) 0, face_cell maps merged.tables (T.face_of merged.tables 8) 1),
+  (vertex_cell merged.tables 4 0, vertex_cell merged.tables 4 1),
 )
     ((counted 9 10 3, counted 11 13 5), (pos 0, pos 5), (1, 1, 0), (pos 4, pos 2))
-unfolding gcdOf fault overlayOf meltedOf tables_of
+unfolding gcd_of fault overlay_of melted_of tables_of
 computed = refl
 
 merged-answer : merged.answer ≡ counted 9 10 3
@@ -75,63 +75,63 @@ done-vertices c d q = let e : c ≡ d = cc in ap (λ (x : Counts). x.vertices) e
 
 -- room for the 9 vertices that are left, and not for the 11 of the overlay
 abbrev nine : Lengths
-nine = let l = ample maps in record { vertices = 9 * vertexWidth; halves = l.halves; sources = l.sources; faces = l.faces }
+nine = let l = ample maps in record { vertices = 9 * vertex_width; halves = l.halves; sources = l.sources; faces = l.faces }
 
-left-counts : meltedCounts (zones ∷ block ∷ emptyFile ∷ []) ≡ record { vertices = 9; edges = 10; faces = 3 }
-unfolding gcdOf fault overlayOf meltedOf tables_of
-left-counts = refl
+left_counts : melted_counts (zones ∷ block ∷ empty_file ∷ []) ≡ record { vertices = 9; edges = 10; faces = 3 }
+unfolding gcd_of fault overlay_of melted_of tables_of
+left_counts = refl
 
-nine-fits : Fits (roomIn maps nine) (meltedCounts (zones ∷ block ∷ emptyFile ∷ []))
-nine-fits = subst (Fits (roomIn maps nine)) (sym left-counts) (record { vertices = omega arith; edges = omega arith; faces = omega arith })
+nine_fits : Fits (room_in maps nine) (melted_counts (zones ∷ block ∷ empty_file ∷ []))
+nine_fits = subst (Fits (room_in maps nine)) (sym left_counts) (record { vertices = omega arith; edges = omega arith; faces = omega arith })
 
 module _ (f : Operation) (m : Melts f) where
   abbrev tables : Tables
-  tables = (f (zeroTables (ample maps)) zones block emptyFile).1
+  tables = (f (zero_tables (ample maps)) zones block empty_file).1
 
   tables-are : tables ≡ merged.tables
-  tables-are = right-tables f m (ample maps)
+  tables-are = right_tables f m (ample maps)
 
   -- ── 1: it leaves the overlay as it is ──
 
-  pub not-the-overlay : ((t : Tables) (a b z : List ℕ) → Promised (lengthsOf t) (a ∷ b ∷ z ∷ []) (f t a b z).0 (f t a b z).1) → ⊥
-  not-the-overlay w =
-      let o = subst (λ (l : Lengths). Promised l (zones ∷ block ∷ emptyFile ∷ []) (f (zeroTables (ample maps)) zones block emptyFile).0 tables) (zeros-long (ample maps)) (w (zeroTables (ample maps)) zones block emptyFile) in
+  pub not_the_overlay : ((t : Tables) (a b z : List ℕ) → Promised (lengths_of t) (a ∷ b ∷ z ∷ []) (f t a b z).0 (f t a b z).1) → ⊥
+  not_the_overlay w =
+      let o = subst (λ (l : Lengths). Promised l (zones ∷ block ∷ empty_file ∷ []) (f (zero_tables (ample maps)) zones block empty_file).0 tables) (zeros_long (ample maps)) (w (zero_tables (ample maps)) zones block empty_file) in
       let e : ◌≡◌ {A = ℕ} 9 11 = done-vertices (record { vertices = 9; edges = 10; faces = 3 }) (record { vertices = 11; edges = 13; faces = 5 })
       (sym merged-answer ∙ sym (right_answer f m (ample maps)) ∙ ap (λ (x : Outcome). x.answer) o ∙ ap (λ x. x.0.1) computed) in
       omega arith
 
   -- ── 2: vertices keep the numbers that they had in the overlay ──
 
-  pub not-old-numbers : ((t : Tables) (a b z : List ℕ) (v : ℕ) → v < 9 → vertexCell (f t a b z).1 v 0 ≡ vertexCell (overlay (lengthsOf t) a b z).tables v 0) → ⊥
-  not-old-numbers w =
-      let q = w (zeroTables (ample maps)) zones block emptyFile 6 (omega arith) in
-      let e : ◌≡◌ {A = ℕ} 0 5 = pos-once 0 5 (sym (ap (λ x. x.1.0) computed) ∙ ap (λ (t : Tables). vertexCell t 6 0) (sym tables-are) ∙ q
-      ∙ ap (λ (l : Lengths). vertexCell (overlay l zones block emptyFile).tables 6 0) (zeros-long (ample maps)) ∙ ap (λ x. x.1.1) computed) in
+  pub not_old_numbers : ((t : Tables) (a b z : List ℕ) (v : ℕ) → v < 9 → vertex_cell (f t a b z).1 v 0 ≡ vertex_cell (overlay (lengths_of t) a b z).tables v 0) → ⊥
+  not_old_numbers w =
+      let q = w (zero_tables (ample maps)) zones block empty_file 6 (omega arith) in
+      let e : ◌≡◌ {A = ℕ} 0 5 = pos-once 0 5 (sym (ap (λ x. x.1.0) computed) ∙ ap (λ (t : Tables). vertex_cell t 6 0) (sym tables-are) ∙ q
+      ∙ ap (λ (l : Lengths). vertex_cell (overlay l zones block empty_file).tables 6 0) (zeros_long (ample maps)) ∙ ap (λ x. x.1.1) computed) in
       omega arith
 
   -- ── 3: it compares zones alone ("Ask 12 compares triples") ──
 
   -- edge 4 lies within one zone, and the block ends there
-  pub not-zones-alone : ((t : Tables) (a b z : List ℕ) (c : Counts) → answer_of (f t a b z).0 ≡ done c → (k : ℕ) → k < c.edges →
-      faceCell maps (f t a b z).1 (T.faceOf (f t a b z).1 (2 * k)) 0 ≡ faceCell maps (f t a b z).1 (T.faceOf (f t a b z).1 (2 * k + 1)) 0 → ⊥) → ⊥
-  not-zones-alone w =
-      w (zeroTables (ample maps)) zones block emptyFile (record { vertices = 9; edges = 10; faces = 3 }) (right_answer f m (ample maps) ∙ merged-answer) 4 (omega arith)
-      (ap (λ (t : Tables). faceCell maps t (T.faceOf t 8) 0) tables-are ∙ ap (λ x. x.2.0) computed ∙ sym (ap (λ x. x.2.1) computed) ∙ ap (λ (t : Tables). faceCell maps t (T.faceOf t 9) 0) (sym tables-are))
+  pub not_zones-alone : ((t : Tables) (a b z : List ℕ) (c : Counts) → answer_of (f t a b z).0 ≡ done c → (k : ℕ) → k < c.edges →
+      face_cell maps (f t a b z).1 (T.face_of (f t a b z).1 (2 * k)) 0 ≡ face_cell maps (f t a b z).1 (T.face_of (f t a b z).1 (2 * k + 1)) 0 → ⊥) → ⊥
+  not_zones-alone w =
+      w (zero_tables (ample maps)) zones block empty_file (record { vertices = 9; edges = 10; faces = 3 }) (right_answer f m (ample maps) ∙ merged-answer) 4 (omega arith)
+      (ap (λ (t : Tables). face_cell maps t (T.face_of t 8) 0) tables-are ∙ ap (λ x. x.2.0) computed ∙ sym (ap (λ x. x.2.1) computed) ∙ ap (λ (t : Tables). face_cell maps t (T.face_of t 9) 0) (sym tables-are))
 
   -- ── 4: it drops a vertex with two edges ("Vertices with two edges stay") ──
 
   -- vertex 4 is (4, 2), where the line between the zones ended
-  pub corner-stays : (vertexCell (f (zeroTables (ample maps)) zones block emptyFile).1 4 0 ≡ pos 4) × (vertexCell (f (zeroTables (ample maps)) zones block emptyFile).1 4 1 ≡ pos 2)
-  corner-stays = (ap (λ (t : Tables). vertexCell t 4 0) tables-are ∙ ap (λ x. x.3.0) computed, ap (λ (t : Tables). vertexCell t 4 1) tables-are ∙ ap (λ x. x.3.1) computed)
+  pub corner-stays : (vertex_cell (f (zero_tables (ample maps)) zones block empty_file).1 4 0 ≡ pos 4) × (vertex_cell (f (zero_tables (ample maps)) zones block empty_file).1 4 1 ≡ pos 2)
+  corner-stays = (ap (λ (t : Tables). vertex_cell t 4 0) tables-are ∙ ap (λ x. x.3.0) computed, ap (λ (t : Tables). vertex_cell t 4 1) tables-are ∙ ap (λ x. x.3.1) computed)
 
   -- ── 5: it judges room on what is left ──
 
-  pub not-room-for-left : ((t : Tables) (a b z : List ℕ) → Fits (roomIn maps (lengthsOf t)) (meltedCounts (a ∷ b ∷ z ∷ [])) → (c : Counts) × (answer_of (f t a b z).0 ≡ done c)) → ⊥
-  not-room-for-left w =
-      let (c, e) = w (zeroTables nine) zones block emptyFile (subst (λ (l : Lengths). Fits (roomIn maps l) (meltedCounts (zones ∷ block ∷ emptyFile ∷ []))) (sym (zeros-long nine)) nine-fits) in
+  pub not_room_for_left : ((t : Tables) (a b z : List ℕ) → Fits (room_in maps (lengths_of t)) (melted_counts (a ∷ b ∷ z ∷ [])) → (c : Counts) × (answer_of (f t a b z).0 ≡ done c)) → ⊥
+  not_room_for_left w =
+      let (c, e) = w (zero_tables nine) zones block empty_file (subst (λ (l : Lengths). Fits (room_in maps l) (melted_counts (zones ∷ block ∷ empty_file ∷ []))) (sym (zeros_long nine)) nine_fits) in
       done_refused (sym e ∙ right_answer f m nine ∙ melted-refused)
 
   -- ── 6: it refuses everything ──
 
-  pub not-refusing : ((t : Tables) (a b z : List ℕ) → (r : Refusal) × (answer_of (f t a b z).0 ≡ refused r)) → ⊥
-  not-refusing w = let (r, e) = w (zeroTables (ample maps)) zones block emptyFile in done_refused (sym merged-answer ∙ sym (right_answer f m (ample maps)) ∙ e)
+  pub not_refusing : ((t : Tables) (a b z : List ℕ) → (r : Refusal) × (answer_of (f t a b z).0 ≡ refused r)) → ⊥
+  not_refusing w = let (r, e) = w (zero_tables (ample maps)) zones block empty_file in done_refused (sym merged-answer ∙ sym (right_answer f m (ample maps)) ∙ e)

@@ -3,18 +3,18 @@
 use Rattle.std.specs.Prelude.{◌≡◌, refl, ◌<◌}
 use Rattle.std.proofs.Common.{sym, ◌∙◌, ap, inl, inr, append-nil, arith}
 use Rattle.std.proofs.lemmas.List.{map-append}
-use Rattle.seq.specs.Seq.{Bool, true, false, cond, not, ◌&&◌, List, [], ◌∷◌, ◌++◌, ℕ, zero, suc, ◌+◌, ◌*◌, length, someBelow, count, select, rows, gather}
+use Rattle.seq.specs.Seq.{Bool, true, false, cond, not, ◌&&◌, List, [], ◌∷◌, ◌++◌, ℕ, zero, suc, ◌+◌, ◌*◌, length, the_some_below, count, select, rows, gather}
 use Rattle.seq.specs.Tests.{never, and_both, and_parts, bool-ext}
-use Rattle.seq.specs.Least.{some-has, some-witness}
+use Rattle.seq.specs.Least.{some_has, some_witness}
 use Rattle.seq.specs.Rows.{rows_ext}
-use Rattle.seq.specs.Select.{select-from, select_has, length-select, position-count, rows-select}
-use Rattle.seq.specs.Collected.{in-witness, in-has}
+use Rattle.seq.specs.Select.{select_from_lem, select_has, length-select, position-count, rows-select}
+use Rattle.seq.specs.Collected.{in_witness, in_has}
 use Rattle.seq.specs.Members.{gather-++}
 use Rattle.paper.specs.Graph.{Graph, edge, edge_count}
 use Rattle.paper.specs.Bytes.{ascii, le}
 use Rattle.paper.specs.Map.{Map, label, doubled}
-use Rattle.paper.specs.Mend.{fromNow, toNow, shrunk, alike, repeated, keptEdge, keptEdges, ends_at, hasEdge, bare, keptVertices, listed, entries, cornerBytes, cornerOf, edgeRow, mended, mapFile}
-use Rattle.laws_mend.specs.Merged.{is-has, into-le}
+use Rattle.paper.specs.Mend.{from_now, to_now, shrunk, alike, repeated, kept_edge, kept_edges, ends_at, has_edge, bare, kept_vertices, listed, entries, corner_bytes, corner_of, edge_row, mended, map_file}
+use Rattle.laws_mend.specs.Merged.{is_has, into-le}
 use Rattle.laws_mend.specs.Listed.{repeats-kept}
 
 -- the numbers of the entries of one step
@@ -31,64 +31,64 @@ module _ (step : ℕ) (p : ℕ → Bool) where
   entries-select (suc n) = entry-step n (select p n) (rows (λ v. cond (p v) (step ∷ v ∷ []) []) n) (p n) (entries-select n)
 
 module _ (g : Graph) where
-  abbrev vCount : ℕ
-  vCount = length g.points
+  abbrev v_count : ℕ
+  v_count = length g.points
 
-  abbrev eCount : ℕ
-  eCount = edge_count g
+  abbrev e_count : ℕ
+  e_count = edge_count g
 
   -- the whole list: four loops
   pub entries-loops : flat (entries g) ≡
       rows (λ v. cond (doubled g v) (1 ∷ v ∷ []) []) (length g.points)
       ++ rows (λ k. cond (shrunk g k) (2 ∷ k ∷ []) []) (edge_count g)
       ++ rows (λ k. cond (repeated g k) (3 ∷ k ∷ []) []) (edge_count g)
-      ++ rows (λ v. cond (bare g (keptEdges g) v) (4 ∷ v ∷ []) []) (length g.points)
+      ++ rows (λ v. cond (bare g (kept_edges g) v) (4 ∷ v ∷ []) []) (length g.points)
   entries-loops =
-      let e1 = listed 1 (select (doubled g) vCount) in
-      let e2 = listed 2 (select (shrunk g) eCount) in
-      let e3 = listed 3 (select (repeated g) eCount) in
-      let e4 = listed 4 (select (bare g (keptEdges g)) vCount) in
+      let e1 = listed 1 (select (doubled g) v_count) in
+      let e2 = listed 2 (select (shrunk g) e_count) in
+      let e3 = listed 3 (select (repeated g) e_count) in
+      let e4 = listed 4 (select (bare g (kept_edges g)) v_count) in
       gather-++ (λ (e : ℕ × ℕ). e.0 ∷ e.1 ∷ []) (e1 ++ e2 ++ e3) e4
       ∙ ap (λ (r : List ℕ). r ++ flat e4) (gather-++ (λ (e : ℕ × ℕ). e.0 ∷ e.1 ∷ []) (e1 ++ e2) e3 ∙ ap (λ (r : List ℕ). r ++ flat e3) (gather-++ (λ (e : ℕ × ℕ). e.0 ∷ e.1 ∷ []) e1 e2))
-      ∙ (λ i. entries-select 1 (doubled g) vCount i ++ entries-select 2 (shrunk g) eCount i ++ entries-select 3 (repeated g) eCount i ++ entries-select 4 (bare g (keptEdges g)) vCount i)
+      ∙ (λ i. entries-select 1 (doubled g) v_count i ++ entries-select 2 (shrunk g) e_count i ++ entries-select 3 (repeated g) e_count i ++ entries-select 4 (bare g (kept_edges g)) v_count i)
 
   -- ── step 3 by the edges that are kept so far ──
 
-  pub repeated-by-kept : (k : ℕ) → repeated g k ≡ (not (shrunk g k) && someBelow (λ j. keptEdge g j && alike g k j) k)
-  repeated-by-kept k = go (shrunk g k) refl
+  pub repeated_by_kept : (k : ℕ) → repeated g k ≡ (not (shrunk g k) && the_some_below (λ j. kept_edge g j && alike g k j) k)
+  repeated_by_kept k = go (shrunk g k) refl
     where
-      off : (c : Bool) → c ≡ false → someBelow (alike g k) k ≡ true → (not c && someBelow (alike g k) k) ≡ true
+      off : (c : Bool) → c ≡ false → the_some_below (alike g k) k ≡ true → (not c && the_some_below (alike g k) k) ≡ true
       off true e f = never (sym e)
       off false e f = f
 
-      there : shrunk g k ≡ false → someBelow (alike g k) k ≡ true → someBelow (λ j. keptEdge g j && alike g k j) k ≡ true
+      there : shrunk g k ≡ false → the_some_below (alike g k) k ≡ true → the_some_below (λ j. kept_edge g j && alike g k j) k ≡ true
       there e f =
           let (j, l, q, a) = repeats-kept g k (off (shrunk g k) e f) in
-          some-has (λ j. keptEdge g j && alike g k j) k j l (and_both {a = keptEdge g j} q a)
+          some_has (λ j. kept_edge g j && alike g k j) k j l (and_both {a = kept_edge g j} q a)
 
-      back : someBelow (λ j. keptEdge g j && alike g k j) k ≡ true → someBelow (alike g k) k ≡ true
+      back : the_some_below (λ j. kept_edge g j && alike g k j) k ≡ true → the_some_below (alike g k) k ≡ true
       back f =
-          let (j, l, q) = some-witness (λ j. keptEdge g j && alike g k j) k f in
-          some-has (alike g k) k j l (and_parts (keptEdge g j) (alike g k j) q).1
+          let (j, l, q) = some_witness (λ j. kept_edge g j && alike g k j) k f in
+          some_has (alike g k) k j l (and_parts (kept_edge g j) (alike g k j) q).1
 
-      go : (c : Bool) → shrunk g k ≡ c → (not c && someBelow (alike g k) k) ≡ (not c && someBelow (λ j. keptEdge g j && alike g k j) k)
+      go : (c : Bool) → shrunk g k ≡ c → (not c && the_some_below (alike g k) k) ≡ (not c && the_some_below (λ j. kept_edge g j && alike g k j) k)
       go true e = refl
-      go false e = bool-ext (someBelow (alike g k) k) (someBelow (λ j. keptEdge g j && alike g k j) k) (there e) back
+      go false e = bool-ext (the_some_below (alike g k) k) (the_some_below (λ j. kept_edge g j && alike g k j) k) (there e) back
 
   -- ── step 4 by marks: an edge that is kept marks its two ends ──
 
-  pub has-by-marks : (v : ℕ) → hasEdge g (keptEdges g) v ≡ someBelow (λ k. keptEdge g k && ends_at g v k) (edge_count g)
-  has-by-marks v =
-      bool-ext (hasEdge g (keptEdges g) v) (someBelow (λ k. keptEdge g k && ends_at g v k) eCount)
-      (λ e. let (k, l, q) = witness e in some-has (λ k. keptEdge g k && ends_at g v k) eCount k l q)
-      (λ e. let (k, l, q) = some-witness (λ k. keptEdge g k && ends_at g v k) eCount e in
-      let r = and_parts (keptEdge g k) (ends_at g v k) q in in-has (ends_at g) v k (keptEdges g) (select_has (keptEdge g) eCount k l r.0) r.1)
+  pub has_by_marks : (v : ℕ) → has_edge g (kept_edges g) v ≡ the_some_below (λ k. kept_edge g k && ends_at g v k) (edge_count g)
+  has_by_marks v =
+      bool-ext (has_edge g (kept_edges g) v) (the_some_below (λ k. kept_edge g k && ends_at g v k) e_count)
+      (λ e. let (k, l, q) = witness e in some_has (λ k. kept_edge g k && ends_at g v k) e_count k l q)
+      (λ e. let (k, l, q) = some_witness (λ k. kept_edge g k && ends_at g v k) e_count e in
+      let r = and_parts (kept_edge g k) (ends_at g v k) q in in_has (ends_at g) v k (kept_edges g) (select_has (kept_edge g) e_count k l r.0) r.1)
     where
-      witness : hasEdge g (keptEdges g) v ≡ true → (k : ℕ) × (k < edge_count g) × ((keptEdge g k && ends_at g v k) ≡ true)
+      witness : has_edge g (kept_edges g) v ≡ true → (k : ℕ) × (k < edge_count g) × ((kept_edge g k && ends_at g v k) ≡ true)
       witness e =
-          let (k, i, q) = in-witness (ends_at g) v (keptEdges g) e in
-          let r = select-from (keptEdge g) eCount k i in
-          (k, r.0, and_both {a = keptEdge g k} r.1 q)
+          let (k, i, q) = in_witness (ends_at g) v (kept_edges g) e in
+          let r = select_from_lem (kept_edge g) e_count k i in
+          (k, r.0, and_both {a = kept_edge g k} r.1 q)
 
 -- ── the file ──
 
@@ -97,19 +97,19 @@ module _ (m : Map) where
   gr = m.graph
 
   abbrev kept_v : ℕ → Bool
-  kept_v = hasEdge m.graph (keptEdges m.graph)
+  kept_v = has_edge m.graph (kept_edges m.graph)
 
   -- the four numbers of edge k: new numbers are how many vertices are kept before
-  abbrev pub countedRow : ℕ → List ℕ
-  countedRow k =
-      count (hasEdge m.graph (keptEdges m.graph)) (fromNow m.graph k) ∷ count (hasEdge m.graph (keptEdges m.graph)) (toNow m.graph k)
+  abbrev pub counted_row : ℕ → List ℕ
+  counted_row k =
+      count (has_edge m.graph (kept_edges m.graph)) (from_now m.graph k) ∷ count (has_edge m.graph (kept_edges m.graph)) (to_now m.graph k)
       ∷ label m (2 * k) ∷ label m (2 * k + 1) ∷ []
 
-  module _ (from-below : (k : ℕ) → k < edge_count m.graph → (edge m.graph k).from < length m.graph.points) (to_below : (k : ℕ) → k < edge_count m.graph → (edge m.graph k).to < length m.graph.points) where
-    row_is : (k : ℕ) → k < edge_count m.graph → keptEdge m.graph k ≡ true → edgeRow m (keptVertices m.graph) k ≡ countedRow k
+  module _ (from_below : (k : ℕ) → k < edge_count m.graph → (edge m.graph k).from < length m.graph.points) (to_below : (k : ℕ) → k < edge_count m.graph → (edge m.graph k).to < length m.graph.points) where
+    row_is : (k : ℕ) → k < edge_count m.graph → kept_edge m.graph k ≡ true → edge_row m (kept_vertices m.graph) k ≡ counted_row k
     row_is k l e =
-        let a = position-count kept_v (length gr.points) (fromNow gr k) (omega (arith, into-le gr (edge gr k).from, from-below k l)) (is-has gr (fromNow gr k) k l e (inl refl)) in
-        let b = position-count kept_v (length gr.points) (toNow gr k) (omega (arith, into-le gr (edge gr k).to, to_below k l)) (is-has gr (toNow gr k) k l e (inr refl)) in
+        let a = position-count kept_v (length gr.points) (from_now gr k) (omega (arith, into-le gr (edge gr k).from, from_below k l)) (is_has gr (from_now gr k) k l e (inl refl)) in
+        let b = position-count kept_v (length gr.points) (to_now gr k) (omega (arith, into-le gr (edge gr k).to, to_below k l)) (is_has gr (to_now gr k) k l e (inr refl)) in
         (λ i. a i ∷ b i ∷ label m (2 * k) ∷ label m (2 * k + 1) ∷ [])
 
     pick-step : (k : ℕ) (c : Bool) (x y : List ℕ) → (c ≡ true → x ≡ y) → cond c (gather (le 2) x) [] ≡ cond c (gather (le 2) y) []
@@ -118,13 +118,13 @@ module _ (m : Map) where
 
     -- the mended file: counts, a loop over the vertices, a loop over the edges
     pub mended-loops : mended m ≡
-        ascii "ZMP" ++ gather (le 2) (1 ∷ count (hasEdge m.graph (keptEdges m.graph)) (length m.graph.points) ∷ count (keptEdge m.graph) (edge_count m.graph) ∷ [])
-        ++ rows (λ v. cond (hasEdge m.graph (keptEdges m.graph) v) (cornerBytes (cornerOf m.graph v)) []) (length m.graph.points)
-        ++ rows (λ k. cond (keptEdge m.graph k) (gather (le 2) (countedRow k)) []) (edge_count m.graph)
-    unfolding mapFile
+        ascii "ZMP" ++ gather (le 2) (1 ∷ count (has_edge m.graph (kept_edges m.graph)) (length m.graph.points) ∷ count (kept_edge m.graph) (edge_count m.graph) ∷ [])
+        ++ rows (λ v. cond (has_edge m.graph (kept_edges m.graph) v) (corner_bytes (corner_of m.graph v)) []) (length m.graph.points)
+        ++ rows (λ k. cond (kept_edge m.graph k) (gather (le 2) (counted_row k)) []) (edge_count m.graph)
+    unfolding map_file
     mended-loops = λ i.
-        ascii "ZMP" ++ gather (le 2) (1 ∷ length-select kept_v (length gr.points) i ∷ length-select (keptEdge gr) (edge_count gr) i ∷ [])
-        ++ rows-select (λ v. cornerBytes (cornerOf gr v)) kept_v (length gr.points) i
-        ++ (rows-select (λ k. gather (le 2) (edgeRow m (keptVertices gr) k)) (keptEdge gr) (edge_count gr)
-        ∙ rows_ext (λ k. cond (keptEdge gr k) (gather (le 2) (edgeRow m (keptVertices gr) k)) []) (λ k. cond (keptEdge gr k) (gather (le 2) (countedRow k)) []) (edge_count gr)
-        (λ k l. pick-step k (keptEdge gr k) (edgeRow m (keptVertices gr) k) (countedRow k) (row_is k l))) i
+        ascii "ZMP" ++ gather (le 2) (1 ∷ length-select kept_v (length gr.points) i ∷ length-select (kept_edge gr) (edge_count gr) i ∷ [])
+        ++ rows-select (λ v. corner_bytes (corner_of gr v)) kept_v (length gr.points) i
+        ++ (rows-select (λ k. gather (le 2) (edge_row m (kept_vertices gr) k)) (kept_edge gr) (edge_count gr)
+        ∙ rows_ext (λ k. cond (kept_edge gr k) (gather (le 2) (edge_row m (kept_vertices gr) k)) []) (λ k. cond (kept_edge gr k) (gather (le 2) (counted_row k)) []) (edge_count gr)
+        (λ k l. pick-step k (kept_edge gr k) (edge_row m (kept_vertices gr) k) (counted_row k) (row_is k l))) i

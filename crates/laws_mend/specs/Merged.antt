@@ -4,28 +4,28 @@ use Rattle.std.specs.Prelude.{◌≡◌, refl, ◌⊎◌, ◌≤◌, ◌<◌}
 use Rattle.std.proofs.Common.{sym, ◌∙◌, ap, inl, inr, ⊎_elim, arith, ltb-false, le-ltb, eqb-true, eq-eqb}
 use Rattle.std.proofs.Math.Decide.{dec_lt}
 use Rattle.std.proofs.lemmas.Bool.{eqb-false}
-use Rattle.seq.specs.Seq.{Bool, true, false, not, ◌&&◌, ◌||◌, ℕ, eqb, someBelow}
+use Rattle.seq.specs.Seq.{Bool, true, false, not, ◌&&◌, ◌||◌, ℕ, eqb, the_some_below}
 use Rattle.seq.specs.Tests.{never, or_l, or_r, or_cases, and_both, and_parts}
-use Rattle.seq.specs.Least.{least-le, least-holds, least-min, least_by, no-some, no-some-is}
+use Rattle.seq.specs.Least.{least-le, least-holds, least_min, least_by, no_some, no_some_is}
 use Rattle.seq.specs.Count.{one_of}
-use Rattle.seq.specs.Select.{select-from, select_has}
-use Rattle.seq.specs.Collected.{in-witness, in-has}
+use Rattle.seq.specs.Select.{select_from_lem, select_has}
+use Rattle.seq.specs.Collected.{in_witness, in_has}
 use Rattle.paper.specs.Plane.{Pt, same}
 use Rattle.paper.specs.Graph.{Graph, edge_count, point, edge}
 use Rattle.paper.specs.Map.{doubled}
 use Rattle.laws_plane.specs.Points.{same_self}
-use Rattle.paper.specs.Mend.{into, fromNow, toNow, shrunk, alike, repeated, keptEdge, keptEdges, ends_at, hasEdge, bare}
+use Rattle.paper.specs.Mend.{into, from_now, to_now, shrunk, alike, repeated, kept_edge, kept_edges, ends_at, has_edge, bare}
 
 -- ── edges: shrunk, repeated or kept ──
 
 module _ (g : Graph) where
-  edge-one : (a b : Bool) → one_of a (not a && b) (not (a || (not a && b))) ≡ true
-  edge-one true b = refl
-  edge-one false true = refl
-  edge-one false false = refl
+  edge_one : (a b : Bool) → one_of a (not a && b) (not (a || (not a && b))) ≡ true
+  edge_one true b = refl
+  edge_one false true = refl
+  edge_one false false = refl
 
-  pub edge-three : (k : ℕ) → one_of (shrunk g k) (repeated g k) (keptEdge g k) ≡ true
-  edge-three k = edge-one (shrunk g k) (someBelow (alike g k) k)
+  pub edge_three : (k : ℕ) → one_of (shrunk g k) (repeated g k) (kept_edge g k) ≡ true
+  edge_three k = edge_one (shrunk g k) (the_some_below (alike g k) k)
 
   keep-step : (a b : Bool) → not (a || (not a && b)) ≡ true → (a ≡ false) × (b ≡ false)
   keep-step true b e = never e
@@ -33,14 +33,14 @@ module _ (g : Graph) where
   keep-step false false e = (refl, refl)
 
   -- a kept edge has two ends, and none before it joins them
-  pub kept-two : (k : ℕ) → keptEdge g k ≡ true → fromNow g k ≡ toNow g k → ⊥
-  kept-two k e = eqb-false (fromNow g k) (toNow g k) (keep-step (shrunk g k) (someBelow (alike g k) k) e).0
+  pub kept_two : (k : ℕ) → kept_edge g k ≡ true → from_now g k ≡ to_now g k → ⊥
+  kept_two k e = eqb-false (from_now g k) (to_now g k) (keep-step (shrunk g k) (the_some_below (alike g k) k) e).0
 
-  pub kept-first : (k : ℕ) → keptEdge g k ≡ true → (j : ℕ) → j < k → alike g k j ≡ false
-  kept-first k e = no-some-is (alike g k) k (keep-step (shrunk g k) (someBelow (alike g k) k) e).1
+  pub kept_first : (k : ℕ) → kept_edge g k ≡ true → (j : ℕ) → j < k → alike g k j ≡ false
+  kept_first k e = no_some_is (alike g k) k (keep-step (shrunk g k) (the_some_below (alike g k) k) e).1
 
-  pub keeps-edge : (k : ℕ) → shrunk g k ≡ false → ((j : ℕ) → j < k → alike g k j ≡ false) → keptEdge g k ≡ true
-  keeps-edge k e f = go (shrunk g k) (someBelow (alike g k) k) e (no-some (alike g k) k f)
+  pub keeps-edge : (k : ℕ) → shrunk g k ≡ false → ((j : ℕ) → j < k → alike g k j ≡ false) → kept_edge g k ≡ true
+  keeps-edge k e f = go (shrunk g k) (the_some_below (alike g k) k) e (no_some (alike g k) k f)
     where
       go : (a b : Bool) → a ≡ false → b ≡ false → not (a || (not a && b)) ≡ true
       go true b e f = never (sym e)
@@ -48,35 +48,35 @@ module _ (g : Graph) where
       go false false e f = refl
 
   -- two pairs of ends are alike one way round or the other
-  pub alike_is : (k j : ℕ) → alike g k j ≡ true → ((fromNow g k ≡ fromNow g j) × (toNow g k ≡ toNow g j)) ⊎ ((fromNow g k ≡ toNow g j) × (toNow g k ≡ fromNow g j))
+  pub alike_is : (k j : ℕ) → alike g k j ≡ true → ((from_now g k ≡ from_now g j) × (to_now g k ≡ to_now g j)) ⊎ ((from_now g k ≡ to_now g j) × (to_now g k ≡ from_now g j))
   alike_is k j e =
       ⊎_elim
-      (λ f. let r = and_parts (eqb (fromNow g k) (fromNow g j)) (eqb (toNow g k) (toNow g j)) f in inl (eqb-true (fromNow g k) (fromNow g j) r.0, eqb-true (toNow g k) (toNow g j) r.1))
-      (λ f. let r = and_parts (eqb (fromNow g k) (toNow g j)) (eqb (toNow g k) (fromNow g j)) f in inr (eqb-true (fromNow g k) (toNow g j) r.0, eqb-true (toNow g k) (fromNow g j) r.1))
-      (or_cases (eqb (fromNow g k) (fromNow g j) && eqb (toNow g k) (toNow g j)) (eqb (fromNow g k) (toNow g j) && eqb (toNow g k) (fromNow g j)) e)
+      (λ f. let r = and_parts (eqb (from_now g k) (from_now g j)) (eqb (to_now g k) (to_now g j)) f in inl (eqb-true (from_now g k) (from_now g j) r.0, eqb-true (to_now g k) (to_now g j) r.1))
+      (λ f. let r = and_parts (eqb (from_now g k) (to_now g j)) (eqb (to_now g k) (from_now g j)) f in inr (eqb-true (from_now g k) (to_now g j) r.0, eqb-true (to_now g k) (from_now g j) r.1))
+      (or_cases (eqb (from_now g k) (from_now g j) && eqb (to_now g k) (to_now g j)) (eqb (from_now g k) (to_now g j) && eqb (to_now g k) (from_now g j)) e)
 
-  pub is-alike : (k j : ℕ) → ((fromNow g k ≡ fromNow g j) × (toNow g k ≡ toNow g j)) ⊎ ((fromNow g k ≡ toNow g j) × (toNow g k ≡ fromNow g j)) → alike g k j ≡ true
-  is-alike k j (inl (e, f)) = or_l (eqb (fromNow g k) (toNow g j) && eqb (toNow g k) (fromNow g j)) (and_both {a = eqb (fromNow g k) (fromNow g j)} (eq-eqb (fromNow g k) (fromNow g j) e) (eq-eqb (toNow g k) (toNow g j) f))
-  is-alike k j (inr (e, f)) = or_r (eqb (fromNow g k) (fromNow g j) && eqb (toNow g k) (toNow g j)) (and_both {a = eqb (fromNow g k) (toNow g j)} (eq-eqb (fromNow g k) (toNow g j) e) (eq-eqb (toNow g k) (fromNow g j) f))
+  pub is_alike : (k j : ℕ) → ((from_now g k ≡ from_now g j) × (to_now g k ≡ to_now g j)) ⊎ ((from_now g k ≡ to_now g j) × (to_now g k ≡ from_now g j)) → alike g k j ≡ true
+  is_alike k j (inl (e, f)) = or_l (eqb (from_now g k) (to_now g j) && eqb (to_now g k) (from_now g j)) (and_both {a = eqb (from_now g k) (from_now g j)} (eq-eqb (from_now g k) (from_now g j) e) (eq-eqb (to_now g k) (to_now g j) f))
+  is_alike k j (inr (e, f)) = or_r (eqb (from_now g k) (from_now g j) && eqb (to_now g k) (to_now g j)) (and_both {a = eqb (from_now g k) (to_now g j)} (eq-eqb (from_now g k) (to_now g j) e) (eq-eqb (to_now g k) (from_now g j) f))
 
   -- ── a vertex with an edge that is kept ──
 
   abbrev Ends : ℕ → ℕ → Type 0
-  Ends v k = (v ≡ fromNow g k) ⊎ (v ≡ toNow g k)
+  Ends v k = (v ≡ from_now g k) ⊎ (v ≡ to_now g k)
 
-  pub has-is : (v : ℕ) → hasEdge g (keptEdges g) v ≡ true → (k : ℕ) × (k < edge_count g) × (keptEdge g k ≡ true) × Ends v k
-  has-is v e =
-      let r = in-witness (ends_at g) v (keptEdges g) e in
+  pub has_is : (v : ℕ) → has_edge g (kept_edges g) v ≡ true → (k : ℕ) × (k < edge_count g) × (kept_edge g k ≡ true) × Ends v k
+  has_is v e =
+      let r = in_witness (ends_at g) v (kept_edges g) e in
       let k : ℕ = r.0 in
-      let q = select-from (keptEdge g) (edge_count g) k r.1 in
-      (k, q.0, q.1, ⊎_elim (λ f. inl (eqb-true v (fromNow g k) f)) (λ f. inr (eqb-true v (toNow g k) f)) (or_cases (eqb v (fromNow g k)) (eqb v (toNow g k)) r.2))
+      let q = select_from_lem (kept_edge g) (edge_count g) k r.1 in
+      (k, q.0, q.1, ⊎_elim (λ f. inl (eqb-true v (from_now g k) f)) (λ f. inr (eqb-true v (to_now g k) f)) (or_cases (eqb v (from_now g k)) (eqb v (to_now g k)) r.2))
 
-  ends-step : (v k : ℕ) → Ends v k → ends_at g v k ≡ true
-  ends-step v k (inl e) = or_l (eqb v (toNow g k)) (eq-eqb v (fromNow g k) e)
-  ends-step v k (inr e) = or_r (eqb v (fromNow g k)) (eq-eqb v (toNow g k) e)
+  ends_step : (v k : ℕ) → Ends v k → ends_at g v k ≡ true
+  ends_step v k (inl e) = or_l (eqb v (to_now g k)) (eq-eqb v (from_now g k) e)
+  ends_step v k (inr e) = or_r (eqb v (from_now g k)) (eq-eqb v (to_now g k) e)
 
-  pub is-has : (v k : ℕ) → k < edge_count g → keptEdge g k ≡ true → Ends v k → hasEdge g (keptEdges g) v ≡ true
-  is-has v k l e f = in-has (ends_at g) v k (keptEdges g) (select_has (keptEdge g) (edge_count g) k l e) (ends-step v k f)
+  pub is_has : (v k : ℕ) → k < edge_count g → kept_edge g k ≡ true → Ends v k → has_edge g (kept_edges g) v ≡ true
+  is_has v k l e f = in_has (ends_at g) v k (kept_edges g) (select_has (kept_edge g) (edge_count g) k l e) (ends_step v k f)
 
   -- ── the lowest vertex at a point ──
 
@@ -99,13 +99,13 @@ module _ (g : Graph) where
           | no q ↦ let e : into g v ≡ v = omega (arith, into-le v) in ap (point g) e
         ]
 
-    pub into-is : (v r : ℕ) → r ≤ v → ((k : ℕ) → k < r → same (point g v) (point g k) ≡ false) → point g r ≡ point g v → into g v ≡ r
-    into-is v r l f e = least_by (λ u. same (point g v) (point g u)) v r l f (λ q. ap (same (point g v)) e ∙ same_self (point g v))
+    pub into_is : (v r : ℕ) → r ≤ v → ((k : ℕ) → k < r → same (point g v) (point g k) ≡ false) → point g r ≡ point g v → into g v ≡ r
+    into_is v r l f e = least_by (λ u. same (point g v) (point g u)) v r l f (λ q. ap (same (point g v)) e ∙ same_self (point g v))
 
     one_way : (u v : ℕ) → u ≤ v → point g u ≡ point g v → into g v ≡ into g u
     one_way u v l e =
-        into-is v (into g u) (omega (arith, into-le u))
-        (λ k q. ap (λ (p : Pt). same p (point g k)) (sym e) ∙ least-min (λ w. same (point g u) (point g w)) u k q)
+        into_is v (into g u) (omega (arith, into-le u))
+        (λ k q. ap (λ (p : Pt). same p (point g k)) (sym e) ∙ least_min (λ w. same (point g u) (point g w)) u k q)
         (into-point u ∙ e)
 
     -- vertices at one point are merged into one
@@ -117,19 +117,19 @@ module _ (g : Graph) where
 
     -- ── vertices: merged, bare or kept ──
 
-    ends-into : (v k : ℕ) → Ends v k → into g v ≡ v
-    ends-into v k (inl e) = rw e (into-into (edge g k).from)
-    ends-into v k (inr e) = rw e (into-into (edge g k).to)
+    ends_into : (v k : ℕ) → Ends v k → into g v ≡ v
+    ends_into v k (inl e) = rw e (into-into (edge g k).from)
+    ends_into v k (inr e) = rw e (into-into (edge g k).to)
 
     -- a vertex with an edge is not merged
-    pub has-self : (v : ℕ) → hasEdge g (keptEdges g) v ≡ true → into g v ≡ v
-    has-self v e = let r = has-is v e in ends-into v r.0 r.3
+    pub has_self : (v : ℕ) → has_edge g (kept_edges g) v ≡ true → into g v ≡ v
+    has_self v e = let r = has_is v e in ends_into v r.0 r.3
 
-    vertex-one : (a b : Bool) → (b ≡ true → a ≡ false) → one_of a (not (a || b)) b ≡ true
-    vertex-one true true f = never (sym (f refl))
-    vertex-one true false f = refl
-    vertex-one false true f = refl
-    vertex-one false false f = refl
+    vertex_one : (a b : Bool) → (b ≡ true → a ≡ false) → one_of a (not (a || b)) b ≡ true
+    vertex_one true true f = never (sym (f refl))
+    vertex_one true false f = refl
+    vertex_one false true f = refl
+    vertex_one false false f = refl
 
-    pub vertex-three : (v : ℕ) → one_of (doubled g v) (bare g (keptEdges g) v) (hasEdge g (keptEdges g) v) ≡ true
-    vertex-three v = vertex-one (doubled g v) (hasEdge g (keptEdges g) v) (λ e. self-into v (has-self v e))
+    pub vertex_three : (v : ℕ) → one_of (doubled g v) (bare g (kept_edges g) v) (has_edge g (kept_edges g) v) ≡ true
+    vertex_three v = vertex_one (doubled g v) (has_edge g (kept_edges g) v) (λ e. self-into v (has_self v e))

@@ -5,20 +5,20 @@ use Rattle.std.proofs.Math.Seq.{take-append_seam}
 use Rattle.std.specs.Prelude.{◌≡◌, refl, ◌⊎◌, ◌≤◌}
 use Rattle.std.proofs.Common.{sym, ◌∙◌, ap, arith}
 use Rattle.seq.specs.Seq.{List, [], ◌∷◌, Option, none, some, ℕ, ◌+◌, ◌-◌, length, get_or, take, replicate, gather, padded, ◌++◌}
-use Rattle.paper.specs.Limits.{mapVertices, mapEdges}
+use Rattle.paper.specs.Limits.{map_vertices, map_edges}
 use Rattle.paper.specs.Graph.{Graph}
 use Rattle.paper.specs.Refusal.{Refusal, done, refused, answer}
-use Rattle.paper.specs.Map.{mapOf, fault}
+use Rattle.paper.specs.Map.{map_of, fault}
 use Rattle.laws_file.specs.Bytes.{Bytes}
-use Rattle.paper.specs.Mend.{keptEdges, keptVertices, entries, cornerOf, edgeRow, mended, mendFault, mendingBy, mend, Mending}
+use Rattle.paper.specs.Mend.{kept_edges, kept_vertices, entries, corner_of, edge_row, mended, mend_fault, mending_by, mend, Mending}
 use Rattle.laws_mend.specs.MapFile.{file-bytes}
 use Rattle.laws_mend.specs.Clean.{Clean, passes-clean, clean-refusal, Mendable}
-use Rattle.laws_mend.specs.Same.{clean-entries, clean-same}
+use Rattle.laws_mend.specs.Same.{clean-entries, clean_same}
 use Rattle.laws_mend.specs.Kept.{equal-points, mended-clean, mended-vertices, mended-edges}
 use Rattle.laws_mend.specs.Listed.{vertex-balance, edge-balance, entries-count}
 use Rattle.laws_graph.specs.Reading.{points-count, edges-count}
-use Rattle.laws_refusals.specs.Refusals.{done_none, refused-some}
-use Rattle.laws_mend.specs.Faults.{Room, fault-is, is-fault}
+use Rattle.laws_refusals.specs.Refusals.{done_none, refused_some}
+use Rattle.laws_mend.specs.Faults.{Room, fault_is, is_fault}
 use Rattle.laws_mend.specs.Mends.{Mends, mends}
 
 -- ── a clean file ──
@@ -29,9 +29,9 @@ unchanged n l s = record { answer = done (length s, 0); file = padded 0 n s; lis
 
 pub clean-mend : (n l : ℕ) (s : List ℕ) → Bytes s → Clean s → length s ≤ n → mend n l s ≡ unchanged n l s
 clean-mend n l s B K h =
-    ap (λ (f : List ℕ). mendingBy n l f (entries (mapOf s).graph) (mendFault n l s (length f) (length (entries (mapOf s).graph)))) (clean-same s K B)
-    ∙ ap (λ (es : List (ℕ × ℕ)). mendingBy n l s es (mendFault n l s (length s) (length es))) (clean-entries s K)
-    ∙ ap (mendingBy n l s []) (is-fault n l s (length s) 0 K.mendable (record { file = h; list = omega arith }))
+    ap (λ (f : List ℕ). mending_by n l f (entries (map_of s).graph) (mend_fault n l s (length f) (length (entries (map_of s).graph)))) (clean_same s K B)
+    ∙ ap (λ (es : List (ℕ × ℕ)). mending_by n l s es (mend_fault n l s (length s) (length es))) (clean-entries s K)
+    ∙ ap (mending_by n l s []) (is_fault n l s (length s) 0 K.mendable (record { file = h; list = omega arith }))
 
 -- "A file that passes the check comes out byte for byte the same with an empty list"
 pub passes-mend : (n l : ℕ) (s : List ℕ) → Bytes s → fault s ≡ none → length s ≤ n → mend n l s ≡ unchanged n l s
@@ -46,48 +46,48 @@ take-front (x ∷ t) r = ap (λ (z : List ℕ). x ∷ z) (take-front t r)
 -- "with file and list left all zero"
 pub refused-zero : (n l : ℕ) (s : List ℕ) (x : Refusal) → (mend n l s).answer ≡ refused x → mend n l s ≡ record { answer = refused x; file = padded 0 n []; list = padded 0 l [] }
 refused-zero n l s x e =
-    let file : List ℕ = mended (mapOf s) in
-    let es : List (ℕ × ℕ) = entries (mapOf s).graph in
-    ap (mendingBy n l file es) (refused-some (length file, length es) x (mendFault n l s (length file) (length es)) e)
+    let file : List ℕ = mended (map_of s) in
+    let es : List (ℕ × ℕ) = entries (map_of s).graph in
+    ap (mending_by n l file es) (refused_some (length file, length es) x (mend_fault n l s (length file) (length es)) e)
 
 -- done, with a bytes and b entries
 module _ (n l : ℕ) (s : List ℕ) (B : Bytes s) (a b : ℕ) (d : (mend n l s).answer ≡ done (a, b)) where
   abbrev whole : List ℕ
-  whole = mended (mapOf s)
+  whole = mended (map_of s)
 
   abbrev lst : List (ℕ × ℕ)
-  lst = entries (mapOf s).graph
+  lst = entries (map_of s).graph
 
   abbrev fl : Option Refusal
-  fl = mendFault n l s (length (mended (mapOf s))) (length (entries (mapOf s).graph))
+  fl = mend_fault n l s (length (mended (map_of s))) (length (entries (map_of s).graph))
 
-  inv : (mendFault n l s (length (mended (mapOf s))) (length (entries (mapOf s).graph)) ≡ none) × (◌≡◌ {A = ℕ × ℕ} (length (mended (mapOf s)), length (entries (mapOf s).graph)) (a, b))
+  inv : (mend_fault n l s (length (mended (map_of s))) (length (entries (map_of s).graph)) ≡ none) × (◌≡◌ {A = ℕ × ℕ} (length (mended (map_of s)), length (entries (map_of s).graph)) (a, b))
   inv = done_none (length whole, length lst) (a, b) fl d
 
-  facts : Mendable s × Room n l (length (mended (mapOf s))) (length (entries (mapOf s).graph))
-  facts = fault-is n l s (length whole) (length lst) inv.0
+  facts : Mendable s × Room n l (length (mended (map_of s))) (length (entries (map_of s).graph))
+  facts = fault_is n l s (length whole) (length lst) inv.0
 
   pub done-mendable : Mendable s
   done-mendable = facts.0
 
   -- the first a bytes are the mended file, and the list its entries
-  pub done-mended : take a (mend n l s).file ≡ mended (mapOf s)
+  pub done-mended : take a (mend n l s).file ≡ mended (map_of s)
   done-mended =
-      ap (λ (r : Option Refusal). take a (mendingBy n l whole lst r).file) inv.0
+      ap (λ (r : Option Refusal). take a (mending_by n l whole lst r).file) inv.0
       ∙ ap (λ (x : ℕ × ℕ). take x.0 (padded 0 n whole)) (sym inv.1) ∙ take-append_seam whole (replicate (n - length whole) 0)
 
-  pub done-list : (mend n l s).list ≡ padded 0 l (gather (λ e. e.0 ∷ e.1 ∷ []) (entries (mapOf s).graph))
-  done-list = ap (λ (r : Option Refusal). (mendingBy n l whole lst r).list) inv.0
+  pub done-list : (mend n l s).list ≡ padded 0 l (gather (λ e. e.0 ∷ e.1 ∷ []) (entries (map_of s).graph))
+  done-list = ap (λ (r : Option Refusal). (mending_by n l whole lst r).list) inv.0
 
-  pub done-count : b ≡ length (entries (mapOf s).graph)
+  pub done-count : b ≡ length (entries (map_of s).graph)
   done-count = ap (λ (x : ℕ × ℕ). x.1) (sym inv.1)
 
   pub done-bytes : Bytes (take a (mend n l s).file)
-  done-bytes = rw done-mended (file-bytes (length (keptVertices (mapOf s).graph)) (length (keptEdges (mapOf s).graph)) (λ i. cornerOf (mapOf s).graph (get_or (keptVertices (mapOf s).graph) i 0))
-      (λ i. edgeRow (mapOf s) (keptVertices (mapOf s).graph) (get_or (keptEdges (mapOf s).graph) i 0)))
+  done-bytes = rw done-mended (file-bytes (length (kept_vertices (map_of s).graph)) (length (kept_edges (map_of s).graph)) (λ i. corner_of (map_of s).graph (get_or (kept_vertices (map_of s).graph) i 0))
+      (λ i. edge_row (map_of s) (kept_vertices (map_of s).graph) (get_or (kept_edges (map_of s).graph) i 0)))
 
   -- what is kept and what is listed
-  pub done-mends : Mends s (take a (mend n l s).file) (entries (mapOf s).graph)
+  pub done-mends : Mends s (take a (mend n l s).file) (entries (map_of s).graph)
   done-mends = rw done-mended (mends s done-mendable B)
 
   pub done-clean : Clean (take a (mend n l s).file)
@@ -107,18 +107,18 @@ module _ (n l : ℕ) (s : List ℕ) (B : Bytes s) (a b : ℕ) (d : (mend n l s).
       long = ap length done-mended ∙ ap (λ (x : ℕ × ℕ). x.0) inv.1
 
       same : padded 0 n (take a (mend n l s).file) ≡ (mend n l s).file
-      same = ap (padded 0 n) done-mended ∙ ap (λ (r : Option Refusal). (mendingBy n l whole lst r).file) (sym inv.0)
+      same = ap (padded 0 n) done-mended ∙ ap (λ (r : Option Refusal). (mending_by n l whole lst r).file) (sym inv.0)
 
 -- ── room that is always enough ──
 
 -- the mended file is no longer than the file, and there are no more entries than vertices and edges
-pub mended-short : (s : List ℕ) → Mendable s → Bytes s → length (mended (mapOf s)) ≤ length s
-mended-short s M B =
-    let g : Graph = (mapOf s).graph in
+pub mended_short : (s : List ℕ) → Mendable s → Bytes s → length (mended (map_of s)) ≤ length s
+mended_short s M B =
+    let g : Graph = (map_of s).graph in
     let K = mended-clean s M B in
-    omega (arith, K.mendable.form.length-is, M.form.length-is, mended-vertices s M B, mended-edges s M B, points-count s, edges-count s, vertex-balance g (equal-points s), edge-balance g)
+    omega (arith, K.mendable.form.length_is, M.form.length_is, mended-vertices s M B, mended-edges s M B, points-count s, edges-count s, vertex-balance g (equal-points s), edge-balance g)
 
-pub entries-few : (s : List ℕ) → Mendable s → length (entries (mapOf s).graph) ≤ mapVertices + mapEdges
-entries-few s M =
-    let g : Graph = (mapOf s).graph in
-    omega (arith, entries-count g, vertex-balance g (equal-points s), edge-balance g, points-count s, edges-count s, M.form.few-vertices, M.form.few-edges)
+pub entries_few : (s : List ℕ) → Mendable s → length (entries (map_of s).graph) ≤ map_vertices + map_edges
+entries_few s M =
+    let g : Graph = (map_of s).graph in
+    omega (arith, entries-count g, vertex-balance g (equal-points s), edge-balance g, points-count s, edges-count s, M.form.few_vertices, M.form.few_edges)

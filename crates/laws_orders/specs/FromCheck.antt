@@ -1,21 +1,21 @@
 -- Ask 6, over a list of map files: "The overlay still accepts arbitrary bytes and now gets its refusals from the check, with the same numbers, places and order". The check refuses for rules 1 to 10 and names no
--- map (`check-rules`). All files are good, or one is the first that is bad (`good-or-bad`). Where one is bad the overlay refuses with what the check says of the first such file, its map number put in, and all
--- tables are zero (`check-refuses`); a refusal of the overlay for a rule from 1 to 10 is always that (`refused-by-check`, and back: `by-check-refused`). Where all are good room alone decides (`good-room`), and a
--- refusal is for rule 11 and of no map; no refusal is a third thing (`refused-for`). Assumes nothing.
+-- map (`check-rules`). All files are good, or one is the first that is bad (`good_or_bad`). Where one is bad the overlay refuses with what the check says of the first such file, its map number put in, and all
+-- tables are zero (`check-refuses`); a refusal of the overlay for a rule from 1 to 10 is always that (`refused_by_check`, and back: `by_check-refused`). Where all are good room alone decides (`good_room`), and a
+-- refusal is for rule 11 and of no map; no refusal is a third thing (`refused_for`). Assumes nothing.
 use Rattle.std.specs.Prelude.{◌≡◌, refl, ◌⊎◌, ◌<◌, ◌≤◌}
 use Rattle.std.proofs.Common.{sym, ◌∙◌, ap, inl, inr, not-suc-le-zero, arith}
 use Rattle.std.proofs.Math.Decide.{ℕ_discrete}
 use Rattle.seq.specs.Seq.{List, [], Option, none, some, ℕ, zero, suc, ltb, length, get_or}
 use Rattle.paper.specs.Refusal.{Refusal, done, refused, first_of, answer}
-use Rattle.paper.specs.Map.{vertexCount, edgesIn, fault, check}
-use Rattle.paper.specs.Faces.{overlayOf}
-use Rattle.paper.specs.Tables.{Counts, countsOf, tables_of}
-use Rattle.paper.specs.Lent.{Lengths, Outcome, outcome, roomIn, roomFaults, zeroTables}
+use Rattle.paper.specs.Map.{vertex_count, edges_in, fault, check}
+use Rattle.paper.specs.Faces.{overlay_of}
+use Rattle.paper.specs.Tables.{Counts, counts_of, tables_of}
+use Rattle.paper.specs.Lent.{Lengths, Outcome, outcome, room_in, room_faults, zero_tables}
 use Rattle.paper.specs.Overlay.{lent}
-use Rattle.laws_refusals.specs.Refusals.{Keeps, beside-keeps, first-keeps, keeps-some, done_none, refused-some}
+use Rattle.laws_refusals.specs.Refusals.{Keeps, beside-keeps, first_keeps, keeps_some, done_none, refused_some}
 use Rattle.laws_map.specs.Refused.{fault-keeps}
-use Rattle.laws_overlay.specs.Files.{AllPass, mapsOf}
-use Rattle.laws_orders.specs.Orders.{named, first-named, all-pass-room}
+use Rattle.laws_overlay.specs.Files.{AllPass, maps_of}
+use Rattle.laws_orders.specs.Orders.{named, first_named, all_pass_room}
 
 -- ── the check of one file ──
 
@@ -25,12 +25,12 @@ Good s = (n : ℕ × ℕ) × (check s ≡ done n)
 
 module _ (s : List ℕ) where
   abbrev counts : ℕ × ℕ
-  counts = (vertexCount s, edgesIn s)
+  counts = (vertex_count s, edges_in s)
 
   -- "or with rules 1 to 10"; "An operation that does not take two or more maps answers with map 0"
   pub check-rules : (r : Refusal) → check s ≡ refused r → (1 ≤ r.number) × (r.number ≤ 10) × (r.map ≡ 0)
   check-rules r e =
-      fault-keeps s (λ q. (1 ≤ q.number) × (q.number ≤ 10) × (q.map ≡ 0)) (λ n k low high d. (low, high, refl)) (omega arith, omega arith, refl) r (refused-some counts r (fault s) e)
+      fault-keeps s (λ q. (1 ≤ q.number) × (q.number ≤ 10) × (q.map ≡ 0)) (λ n k low high d. (low, high, refl)) (omega arith, omega arith, refl) r (refused_some counts r (fault s) e)
 
   pub good-passes : Good s → fault s ≡ none
   good-passes (n, e) = (done_none counts n (fault s) e).0
@@ -46,7 +46,7 @@ AllGood fs = (i : ℕ) → i < length fs → Good (get_or fs i [])
 -- file i is the first that the check refuses, and r is what it says
 pub record FirstBad (fs : List (List ℕ)) (i : ℕ) (r : Refusal) : Type 0 where
   pub in_list : i < length fs
-  pub good-before : (j : ℕ) → j < i → Good (get_or fs j [])
+  pub good_before : (j : ℕ) → j < i → Good (get_or fs j [])
   pub refuses : check (get_or fs i []) ≡ refused r
 
 module _ (fs : List (List ℕ)) where
@@ -58,7 +58,7 @@ module _ (fs : List (List ℕ)) where
 
   one_more : (n : ℕ) (f : Option Refusal) → n < length fs → fault (get_or fs n []) ≡ f → GoodBelow n → GoodBelow (suc n) ⊎ Bad
   one_more n none l e h = inl (λ i b. elim (ℕ_discrete i n) [ yes q ↦ passes-good (get_or fs i []) (ap (λ (k : ℕ). fault (get_or fs k [])) q ∙ e) | no q ↦ h i (omega arith) ])
-  one_more n (some r) l e h = inr (n, r, record { in_list = l; good-before = h; refuses = ap (answer (vertexCount (get_or fs n []), edgesIn (get_or fs n []))) e })
+  one_more n (some r) l e h = inr (n, r, record { in_list = l; good_before = h; refuses = ap (answer (vertex_count (get_or fs n []), edges_in (get_or fs n []))) e })
 
   below : (n : ℕ) → n ≤ length fs → GoodBelow n ⊎ Bad
   below zero l = inl (λ i b. absurd (not-suc-le-zero b))
@@ -68,8 +68,8 @@ module _ (fs : List (List ℕ)) where
       go (inl h) = one_more n (fault (get_or fs n [])) (omega arith) refl h
       go (inr b) = inr b
 
-  pub good-or-bad : AllGood fs ⊎ ((i : ℕ) × (r : Refusal) × FirstBad fs i r)
-  good-or-bad = below (length fs) (omega arith)
+  pub good_or_bad : AllGood fs ⊎ ((i : ℕ) × (r : Refusal) × FirstBad fs i r)
+  good_or_bad = below (length fs) (omega arith)
 
 -- ── the overlay ──
 
@@ -89,30 +89,30 @@ pub record ForRoom (fs : List (List ℕ)) (q : Refusal) : Type 0 where
 
 module _ (l : Lengths) (fs : List (List ℕ)) where
   abbrev defined : Counts
-  defined = countsOf (overlayOf (mapsOf fs))
+  defined = counts_of (overlay_of (maps_of fs))
 
   abbrev room : Counts
-  room = roomIn (length fs) l
+  room = room_in (length fs) l
 
   -- "with the same numbers, places and order": where file i is the first bad one
-  pub check-refuses : (i : ℕ) (r : Refusal) → FirstBad fs i r → ((lent l fs).answer ≡ refused (named (suc i) r)) × ((lent l fs).tables ≡ zeroTables l)
+  pub check-refuses : (i : ℕ) (r : Refusal) → FirstBad fs i r → ((lent l fs).answer ≡ refused (named (suc i) r)) × ((lent l fs).tables ≡ zero_tables l)
   check-refuses i r F =
-      first-named l fs i r F.in_list (λ j b. good-passes (get_or fs j []) (F.good-before j b))
-      (refused-some (vertexCount (get_or fs i []), edgesIn (get_or fs i [])) r (fault (get_or fs i [])) F.refuses)
+      first_named l fs i r F.in_list (λ j b. good-passes (get_or fs j []) (F.good_before j b))
+      (refused_some (vertex_count (get_or fs i []), edges_in (get_or fs i [])) r (fault (get_or fs i [])) F.refuses)
 
   all_pass : AllGood fs → AllPass fs
   all_pass G i b = good-passes (get_or fs i []) (G i b)
 
   -- where all are good nothing is left but room
-  pub good-room : AllGood fs → lent l fs ≡ outcome l (countsOf (overlayOf (mapsOf fs))) (tables_of (mapsOf fs) (overlayOf (mapsOf fs))) (first_of (roomFaults (roomIn (length fs) l) (countsOf (overlayOf (mapsOf fs)))))
-  good-room G = ap (outcome l defined (tables_of (mapsOf fs) (overlayOf (mapsOf fs)))) (all-pass-room l fs (all_pass G))
+  pub good_room : AllGood fs → lent l fs ≡ outcome l (counts_of (overlay_of (maps_of fs))) (tables_of (maps_of fs) (overlay_of (maps_of fs))) (first_of (room_faults (room_in (length fs) l) (counts_of (overlay_of (maps_of fs)))))
+  good_room G = ap (outcome l defined (tables_of (maps_of fs) (overlay_of (maps_of fs)))) (all_pass_room l fs (all_pass G))
 
   abbrev OfRoom : Refusal → Type 0
   OfRoom r = (r.number ≡ 11) × (r.map ≡ 0) × (r.other ≡ 0)
 
-  room-keeps : Keeps OfRoom (first_of (roomFaults room defined))
-  room-keeps =
-      first-keeps OfRoom (roomFaults room defined) (
+  room_keeps : Keeps OfRoom (first_of (room_faults room defined))
+  room_keeps =
+      first_keeps OfRoom (room_faults room defined) (
         beside-keeps OfRoom 11 1 0 (ltb room.vertices defined.vertices) (refl, refl, refl),
         (
           beside-keeps OfRoom 11 2 0 (ltb room.edges defined.edges) (refl, refl, refl),
@@ -121,33 +121,33 @@ module _ (l : Lengths) (fs : List (List ℕ)) where
       )
 
   module _ (q : Refusal) (e : (lent l fs).answer ≡ refused q) where
-    for-room : AllGood fs → ForRoom fs q
-    for-room G =
-        let a : answer defined (first_of (roomFaults room defined)) ≡ refused q = sym (ap (λ (o : Outcome). o.answer) (good-room G)) ∙ e in
-        let (eleven, no-map, no_other) = keeps-some OfRoom (first_of (roomFaults room defined)) q room-keeps (refused-some defined q (first_of (roomFaults room defined)) a) in
+    for_room : AllGood fs → ForRoom fs q
+    for_room G =
+        let a : answer defined (first_of (room_faults room defined)) ≡ refused q = sym (ap (λ (o : Outcome). o.answer) (good_room G)) ∙ e in
+        let (eleven, no-map, no_other) = keeps_some OfRoom (first_of (room_faults room defined)) q room_keeps (refused_some defined q (first_of (room_faults room defined)) a) in
         record { good = G; number = eleven; map = no-map; other = no_other }
 
-    by-check : (i : ℕ) (r : Refusal) → FirstBad fs i r → ByCheck fs q
-    by-check i r F = record { file = i; said = r; first = F; same = let a = sym e ∙ (check-refuses i r F).0 in cc }
+    by_check : (i : ℕ) (r : Refusal) → FirstBad fs i r → ByCheck fs q
+    by_check i r F = record { file = i; said = r; first = F; same = let a = sym e ∙ (check-refuses i r F).0 in cc }
 
     -- a refusal is the check's or for room: no third
-    pub refused-for : ByCheck fs q ⊎ ForRoom fs q
-    refused-for = go (good-or-bad fs)
+    pub refused_for : ByCheck fs q ⊎ ForRoom fs q
+    refused_for = go (good_or_bad fs)
       where
         go : AllGood fs ⊎ ((i : ℕ) × (r : Refusal) × FirstBad fs i r) → ByCheck fs q ⊎ ForRoom fs q
-        go (inl G) = inr (for-room G)
-        go (inr (i, r, F)) = inl (by-check i r F)
+        go (inl G) = inr (for_room G)
+        go (inr (i, r, F)) = inl (by_check i r F)
 
   -- the overlay refuses for a rule from 1 to 10 exactly with what the check says of the first bad file
-  pub refused-by-check : (q : Refusal) → (lent l fs).answer ≡ refused q → q.number ≤ 10 → ByCheck fs q
-  refused-by-check q e b = go (refused-for q e)
+  pub refused_by_check : (q : Refusal) → (lent l fs).answer ≡ refused q → q.number ≤ 10 → ByCheck fs q
+  refused_by_check q e b = go (refused_for q e)
     where
       go : ByCheck fs q ⊎ ForRoom fs q → ByCheck fs q
       go (inl C) = C
       go (inr R) = absurd (omega (arith, R.number, b))
 
-  pub by-check-refused : (q : Refusal) → ByCheck fs q → ((lent l fs).answer ≡ refused q) × (1 ≤ q.number) × (q.number ≤ 10)
-  by-check-refused q C =
+  pub by_check-refused : (q : Refusal) → ByCheck fs q → ((lent l fs).answer ≡ refused q) × (1 ≤ q.number) × (q.number ≤ 10)
+  by_check-refused q C =
       let (low, high, _) = check-rules (get_or fs C.file []) C.said C.first.refuses in
       let n : q.number ≡ C.said.number = ap (λ (x : Refusal). x.number) C.same in
       ((check-refuses C.file C.said C.first).0 ∙ ap refused (sym C.same), omega (arith, low, n), omega (arith, high, n))

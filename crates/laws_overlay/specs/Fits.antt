@@ -7,86 +7,86 @@ use Rattle.seq.specs.Seq.{cond, ◌&&◌, List, Option, none, some, ℕ, zero, s
 use Rattle.seq.specs.Count.{count-le}
 use Rattle.seq.specs.Select.{length-select}
 use Rattle.seq.specs.Table.{table_at}
-use Rattle.paper.specs.Limits.{absent, overlayVertices, overlayEdges}
-use Rattle.paper.specs.Graph.{halfCount, even, twin, eastSide, west, low, upward}
+use Rattle.paper.specs.Limits.{absent, overlay_vertices, overlay_edges}
+use Rattle.paper.specs.Graph.{the_half_count, even, twin, east_side, west, low, upward}
 use Rattle.paper.specs.Map.{Map, label}
 use Rattle.paper.specs.Pieces.{layer}
-use Rattle.paper.specs.Faces.{Overlay, walksOf, leadsOuter, leadsHole, overlayOf, net, sourcesOf, labelIn, labelsOf}
+use Rattle.paper.specs.Faces.{Overlay, walks_of, leads_outer, leads_hole, overlay_of, net, sources_of, label_in, labels_of}
 use Rattle.paper.specs.Tables as T
-use Rattle.paper.specs.Tables.{Counts, Tables, faceCell, origin_of, twinOf, followerOf, predecessorOf, countsOf, tables_of}
+use Rattle.paper.specs.Tables.{Counts, Tables, face_cell, origin_of, twin_of, follower_of, predecessor_of, counts_of, tables_of}
 use Rattle.laws_overlay.specs.Maps.{AllKeep}
 use Rattle.laws_overlay.specs.Inside.{overlaid}
-use Rattle.laws_overlay.specs.Cells.{label-cell, holes-cell, faceLabels}
+use Rattle.laws_overlay.specs.Cells.{label-cell, holes-cell, face_labels}
 use Rattle.laws_overlay.specs.Parts.{edge-count, face-count}
 use Rattle.laws_overlay.specs.Named.{half-named, face-named}
 
 -- half-edge h of tables t: all its numbers are below 65,535
 pub record HalfFits (t : Tables) (h : ℕ) : Type 0 where
-  pub origin-fits : origin_of t h < absent
-  pub twin-fits : twinOf t h < absent
-  pub follower-fits : followerOf t h < absent
-  pub predecessor-fits : predecessorOf t h < absent
-  pub face-fits : T.faceOf t h < absent
+  pub origin_fits : origin_of t h < absent
+  pub twin_fits : twin_of t h < absent
+  pub follower_fits : follower_of t h < absent
+  pub predecessor_fits : predecessor_of t h < absent
+  pub face_fits : T.face_of t h < absent
 
 module _ (ms : List Map) where
   abbrev o : Overlay
-  o = overlayOf ms
+  o = overlay_of ms
 
   abbrev c : Counts
-  c = countsOf (overlayOf ms)
+  c = counts_of (overlay_of ms)
 
   abbrev t : Tables
-  t = tables_of ms (overlayOf ms)
+  t = tables_of ms (overlay_of ms)
 
   -- at most one face for each half-edge, and face 0
-  pub faces-most : (countsOf (overlayOf ms)).faces ≤ suc (2 * (countsOf (overlayOf ms)).edges)
-  faces-most = omega (arith, face-count ms, edge-count ms, length-select (leadsOuter (walksOf (overlaid ms))) (halfCount (overlaid ms)), count-le (leadsOuter (walksOf (overlaid ms))) (halfCount (overlaid ms)))
+  pub faces-most : (counts_of (overlay_of ms)).faces ≤ suc (2 * (counts_of (overlay_of ms)).edges)
+  faces-most = omega (arith, face-count ms, edge-count ms, length-select (leads_outer (walks_of (overlaid ms))) (the_half_count (overlaid ms)), count-le (leads_outer (walks_of (overlaid ms))) (the_half_count (overlaid ms)))
 
   -- at most one hole walk for each half-edge
-  pub holes-most : (f : ℕ) → f < (countsOf (overlayOf ms)).faces → faceCell (length ms) (tables_of ms (overlayOf ms)) f (length ms + 1) ≤ 2 * (countsOf (overlayOf ms)).edges
-  holes-most f l = omega (arith, holes-cell ms o f l, count-le (λ h. leadsHole o.walks h && eqb (get_or o.face h 0) f) (halfCount (net o)))
+  pub holes-most : (f : ℕ) → f < (counts_of (overlay_of ms)).faces → face_cell (length ms) (tables_of ms (overlay_of ms)) f (length ms + 1) ≤ 2 * (counts_of (overlay_of ms)).edges
+  holes-most f l = omega (arith, holes-cell ms o f l, count-le (λ h. leads_hole o.walks h && eqb (get_or o.face h 0) f) (the_half_count (net o)))
 
   -- ── labels ──
 
   module _ (B : ℕ) (some-B : 0 < B) (L : (i h : ℕ) → label (layer ms i) h < B) where
-    seen-fits : (i : ℕ) (s : Option ℕ) → or_zero (label (layer ms i)) s < B
-    seen-fits i none = some-B
-    seen-fits i (some h) = L i h
+    seen_fits : (i : ℕ) (s : Option ℕ) → or_zero (label (layer ms i)) s < B
+    seen_fits i none = some-B
+    seen_fits i (some h) = L i h
 
-    label-in-fits : (i h : ℕ) (s : Option ℕ) → labelIn (layer ms i) (net o) h s < B
-    label-in-fits i h none = seen-fits i (west (layer ms i).graph (low (net o) (h / 2)) (upward (net o) (h / 2)))
-    label-in-fits i h (some k) = let down = eastSide (layer ms i).graph k in L i (cond (even h) (twin down) down)
+    label_in_fits : (i h : ℕ) (s : Option ℕ) → label_in (layer ms i) (net o) h s < B
+    label_in_fits i h none = seen_fits i (west (layer ms i).graph (low (net o) (h / 2)) (upward (net o) (h / 2)))
+    label_in_fits i h (some k) = let down = east_side (layer ms i).graph k in L i (cond (even h) (twin down) down)
 
     -- a label of a half-edge
-    pub label-fits : (h i : ℕ) → i < length ms → get_or (labelsOf ms (overlayOf ms) h) i 0 < B
-    label-fits h i l =
-        subst (λ (x : ℕ). x < B) (sym (table_at (λ i. labelIn (layer ms i) (net o) h (get_or (sourcesOf o (h / 2)) i none)) (length ms) i 0 l))
-        (label-in-fits i h (get_or (sourcesOf o (h / 2)) i none))
+    pub label_fits : (h i : ℕ) → i < length ms → get_or (labels_of ms (overlay_of ms) h) i 0 < B
+    label_fits h i l =
+        subst (λ (x : ℕ). x < B) (sym (table_at (λ i. label_in (layer ms i) (net o) h (get_or (sources_of o (h / 2)) i none)) (length ms) i 0 l))
+        (label_in_fits i h (get_or (sources_of o (h / 2)) i none))
 
-    labels-fit-by : (f i : ℕ) → i < length ms → get_or (faceLabels ms o f) i 0 < B
-    labels-fit-by zero i l = subst (λ (x : ℕ). x < B) (sym (get_or-replicate (length ms) i 0 0 l)) some-B
-    labels-fit-by (suc f) i l = label-fits (get_or o.outers f 0) i l
+    labels-fit_by : (f i : ℕ) → i < length ms → get_or (face_labels ms o f) i 0 < B
+    labels-fit_by zero i l = subst (λ (x : ℕ). x < B) (sym (get_or-replicate (length ms) i 0 0 l)) some-B
+    labels-fit_by (suc f) i l = label_fits (get_or o.outers f 0) i l
 
     -- and of a face
-    pub face-label-fits : (f i : ℕ) → f < (countsOf (overlayOf ms)).faces → i < length ms → faceCell (length ms) (tables_of ms (overlayOf ms)) f i < B
-    face-label-fits f i l b = subst (λ (x : ℕ). x < B) (sym (label-cell ms o f i l b)) (labels-fit-by f i b)
+    pub face-label_fits : (f i : ℕ) → f < (counts_of (overlay_of ms)).faces → i < length ms → face_cell (length ms) (tables_of ms (overlay_of ms)) f i < B
+    face-label_fits f i l b = subst (λ (x : ℕ). x < B) (sym (label-cell ms o f i l b)) (labels-fit_by f i b)
 
   -- ── by the limits ──
 
-  module _ (K : AllKeep ms) (lv : (countsOf (overlayOf ms)).vertices ≤ overlayVertices) (le : (countsOf (overlayOf ms)).edges ≤ overlayEdges) where
-    pub half-fits : (h : ℕ) → h < 2 * (countsOf (overlayOf ms)).edges → HalfFits (tables_of ms (overlayOf ms)) h
-    half-fits h l =
+  module _ (K : AllKeep ms) (lv : (counts_of (overlay_of ms)).vertices ≤ overlay_vertices) (le : (counts_of (overlay_of ms)).edges ≤ overlay_edges) where
+    pub half_fits : (h : ℕ) → h < 2 * (counts_of (overlay_of ms)).edges → HalfFits (tables_of ms (overlay_of ms)) h
+    half_fits h l =
         let n = half-named ms K h l in
         record {
-          origin-fits = omega (arith, n.origin-below);
-          twin-fits = omega (arith, n.twin-below);
-          follower-fits = omega (arith, n.follower-below);
-          predecessor-fits = omega (arith, n.predecessor-below);
-          face-fits = omega (arith, n.face-below, faces-most);
+          origin_fits = omega (arith, n.origin_below);
+          twin_fits = omega (arith, n.twin_below);
+          follower_fits = omega (arith, n.follower_below);
+          predecessor_fits = omega (arith, n.predecessor_below);
+          face_fits = omega (arith, n.face_below, faces-most);
         }
 
-    pub least_fits : (f : ℕ) → suc f < (countsOf (overlayOf ms)).faces → faceCell (length ms) (tables_of ms (overlayOf ms)) (suc f) (length ms) < absent
+    pub least_fits : (f : ℕ) → suc f < (counts_of (overlay_of ms)).faces → face_cell (length ms) (tables_of ms (overlay_of ms)) (suc f) (length ms) < absent
     least_fits f l = omega (arith, (face-named ms K f l).0)
 
-    pub holes-fit : (f : ℕ) → f < (countsOf (overlayOf ms)).faces → faceCell (length ms) (tables_of ms (overlayOf ms)) f (length ms + 1) < absent
+    pub holes-fit : (f : ℕ) → f < (counts_of (overlay_of ms)).faces → face_cell (length ms) (tables_of ms (overlay_of ms)) f (length ms + 1) < absent
     holes-fit f l = omega (arith, holes-most f l)

@@ -4,13 +4,13 @@ use Rattle.std.specs.Prelude.{◌≡◌, refl, ◌⊎◌, ◌<◌}
 use Rattle.std.proofs.Common.{sym, subst, inl, inr, ⊎_elim, arith}
 use Rattle.seq.specs.Seq.{Bool, List, [], ◌∷◌, Option, ℕ, length, rows}
 use Rattle.seq.specs.Terms.{Among, Asc}
-use Rattle.seq.specs.Select.{select-from, select_has, select-asc}
+use Rattle.seq.specs.Select.{select_from_lem, select_has, select_asc}
 use Rattle.seq.specs.Rows.{among-rows, rows-among}
-use Rattle.paper.specs.Plane.{Pt, Seg, onSeg}
-use Rattle.paper.specs.Graph.{Graph, pointIn, edge}
+use Rattle.paper.specs.Plane.{Pt, Seg, on_seg}
+use Rattle.paper.specs.Graph.{Graph, point_in, edge}
 use Rattle.paper.specs.Map.{Map}
-use Rattle.paper.specs.Pieces.{layer, Piece, only, links, linksFrom, along, pieces_of}
-use Rattle.laws_plane.specs.Edges.{On, on-is, is-on}
+use Rattle.paper.specs.Pieces.{layer, Piece, only, links, links_from, along, pieces_of}
+use Rattle.laws_plane.specs.Edges.{On, on_is, is_on}
 use Rattle.laws_map.specs.Keeps.{seg, edges}
 
 -- ── between neighbours of a rising list of numbers ──
@@ -25,16 +25,16 @@ pub record Link (l : List ℕ) (v w : ℕ) : Type 0 where
   pub none : (x : ℕ) → Among x l → v < x → x < w → ⊥
 
 module _ (s : List (Option ℕ)) where
-  no-between : (v w x : ℕ) (ws : List ℕ) → Asc (w ∷ ws) → Among x (v ∷ w ∷ ws) → v < x → x < w → ⊥
-  no-between v w x ws a (inl e) h l = omega arith
-  no-between v w x ws a (inr (inl e)) h l = omega arith
-  no-between v w x ws a (inr (inr i)) h l = omega (arith, a.0 x i)
+  no_between : (v w x : ℕ) (ws : List ℕ) → Asc (w ∷ ws) → Among x (v ∷ w ∷ ws) → v < x → x < w → ⊥
+  no_between v w x ws a (inl e) h l = omega arith
+  no_between v w x ws a (inr (inl e)) h l = omega arith
+  no_between v w x ws a (inr (inr i)) h l = omega (arith, a.0 x i)
 
-  from_step : (v : ℕ) (l : List ℕ) → Asc (v ∷ l) → (q : Piece) → Among q (linksFrom s v l) → (q.sources ≡ s) × Link (v ∷ l) q.lo q.hi
+  from_step : (v : ℕ) (l : List ℕ) → Asc (v ∷ l) → (q : Piece) → Among q (links_from s v l) → (q.sources ≡ s) × Link (v ∷ l) q.lo q.hi
   from_step v [] a q i = absurd i
   from_step v (w ∷ ws) a q (inl e) =
       subst (λ (p : Piece). (p.sources ≡ s) × Link (v ∷ w ∷ ws) p.lo p.hi) (sym e)
-      (refl, record { rises = a.0 w (inl refl); lower = inl refl; upper = inr (inl refl); none = λ x j. no-between v w x ws a.1 j })
+      (refl, record { rises = a.0 w (inl refl); lower = inl refl; upper = inr (inl refl); none = λ x j. no_between v w x ws a.1 j })
   from_step v (w ∷ ws) a q (inr i) =
       let (o, r) = from_step w ws a.1 q i in (
         o,
@@ -47,24 +47,24 @@ module _ (s : List (Option ℕ)) where
       )
 
   -- each goes between neighbours
-  pub link-from : (l : List ℕ) → Asc l → (q : Piece) → Among q (links s l) → (q.sources ≡ s) × Link l q.lo q.hi
-  link-from [] a q i = absurd i
-  link-from (v ∷ vs) a q i = from_step v vs a q i
+  pub link_from : (l : List ℕ) → Asc l → (q : Piece) → Among q (links s l) → (q.sources ≡ s) × Link l q.lo q.hi
+  link_from [] a q i = absurd i
+  link_from (v ∷ vs) a q i = from_step v vs a q i
 
-  has-step : (v : ℕ) (l : List ℕ) → Asc (v ∷ l) → (x y : ℕ) → x < y → Among x (v ∷ l) → Among y (v ∷ l) → ((z : ℕ) → Among z (v ∷ l) → x < z → z < y → ⊥) → Among (piece_of x y s) (linksFrom s v l)
-  has-step v [] a x y h (inl e) (inl f) n = absurd (omega arith)
-  has-step v [] a x y h (inl e) (inr j) n = absurd j
-  has-step v [] a x y h (inr i) j n = absurd i
-  has-step v (w ∷ ws) a x y h (inl e) (inl f) n = absurd (omega arith)
-  has-step v (w ∷ ws) a x y h (inl e) (inr (inl f)) n = inl (λ i. piece_of (e i) (f i) s)
-  has-step v (w ∷ ws) a x y h (inl e) (inr (inr j)) n = absurd (n w (inr (inl refl)) (omega (arith, a.0 w (inl refl))) (a.1.0 y j))
-  has-step v (w ∷ ws) a x y h (inr i) (inl f) n = absurd (omega (arith, a.0 x i))
-  has-step v (w ∷ ws) a x y h (inr i) (inr j) n = inr (has-step w ws a.1 x y h i j (λ z k. n z (inr k)))
+  has_step : (v : ℕ) (l : List ℕ) → Asc (v ∷ l) → (x y : ℕ) → x < y → Among x (v ∷ l) → Among y (v ∷ l) → ((z : ℕ) → Among z (v ∷ l) → x < z → z < y → ⊥) → Among (piece_of x y s) (links_from s v l)
+  has_step v [] a x y h (inl e) (inl f) n = absurd (omega arith)
+  has_step v [] a x y h (inl e) (inr j) n = absurd j
+  has_step v [] a x y h (inr i) j n = absurd i
+  has_step v (w ∷ ws) a x y h (inl e) (inl f) n = absurd (omega arith)
+  has_step v (w ∷ ws) a x y h (inl e) (inr (inl f)) n = inl (λ i. piece_of (e i) (f i) s)
+  has_step v (w ∷ ws) a x y h (inl e) (inr (inr j)) n = absurd (n w (inr (inl refl)) (omega (arith, a.0 w (inl refl))) (a.1.0 y j))
+  has_step v (w ∷ ws) a x y h (inr i) (inl f) n = absurd (omega (arith, a.0 x i))
+  has_step v (w ∷ ws) a x y h (inr i) (inr j) n = inr (has_step w ws a.1 x y h i j (λ z k. n z (inr k)))
 
   -- and every two neighbours have one
-  pub link-has : (l : List ℕ) → Asc l → (x y : ℕ) → Link l x y → Among (piece_of x y s) (links s l)
-  link-has [] a x y k = absurd k.lower
-  link-has (v ∷ vs) a x y k = has-step v vs a x y k.rises k.lower k.upper k.none
+  pub link_has : (l : List ℕ) → Asc l → (x y : ℕ) → Link l x y → Among (piece_of x y s) (links s l)
+  link_has [] a x y k = absurd k.lower
+  link_has (v ∷ vs) a x y k = has_step v vs a x y k.rises k.lower k.upper k.none
 
 -- ── between neighbouring vertices on an edge ──
 
@@ -72,48 +72,48 @@ module _ (s : List (Option ℕ)) where
 pub record Neighbours (vs : List Pt) (s : Seg) (lo hi : ℕ) : Type 0 where
   pub rises : lo < hi
   pub below : hi < length vs
-  pub on-lo : On s (pointIn vs lo)
-  pub on-hi : On s (pointIn vs hi)
-  pub none : (w : ℕ) → lo < w → w < hi → On s (pointIn vs w) → ⊥
+  pub on_lo : On s (point_in vs lo)
+  pub on_hi : On s (point_in vs hi)
+  pub none : (w : ℕ) → lo < w → w < hi → On s (point_in vs w) → ⊥
 
 module _ (vs : List Pt) (g : Graph) (k : ℕ) where
   abbrev c : Seg
   c = (edge g k).carrier
 
-  abbrev onEdge : ℕ → Bool
-  onEdge v = onSeg c (pointIn vs v)
+  abbrev the_on_edge : ℕ → Bool
+  the_on_edge v = on_seg c (point_in vs v)
 
   -- the vertices on an edge are exactly those that lie on it, rising
-  pub along-from : (v : ℕ) → Among v (along vs g k) → (v < length vs) × On c (pointIn vs v)
-  along-from v i = let (l, e) = select-from onEdge (length vs) v i in (l, on-is c (pointIn vs v) e)
+  pub along_from : (v : ℕ) → Among v (along vs g k) → (v < length vs) × On c (point_in vs v)
+  along_from v i = let (l, e) = select_from_lem the_on_edge (length vs) v i in (l, on_is c (point_in vs v) e)
 
-  pub along-has : (v : ℕ) → v < length vs → On c (pointIn vs v) → Among v (along vs g k)
-  along-has v l o = select_has onEdge (length vs) v l (is-on c (pointIn vs v) o)
+  pub along_has : (v : ℕ) → v < length vs → On c (point_in vs v) → Among v (along vs g k)
+  along_has v l o = select_has the_on_edge (length vs) v l (is_on c (point_in vs v) o)
 
-  pub along-asc : Asc (along vs g k)
-  along-asc = select-asc onEdge (length vs)
+  pub along_asc : Asc (along vs g k)
+  along_asc = select_asc the_on_edge (length vs)
 
   pub link-neighbours : (lo hi : ℕ) → Link (along vs g k) lo hi → Neighbours vs c lo hi
   link-neighbours lo hi r = record {
     rises = r.rises;
-    below = (along-from hi r.upper).0;
-    on-lo = (along-from lo r.lower).1;
-    on-hi = (along-from hi r.upper).1;
-    none = λ w h l o. r.none w (along-has w (omega (arith, (along-from hi r.upper).0)) o) h l;
+    below = (along_from hi r.upper).0;
+    on_lo = (along_from lo r.lower).1;
+    on_hi = (along_from hi r.upper).1;
+    none = λ w h l o. r.none w (along_has w (omega (arith, (along_from hi r.upper).0)) o) h l;
   }
 
   pub neighbours-link : (lo hi : ℕ) → Neighbours vs c lo hi → Link (along vs g k) lo hi
   neighbours-link lo hi n = record {
     rises = n.rises;
-    lower = along-has lo (omega (arith, n.rises, n.below)) n.on-lo;
-    upper = along-has hi n.below n.on-hi;
-    none = λ w i h l. n.none w h l (along-from w i).1;
+    lower = along_has lo (omega (arith, n.rises, n.below)) n.on_lo;
+    upper = along_has hi n.below n.on_hi;
+    none = λ w i h l. n.none w h l (along_from w i).1;
   }
 
 -- ── the pieces of all edges, as they come ──
 
-abbrev pub cutOut : List Map → List Pt → List Piece
-cutOut ms vs = rows (pieces_of ms vs) (length ms)
+abbrev pub cut_out : List Map → List Pt → List Piece
+cut_out ms vs = rows (pieces_of ms vs) (length ms)
 
 -- edge k of map i has lo and hi as neighbours
 pub record Runs (ms : List Map) (vs : List Pt) (i k lo hi : ℕ) : Type 0 where
@@ -122,18 +122,18 @@ pub record Runs (ms : List Map) (vs : List Pt) (i k lo hi : ℕ) : Type 0 where
   pub near : Neighbours vs (seg (layer ms i) k) lo hi
 
 module _ (ms : List Map) (vs : List Pt) where
-  abbrev edgePieces : ℕ → ℕ → List Piece
-  edgePieces i k = links (only (length ms) i k) (along vs (layer ms i).graph k)
+  abbrev edge_pieces : ℕ → ℕ → List Piece
+  edge_pieces i k = links (only (length ms) i k) (along vs (layer ms i).graph k)
 
-  pub cut-from : (q : Piece) → Among q (cutOut ms vs) → (i : ℕ) × (k : ℕ) × (q.sources ≡ only (length ms) i k) × Runs ms vs i k q.lo q.hi
-  cut-from q a =
+  pub cut_from : (q : Piece) → Among q (cut_out ms vs) → (i : ℕ) × (k : ℕ) × (q.sources ≡ only (length ms) i k) × Runs ms vs i k q.lo q.hi
+  cut_from q a =
       let (i, li, s) = rows-among (pieces_of ms vs) (length ms) q a in
-      let (k, lk, t) = rows-among (edgePieces i) (edges (layer ms i)) q s in
-      let (o, r) = link-from (only (length ms) i k) (along vs (layer ms i).graph k) (along-asc vs (layer ms i).graph k) q t in
+      let (k, lk, t) = rows-among (edge_pieces i) (edges (layer ms i)) q s in
+      let (o, r) = link_from (only (length ms) i k) (along vs (layer ms i).graph k) (along_asc vs (layer ms i).graph k) q t in
       (i, k, o, record { in_list = li; of_map = lk; near = link-neighbours vs (layer ms i).graph k q.lo q.hi r })
 
-  pub cut_has : (i k lo hi : ℕ) → Runs ms vs i k lo hi → Among (piece_of lo hi (only (length ms) i k)) (cutOut ms vs)
+  pub cut_has : (i k lo hi : ℕ) → Runs ms vs i k lo hi → Among (piece_of lo hi (only (length ms) i k)) (cut_out ms vs)
   cut_has i k lo hi r =
       among-rows (pieces_of ms vs) (length ms) i (piece_of lo hi (only (length ms) i k)) r.in_list
-      (among-rows (edgePieces i) (edges (layer ms i)) k (piece_of lo hi (only (length ms) i k)) r.of_map
-      (link-has (only (length ms) i k) (along vs (layer ms i).graph k) (along-asc vs (layer ms i).graph k) lo hi (neighbours-link vs (layer ms i).graph k lo hi r.near)))
+      (among-rows (edge_pieces i) (edges (layer ms i)) k (piece_of lo hi (only (length ms) i k)) r.of_map
+      (link_has (only (length ms) i k) (along vs (layer ms i).graph k) (along_asc vs (layer ms i).graph k) lo hi (neighbours-link vs (layer ms i).graph k lo hi r.near)))

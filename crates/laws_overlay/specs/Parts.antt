@@ -4,14 +4,14 @@ use Rattle.std.proofs.Math.Path.{refl}
 use Rattle.std.proofs.Common.{sym, ◌∙◌, ap, subst, arith}
 use Rattle.seq.specs.Seq.{List, ℕ, suc, ◌*◌, length, get_or, select, position}
 use Rattle.seq.specs.Table.{table_at}
-use Rattle.paper.specs.Graph.{edge_count, halfCount, twin, origin, follower, followers}
+use Rattle.paper.specs.Graph.{edge_count, the_half_count, twin, origin, follower, followers}
 use Rattle.paper.specs.Map.{Map}
-use Rattle.paper.specs.Pieces.{verticesOf, edgesOf}
-use Rattle.paper.specs.Faces.{walksOf, leadsOuter, faceIn, overlayOf, net, sourcesOf}
-use Rattle.paper.specs.Tables.{Tables, origin_of, twinOf, followerOf, predecessorOf, countsOf, tables_of}
+use Rattle.paper.specs.Pieces.{vertices_of, edges_of}
+use Rattle.paper.specs.Faces.{walks_of, leads_outer, face_in, overlay_of, net, sources_of}
+use Rattle.paper.specs.Tables.{Tables, origin_of, twin_of, follower_of, predecessor_of, counts_of, tables_of}
 use Rattle.paper.specs.Tables as T
-use Rattle.laws_graph.specs.Follow.{followers-at}
-use Rattle.laws_graph.specs.Faces.{faceOf}
+use Rattle.laws_graph.specs.Follow.{followers_at}
+use Rattle.laws_graph.specs.Faces.{face_of}
 use Rattle.laws_overlay.specs.Maps.{AllKeep}
 use Rattle.laws_overlay.specs.Places.{places}
 use Rattle.laws_overlay.specs.Pieces.{piece_at}
@@ -23,77 +23,77 @@ use Rattle.laws_overlay.specs.Cells.{half-cell}
 module _ (ms : List Map) where
   -- ── the parts ──
 
-  pub net-is : net (overlayOf ms) ≡ overlaid ms
-  unfolding overlayOf
-  net-is = refl
+  pub net_is : net (overlay_of ms) ≡ overlaid ms
+  unfolding overlay_of
+  net_is = refl
 
-  pub walks-are : (overlayOf ms).walks ≡ walksOf (overlaid ms)
-  unfolding overlayOf
+  pub walks-are : (overlay_of ms).walks ≡ walks_of (overlaid ms)
+  unfolding overlay_of
   walks-are = refl
 
-  pub pieces_are : (overlayOf ms).pieces ≡ edgesOf ms (verticesOf ms)
-  unfolding overlayOf
+  pub pieces_are : (overlay_of ms).pieces ≡ edges_of ms (vertices_of ms)
+  unfolding overlay_of
   pieces_are = refl
 
-  pub sources-are : (k : ℕ) → sourcesOf (overlayOf ms) k ≡ (piece_at (edgesOf ms (verticesOf ms)) k).sources
-  unfolding overlayOf
+  pub sources-are : (k : ℕ) → sources_of (overlay_of ms) k ≡ (piece_at (edges_of ms (vertices_of ms)) k).sources
+  unfolding overlay_of
   sources-are k = refl
 
-  pub outers-are : (overlayOf ms).outers ≡ select (leadsOuter (walksOf (overlaid ms))) (halfCount (overlaid ms))
-  unfolding overlayOf
+  pub outers-are : (overlay_of ms).outers ≡ select (leads_outer (walks_of (overlaid ms))) (the_half_count (overlaid ms))
+  unfolding overlay_of
   outers-are = refl
 
-  pub face-is : (h : ℕ) → h < halfCount (overlaid ms) → get_or (overlayOf ms).face h 0 ≡ faceOf (overlaid ms) h
-  unfolding overlayOf
-  face-is h l = table_at (faceIn (walksOf (overlaid ms)) (length (verticesOf ms))) (halfCount (overlaid ms)) h 0 l
+  pub face_is : (h : ℕ) → h < the_half_count (overlaid ms) → get_or (overlay_of ms).face h 0 ≡ face_of (overlaid ms) h
+  unfolding overlay_of
+  face_is h l = table_at (face_in (walks_of (overlaid ms)) (length (vertices_of ms))) (the_half_count (overlaid ms)) h 0 l
 
   -- ── the counts ──
 
-  pub vertex-count : (countsOf (overlayOf ms)).vertices ≡ length (verticesOf ms)
-  unfolding overlayOf
+  pub vertex-count : (counts_of (overlay_of ms)).vertices ≡ length (vertices_of ms)
+  unfolding overlay_of
   vertex-count = refl
 
-  pub edge-count : (countsOf (overlayOf ms)).edges ≡ edge_count (overlaid ms)
-  unfolding overlayOf
+  pub edge-count : (counts_of (overlay_of ms)).edges ≡ edge_count (overlaid ms)
+  unfolding overlay_of
   edge-count = refl
 
-  pub face-count : (countsOf (overlayOf ms)).faces ≡ suc (length (select (leadsOuter (walksOf (overlaid ms))) (halfCount (overlaid ms))))
-  unfolding overlayOf
+  pub face-count : (counts_of (overlay_of ms)).faces ≡ suc (length (select (leads_outer (walks_of (overlaid ms))) (the_half_count (overlaid ms))))
+  unfolding overlay_of
   face-count = refl
 
-  pub half_count : 2 * (countsOf (overlayOf ms)).edges ≡ halfCount (overlaid ms)
+  pub half_count : 2 * (counts_of (overlay_of ms)).edges ≡ the_half_count (overlaid ms)
   half_count = ap (λ (n : ℕ). 2 * n) edge-count
 
-  pub half-there : {h : ℕ} → h < 2 * (countsOf (overlayOf ms)).edges → h < halfCount (overlaid ms)
+  pub half-there : {h : ℕ} → h < 2 * (counts_of (overlay_of ms)).edges → h < the_half_count (overlaid ms)
   half-there {h} = subst (λ (n : ℕ). h < n) half_count
 
   -- a row of sources has a cell for each map
-  pub sources-wide : AllKeep ms → (k : ℕ) → k < (countsOf (overlayOf ms)).edges → length (sourcesOf (overlayOf ms) k) ≡ length ms
-  sources-wide K k l = ap length (sources-are k) ∙ (sourced ms K (verticesOf ms) (places ms K) k (subst (λ (n : ℕ). k < n) edge-count l)).width
+  pub sources-wide : AllKeep ms → (k : ℕ) → k < (counts_of (overlay_of ms)).edges → length (sources_of (overlay_of ms) k) ≡ length ms
+  sources-wide K k l = ap length (sources-are k) ∙ (sourced ms K (vertices_of ms) (places ms K) k (subst (λ (n : ℕ). k < n) edge-count l)).width
 
   abbrev pub made : Tables
-  made = tables_of ms (overlayOf ms)
+  made = tables_of ms (overlay_of ms)
 
   -- ── the row of half-edge h ──
 
-  module _ (h : ℕ) (l : h < halfCount (overlaid ms)) where
-    counted : h < 2 * (countsOf (overlayOf ms)).edges
+  module _ (h : ℕ) (l : h < the_half_count (overlaid ms)) where
+    counted : h < 2 * (counts_of (overlay_of ms)).edges
     counted = subst (λ (n : ℕ). h < n) (sym half_count) l
 
-    pub origin-is : origin_of made h ≡ origin (overlaid ms) h
-    unfolding overlayOf
-    origin-is = half-cell ms (overlayOf ms) h 0 counted (omega arith)
+    pub origin_is : origin_of made h ≡ origin (overlaid ms) h
+    unfolding overlay_of
+    origin_is = half-cell ms (overlay_of ms) h 0 counted (omega arith)
 
-    pub twin-is : twinOf made h ≡ twin h
-    twin-is = half-cell ms (overlayOf ms) h 1 counted (omega arith)
+    pub twin_is : twin_of made h ≡ twin h
+    twin_is = half-cell ms (overlay_of ms) h 1 counted (omega arith)
 
-    pub predecessor-is : predecessorOf made h ≡ position h (followers (overlaid ms))
-    unfolding overlayOf
-    predecessor-is = half-cell ms (overlayOf ms) h 3 counted (omega arith)
+    pub predecessor_is : predecessor_of made h ≡ position h (followers (overlaid ms))
+    unfolding overlay_of
+    predecessor_is = half-cell ms (overlay_of ms) h 3 counted (omega arith)
 
-    pub face-cell-is : T.faceOf made h ≡ faceOf (overlaid ms) h
-    face-cell-is = half-cell ms (overlayOf ms) h 4 counted (omega arith) ∙ face-is h l
+    pub face-cell_is : T.face_of made h ≡ face_of (overlaid ms) h
+    face-cell_is = half-cell ms (overlay_of ms) h 4 counted (omega arith) ∙ face_is h l
 
-    pub follower-is : AllKeep ms → followerOf made h ≡ follower (overlaid ms) h
-    unfolding overlayOf
-    follower-is K = half-cell ms (overlayOf ms) h 2 counted (omega arith) ∙ followers-at (overlaid ms) (net-plane ms K (verticesOf ms) (places ms K)) h l
+    pub follower_is : AllKeep ms → follower_of made h ≡ follower (overlaid ms) h
+    unfolding overlay_of
+    follower_is K = half-cell ms (overlay_of ms) h 2 counted (omega arith) ∙ followers_at (overlaid ms) (net-plane ms K (vertices_of ms) (places ms K)) h l

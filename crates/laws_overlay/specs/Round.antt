@@ -1,36 +1,36 @@
 -- Round a vertex of the overlay: an edge of a map that leaves it, up or down, goes the way of an overlay half-edge that leaves it (`out`), whose piece comes from that edge.
--- So no edge of a map leaves it strictly between a half-edge and the next one clockwise (`sector`); and every vertex is left by one (`vertex-left`). Assumes nothing.
+-- So no edge of a map leaves it strictly between a half-edge and the next one clockwise (`sector`); and every vertex is left by one (`vertex_left`). Assumes nothing.
 use Rattle.std.specs.Prelude.{◌≡◌, refl, ◌<◌, ◌-◌}
 use Rattle.std.proofs.Common.{sym, ◌∙◌, ap, subst, inl, inr, ⊎_elim, arith}
 use Rattle.std.proofs.Math.Decide.{ℕ_discrete}
 use Rattle.seq.specs.Seq.{Bool, true, false, cond, List, some, ℕ, zero, suc, ◌+◌, ◌*◌, ◌/◌, length, get_or, pos}
 use Rattle.seq.specs.Tests.{clash}
-use Rattle.seq.specs.Members.{at-among, among-at}
+use Rattle.seq.specs.Members.{at_among, among_at}
 use Rattle.seq.specs.Downward.{inner as inside, wrap as round}
-use Rattle.paper.specs.Plane.{Pt, Vec, Seg, whole, nowhere, head, opposite, dir, cross, before, lessAngle}
-use Rattle.paper.specs.Graph.{Graph, edge_count, halfCount, pointIn, edge, origin, goesUp, upward, heading}
+use Rattle.paper.specs.Plane.{Pt, Vec, Seg, whole, nowhere, head, opposite, dir, cross, before, less_angle}
+use Rattle.paper.specs.Graph.{Graph, edge_count, the_half_count, point_in, edge, origin, goes_up, upward, heading}
 use Rattle.paper.specs.Map.{Map}
-use Rattle.paper.specs.Pieces.{layer, along, verticesOf, edgesOf}
-use Rattle.laws_plane.specs.Cone.{UpV, NonZero, up-rises, up-nonzero, opposite-nonzero}
-use Rattle.laws_plane.specs.Points.{before-up, before-irr, before-le}
+use Rattle.paper.specs.Pieces.{layer, along, vertices_of, edges_of}
+use Rattle.laws_plane.specs.Cone.{UpV, NonZero, up_rises, up_nonzero, opposite-nonzero}
+use Rattle.laws_plane.specs.Points.{before_up, before_irr, before_le}
 use Rattle.laws_plane.specs.Ends.{0<1}
-use Rattle.laws_plane.specs.Angles.{SameWay, cross-swap-0, parallel-trans, same-way-sym, same-way-opposite, less-same-way, same-way-greater}
+use Rattle.laws_plane.specs.Angles.{SameWay, cross-swap_0, parallel-trans, same_way_sym, same_way-opposite, less_same_way, same_way-greater}
 use Rattle.laws_plane.specs.Sides.{chord}
-use Rattle.laws_plane.specs.Edges.{On, seg-up, on-foot, on-head}
-use Rattle.laws_graph.specs.Halves.{even-double, odd-double, half-first, half-second, first_below, second_below, origin-first, origin-second}
-use Rattle.laws_graph.specs.Plane.{heading-moves, upward-up}
+use Rattle.laws_plane.specs.Edges.{On, seg_up, on_foot, on_head}
+use Rattle.laws_graph.specs.Halves.{even_double, odd_double, half_first, half-second, first_below, second_below, origin_first, origin-second}
+use Rattle.laws_graph.specs.Plane.{heading-moves, upward_up}
 use Rattle.laws_graph.specs.Follow.{Clockwise, lesser}
 use Rattle.laws_map.specs.Keeps.{seg, edges}
 use Rattle.laws_overlay.specs.Maps.{AllKeep, vertex-end}
-use Rattle.laws_overlay.specs.Vertices.{Vertex, vertex-from}
-use Rattle.laws_overlay.specs.Places.{places, at-real}
-use Rattle.laws_overlay.specs.Links.{Runs, along-has}
-use Rattle.laws_overlay.specs.Sources.{sourceAt}
+use Rattle.laws_overlay.specs.Vertices.{Vertex, vertex_from}
+use Rattle.laws_overlay.specs.Places.{places, at_real}
+use Rattle.laws_overlay.specs.Links.{Runs, along_has}
+use Rattle.laws_overlay.specs.Sources.{source_at}
 use Rattle.laws_overlay.specs.Pieces.{piece_at}
 use Rattle.laws_overlay.specs.Chain.{Chain, chain}
-use Rattle.laws_overlay.specs.Net.{net-edges, from_is, to_is, near, carrier-up, ends-before, sourced, goes-even}
+use Rattle.laws_overlay.specs.Net.{net-edges, from_is, to_is, near, carrier_up, ends_before, sourced, goes-even}
 use Rattle.laws_overlay.specs.NetPlane.{net-plane}
-use Rattle.laws_overlay.specs.Inside.{overlaid, lowAt, highAt}
+use Rattle.laws_overlay.specs.Inside.{overlaid, low_at, high_at}
 
 -- along u, or against it
 abbrev pub arrow : Bool → Vec → Vec
@@ -40,89 +40,89 @@ arrow b u = cond b u (opposite u)
 pub record Leaves (ms : List Map) (v i k : ℕ) (b : Bool) : Type 0 where
   pub in_list : i < length ms
   pub of_map : k < edges (layer ms i)
-  pub on : On (seg (layer ms i) k) (pointIn (verticesOf ms) v)
-  pub goes : cond b (before (pointIn (verticesOf ms) v) (whole (head (seg (layer ms i) k)))) (before (whole (seg (layer ms i) k).foot) (pointIn (verticesOf ms) v)) ≡ true
+  pub on : On (seg (layer ms i) k) (point_in (vertices_of ms) v)
+  pub goes : cond b (before (point_in (vertices_of ms) v) (whole (head (seg (layer ms i) k)))) (before (whole (seg (layer ms i) k).foot) (point_in (vertices_of ms) v)) ≡ true
 
 -- a half-edge of the overlay leaves v, the way of edge k of map i, from which its piece comes
 pub record Out (ms : List Map) (v i k : ℕ) (b : Bool) : Type 0 where
   pub half : ℕ
-  pub below : half < halfCount (overlaid ms)
+  pub below : half < the_half_count (overlaid ms)
   pub leaves : origin (overlaid ms) half ≡ v
-  pub upward : goesUp (overlaid ms) half ≡ b
+  pub upward : goes_up (overlaid ms) half ≡ b
   pub way : SameWay (heading (overlaid ms) half) (arrow b (seg (layer ms i) k).up)
-  pub source : sourceAt (piece_at (edgesOf ms (verticesOf ms)) (half / 2)).sources i ≡ some k
+  pub source : source_at (piece_at (edges_of ms (vertices_of ms)) (half / 2)).sources i ≡ some k
 
 module _ (ms : List Map) (K : AllKeep ms) where
   abbrev vs : List Pt
-  vs = verticesOf ms
+  vs = vertices_of ms
 
   abbrev g : Graph
   g = overlaid ms
 
   -- ── a piece goes the way of its sources ──
 
-  module _ (r : ℕ) (l : r < edge_count (overlaid ms)) (i k : ℕ) (s : sourceAt (piece_at (edgesOf ms (verticesOf ms)) r).sources i ≡ some k) where
+  module _ (r : ℕ) (l : r < edge_count (overlaid ms)) (i k : ℕ) (s : source_at (piece_at (edges_of ms (vertices_of ms)) r).sources i ≡ some k) where
     runs : Runs ms vs i k (edge g r).from (edge g r).to
     runs =
         subst (λ (x : ℕ). Runs ms vs i k x (edge g r).to) (sym (from_is ms vs r))
-        (subst (λ (x : ℕ). Runs ms vs i k (piece_at (edgesOf ms vs) r).lo x) (sym (to_is ms vs r)) ((sourced ms K vs (places ms K) r l).from i k s))
+        (subst (λ (x : ℕ). Runs ms vs i k (piece_at (edges_of ms vs) r).lo x) (sym (to_is ms vs r)) ((sourced ms K vs (places ms K) r l).from i k s))
 
     -- it is an edge of a map of the list
     pub source-there : (i < length ms) × (k < edges (layer ms i))
     source-there = (runs.in_list, runs.of_map)
 
     pub source_up : UpV (seg (layer ms i) k).up
-    source_up = upward-up (layer ms i).graph (K i runs.in_list).plane k runs.of_map
+    source_up = upward_up (layer ms i).graph (K i runs.in_list).plane k runs.of_map
 
     -- both ends of the piece are on the source
-    pub source-on : On (seg (layer ms i) k) (lowAt ms r) × On (seg (layer ms i) k) (highAt ms r)
-    source-on = (runs.near.on-lo, runs.near.on-hi)
+    pub source_on : On (seg (layer ms i) k) (low_at ms r) × On (seg (layer ms i) k) (high_at ms r)
+    source_on = (runs.near.on_lo, runs.near.on_hi)
 
     abbrev d : Vec
-    d = dir (lowAt ms r) (highAt ms r)
+    d = dir (low_at ms r) (high_at ms r)
 
     carried : cross (upward g r) d ≡ pos 0
-    carried = let n = near ms K vs (places ms K) r l in chord (edge g r).carrier (lowAt ms r) (highAt ms r) n.on-lo.line n.on-hi.line
+    carried = let n = near ms K vs (places ms K) r l in chord (edge g r).carrier (low_at ms r) (high_at ms r) n.on_lo.line n.on_hi.line
 
     pub source-way : SameWay (upward (overlaid ms) r) (seg (layer ms i) k).up
     source-way = record {
-      parallel = parallel-trans (upward g r) d (seg (layer ms i) k).up (up-nonzero d (before-up (lowAt ms r) (highAt ms r) (ends-before ms K vs (places ms K) r l))) carried
-          (cross-swap-0 (seg (layer ms i) k).up d (chord (seg (layer ms i) k) (lowAt ms r) (highAt ms r) source-on.0.line source-on.1.line));
-      half = up-rises (upward g r) (carrier-up ms K vs (places ms K) r l) ∙ sym (up-rises (seg (layer ms i) k).up source_up);
+      parallel = parallel-trans (upward g r) d (seg (layer ms i) k).up (up_nonzero d (before_up (low_at ms r) (high_at ms r) (ends_before ms K vs (places ms K) r l))) carried
+          (cross-swap_0 (seg (layer ms i) k).up d (chord (seg (layer ms i) k) (low_at ms r) (high_at ms r) source_on.0.line source_on.1.line));
+      half = up_rises (upward g r) (carrier_up ms K vs (places ms K) r l) ∙ sym (up_rises (seg (layer ms i) k).up source_up);
     }
 
     -- the half-edge of the piece that goes up, and the one that goes down
     abbrev heads : ℕ → Bool → Vec
     heads k c = cond c (upward g k) (opposite (upward g k))
 
-    up-out : (v : ℕ) → (piece_at (edgesOf ms vs) r).lo ≡ v → Out ms v i k true
-    up-out v e =
-        let u : goesUp g (2 * r) ≡ true = goes-even ms K vs (places ms K) (2 * r) (first_below r g l) ∙ even-double r in
+    up_out : (v : ℕ) → (piece_at (edges_of ms vs) r).lo ≡ v → Out ms v i k true
+    up_out v e =
+        let u : goes_up g (2 * r) ≡ true = goes-even ms K vs (places ms K) (2 * r) (first_below r g l) ∙ even_double r in
         record {
           half = 2 * r;
           below = first_below r g l;
-          leaves = origin-first r g ∙ from_is ms vs r ∙ e;
+          leaves = origin_first r g ∙ from_is ms vs r ∙ e;
           upward = u;
-          way = subst (λ (x : Vec). SameWay x (seg (layer ms i) k).up) (sym (λ i. heads (half-first r i) (u i))) source-way;
-          source = ap (λ (x : ℕ). sourceAt (piece_at (edgesOf ms vs) x).sources i) (half-first r) ∙ s;
+          way = subst (λ (x : Vec). SameWay x (seg (layer ms i) k).up) (sym (λ i. heads (half_first r i) (u i))) source-way;
+          source = ap (λ (x : ℕ). source_at (piece_at (edges_of ms vs) x).sources i) (half_first r) ∙ s;
         }
 
-    down_out : (v : ℕ) → (piece_at (edgesOf ms vs) r).hi ≡ v → Out ms v i k false
+    down_out : (v : ℕ) → (piece_at (edges_of ms vs) r).hi ≡ v → Out ms v i k false
     down_out v e =
-        let u : goesUp g (2 * r + 1) ≡ false = goes-even ms K vs (places ms K) (2 * r + 1) (second_below r g l) ∙ odd-double r in
+        let u : goes_up g (2 * r + 1) ≡ false = goes-even ms K vs (places ms K) (2 * r + 1) (second_below r g l) ∙ odd_double r in
         record {
           half = 2 * r + 1;
           below = second_below r g l;
           leaves = origin-second r g ∙ to_is ms vs r ∙ e;
           upward = u;
           way = subst (λ (x : Vec). SameWay x (opposite (seg (layer ms i) k).up)) (sym (λ i. heads (half-second r i) (u i)))
-              (same-way-opposite (upward g r) (seg (layer ms i) k).up (up-nonzero (upward g r) (carrier-up ms K vs (places ms K) r l)) (up-nonzero (seg (layer ms i) k).up source_up) source-way);
-          source = ap (λ (x : ℕ). sourceAt (piece_at (edgesOf ms vs) x).sources i) (half-second r) ∙ s;
+              (same_way-opposite (upward g r) (seg (layer ms i) k).up (up_nonzero (upward g r) (carrier_up ms K vs (places ms K) r l)) (up_nonzero (seg (layer ms i) k).up source_up) source-way);
+          source = ap (λ (x : ℕ). source_at (piece_at (edges_of ms vs) x).sources i) (half-second r) ∙ s;
         }
 
   -- ── a half-edge for each edge that leaves ──
 
-  module _ (v i k : ℕ) (lv : v < length (verticesOf ms)) where
+  module _ (v i k : ℕ) (lv : v < length (vertices_of ms)) where
     abbrev l : List ℕ
     l = along vs (layer ms i).graph k
 
@@ -131,28 +131,28 @@ module _ (ms : List Map) (K : AllKeep ms) where
 
     -- where v stands among the vertices on the edge
     place : (b : Bool) → Leaves ms v i k b → (j : ℕ) × (j < length l) × (get_or l j 0 ≡ v)
-    place b o = among-at v l 0 (along-has vs (layer ms i).graph k v lv o.on)
+    place b o = among_at v l 0 (along_has vs (layer ms i).graph k v lv o.on)
 
-    numbered : {r : ℕ} → r < length (edgesOf ms vs) → r < edge_count g
+    numbered : {r : ℕ} → r < length (edges_of ms vs) → r < edge_count g
     numbered {r} = subst (λ (x : ℕ). r < x) (sym (net-edges ms vs))
 
-    by-up : Leaves ms v i k true → (j : ℕ) → j < length l → get_or l j 0 ≡ v → Chain ms i k l → Out ms v i k true
-    by-up o j b q c =
+    by_up : Leaves ms v i k true → (j : ℕ) → j < length l → get_or l j 0 ≡ v → Chain ms i k l → Out ms v i k true
+    by_up o j b q c =
         elim (ℕ_discrete j (length l - 1)) [
           | yes x ↦
-              let s : pointIn vs v ≡ whole (head e) = ap (pointIn vs) (sym q ∙ ap (λ (n : ℕ). get_or l n 0) x) ∙ c.last in
-              absurd (clash o.goes (ap (λ (p : Pt). before p (whole (head e))) s ∙ before-irr (whole (head e))))
-          | no x ↦ let (r, lr, lo, hi, s) = c.piece j (omega arith) in up-out r (numbered lr) i k s v (lo ∙ q)
+              let s : point_in vs v ≡ whole (head e) = ap (point_in vs) (sym q ∙ ap (λ (n : ℕ). get_or l n 0) x) ∙ c.last in
+              absurd (clash o.goes (ap (λ (p : Pt). before p (whole (head e))) s ∙ before_irr (whole (head e))))
+          | no x ↦ let (r, lr, lo, hi, s) = c.piece j (omega arith) in up_out r (numbered lr) i k s v (lo ∙ q)
         ]
 
     by_down : Leaves ms v i k false → (j : ℕ) → j < length l → get_or l j 0 ≡ v → Chain ms i k l → Out ms v i k false
     by_down o zero b q c =
-        let s : pointIn vs v ≡ whole e.foot = ap (pointIn vs) (sym q) ∙ c.first in
-        absurd (clash o.goes (ap (λ (p : Pt). before (whole e.foot) p) s ∙ before-irr (whole e.foot)))
+        let s : point_in vs v ≡ whole e.foot = ap (point_in vs) (sym q) ∙ c.first in
+        absurd (clash o.goes (ap (λ (p : Pt). before (whole e.foot) p) s ∙ before_irr (whole e.foot)))
     by_down o (suc j) b q c = let (r, lr, lo, hi, s) = c.piece j b in down_out r (numbered lr) i k s v (hi ∙ q)
 
     pub out : (b : Bool) → Leaves ms v i k b → Out ms v i k b
-    out true o = let (j, b, q) = place true o in by-up o j b q (chain ms K i k o.in_list o.of_map)
+    out true o = let (j, b, q) = place true o in by_up o j b q (chain ms K i k o.in_list o.of_map)
     out false o = let (j, b, q) = place false o in by_down o j b q (chain ms K i k o.in_list o.of_map)
 
 -- ── none between ──
@@ -160,12 +160,12 @@ module _ (ms : List Map) (K : AllKeep ms) where
 -- no edge of map i leaves where t starts strictly between r and t, going down in angle from t and on from the greatest
 pub data Sector (ms : List Map) (i t r : ℕ) : Type 0 where
   inner : lesser (overlaid ms) r t ≡ true →
-      ((k : ℕ) (b : Bool) → Leaves ms (origin (overlaid ms) t) i k b → lessAngle (heading (overlaid ms) r) (arrow b (seg (layer ms i) k).up) ≡ true → lessAngle (arrow b (seg (layer ms i) k).up) (heading (overlaid ms) t) ≡ true → ⊥) → Sector ms i t r
+      ((k : ℕ) (b : Bool) → Leaves ms (origin (overlaid ms) t) i k b → less_angle (heading (overlaid ms) r) (arrow b (seg (layer ms i) k).up) ≡ true → less_angle (arrow b (seg (layer ms i) k).up) (heading (overlaid ms) t) ≡ true → ⊥) → Sector ms i t r
   wrap : (lesser (overlaid ms) r t ≡ true → ⊥) →
-      ((k : ℕ) (b : Bool) → Leaves ms (origin (overlaid ms) t) i k b → lessAngle (arrow b (seg (layer ms i) k).up) (heading (overlaid ms) t) ≡ true → ⊥) →
-      ((k : ℕ) (b : Bool) → Leaves ms (origin (overlaid ms) t) i k b → lessAngle (heading (overlaid ms) r) (arrow b (seg (layer ms i) k).up) ≡ true → ⊥) → Sector ms i t r
+      ((k : ℕ) (b : Bool) → Leaves ms (origin (overlaid ms) t) i k b → less_angle (arrow b (seg (layer ms i) k).up) (heading (overlaid ms) t) ≡ true → ⊥) →
+      ((k : ℕ) (b : Bool) → Leaves ms (origin (overlaid ms) t) i k b → less_angle (heading (overlaid ms) r) (arrow b (seg (layer ms i) k).up) ≡ true → ⊥) → Sector ms i t r
 
-module _ (ms : List Map) (K : AllKeep ms) (i t r : ℕ) (lt : t < halfCount (overlaid ms)) (lr : r < halfCount (overlaid ms)) (o : origin (overlaid ms) r ≡ origin (overlaid ms) t) where
+module _ (ms : List Map) (K : AllKeep ms) (i t r : ℕ) (lt : t < the_half_count (overlaid ms)) (lr : r < the_half_count (overlaid ms)) (o : origin (overlaid ms) r ≡ origin (overlaid ms) t) where
   abbrev gr : Graph
   gr = overlaid ms
 
@@ -173,16 +173,16 @@ module _ (ms : List Map) (K : AllKeep ms) (i t r : ℕ) (lt : t < halfCount (ove
   v = origin gr t
 
   found : (k : ℕ) (b : Bool) → Leaves ms v i k b → Out ms v i k b
-  found k b = out ms K v i k ((net-plane ms K (verticesOf ms) (places ms K)).starts t lt) b
+  found k b = out ms K v i k ((net-plane ms K (vertices_of ms) (places ms K)).starts t lt) b
 
-  moves : (h : ℕ) → h < halfCount gr → NonZero (heading gr h)
-  moves h l = heading-moves gr (net-plane ms K (verticesOf ms) (places ms K)) h l
+  moves : (h : ℕ) → h < the_half_count gr → NonZero (heading gr h)
+  moves h l = heading-moves gr (net-plane ms K (vertices_of ms) (places ms K)) h l
 
   arrow-moves : (k : ℕ) (b : Bool) → Leaves ms v i k b → NonZero (arrow b (seg (layer ms i) k).up)
   arrow-moves k b q = go b
     where
       n : NonZero (seg (layer ms i) k).up
-      n = up-nonzero (seg (layer ms i) k).up (upward-up (layer ms i).graph (K i q.in_list).plane k q.of_map)
+      n = up_nonzero (seg (layer ms i) k).up (upward_up (layer ms i).graph (K i q.in_list).plane k q.of_map)
 
       go : (b : Bool) → NonZero (arrow b (seg (layer ms i) k).up)
       go true = n
@@ -196,35 +196,35 @@ module _ (ms : List Map) (K : AllKeep ms) (i t r : ℕ) (lt : t < halfCount (ove
     h = (found k b q).half
 
     same : SameWay u (heading gr h)
-    same = same-way-sym (heading gr h) u (found k b q).way
+    same = same_way_sym (heading gr h) u (found k b q).way
 
     -- as the edge stands to another half-edge, so does its own
-    over-as : (x : ℕ) → x < halfCount gr → lessAngle (heading gr x) u ≡ true → lesser gr x h ≡ true
-    over-as x l e = less-same-way (heading gr x) u (heading gr h) (moves x l) (arrow-moves k b q) (moves h (found k b q).below) e same
+    over_as : (x : ℕ) → x < the_half_count gr → less_angle (heading gr x) u ≡ true → lesser gr x h ≡ true
+    over_as x l e = less_same_way (heading gr x) u (heading gr h) (moves x l) (arrow-moves k b q) (moves h (found k b q).below) e same
 
-    under-as : (x : ℕ) → x < halfCount gr → lessAngle u (heading gr x) ≡ true → lesser gr h x ≡ true
-    under-as x l e = same-way-greater (heading gr x) u (heading gr h) (moves x l) (arrow-moves k b q) (moves h (found k b q).below) e same
+    under_as : (x : ℕ) → x < the_half_count gr → less_angle u (heading gr x) ≡ true → lesser gr h x ≡ true
+    under_as x l e = same_way-greater (heading gr x) u (heading gr h) (moves x l) (arrow-moves k b q) (moves h (found k b q).below) e same
 
   pub sector : Clockwise (overlaid ms) t r → Sector ms i t r
-  sector (inside e n) = inner e (λ k b q x y. n (h k b q) (found k b q).below (found k b q).leaves (over-as k b q r lr x) (under-as k b q t lt y))
+  sector (inside e n) = inner e (λ k b q x y. n (h k b q) (found k b q).below (found k b q).leaves (over_as k b q r lr x) (under_as k b q t lt y))
   sector (round f n) =
-      wrap (λ e. f r lr o e) (λ k b q y. f (h k b q) (found k b q).below (found k b q).leaves (under-as k b q t lt y))
-      (λ k b q x. n (h k b q) (found k b q).below (found k b q).leaves (over-as k b q r lr x))
+      wrap (λ e. f r lr o e) (λ k b q y. f (h k b q) (found k b q).below (found k b q).leaves (under_as k b q t lt y))
+      (λ k b q x. n (h k b q) (found k b q).below (found k b q).leaves (over_as k b q r lr x))
 
 -- ── every vertex is left ──
 
-module _ (ms : List Map) (K : AllKeep ms) (x : ℕ) (lx : x < length (verticesOf ms)) where
+module _ (ms : List Map) (K : AllKeep ms) (x : ℕ) (lx : x < length (vertices_of ms)) where
   abbrev p : Pt
-  p = pointIn (verticesOf ms) x
+  p = point_in (vertices_of ms) x
 
   -- it is on an edge of a map
   on_edge : Vertex ms p → (i : ℕ) × (k : ℕ) × (i < length ms) × (k < edges (layer ms i)) × On (seg (layer ms i) k) p
   on_edge (inl c) =
-      let i = c.layer-of in
+      let i = c.layer_of in
       let (k, l, e) = vertex-end (layer ms i) (K i c.in_list) c.vertex c.below in
-      let u = upward-up (layer ms i).graph (K i c.in_list).plane k l in
-      (i, k, c.in_list, l, ⊎_elim (λ f. subst (On (seg (layer ms i) k)) (sym f ∙ c.is) (on-foot (seg (layer ms i) k) u)) (λ f. subst (On (seg (layer ms i) k)) (sym f ∙ c.is) (on-head (seg (layer ms i) k) u)) e)
-  on_edge (inr c) = (c.first-layer, c.first_edge, c.first-in, c.first_below, c.touch.first)
+      let u = upward_up (layer ms i).graph (K i c.in_list).plane k l in
+      (i, k, c.in_list, l, ⊎_elim (λ f. subst (On (seg (layer ms i) k)) (sym f ∙ c.is) (on_foot (seg (layer ms i) k) u)) (λ f. subst (On (seg (layer ms i) k)) (sym f ∙ c.is) (on_head (seg (layer ms i) k) u)) e)
+  on_edge (inr c) = (c.first_layer, c.first_edge, c.first_in, c.first_below, c.touch.first)
 
   -- which leaves it, up or down
   left_by : (i k : ℕ) (li : i < length ms) (lk : k < edges (layer ms i)) → On (seg (layer ms i) k) p → (b : Bool) × Leaves ms x i k b
@@ -234,11 +234,11 @@ module _ (ms : List Map) (K : AllKeep ms) (x : ℕ) (lx : x < length (verticesOf
       go true e = (true, record { in_list = li; of_map = lk; on = o; goes = e })
       go false e =
           let s = seg (layer ms i) k in
-          (false, record { in_list = li; of_map = lk; on = o; goes = before-le (whole s.foot) (whole (head s)) p 0<1 0<1 (at-real (verticesOf ms) (places ms K) x) (seg-up s (upward-up (layer ms i).graph (K i li).plane k lk)) e })
+          (false, record { in_list = li; of_map = lk; on = o; goes = before_le (whole s.foot) (whole (head s)) p 0<1 0<1 (at_real (vertices_of ms) (places ms K) x) (seg_up s (upward_up (layer ms i).graph (K i li).plane k lk)) e })
 
-  pub vertex-left : (h : ℕ) × (h < halfCount (overlaid ms)) × (origin (overlaid ms) h ≡ x)
-  vertex-left =
-      let (i, k, li, lk, o) = on_edge (vertex-from ms K p (at-among (verticesOf ms) x (whole nowhere) lx)) in
+  pub vertex_left : (h : ℕ) × (h < the_half_count (overlaid ms)) × (origin (overlaid ms) h ≡ x)
+  vertex_left =
+      let (i, k, li, lk, o) = on_edge (vertex_from ms K p (at_among (vertices_of ms) x (whole nowhere) lx)) in
       let (b, q) = left_by i k li lk o in
       let r = out ms K x i k lx b q in
       (r.half, r.below, r.leaves)

@@ -8,22 +8,22 @@ use Rattle.exact.specs.Mul.{≡-by₂}
 use Rattle.exact.specs.Order.{Tri, lt, eq, gt, tri, <→≢}
 use Rattle.exact.specs.Lowest.{Pt}
 use Rattle.exact.specs.Tests.{or_l, or_r, or_cases, and_both, and_parts}
-use Rattle.paper.specs.Plane.{Vec, Seg, cross, head, whole, before, same, leftBy, inside, apart, clash}
+use Rattle.paper.specs.Plane.{Vec, Seg, cross, head, whole, before, same, the_left_by, inside, apart, clash}
 use Rattle.laws_plane.specs.Cone.{UpV}
-use Rattle.laws_plane.specs.Points.{before-trans, neither, same-sym}
-use Rattle.laws_plane.specs.Ends.{0<1, corner-same}
-use Rattle.laws_plane.specs.Angles.{cross-swap-0}
-use Rattle.laws_plane.specs.Sides.{left-foot, left-head}
-use Rattle.laws_plane.specs.Edges.{On, Inside, IsEnd, inside_is, is-inside, inside_on, inside-same, on-where, on-foot, on-head, end-not-inside}
+use Rattle.laws_plane.specs.Points.{before_trans, neither, same_sym}
+use Rattle.laws_plane.specs.Ends.{0<1, corner_same}
+use Rattle.laws_plane.specs.Angles.{cross-swap_0}
+use Rattle.laws_plane.specs.Sides.{left_foot, left_head}
+use Rattle.laws_plane.specs.Edges.{On, Inside, IsEnd, inside_is, is_inside, inside_on, inside_same, on_where, on_foot, on_head, end_not_inside}
 use Rattle.laws_plane.specs.Lines.{part-inside, one_line}
 use Rattle.laws_plane.specs.Meeting.{apart-inside, inside-apart}
 
 -- ── the ways ──
 
 pub data Clash (s t : Seg) : Type 0 where
-  foot-in : Inside s (whole t.foot) → Clash s t
+  foot_in : Inside s (whole t.foot) → Clash s t
   head_in : Inside s (whole (head t)) → Clash s t
-  in-foot : Inside t (whole s.foot) → Clash s t
+  in_foot : Inside t (whole s.foot) → Clash s t
   in_head : Inside t (whole (head s)) → Clash s t
   across : apart s t ≡ true → apart t s ≡ true → Clash s t
   equal : same (whole s.foot) (whole t.foot) ≡ true → same (whole (head s)) (whole (head t)) ≡ true → Clash s t
@@ -44,17 +44,17 @@ module _ (s t : Seg) where
   pub clash-way : clash s t ≡ true → Clash s t
   clash-way e = go (or_cases (st || ts) (crossed || alike) e)
     where
-      in-s : (inside s (whole t.foot) ≡ true) ⊎ (inside s (whole (head t)) ≡ true) → Clash s t
-      in-s (inl f) = foot-in (inside_is s (whole t.foot) f)
-      in-s (inr f) = head_in (inside_is s (whole (head t)) f)
+      in_s : (inside s (whole t.foot) ≡ true) ⊎ (inside s (whole (head t)) ≡ true) → Clash s t
+      in_s (inl f) = foot_in (inside_is s (whole t.foot) f)
+      in_s (inr f) = head_in (inside_is s (whole (head t)) f)
 
-      in-t : (inside t (whole s.foot) ≡ true) ⊎ (inside t (whole (head s)) ≡ true) → Clash s t
-      in-t (inl f) = in-foot (inside_is t (whole s.foot) f)
-      in-t (inr f) = in_head (inside_is t (whole (head s)) f)
+      in_t : (inside t (whole s.foot) ≡ true) ⊎ (inside t (whole (head s)) ≡ true) → Clash s t
+      in_t (inl f) = in_foot (inside_is t (whole s.foot) f)
+      in_t (inr f) = in_head (inside_is t (whole (head s)) f)
 
       ends : (st ≡ true) ⊎ (ts ≡ true) → Clash s t
-      ends (inl f) = in-s (or_cases (inside s (whole t.foot)) (inside s (whole (head t))) f)
-      ends (inr f) = in-t (or_cases (inside t (whole s.foot)) (inside t (whole (head s))) f)
+      ends (inl f) = in_s (or_cases (inside s (whole t.foot)) (inside s (whole (head t))) f)
+      ends (inr f) = in_t (or_cases (inside t (whole s.foot)) (inside t (whole (head s))) f)
 
       rest : (crossed ≡ true) ⊎ (alike ≡ true) → Clash s t
       rest (inl f) = let r = and_parts (apart s t) (apart t s) f in across r.0 r.1
@@ -65,10 +65,10 @@ module _ (s t : Seg) where
       go (inr f) = rest (or_cases crossed alike f)
 
   pub way-clash : Clash s t → clash s t ≡ true
-  way-clash (foot-in i) = or_l {a = st || ts} (crossed || alike) (or_l {a = st} ts (or_l {a = inside s (whole t.foot)} (inside s (whole (head t))) (is-inside s (whole t.foot) i)))
-  way-clash (head_in i) = or_l {a = st || ts} (crossed || alike) (or_l {a = st} ts (or_r (inside s (whole t.foot)) (is-inside s (whole (head t)) i)))
-  way-clash (in-foot i) = or_l {a = st || ts} (crossed || alike) (or_r st (or_l {a = inside t (whole s.foot)} (inside t (whole (head s))) (is-inside t (whole s.foot) i)))
-  way-clash (in_head i) = or_l {a = st || ts} (crossed || alike) (or_r st (or_r (inside t (whole s.foot)) (is-inside t (whole (head s)) i)))
+  way-clash (foot_in i) = or_l {a = st || ts} (crossed || alike) (or_l {a = st} ts (or_l {a = inside s (whole t.foot)} (inside s (whole (head t))) (is_inside s (whole t.foot) i)))
+  way-clash (head_in i) = or_l {a = st || ts} (crossed || alike) (or_l {a = st} ts (or_r (inside s (whole t.foot)) (is_inside s (whole (head t)) i)))
+  way-clash (in_foot i) = or_l {a = st || ts} (crossed || alike) (or_r st (or_l {a = inside t (whole s.foot)} (inside t (whole (head s))) (is_inside t (whole s.foot) i)))
+  way-clash (in_head i) = or_l {a = st || ts} (crossed || alike) (or_r st (or_r (inside t (whole s.foot)) (is_inside t (whole (head s)) i)))
   way-clash (across a b) = or_r (st || ts) (or_l {a = crossed} alike (and_both {a = apart s t} {b = apart t s} a b))
   way-clash (equal a b) = or_r (st || ts) (or_r crossed (and_both {a = same (whole s.foot) (whole t.foot)} {b = same (whole (head s)) (whole (head t))} a b))
 
@@ -98,10 +98,10 @@ middle-inside s u = part-inside s u (middle s) 0<2 (pos 1) (pos 2) 0<2 (record {
     half f u = ring (f ∷ u ∷ []) (search reify depth 20) tt
 
 -- an edge is its two ends
-pub ends-equal : (s t : Seg) → same (whole s.foot) (whole t.foot) ≡ true → same (whole (head s)) (whole (head t)) ≡ true → s ≡ t
-ends-equal s t e f =
-    let a : s.foot ≡ t.foot = corner-same s.foot t.foot e in
-    let b : head s ≡ head t = corner-same (head s) (head t) f in
+pub ends_equal : (s t : Seg) → same (whole s.foot) (whole t.foot) ≡ true → same (whole (head s)) (whole (head t)) ≡ true → s ≡ t
+ends_equal s t e f =
+    let a : s.foot ≡ t.foot = corner_same s.foot t.foot e in
+    let b : head s ≡ head t = corner_same (head s) (head t) f in
     λ i. record { foot = a i; up = record { x = go s.foot.x s.up.x t.foot.x t.up.x (λ j. (a j).x) (λ j. (b j).x) i; y = go s.foot.y s.up.y t.foot.y t.up.y (λ j. (a j).y) (λ j. (b j).y) i } }
   where
     go : (f u g v : ℤ) → f ≡ g → f +ℤ u ≡ g +ℤ v → u ≡ v
@@ -109,72 +109,72 @@ ends-equal s t e f =
 
 module _ (s t : Seg) (us : UpV s.up) (ut : UpV t.up) where
   pub clash-share : Clash s t → Share s t
-  clash-share (foot-in i) = record { at = whole t.foot; real = 0<1; first = inside_on s (whole t.foot) i; second = on-foot t ut; no_end = λ a b. end-not-inside s (whole t.foot) a i }
-  clash-share (head_in i) = record { at = whole (head t); real = 0<1; first = inside_on s (whole (head t)) i; second = on-head t ut; no_end = λ a b. end-not-inside s (whole (head t)) a i }
-  clash-share (in-foot i) = record { at = whole s.foot; real = 0<1; first = on-foot s us; second = inside_on t (whole s.foot) i; no_end = λ a b. end-not-inside t (whole s.foot) b i }
-  clash-share (in_head i) = record { at = whole (head s); real = 0<1; first = on-head s us; second = inside_on t (whole (head s)) i; no_end = λ a b. end-not-inside t (whole (head s)) b i }
+  clash-share (foot_in i) = record { at = whole t.foot; real = 0<1; first = inside_on s (whole t.foot) i; second = on_foot t ut; no_end = λ a b. end_not_inside s (whole t.foot) a i }
+  clash-share (head_in i) = record { at = whole (head t); real = 0<1; first = inside_on s (whole (head t)) i; second = on_head t ut; no_end = λ a b. end_not_inside s (whole (head t)) a i }
+  clash-share (in_foot i) = record { at = whole s.foot; real = 0<1; first = on_foot s us; second = inside_on t (whole s.foot) i; no_end = λ a b. end_not_inside t (whole s.foot) b i }
+  clash-share (in_head i) = record { at = whole (head s); real = 0<1; first = on_head s us; second = inside_on t (whole (head s)) i; no_end = λ a b. end_not_inside t (whole (head s)) b i }
   clash-share (across a b) =
       let (q, h, i, j) = apart-inside s t us ut b a in
-      record { at = q; real = h; first = inside_on s q i; second = inside_on t q j; no_end = λ x y. end-not-inside s q x i }
+      record { at = q; real = h; first = inside_on s q i; second = inside_on t q j; no_end = λ x y. end_not_inside s q x i }
   clash-share (equal a b) =
       let i : Inside s (middle s) = middle-inside s us in
       let o : On s (middle s) = inside_on s (middle s) i in
-      record { at = middle s; real = 0<2; first = o; second = subst (λ (x : Seg). On x (middle s)) (ends-equal s t a b) o; no_end = λ x y. end-not-inside s (middle s) x i }
+      record { at = middle s; real = 0<2; first = o; second = subst (λ (x : Seg). On x (middle s)) (ends_equal s t a b) o; no_end = λ x y. end_not_inside s (middle s) x i }
 
   -- ── on one line ──
 
   -- each of the two starts before the other ends
-  module _ (q : Pt) (h : pos 0 <ℤ q.D) (sq : leftBy s q ≡ pos 0) (tq : leftBy t q ≡ pos 0) (z : cross s.up t.up ≡ pos 0) (st : before (whole s.foot) (whole (head t)) ≡ true)
+  module _ (q : Pt) (h : pos 0 <ℤ q.D) (sq : the_left_by s q ≡ pos 0) (tq : the_left_by t q ≡ pos 0) (z : cross s.up t.up ≡ pos 0) (st : before (whole s.foot) (whole (head t)) ≡ true)
       (ts : before (whole t.foot) (whole (head s)) ≡ true) where
-    on-s : (p : Pt) → leftBy t p ≡ pos 0 → leftBy s p ≡ pos 0
-    on-s p e = one_line t s q p ut h z tq sq e
+    on_s : (p : Pt) → the_left_by t p ≡ pos 0 → the_left_by s p ≡ pos 0
+    on_s p e = one_line t s q p ut h z tq sq e
 
-    on-t : (p : Pt) → leftBy s p ≡ pos 0 → leftBy t p ≡ pos 0
-    on-t p e = one_line s t q p us h (cross-swap-0 s.up t.up z) sq tq e
+    on_t : (p : Pt) → the_left_by s p ≡ pos 0 → the_left_by t p ≡ pos 0
+    on_t p e = one_line s t q p us h (cross-swap_0 s.up t.up z) sq tq e
 
     by_heads : same (whole s.foot) (whole t.foot) ≡ true → (a b : Bool) → before (whole (head s)) (whole (head t)) ≡ a → before (whole (head t)) (whole (head s)) ≡ b → Clash s t
-    by_heads e true b f g = in_head (record { line = on-t (whole (head s)) (left-head s); low = ts; high = f })
-    by_heads e false true f g = head_in (record { line = on-s (whole (head t)) (left-head t); low = st; high = g })
+    by_heads e true b f g = in_head (record { line = on_t (whole (head s)) (left_head s); low = ts; high = f })
+    by_heads e false true f g = head_in (record { line = on_s (whole (head t)) (left_head t); low = st; high = g })
     by_heads e false false f g = equal e (neither (whole (head s)) (whole (head t)) f g)
 
-    by-feet : (a b : Bool) → before (whole s.foot) (whole t.foot) ≡ a → before (whole t.foot) (whole s.foot) ≡ b → Clash s t
-    by-feet true b f g = foot-in (record { line = on-s (whole t.foot) (left-foot t); low = f; high = ts })
-    by-feet false true f g = in-foot (record { line = on-t (whole s.foot) (left-foot s); low = g; high = st })
-    by-feet false false f g = by_heads (neither (whole s.foot) (whole t.foot) f g) (before (whole (head s)) (whole (head t))) (before (whole (head t)) (whole (head s))) refl refl
+    by_feet : (a b : Bool) → before (whole s.foot) (whole t.foot) ≡ a → before (whole t.foot) (whole s.foot) ≡ b → Clash s t
+    by_feet true b f g = foot_in (record { line = on_s (whole t.foot) (left_foot t); low = f; high = ts })
+    by_feet false true f g = in_foot (record { line = on_t (whole s.foot) (left_foot s); low = g; high = st })
+    by_feet false false f g = by_heads (neither (whole s.foot) (whole t.foot) f g) (before (whole (head s)) (whole (head t))) (before (whole (head t)) (whole (head s))) refl refl
 
     pub overlap-clash : Clash s t
-    overlap-clash = by-feet (before (whole s.foot) (whole t.foot)) (before (whole t.foot) (whole s.foot)) refl refl
+    overlap-clash = by_feet (before (whole s.foot) (whole t.foot)) (before (whole t.foot) (whole s.foot)) refl refl
 
   -- ── a point strictly inside both ──
 
   module _ (q : Pt) (h : pos 0 <ℤ q.D) (i : Inside s q) (j : Inside t q) where
     -- not parallel
     turned : (cross s.up t.up ≡ pos 0 → ⊥) → Clash s t
-    turned n = across (inside-apart t s ut us q h j i.line (λ z. n (cross-swap-0 t.up s.up z))) (inside-apart s t us ut q h i j.line n)
+    turned n = across (inside-apart t s ut us q h j i.line (λ z. n (cross-swap_0 t.up s.up z))) (inside-apart s t us ut q h i j.line n)
 
-    low-high : (a b : Vec) → before (whole a) q ≡ true → before q (whole b) ≡ true → before (whole a) (whole b) ≡ true
-    low-high a b e f = before-trans (whole a) q (whole b) 0<1 h 0<1 e f
+    low_high : (a b : Vec) → before (whole a) q ≡ true → before q (whole b) ≡ true → before (whole a) (whole b) ≡ true
+    low_high a b e f = before_trans (whole a) q (whole b) 0<1 h 0<1 e f
 
-    both-inside : Clash s t
-    both-inside = go (tri (pos 0) (cross s.up t.up))
+    both_inside : Clash s t
+    both_inside = go (tri (pos 0) (cross s.up t.up))
       where
         go : Tri (pos 0) (cross s.up t.up) → Clash s t
         go (lt l) = turned (λ z. <→≢ l (sym z))
-        go (eq z) = overlap-clash q h i.line j.line (sym z) (low-high s.foot (head t) i.low j.high) (low-high t.foot (head s) j.low i.high)
+        go (eq z) = overlap-clash q h i.line j.line (sym z) (low_high s.foot (head t) i.low j.high) (low_high t.foot (head s) j.low i.high)
         go (gt l) = turned (λ z. <→≢ l z)
 
   pub share-clash : Share s t → Clash s t
-  share-clash p = go (on-where s q p.first) (on-where t q p.second)
+  share-clash p = go (on_where s q p.first) (on_where t q p.second)
     where
       q : Pt
       q = p.at
 
       go : Inside s q ⊎ IsEnd s q → Inside t q ⊎ IsEnd t q → Clash s t
-      go (inl i) (inl j) = both-inside q p.real i j
-      go (inl i) (inr (inl e)) = foot-in (inside-same s q (whole t.foot) p.real 0<1 (same-sym (whole t.foot) q e) i)
-      go (inl i) (inr (inr e)) = head_in (inside-same s q (whole (head t)) p.real 0<1 (same-sym (whole (head t)) q e) i)
-      go (inr (inl e)) (inl j) = in-foot (inside-same t q (whole s.foot) p.real 0<1 (same-sym (whole s.foot) q e) j)
-      go (inr (inr e)) (inl j) = in_head (inside-same t q (whole (head s)) p.real 0<1 (same-sym (whole (head s)) q e) j)
+      go (inl i) (inl j) = both_inside q p.real i j
+      go (inl i) (inr (inl e)) = foot_in (inside_same s q (whole t.foot) p.real 0<1 (same_sym (whole t.foot) q e) i)
+      go (inl i) (inr (inr e)) = head_in (inside_same s q (whole (head t)) p.real 0<1 (same_sym (whole (head t)) q e) i)
+      go (inr (inl e)) (inl j) = in_foot (inside_same t q (whole s.foot) p.real 0<1 (same_sym (whole s.foot) q e) j)
+      go (inr (inr e)) (inl j) = in_head (inside_same t q (whole (head s)) p.real 0<1 (same_sym (whole (head s)) q e) j)
       go (inr a) (inr b) = absurd (p.no_end a b)
 
   -- the test is true exactly if there is such a point

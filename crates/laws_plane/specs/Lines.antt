@@ -1,5 +1,5 @@
 -- The line of an edge s that goes up. `Part s n d p`: p is foot + (n/d)·up. In order: a point on the line is such a point, and such a point on the line (`line-part`, `part-line`); points
--- stand along the edge in point order (`part-before`, `before-part`), so that a point is on the edge exactly where 0 ≤ n ≤ d, and inside it where 0 < n < d; two edges on one
+-- stand along the edge in point order (`part_before`, `before_part`), so that a point is on the edge exactly where 0 ≤ n ≤ d, and inside it where 0 < n < d; two edges on one
 -- line; two lines that are not parallel have one point in common at most. Assumes nothing.
 use Rattle.std.specs.Prelude.{◌≡◌, refl, true, [], ◌∷◌, ℤ, pos, neg_ℤ, ◌+ℤ◌, ◌-ℤ◌, ◌*ℤ◌, ◌≤ℤ◌, ◌<ℤ◌}
 use Rattle.std.proofs.Common.{sym, ap, subst, subst₂, ⊎_elim, arith}
@@ -7,16 +7,16 @@ use Rattle.std.proofs.Math.IntN.{*ℤ_comm, zero-*ℤ}
 use Rattle.exact.specs.Solve.{ring, reify}
 use Rattle.exact.specs.Order.{zomega, sq, Tri, lt, eq, gt, tri, <→≤, ≤-of-≡, ≤→≯, ≤-or-<, 0<-*, 0≤-*, <→0<, 0<→<}
 use Rattle.exact.specs.Mul.{≡-by₁, ≡-by₂, 0<-+, 0<-cancel, zero-cancel}
-use Rattle.exact.specs.Sign.{Sign, isZer}
+use Rattle.exact.specs.Sign.{Sign, is_zer}
 use Rattle.exact.specs.Lowest.{Pt}
 use Rattle.exact.specs.Tests.{clash, not-true}
 use Rattle.exact.specs.Ring.{one-*ℤ, *ℤ-1}
-use Rattle.paper.specs.Plane.{Vec, Seg, cross, head, whole, dir, before, same, towards, leftBy}
-use Rattle.laws_plane.specs.Cone.{above, level, Way, up, nil, down, which, up_by, up-0, up-*, up-factor, up-cancel, UpV, NonZero, up-nonzero}
-use Rattle.laws_plane.specs.Points.{before-up, up-before}
+use Rattle.paper.specs.Plane.{Vec, Seg, cross, head, whole, dir, before, same, towards, the_left_by}
+use Rattle.laws_plane.specs.Cone.{above, level, Way, up, nil, down, which, up_by, up_0, up-*, up_factor, up_cancel, UpV, NonZero, up_nonzero}
+use Rattle.laws_plane.specs.Points.{before_up, up_before}
 use Rattle.laws_plane.specs.Ends.{0<1}
-use Rattle.laws_plane.specs.Angles.{cross-swap-0, parallel-trans}
-use Rattle.laws_plane.specs.Sides.{chord, chord-left}
+use Rattle.laws_plane.specs.Angles.{cross-swap_0, parallel-trans}
+use Rattle.laws_plane.specs.Sides.{chord, chord_left}
 use Rattle.laws_plane.specs.Edges.{On, Inside}
 
 -- ── a part of the way ──
@@ -38,9 +38,9 @@ part-head s = record { at_x = go s.foot.x s.up.x; at_y = go s.foot.y s.up.y }
     go f u = ring (f ∷ u ∷ []) (search reify depth 20) tt
 
 -- it is on the line
-pub part-line : (s : Seg) (n d : ℤ) (p : Pt) → pos 0 <ℤ d → Part s n d p → leftBy s p ≡ pos 0
+pub part-line : (s : Seg) (n d : ℤ) (p : Pt) → pos 0 <ℤ d → Part s n d p → the_left_by s p ≡ pos 0
 part-line s n d p h a =
-    zero-cancel d (leftBy s p) h (≡-by₂ a.at_y s.up.x a.at_x (neg_ℤ s.up.y) (ring (s.foot.x ∷ s.foot.y ∷ s.up.x ∷ s.up.y ∷ n ∷ d ∷ p.X ∷ p.Y ∷ p.D ∷ []) (search reify depth 20) tt))
+    zero-cancel d (the_left_by s p) h (≡-by₂ a.at_y s.up.x a.at_x (neg_ℤ s.up.y) (ring (s.foot.x ∷ s.foot.y ∷ s.up.x ∷ s.up.y ∷ n ∷ d ∷ p.X ∷ p.Y ∷ p.D ∷ []) (search reify depth 20) tt))
 
 -- ── every point of the line is one ──
 
@@ -76,7 +76,7 @@ module _ (s : Seg) (p : Pt) where
   pub denom-pos : UpV s.up → pos 0 <ℤ p.D → pos 0 <ℤ denom
   denom-pos u h = 0<-* (dot-pos s.up u) h
 
-  pub line-part : leftBy s p ≡ pos 0 → Part s numer denom p
+  pub line-part : the_left_by s p ≡ pos 0 → Part s numer denom p
   line-part e = record {
     at_x = ≡-by₁ e (neg_ℤ (s.up.y *ℤ p.D)) (ring (s.foot.x ∷ s.foot.y ∷ s.up.x ∷ s.up.y ∷ p.X ∷ p.Y ∷ p.D ∷ []) (search reify depth 20) tt);
     at_y = ≡-by₁ e (s.up.x *ℤ p.D) (ring (s.foot.x ∷ s.foot.y ∷ s.up.x ∷ s.up.y ∷ p.X ∷ p.Y ∷ p.D ∷ []) (search reify depth 20) tt);
@@ -89,84 +89,84 @@ way-along : (f u n d m e x c y k : ℤ) → x *ℤ d ≡ (f *ℤ d +ℤ n *ℤ u
 way-along f u n d m e x c y k p q = ≡-by₂ q (d *ℤ c) p (neg_ℤ (e *ℤ k)) (ring (f ∷ u ∷ n ∷ d ∷ m ∷ e ∷ x ∷ c ∷ y ∷ k ∷ []) (search reify depth 20) tt)
 
 module _ (s : Seg) (u : UpV s.up) (p q : Pt) (hp : pos 0 <ℤ p.D) (hq : pos 0 <ℤ q.D) (n d m e : ℤ) (hd : pos 0 <ℤ d) (he : pos 0 <ℤ e) (a : Part s n d p) (b : Part s m e q) where
-  way-x : (d *ℤ e) *ℤ (dir p q).x ≡ ((m *ℤ d -ℤ n *ℤ e) *ℤ (p.D *ℤ q.D)) *ℤ s.up.x
-  way-x = way-along s.foot.x s.up.x n d m e p.X p.D q.X q.D a.at_x b.at_x
+  way_x : (d *ℤ e) *ℤ (dir p q).x ≡ ((m *ℤ d -ℤ n *ℤ e) *ℤ (p.D *ℤ q.D)) *ℤ s.up.x
+  way_x = way-along s.foot.x s.up.x n d m e p.X p.D q.X q.D a.at_x b.at_x
 
-  way-y : (d *ℤ e) *ℤ (dir p q).y ≡ ((m *ℤ d -ℤ n *ℤ e) *ℤ (p.D *ℤ q.D)) *ℤ s.up.y
-  way-y = way-along s.foot.y s.up.y n d m e p.Y p.D q.Y q.D a.at_y b.at_y
+  way_y : (d *ℤ e) *ℤ (dir p q).y ≡ ((m *ℤ d -ℤ n *ℤ e) *ℤ (p.D *ℤ q.D)) *ℤ s.up.y
+  way_y = way-along s.foot.y s.up.y n d m e p.Y p.D q.Y q.D a.at_y b.at_y
 
   -- n/d < m/e
-  pub part-before : (n *ℤ e) <ℤ (m *ℤ d) → before p q ≡ true
-  part-before l =
-      up-before p q (up-cancel (d *ℤ e) (dir p q).x (dir p q).y (0<-* hd he)
-      (up_by (sym way-x) (sym way-y) (up-* (0<-* (<→0< {a = n *ℤ e} {b = m *ℤ d} l) (0<-* hp hq)) u)))
+  pub part_before : (n *ℤ e) <ℤ (m *ℤ d) → before p q ≡ true
+  part_before l =
+      up_before p q (up_cancel (d *ℤ e) (dir p q).x (dir p q).y (0<-* hd he)
+      (up_by (sym way_x) (sym way_y) (up-* (0<-* (<→0< {a = n *ℤ e} {b = m *ℤ d} l) (0<-* hp hq)) u)))
 
-  pub before-part : before p q ≡ true → (n *ℤ e) <ℤ (m *ℤ d)
-  before-part f =
+  pub before_part : before p q ≡ true → (n *ℤ e) <ℤ (m *ℤ d)
+  before_part f =
       0<→< (n *ℤ e) (m *ℤ d) (0<-cancel (p.D *ℤ q.D) (m *ℤ d -ℤ n *ℤ e) (0<-* hp hq)
       (subst (λ (z : ℤ). pos 0 <ℤ z) (*ℤ_comm (m *ℤ d -ℤ n *ℤ e) (p.D *ℤ q.D))
-      (up-factor ((m *ℤ d -ℤ n *ℤ e) *ℤ (p.D *ℤ q.D)) u (up_by way-x way-y (up-* (0<-* hd he) (before-up p q f))))))
+      (up_factor ((m *ℤ d -ℤ n *ℤ e) *ℤ (p.D *ℤ q.D)) u (up_by way_x way_y (up-* (0<-* hd he) (before_up p q f))))))
 
 -- ── on the edge exactly from 0 to 1 ──
 
 module _ (s : Seg) (u : UpV s.up) (p : Pt) (hp : pos 0 <ℤ p.D) (n d : ℤ) (hd : pos 0 <ℤ d) (a : Part s n d p) where
-  past-foot : before p (whole s.foot) ≡ true → n <ℤ pos 0
-  past-foot e = subst₂ ◌<ℤ◌ (*ℤ-1 n) (zero-*ℤ d) (before-part s u p (whole s.foot) hp 0<1 n d (pos 0) (pos 1) hd 0<1 a (part-foot s) e)
+  past_foot : before p (whole s.foot) ≡ true → n <ℤ pos 0
+  past_foot e = subst₂ ◌<ℤ◌ (*ℤ-1 n) (zero-*ℤ d) (before_part s u p (whole s.foot) hp 0<1 n d (pos 0) (pos 1) hd 0<1 a (part-foot s) e)
 
-  foot-past : n <ℤ pos 0 → before p (whole s.foot) ≡ true
-  foot-past l = part-before s u p (whole s.foot) hp 0<1 n d (pos 0) (pos 1) hd 0<1 a (part-foot s) (subst₂ ◌<ℤ◌ (sym (*ℤ-1 n)) (sym (zero-*ℤ d)) l)
+  foot_past : n <ℤ pos 0 → before p (whole s.foot) ≡ true
+  foot_past l = part_before s u p (whole s.foot) hp 0<1 n d (pos 0) (pos 1) hd 0<1 a (part-foot s) (subst₂ ◌<ℤ◌ (sym (*ℤ-1 n)) (sym (zero-*ℤ d)) l)
 
-  pub foot-before : before (whole s.foot) p ≡ true → pos 0 <ℤ n
-  foot-before e = subst₂ ◌<ℤ◌ (zero-*ℤ d) (*ℤ-1 n) (before-part s u (whole s.foot) p 0<1 hp (pos 0) (pos 1) n d 0<1 hd (part-foot s) a e)
+  pub foot_before : before (whole s.foot) p ≡ true → pos 0 <ℤ n
+  foot_before e = subst₂ ◌<ℤ◌ (zero-*ℤ d) (*ℤ-1 n) (before_part s u (whole s.foot) p 0<1 hp (pos 0) (pos 1) n d 0<1 hd (part-foot s) a e)
 
-  pub before-foot : pos 0 <ℤ n → before (whole s.foot) p ≡ true
-  before-foot l = part-before s u (whole s.foot) p 0<1 hp (pos 0) (pos 1) n d 0<1 hd (part-foot s) a (subst₂ ◌<ℤ◌ (sym (zero-*ℤ d)) (sym (*ℤ-1 n)) l)
+  pub before_foot : pos 0 <ℤ n → before (whole s.foot) p ≡ true
+  before_foot l = part_before s u (whole s.foot) p 0<1 hp (pos 0) (pos 1) n d 0<1 hd (part-foot s) a (subst₂ ◌<ℤ◌ (sym (zero-*ℤ d)) (sym (*ℤ-1 n)) l)
 
   past_head : before (whole (head s)) p ≡ true → d <ℤ n
-  past_head e = subst₂ ◌<ℤ◌ (one-*ℤ d) (*ℤ-1 n) (before-part s u (whole (head s)) p 0<1 hp (pos 1) (pos 1) n d 0<1 hd (part-head s) a e)
+  past_head e = subst₂ ◌<ℤ◌ (one-*ℤ d) (*ℤ-1 n) (before_part s u (whole (head s)) p 0<1 hp (pos 1) (pos 1) n d 0<1 hd (part-head s) a e)
 
-  head-past : d <ℤ n → before (whole (head s)) p ≡ true
-  head-past l = part-before s u (whole (head s)) p 0<1 hp (pos 1) (pos 1) n d 0<1 hd (part-head s) a (subst₂ ◌<ℤ◌ (sym (one-*ℤ d)) (sym (*ℤ-1 n)) l)
+  head_past : d <ℤ n → before (whole (head s)) p ≡ true
+  head_past l = part_before s u (whole (head s)) p 0<1 hp (pos 1) (pos 1) n d 0<1 hd (part-head s) a (subst₂ ◌<ℤ◌ (sym (one-*ℤ d)) (sym (*ℤ-1 n)) l)
 
-  pub head-before : before p (whole (head s)) ≡ true → n <ℤ d
-  head-before e = subst₂ ◌<ℤ◌ (*ℤ-1 n) (one-*ℤ d) (before-part s u p (whole (head s)) hp 0<1 n d (pos 1) (pos 1) hd 0<1 a (part-head s) e)
+  pub head_before : before p (whole (head s)) ≡ true → n <ℤ d
+  head_before e = subst₂ ◌<ℤ◌ (*ℤ-1 n) (one-*ℤ d) (before_part s u p (whole (head s)) hp 0<1 n d (pos 1) (pos 1) hd 0<1 a (part-head s) e)
 
   pub before_head : n <ℤ d → before p (whole (head s)) ≡ true
-  before_head l = part-before s u p (whole (head s)) hp 0<1 n d (pos 1) (pos 1) hd 0<1 a (part-head s) (subst₂ ◌<ℤ◌ (sym (*ℤ-1 n)) (sym (one-*ℤ d)) l)
+  before_head l = part_before s u p (whole (head s)) hp 0<1 n d (pos 1) (pos 1) hd 0<1 a (part-head s) (subst₂ ◌<ℤ◌ (sym (*ℤ-1 n)) (sym (one-*ℤ d)) l)
 
-  pub part-on : pos 0 ≤ℤ n → n ≤ℤ d → On s p
-  part-on l r = record {
+  pub part_on : pos 0 ≤ℤ n → n ≤ℤ d → On s p
+  part_on l r = record {
     line = part-line s n d p hd a;
-    low = not-true (before p (whole s.foot)) (λ e. ≤→≯ l (past-foot e));
+    low = not-true (before p (whole s.foot)) (λ e. ≤→≯ l (past_foot e));
     high = not-true (before (whole (head s)) p) (λ e. ≤→≯ r (past_head e));
   }
 
-  pub on-part : On s p → (pos 0 ≤ℤ n) × (n ≤ℤ d)
-  on-part o = (
-    ⊎_elim (λ l. l) (λ l. absurd (clash (foot-past l) o.low)) (≤-or-< (pos 0) n),
-    ⊎_elim (λ l. l) (λ l. absurd (clash (head-past l) o.high)) (≤-or-< n d),
+  pub on_part : On s p → (pos 0 ≤ℤ n) × (n ≤ℤ d)
+  on_part o = (
+    ⊎_elim (λ l. l) (λ l. absurd (clash (foot_past l) o.low)) (≤-or-< (pos 0) n),
+    ⊎_elim (λ l. l) (λ l. absurd (clash (head_past l) o.high)) (≤-or-< n d),
   )
 
   pub part-inside : pos 0 <ℤ n → n <ℤ d → Inside s p
-  part-inside l r = record { line = part-line s n d p hd a; low = before-foot l; high = before_head r }
+  part-inside l r = record { line = part-line s n d p hd a; low = before_foot l; high = before_head r }
 
   pub inside-part : Inside s p → (pos 0 <ℤ n) × (n <ℤ d)
-  inside-part o = (foot-before o.low, head-before o.high)
+  inside-part o = (foot_before o.low, head_before o.high)
 
 -- ── two edges ──
 
 -- parallel, with a point in common: on one line
-pub one_line : (s t : Seg) (v q : Pt) → UpV s.up → pos 0 <ℤ v.D → cross t.up s.up ≡ pos 0 → leftBy s v ≡ pos 0 → leftBy t v ≡ pos 0 → leftBy s q ≡ pos 0 → leftBy t q ≡ pos 0
-one_line s t v q u h par sv tv sq = chord-left t v q h tv (parallel-trans t.up s.up (dir v q) (up-nonzero s.up u) par (chord s v q sv sq))
+pub one_line : (s t : Seg) (v q : Pt) → UpV s.up → pos 0 <ℤ v.D → cross t.up s.up ≡ pos 0 → the_left_by s v ≡ pos 0 → the_left_by t v ≡ pos 0 → the_left_by s q ≡ pos 0 → the_left_by t q ≡ pos 0
+one_line s t v q u h par sv tv sq = chord_left t v q h tv (parallel-trans t.up s.up (dir v q) (up_nonzero s.up u) par (chord s v q sv sq))
 
 -- not parallel: one point at most
-pub one-point : (s t : Seg) (p q : Pt) → (cross s.up t.up ≡ pos 0 → ⊥) → leftBy s p ≡ pos 0 → leftBy t p ≡ pos 0 → leftBy s q ≡ pos 0 → leftBy t q ≡ pos 0 → same p q ≡ true
-one-point s t p q n sp tp sq tq = go (which (dir q p).x (dir q p).y)
+pub one_point : (s t : Seg) (p q : Pt) → (cross s.up t.up ≡ pos 0 → ⊥) → the_left_by s p ≡ pos 0 → the_left_by t p ≡ pos 0 → the_left_by s q ≡ pos 0 → the_left_by t q ≡ pos 0 → same p q ≡ true
+one_point s t p q n sp tp sq tq = go (which (dir q p).x (dir q p).y)
   where
     no : NonZero (dir q p) → ⊥
-    no z = n (parallel-trans s.up (dir q p) t.up z (chord s q p sq sp) (cross-swap-0 t.up (dir q p) (chord t q p tq tp)))
+    no z = n (parallel-trans s.up (dir q p) t.up z (chord s q p sq sp) (cross-swap_0 t.up (dir q p) (chord t q p tq tp)))
 
-    go : {k : Sign} → Way (dir q p).x (dir q p).y k → isZer k ≡ true
-    go (up h) = absurd (no (up-nonzero (dir q p) h))
+    go : {k : Sign} → Way (dir q p).x (dir q p).y k → is_zer k ≡ true
+    go (up h) = absurd (no (up_nonzero (dir q p) h))
     go (nil e f) = refl
-    go (down h) = absurd (no (λ e f. up-0 (ap neg_ℤ e) (ap neg_ℤ f) h))
+    go (down h) = absurd (no (λ e f. up_0 (ap neg_ℤ e) (ap neg_ℤ f) h))

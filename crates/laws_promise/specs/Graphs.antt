@@ -1,5 +1,5 @@
 -- The graph that is read from tables which hold a graph of pieces is that graph (`graph_is`), its followers are that graph's (`followers-are`), and so are its walks; a hole walk by the tables' points is a hole walk of the
--- definition (`hole-held`, `is-hole`). Assumes nothing.
+-- definition (`hole-held`, `is_hole`). Assumes nothing.
 use Rattle.std.specs.Prelude.{◌≡◌, refl, ◌<◌, ◌≤◌}
 use Rattle.std.proofs.Common.{sym, ◌∙◌, ap, subst, arith, eq-eqb, eqb-true}
 use Rattle.std.proofs.Math.Decide.{ℕ_discrete}
@@ -8,26 +8,26 @@ use Rattle.seq.specs.Terms.{Among, Best, BestIs}
 use Rattle.seq.specs.Tests.{clash, not-true}
 use Rattle.seq.specs.Table.{table-ext, table_of}
 use Rattle.seq.specs.Position.{among-elem}
-use Rattle.paper.specs.Plane.{whole, nowhere, before, lessAngle}
-use Rattle.paper.specs.Graph.{Graph, no_edge, walk, point, halfCount, edge, origin, start, follower, followers, smallest, leaves, greatestOut}
+use Rattle.paper.specs.Plane.{whole, nowhere, before, less_angle}
+use Rattle.paper.specs.Graph.{Graph, no_edge, walk, point, the_half_count, edge, origin, start, follower, followers, smallest, leaves, greatest_out}
 use Rattle.paper.specs.Map.{Map}
-use Rattle.paper.specs.Pieces.{Piece, carrierOf}
-use Rattle.paper.specs.Faces.{walksOf, leadAt, holeAt}
-use Rattle.paper.specs.Tables.{Counts, Tables, origin_of, followerOf, plusOne}
+use Rattle.paper.specs.Pieces.{Piece, carrier_of}
+use Rattle.paper.specs.Faces.{walks_of, lead_at, hole_at}
+use Rattle.paper.specs.Tables.{Counts, Tables, origin_of, follower_of, the_plus_one}
 use Rattle.laws_graph.specs.Plane.{Plane}
-use Rattle.laws_graph.specs.Follow.{lesser, ranked, greatest-is}
-use Rattle.laws_graph.specs.Walks.{Along, along-below, along-walk, walk-along, lead-along, lead-least, hole-is as hole-at}
-use Rattle.laws_graph.specs.Holes.{smallest-is, smallest-first, smallest-same, hole-makes, makes-best}
-use Rattle.laws_overlay.specs.Sources.{sourceAt}
+use Rattle.laws_graph.specs.Follow.{lesser, ranked, greatest_is}
+use Rattle.laws_graph.specs.Walks.{Along, along_below, along-walk, walk-along, lead-along, lead-least, hole_is as hole_at_lem}
+use Rattle.laws_graph.specs.Holes.{smallest_is, smallest_first, smallest_same, hole-makes, makes-best}
+use Rattle.laws_overlay.specs.Sources.{source_at}
 use Rattle.laws_overlay.specs.Pieces.{piece_at}
-use Rattle.laws_overlay.specs.Net.{edge-is}
-use Rattle.laws_labels.specs.Demand3.{followersIn}
-use Rattle.laws_promise.specs.Defined.{pointAt, wayAt, OnWalk, minusOne, source_of, edgeIn, graphIn, Hole, Least}
+use Rattle.laws_overlay.specs.Net.{edge_is}
+use Rattle.laws_labels.specs.Demand3.{followers_in}
+use Rattle.laws_promise.specs.Defined.{the_point_at, way_at, OnWalk, minus_one, source_of, the_edge_in, graph_in, Hole, Least}
 use Rattle.laws_promise.specs.Rows.{Pieced, Rows}
-use Rattle.laws_promise.specs.Nears.{in-edges, low_end, high_end}
-use Rattle.laws_promise.specs.Ways.{in-net, of-net, from_start, way-less}
+use Rattle.laws_promise.specs.Nears.{in_edges, low_end, high_end}
+use Rattle.laws_promise.specs.Ways.{in_net, of_net, from_start, way_less}
 
-minus_plus : (o : Option ℕ) → minusOne (plusOne o) ≡ o
+minus_plus : (o : Option ℕ) → minus_one (the_plus_one o) ≡ o
 minus_plus none = refl
 minus_plus (some k) = refl
 
@@ -37,115 +37,115 @@ module _ (ms : List Map) (ps : List Piece) (g : Graph) (N : Pieced ms ps g) (c :
 
   -- ── the graph ──
 
-  source-held : (k i : ℕ) → k < c.edges → i < length ms → source_of (length ms) t k i ≡ sourceAt (piece_at (ps) k).sources i
-  source-held k i l b = ap minusOne (H.source-at k i l b) ∙ minus_plus (sourceAt (piece_at ps k).sources i)
+  source-held : (k i : ℕ) → k < c.edges → i < length ms → source_of (length ms) t k i ≡ source_at (piece_at (ps) k).sources i
+  source-held k i l b = ap minus_one (H.source_at_lem k i l b) ∙ minus_plus (source_at (piece_at ps k).sources i)
 
   sources-are : (k : ℕ) → k < c.edges → table (source_of (length ms) t k) (length ms) ≡ (piece_at ps k).sources
   sources-are k l =
-      let w = (N.sourced k (in-edges ms ps g N c t H l)).width in
-      table-ext (source_of (length ms) t k) (sourceAt (piece_at ps k).sources) (length ms) (λ i b. source-held k i l b)
-      ∙ ap (table (sourceAt (piece_at ps k).sources)) (sym w) ∙ table_of (piece_at ps k).sources none
+      let w = (N.sourced k (in_edges ms ps g N c t H l)).width in
+      table-ext (source_of (length ms) t k) (source_at (piece_at ps k).sources) (length ms) (λ i b. source-held k i l b)
+      ∙ ap (table (source_at (piece_at ps k).sources)) (sym w) ∙ table_of (piece_at ps k).sources none
 
-  edge_at : (k : ℕ) → k < c.edges → edgeIn ms t k ≡ edge g k
+  edge_at : (k : ℕ) → k < c.edges → the_edge_in ms t k ≡ edge g k
   edge_at k l =
-      (λ i. record { from = low_end ms ps g N c t H k l i; to = high_end ms ps g N c t H k l i; carrier = carrierOf ms (sources-are k l i) })
-      ∙ sym (N.edge-is k (in-edges ms ps g N c t H l))
+      (λ i. record { from = low_end ms ps g N c t H k l i; to = high_end ms ps g N c t H k l i; carrier = carrier_of ms (sources-are k l i) })
+      ∙ sym (N.edge_is k (in_edges ms ps g N c t H l))
 
-  pub graph_is : graphIn ms c t ≡ g
+  pub graph_is : graph_in ms c t ≡ g
   graph_is = λ i. record {
     points = points i;
     edges = edges i;
   }
     where
-      points : table (pointAt t) c.vertices ≡ g.points
-      points = table-ext (pointAt t) (point g) c.vertices H.point-is ∙ ap (table (point g)) H.vertices-are ∙ table_of g.points (whole nowhere)
+      points : table (the_point_at t) c.vertices ≡ g.points
+      points = table-ext (the_point_at t) (point g) c.vertices H.point_is ∙ ap (table (point g)) H.vertices-are ∙ table_of g.points (whole nowhere)
 
-      edges : table (edgeIn ms t) c.edges ≡ g.edges
-      edges = table-ext (edgeIn ms t) (edge g) c.edges edge_at ∙ ap (table (edge g)) H.edges_are ∙ table_of g.edges no_edge
+      edges : table (the_edge_in ms t) c.edges ≡ g.edges
+      edges = table-ext (the_edge_in ms t) (edge g) c.edges edge_at ∙ ap (table (edge g)) H.edges_are ∙ table_of g.edges no_edge
 
   -- ── walks ──
 
-  followers-are : followersIn c t ≡ followers g
-  followers-are = table-ext (followerOf t) (follower g) (2 * c.edges) H.follower-at ∙ ap (λ (n : ℕ). table (follower g) (2 * n)) H.edges_are
+  followers-are : followers_in c t ≡ followers g
+  followers-are = table-ext (follower_of t) (follower g) (2 * c.edges) H.follower_at_lem ∙ ap (λ (n : ℕ). table (follower g) (2 * n)) H.edges_are
 
   module _ (h : ℕ) (l : h < 2 * c.edges) where
-    lh : h < halfCount g
-    lh = in-net ms ps g N c t H l
+    lh : h < the_half_count g
+    lh = in_net ms ps g N c t H l
 
-    pub on-along : (k : ℕ) → OnWalk c t h k → Along g h k
-    on-along k i = walk-along g P h lh k (subst (λ (nx : List ℕ). Among k (walk nx h)) followers-are i)
+    pub on_along : (k : ℕ) → OnWalk c t h k → Along g h k
+    on_along k i = walk-along g P h lh k (subst (λ (nx : List ℕ). Among k (walk nx h)) followers-are i)
 
-    pub along-on : (k : ℕ) → Along g h k → OnWalk c t h k
-    along-on k a = subst (λ (nx : List ℕ). Among k (walk nx h)) (sym followers-are) (along-walk g P h lh k a)
+    pub along_on : (k : ℕ) → Along g h k → OnWalk c t h k
+    along_on k a = subst (λ (nx : List ℕ). Among k (walk nx h)) (sym followers-are) (along-walk g P h lh k a)
 
     pub on_below : (k : ℕ) → OnWalk c t h k → k < 2 * c.edges
-    on_below k i = of-net ms ps g N c t H (along-below g P lh (on-along k i))
+    on_below k i = of_net ms ps g N c t H (along_below g P lh (on_along k i))
 
     -- the least half-edge of the walk
-    pub least-lead : Least c t h → leadAt (walksOf g) h ≡ h
+    pub least-lead : Least c t h → lead_at (walks_of g) h ≡ h
     least-lead f =
-        let a : h ≤ leadAt (walksOf g) h = f (leadAt (walksOf g) h) (along-on (leadAt (walksOf g) h) (lead-along g P h lh)) in
-        let b : leadAt (walksOf g) h ≤ h = lead-least g P h h lh (0, refl) in
+        let a : h ≤ lead_at (walks_of g) h = f (lead_at (walks_of g) h) (along_on (lead_at (walks_of g) h) (lead-along g P h lh)) in
+        let b : lead_at (walks_of g) h ≤ h = lead-least g P h h lh (0, refl) in
         omega arith
 
-    pub lead-is-least : leadAt (walksOf g) h ≡ h → Least c t h
-    lead-is-least e k i = subst (λ (x : ℕ). x ≤ k) e (lead-least g P h k lh (on-along k i))
+    pub lead_is_least : lead_at (walks_of g) h ≡ h → Least c t h
+    lead_is_least e k i = subst (λ (x : ℕ). x ≤ k) e (lead-least g P h k lh (on_along k i))
 
     -- ── hole walks ──
 
     -- the maker starts at the smallest vertex of the walk
-    pub maker-low : (o : Hole c t h) → smallest g (followers g) h ≡ origin g o.maker
-    maker-low o =
+    pub maker_low : (o : Hole c t h) → smallest g (followers g) h ≡ origin g o.maker
+    maker_low o =
         let m = o.maker in
-        smallest-is g P h lh m (on-along m o.on)
-        (λ j b. let i = along-on j b in sym (λ x. before (from_start ms ps g N c t H j (on_below j i) x) (from_start ms ps g N c t H m (on_below m o.on) x)) ∙ o.smallest j i)
+        smallest_is g P h lh m (on_along m o.on)
+        (λ j b. let i = along_on j b in sym (λ x. before (from_start ms ps g N c t H j (on_below j i) x) (from_start ms ps g N c t H m (on_below m o.on) x)) ∙ o.smallest j i)
 
-    pub hole-held : Hole c t h → holeAt (walksOf g) h ≡ true
+    pub hole-held : Hole c t h → hole_at (walks_of g) h ≡ true
     hole-held o =
         let m = o.maker in
         let lm : m < 2 * c.edges = on_below m o.on in
-        let a = on-along m o.on in
-        hole-at g P h lh ∙ ap (λ (v : ℕ). among (greatestOut g v) (walk (followers g) h)) (maker-low o) ∙ found m lm o.greatest (greatestOut g (origin g m)) refl (along-walk g P h lh m a)
+        let a = on_along m o.on in
+        hole_at_lem g P h lh ∙ ap (λ (v : ℕ). among (greatest_out g v) (walk (followers g) h)) (maker_low o) ∙ found m lm o.greatest (greatest_out g (origin g m)) refl (along-walk g P h lh m a)
       where
-        found : (m : ℕ) → m < 2 * c.edges → ((r : ℕ) → r < 2 * c.edges → origin_of t r ≡ origin_of t m → lessAngle (wayAt t m) (wayAt t r) ≡ false)
-            → (x : Option ℕ) → greatestOut g (origin g m) ≡ x → Among m (walk (followers g) h) → among x (walk (followers g) h) ≡ true
-        found m lm f x e i = go x (subst (BestIs (leaves g (origin g m)) (λ y z. lesser g z y) (halfCount g)) e (greatest-is g P (origin g m)))
+        found : (m : ℕ) → m < 2 * c.edges → ((r : ℕ) → r < 2 * c.edges → origin_of t r ≡ origin_of t m → less_angle (way_at t m) (way_at t r) ≡ false)
+            → (x : Option ℕ) → greatest_out g (origin g m) ≡ x → Among m (walk (followers g) h) → among x (walk (followers g) h) ≡ true
+        found m lm f x e i = go x (subst (BestIs (leaves g (origin g m)) (λ y z. lesser g z y) (the_half_count g)) e (greatest_is g P (origin g m)))
           where
-            go : (x : Option ℕ) → BestIs (leaves g (origin g m)) (λ y z. lesser g z y) (halfCount g) x → among x (walk (followers g) h) ≡ true
-            go none b = absurd (b m (record { below = in-net ms ps g N c t H lm; has = eq-eqb (origin g m) (origin g m) refl }))
+            go : (x : Option ℕ) → BestIs (leaves g (origin g m)) (λ y z. lesser g z y) (the_half_count g) x → among x (walk (followers g) h) ≡ true
+            go none b = absurd (b m (record { below = in_net ms ps g N c t H lm; has = eq-eqb (origin g m) (origin g m) refl }))
             go (some r) b =
                 elim (ℕ_discrete m r) [
                   | yes q ↦ subst (λ (y : ℕ). among (some y) (walk (followers g) h) ≡ true) q (among-elem m (walk (followers g) h) i)
-                  | no q ↦ let lr : r < 2 * c.edges = of-net ms ps g N c t H b.is.below in
-                      absurd (clash (b.beats m (record { below = in-net ms ps g N c t H lm; has = eq-eqb (origin g m) (origin g m) refl }) q)
-                      (sym (way-less ms ps g N c t H m r lm lr) ∙ f r lr (H.origin-at r lr ∙ eqb-true (origin g r) (origin g m) b.is.has ∙ sym (H.origin-at m lm))))
+                  | no q ↦ let lr : r < 2 * c.edges = of_net ms ps g N c t H b.is.below in
+                      absurd (clash (b.beats m (record { below = in_net ms ps g N c t H lm; has = eq-eqb (origin g m) (origin g m) refl }) q)
+                      (sym (way_less ms ps g N c t H m r lm lr) ∙ f r lr (H.origin_at_lem r lr ∙ eqb-true (origin g r) (origin g m) b.is.has ∙ sym (H.origin_at_lem m lm))))
                 ]
 
-    pub is-hole : holeAt (walksOf g) h ≡ true → Hole c t h
-    is-hole e =
-        let (m, a, makes, once) = hole-makes g P h lh (sym (hole-at g P h lh) ∙ e) in
-        let lm : m < 2 * c.edges = of-net ms ps g N c t H (along-below g P lh a) in
+    pub is_hole : hole_at (walks_of g) h ≡ true → Hole c t h
+    is_hole e =
+        let (m, a, makes, once) = hole-makes g P h lh (sym (hole_at_lem g P h lh) ∙ e) in
+        let lm : m < 2 * c.edges = of_net ms ps g N c t H (along_below g P lh a) in
         let b = makes-best g P m makes in
         let out : origin g m ≡ smallest g (followers g) m = eqb-true (origin g m) (smallest g (followers g) m) b.is.has in
         record {
           maker = m;
-          on = along-on m a;
+          on = along_on m a;
           smallest = λ k i.
               (λ x. before (from_start ms ps g N c t H k (on_below k i) x) (from_start ms ps g N c t H m lm x))
-              ∙ ap (λ (v : ℕ). before (start g k) (point g v)) (out ∙ smallest-same g P h m lh a)
-              ∙ smallest-first g P h lh k (on-along k i);
-          greatest = λ r lr o. way-less ms ps g N c t H m r lm lr ∙ greatest m lm b out r lr o;
+              ∙ ap (λ (v : ℕ). before (start g k) (point g v)) (out ∙ smallest_same g P h m lh a)
+              ∙ smallest_first g P h lh k (on_along k i);
+          greatest = λ r lr o. way_less ms ps g N c t H m r lm lr ∙ greatest m lm b out r lr o;
         }
       where
-        greatest : (m : ℕ) → m < 2 * c.edges → Best (leaves g (smallest g (followers g) m)) (λ y z. lesser g z y) (halfCount g) m → origin g m ≡ smallest g (followers g) m
+        greatest : (m : ℕ) → m < 2 * c.edges → Best (leaves g (smallest g (followers g) m)) (λ y z. lesser g z y) (the_half_count g) m → origin g m ≡ smallest g (followers g) m
             → (r : ℕ) → r < 2 * c.edges → origin_of t r ≡ origin_of t m → lesser g m r ≡ false
         greatest m lm b out r lr o =
             elim (ℕ_discrete r m) [
-              | yes q ↦ subst (λ (y : ℕ). lesser g m y ≡ false) (sym q) ((ranked g P).irr m (in-net ms ps g N c t H lm))
-              | no q ↦ let e : origin g r ≡ origin g m = sym (H.origin-at r lr) ∙ o ∙ H.origin-at m lm in
-                  let w : lesser g r m ≡ true = b.beats r (record { below = in-net ms ps g N c t H lr; has = eq-eqb (origin g r) (smallest g (followers g) m) (e ∙ out) }) q in
-                  not-true (lesser g m r) (λ f. clash ((ranked g P).trans m r m (in-net ms ps g N c t H lm) (in-net ms ps g N c t H lr) (in-net ms ps g N c t H lm) (sym e) e f w) ((ranked g P).irr m (in-net ms ps g N c t H lm)))
+              | yes q ↦ subst (λ (y : ℕ). lesser g m y ≡ false) (sym q) ((ranked g P).irr m (in_net ms ps g N c t H lm))
+              | no q ↦ let e : origin g r ≡ origin g m = sym (H.origin_at_lem r lr) ∙ o ∙ H.origin_at_lem m lm in
+                  let w : lesser g r m ≡ true = b.beats r (record { below = in_net ms ps g N c t H lr; has = eq-eqb (origin g r) (smallest g (followers g) m) (e ∙ out) }) q in
+                  not-true (lesser g m r) (λ f. clash ((ranked g P).trans m r m (in_net ms ps g N c t H lm) (in_net ms ps g N c t H lr) (in_net ms ps g N c t H lm) (sym e) e f w) ((ranked g P).irr m (in_net ms ps g N c t H lm)))
             ]
 
-    pub outer-at : (Hole c t h → ⊥) → holeAt (walksOf g) h ≡ false
-    outer-at n = not-true (holeAt (walksOf g) h) (λ e. n (is-hole e))
+    pub outer_at : (Hole c t h → ⊥) → hole_at (walks_of g) h ≡ false
+    outer_at n = not-true (hole_at (walks_of g) h) (λ e. n (is_hole e))

@@ -6,17 +6,17 @@ use Rattle.seq.specs.Seq.{List, Option, none, some, ℕ, suc, ◌+◌, ◌*◌, 
 use Rattle.paper.specs.Graph.{Graph, Edge, edge_count}
 use Rattle.paper.specs.Map.{Map}
 use Rattle.paper.specs.Pieces.{layer, Piece}
-use Rattle.paper.specs.Tables.{Counts, Tables, origin_of, sourceCell, plusOne}
+use Rattle.paper.specs.Tables.{Counts, Tables, origin_of, source_cell, the_plus_one}
 use Rattle.laws_plane.specs.Edges.{On}
-use Rattle.laws_graph.specs.Halves.{origin-first, origin-second}
+use Rattle.laws_graph.specs.Halves.{origin_first, origin-second}
 use Rattle.laws_map.specs.Keeps.{seg}
 use Rattle.laws_overlay.specs.Links.{Runs}
-use Rattle.laws_overlay.specs.Sources.{sourceAt}
+use Rattle.laws_overlay.specs.Sources.{source_at}
 use Rattle.laws_overlay.specs.Pieces.{Sourced, piece_at}
 use Rattle.laws_promise.specs.Defined.{Near}
 use Rattle.laws_promise.specs.Rows.{Pieced, Rows}
 
-plus_one : (o : Option ℕ) (j : ℕ) → plusOne o ≡ suc j → o ≡ some j
+plus_one : (o : Option ℕ) (j : ℕ) → the_plus_one o ≡ suc j → o ≡ some j
 plus_one none j e = absurd (omega arith)
 plus_one (some k) j e = ap some (omega arith)
 
@@ -27,16 +27,16 @@ module _ (ms : List Map) (ps : List Piece) (g : Graph) (N : Pieced ms ps g) (c :
   counted : {v : ℕ} → v < length g.points → v < c.vertices
   counted {v} = subst (λ (n : ℕ). v < n) (sym H.vertices-are)
 
-  pub in-edges : {k : ℕ} → k < c.edges → k < edge_count g
-  in-edges {k} = subst (λ (n : ℕ). k < n) H.edges_are
+  pub in_edges : {k : ℕ} → k < c.edges → k < edge_count g
+  in_edges {k} = subst (λ (n : ℕ). k < n) H.edges_are
 
   -- ── the ends of edge k ──
 
   pub low_end : (k : ℕ) → k < c.edges → origin_of t (2 * k) ≡ (piece_at ps k).lo
-  low_end k l = H.origin-at (2 * k) (omega arith) ∙ origin-first k g ∙ ap (λ (e : Edge). e.from) (N.edge-is k (in-edges l))
+  low_end k l = H.origin_at_lem (2 * k) (omega arith) ∙ origin_first k g ∙ ap (λ (e : Edge). e.from) (N.edge_is k (in_edges l))
 
   pub high_end : (k : ℕ) → k < c.edges → origin_of t (2 * k + 1) ≡ (piece_at ps k).hi
-  high_end k l = H.origin-at (2 * k + 1) (omega arith) ∙ origin-second k g ∙ ap (λ (e : Edge). e.to) (N.edge-is k (in-edges l))
+  high_end k l = H.origin_at_lem (2 * k + 1) (omega arith) ∙ origin-second k g ∙ ap (λ (e : Edge). e.to) (N.edge_is k (in_edges l))
 
   -- ── neighbours, by the tables and by the definition ──
 
@@ -49,9 +49,9 @@ module _ (ms : List Map) (ps : List Piece) (g : Graph) (N : Pieced ms ps g) (c :
         of_map = r.of_map;
         rises = n.rises;
         below = b;
-        on-low = subst (On (seg (layer ms i) k)) (sym (H.point-is u (omega (arith, n.rises)))) n.on-lo;
-        on-high = subst (On (seg (layer ms i) k)) (sym (H.point-is v b)) n.on-hi;
-        none_between = λ w x y o. n.none w x y (subst (On (seg (layer ms i) k)) (H.point-is w (omega arith)) o);
+        on_low = subst (On (seg (layer ms i) k)) (sym (H.point_is u (omega (arith, n.rises)))) n.on_lo;
+        on_high = subst (On (seg (layer ms i) k)) (sym (H.point_is v b)) n.on_hi;
+        none_between = λ w x y o. n.none w x y (subst (On (seg (layer ms i) k)) (H.point_is w (omega arith)) o);
       }
 
   pub near-runs : (i k u v : ℕ) → Near ms c t i k u v → Runs ms g.points i k u v
@@ -61,35 +61,35 @@ module _ (ms : List Map) (ps : List Piece) (g : Graph) (N : Pieced ms ps g) (c :
     near = record {
       rises = n.rises;
       below = below n.below;
-      on-lo = subst (On (seg (layer ms i) k)) (H.point-is u (omega (arith, n.rises, n.below))) n.on-low;
-      on-hi = subst (On (seg (layer ms i) k)) (H.point-is v n.below) n.on-high;
-      none = λ w x y o. n.none_between w x y (subst (On (seg (layer ms i) k)) (sym (H.point-is w (omega (arith, n.below)))) o);
+      on_lo = subst (On (seg (layer ms i) k)) (H.point_is u (omega (arith, n.rises, n.below))) n.on_low;
+      on_hi = subst (On (seg (layer ms i) k)) (H.point_is v n.below) n.on_high;
+      none = λ w x y o. n.none_between w x y (subst (On (seg (layer ms i) k)) (sym (H.point_is w (omega (arith, n.below)))) o);
     };
   }
 
   module _ (k : ℕ) (l : k < c.edges) where
     piece-sourced : Sourced ms g.points (piece_at ps k)
-    piece-sourced = N.sourced k (in-edges l)
+    piece-sourced = N.sourced k (in_edges l)
 
     pub lo-hi : (piece_at ps k).lo < (piece_at ps k).hi
     lo-hi = let (i, j, e) = piece-sourced.one in (piece-sourced.from i j e).near.rises
 
     -- of its ends
-    to-near : (i j : ℕ) → Runs ms g.points i j (piece_at ps k).lo (piece_at ps k).hi → Near ms c t i j (origin_of t (2 * k)) (origin_of t (2 * k + 1))
-    to-near i j r =
+    to_near : (i j : ℕ) → Runs ms g.points i j (piece_at ps k).lo (piece_at ps k).hi → Near ms c t i j (origin_of t (2 * k)) (origin_of t (2 * k + 1))
+    to_near i j r =
         subst (λ (u : ℕ). Near ms c t i j u (origin_of t (2 * k + 1))) (sym (low_end k l))
         (subst (λ (v : ℕ). Near ms c t i j (piece_at ps k).lo v) (sym (high_end k l)) (runs-near i j (piece_at ps k).lo (piece_at ps k).hi r))
 
-    of-near : (i j : ℕ) → Near ms c t i j (origin_of t (2 * k)) (origin_of t (2 * k + 1)) → Runs ms g.points i j (piece_at ps k).lo (piece_at ps k).hi
-    of-near i j n =
+    of_near : (i j : ℕ) → Near ms c t i j (origin_of t (2 * k)) (origin_of t (2 * k + 1)) → Runs ms g.points i j (piece_at ps k).lo (piece_at ps k).hi
+    of_near i j n =
         near-runs i j (piece_at ps k).lo (piece_at ps k).hi
         (subst (λ (u : ℕ). Near ms c t i j u (piece_at ps k).hi) (low_end k l) (subst (λ (v : ℕ). Near ms c t i j (origin_of t (2 * k)) v) (high_end k l) n))
 
-    pub has-source : (i : ℕ) × (j : ℕ) × Near ms c t i j (origin_of t (2 * k)) (origin_of t (2 * k + 1))
-    has-source = let (i, j, e) = piece-sourced.one in (i, j, to-near i j (piece-sourced.from i j e))
+    pub has_source_lem : (i : ℕ) × (j : ℕ) × Near ms c t i j (origin_of t (2 * k)) (origin_of t (2 * k + 1))
+    has_source_lem = let (i, j, e) = piece-sourced.one in (i, j, to_near i j (piece-sourced.from i j e))
 
-    pub cell-near : (i j : ℕ) → i < length ms → sourceCell (length ms) t k i ≡ suc j → Near ms c t i j (origin_of t (2 * k)) (origin_of t (2 * k + 1))
-    cell-near i j b e = to-near i j (piece-sourced.from i j (plus_one (sourceAt (piece_at ps k).sources i) j (sym (H.source-at k i l b) ∙ e)))
+    pub cell-near : (i j : ℕ) → i < length ms → source_cell (length ms) t k i ≡ suc j → Near ms c t i j (origin_of t (2 * k)) (origin_of t (2 * k + 1))
+    cell-near i j b e = to_near i j (piece-sourced.from i j (plus_one (source_at (piece_at ps k).sources i) j (sym (H.source_at_lem k i l b) ∙ e)))
 
-    pub near-cell : (i j : ℕ) → Near ms c t i j (origin_of t (2 * k)) (origin_of t (2 * k + 1)) → sourceCell (length ms) t k i ≡ suc j
-    near-cell i j n = H.source-at k i l n.in_list ∙ ap plusOne (piece-sourced.all i j (of-near i j n))
+    pub near-cell : (i j : ℕ) → Near ms c t i j (origin_of t (2 * k)) (origin_of t (2 * k + 1)) → source_cell (length ms) t k i ≡ suc j
+    near-cell i j n = H.source_at_lem k i l n.in_list ∙ ap the_plus_one (piece-sourced.all i j (of_near i j n))

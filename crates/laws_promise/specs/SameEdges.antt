@@ -6,16 +6,16 @@ use Rattle.seq.specs.Seq.{Bool, true, false, cond, ◌&&◌, ◌||◌, List, ℕ
 use Rattle.seq.specs.Tests.{clash}
 use Rattle.seq.specs.Table.{table-ext}
 use Rattle.seq.specs.SameRows.{same_count, same_at}
-use Rattle.paper.specs.Plane.{Pt, Vec, dir, before, lessAngle}
+use Rattle.paper.specs.Plane.{Pt, Vec, dir, before, less_angle}
 use Rattle.paper.specs.Map.{Map}
-use Rattle.paper.specs.Pieces.{layer, carrierOf}
-use Rattle.paper.specs.Tables.{Counts, Tables, vertexCell, origin_of, twinOf, followerOf, predecessorOf, sourceCell}
-use Rattle.laws_plane.specs.Points.{before-asym}
+use Rattle.paper.specs.Pieces.{layer, carrier_of}
+use Rattle.paper.specs.Tables.{Counts, Tables, vertex_cell, origin_of, twin_of, follower_of, predecessor_of, source_cell}
+use Rattle.laws_plane.specs.Points.{before_asym}
 use Rattle.laws_plane.specs.Edges.{On}
 use Rattle.laws_graph.specs.Halves.{Which, first, second, which}
 use Rattle.laws_map.specs.Keeps.{seg}
-use Rattle.laws_labels.specs.Demand3.{followersIn}
-use Rattle.laws_promise.specs.Defined.{pointAt, fromAt, wayAt, minusOne, source_of, edgeIn, graphIn, VertexRows, Near, EdgeRows, clockwiseBetween, HalfRows}
+use Rattle.laws_labels.specs.Demand3.{followers_in}
+use Rattle.laws_promise.specs.Defined.{the_point_at, the_from_at, way_at, minus_one, source_of, the_edge_in, graph_in, VertexRows, Near, EdgeRows, clockwise_between, HalfRows}
 
 -- ── point order, and the order of pairs ──
 
@@ -23,7 +23,7 @@ abbrev Comes : Pt → Pt → Type 0
 Comes p q = before p q ≡ true
 
 comes-asym : (p q : Pt) → Comes p q → Comes q p → ⊥
-comes-asym p q e f = clash f (before-asym p q e)
+comes-asym p q e f = clash f (before_asym p q e)
 
 abbrev Pair : Type 0
 Pair = ℕ × ℕ
@@ -40,22 +40,22 @@ sooner-asym p q (inr (e, a)) (inr (f, b)) = omega arith
 -- ── the first clockwise is one ──
 
 -- b is the first clockwise from a, and so is x: neither is before the other
-between-not : (ba bx xa : Bool) → cond ba (bx && xa) (xa || bx) ≡ false → (ba ≡ true → bx ≡ true → xa ≡ false) × (ba ≡ false → (xa ≡ false) × (bx ≡ false))
-between-not true true xa e = ((λ p q. e), λ p. absurd (clash refl p))
-between-not true false xa e = ((λ p q. absurd (clash q refl)), λ p. absurd (clash refl p))
-between-not false bx true e = absurd (clash refl e)
-between-not false true false e = absurd (clash refl e)
-between-not false false false e = ((λ p q. absurd (clash p refl)), λ p. (refl, refl))
+between_not : (ba bx xa : Bool) → cond ba (bx && xa) (xa || bx) ≡ false → (ba ≡ true → bx ≡ true → xa ≡ false) × (ba ≡ false → (xa ≡ false) × (bx ≡ false))
+between_not true true xa e = ((λ p q. e), λ p. absurd (clash refl p))
+between_not true false xa e = ((λ p q. absurd (clash q refl)), λ p. absurd (clash refl p))
+between_not false bx true e = absurd (clash refl e)
+between_not false true false e = absurd (clash refl e)
+between_not false false false e = ((λ p q. absurd (clash p refl)), λ p. (refl, refl))
 
-first-less : (a b x : Vec) → clockwiseBetween a b x ≡ false → clockwiseBetween a x b ≡ false → lessAngle b x ≡ true → ⊥
-first-less a b x e f l =
-    let p = between-not (lessAngle b a) (lessAngle b x) (lessAngle x a) e in
-    let q = between-not (lessAngle x a) (lessAngle x b) (lessAngle b a) f in
-    go (lessAngle b a) (lessAngle x a) refl refl p q
+first_less : (a b x : Vec) → clockwise_between a b x ≡ false → clockwise_between a x b ≡ false → less_angle b x ≡ true → ⊥
+first_less a b x e f l =
+    let p = between_not (less_angle b a) (less_angle b x) (less_angle x a) e in
+    let q = between_not (less_angle x a) (less_angle x b) (less_angle b a) f in
+    go (less_angle b a) (less_angle x a) refl refl p q
   where
-    go : (s r : Bool) → lessAngle b a ≡ s → lessAngle x a ≡ r
-        → (lessAngle b a ≡ true → lessAngle b x ≡ true → lessAngle x a ≡ false) × (lessAngle b a ≡ false → (lessAngle x a ≡ false) × (lessAngle b x ≡ false))
-        → (lessAngle x a ≡ true → lessAngle x b ≡ true → lessAngle b a ≡ false) × (lessAngle x a ≡ false → (lessAngle b a ≡ false) × (lessAngle x b ≡ false)) → ⊥
+    go : (s r : Bool) → less_angle b a ≡ s → less_angle x a ≡ r
+        → (less_angle b a ≡ true → less_angle b x ≡ true → less_angle x a ≡ false) × (less_angle b a ≡ false → (less_angle x a ≡ false) × (less_angle b x ≡ false))
+        → (less_angle x a ≡ true → less_angle x b ≡ true → less_angle b a ≡ false) × (less_angle x a ≡ false → (less_angle b a ≡ false) × (less_angle x b ≡ false)) → ⊥
     go false r u v p q = clash l (p.1 u).1
     go true true u v p q = clash v (p.0 u l)
     go true false u v p q = clash u (q.1 v).0
@@ -63,38 +63,38 @@ first-less a b x e f l =
 module _ (ms : List Map) (c : Counts) (t : Tables) (X : VertexRows ms c t) (E : EdgeRows ms c t) (S : HalfRows c t) (d : Counts) (u : Tables) (W : VertexRows ms d u) (F : EdgeRows ms d u) (R : HalfRows d u) where
   -- ── vertices ──
 
-  pub vertices-same : c.vertices ≡ d.vertices
-  vertices-same = same_count Comes comes-asym c.vertices d.vertices (pointAt t) (pointAt u) X.in_order W.in_order
-      (λ v l. W.vertex-there (pointAt t v) (X.vertex-is v l)) (λ v l. X.vertex-there (pointAt u v) (W.vertex-is v l))
+  pub vertices_same : c.vertices ≡ d.vertices
+  vertices_same = same_count Comes comes-asym c.vertices d.vertices (the_point_at t) (the_point_at u) X.in_order W.in_order
+      (λ v l. W.vertex-there (the_point_at t v) (X.vertex_is v l)) (λ v l. X.vertex-there (the_point_at u v) (W.vertex_is v l))
 
-  pub point-same : (v : ℕ) → v < c.vertices → pointAt t v ≡ pointAt u v
-  point-same = same_at Comes comes-asym c.vertices d.vertices (pointAt t) (pointAt u) X.in_order W.in_order
-      (λ v l. W.vertex-there (pointAt t v) (X.vertex-is v l)) (λ v l. X.vertex-there (pointAt u v) (W.vertex-is v l))
+  pub point_same : (v : ℕ) → v < c.vertices → the_point_at t v ≡ the_point_at u v
+  point_same = same_at Comes comes-asym c.vertices d.vertices (the_point_at t) (the_point_at u) X.in_order W.in_order
+      (λ v l. W.vertex-there (the_point_at t v) (X.vertex_is v l)) (λ v l. X.vertex-there (the_point_at u v) (W.vertex_is v l))
 
   -- ── neighbours ──
 
-  pub near-to : (i k x y : ℕ) → Near ms c t i k x y → Near ms d u i k x y
-  near-to i k x y n = record {
+  pub near_to : (i k x y : ℕ) → Near ms c t i k x y → Near ms d u i k x y
+  near_to i k x y n = record {
     in_list = n.in_list;
     of_map = n.of_map;
     rises = n.rises;
-    below = subst (λ (z : ℕ). y < z) vertices-same n.below;
-    on-low = subst (On (seg (layer ms i) k)) (point-same x (omega (arith, n.rises, n.below))) n.on-low;
-    on-high = subst (On (seg (layer ms i) k)) (point-same y n.below) n.on-high;
-    none_between = λ w a b o. n.none_between w a b (subst (On (seg (layer ms i) k)) (sym (point-same w (omega (arith, n.below)))) o);
+    below = subst (λ (z : ℕ). y < z) vertices_same n.below;
+    on_low = subst (On (seg (layer ms i) k)) (point_same x (omega (arith, n.rises, n.below))) n.on_low;
+    on_high = subst (On (seg (layer ms i) k)) (point_same y n.below) n.on_high;
+    none_between = λ w a b o. n.none_between w a b (subst (On (seg (layer ms i) k)) (sym (point_same w (omega (arith, n.below)))) o);
   }
 
-  pub near-back : (i k x y : ℕ) → Near ms d u i k x y → Near ms c t i k x y
-  near-back i k x y n =
-      let b : y < c.vertices = subst (λ (z : ℕ). y < z) (sym vertices-same) n.below in
+  pub near_back : (i k x y : ℕ) → Near ms d u i k x y → Near ms c t i k x y
+  near_back i k x y n =
+      let b : y < c.vertices = subst (λ (z : ℕ). y < z) (sym vertices_same) n.below in
       record {
         in_list = n.in_list;
         of_map = n.of_map;
         rises = n.rises;
         below = b;
-        on-low = subst (On (seg (layer ms i) k)) (sym (point-same x (omega (arith, n.rises)))) n.on-low;
-        on-high = subst (On (seg (layer ms i) k)) (sym (point-same y b)) n.on-high;
-        none_between = λ w p q o. n.none_between w p q (subst (On (seg (layer ms i) k)) (point-same w (omega arith)) o);
+        on_low = subst (On (seg (layer ms i) k)) (sym (point_same x (omega (arith, n.rises)))) n.on_low;
+        on_high = subst (On (seg (layer ms i) k)) (sym (point_same y b)) n.on_high;
+        none_between = λ w p q o. n.none_between w p q (subst (On (seg (layer ms i) k)) (point_same w (omega arith)) o);
       }
 
   -- ── edges ──
@@ -102,34 +102,34 @@ module _ (ms : List Map) (c : Counts) (t : Tables) (X : VertexRows ms c t) (E : 
   abbrev ends : Tables → ℕ → Pair
   ends x k = (origin_of x (2 * k), origin_of x (2 * k + 1))
 
-  edges-to : (k : ℕ) → k < c.edges → (r : ℕ) × (r < d.edges) × (ends u r ≡ ends t k)
-  edges-to k l =
-      let (i, j, n) = E.edge-is k l in
-      let (r, b, x, y) = F.edge-there i j (origin_of t (2 * k)) (origin_of t (2 * k + 1)) (near-to i j (origin_of t (2 * k)) (origin_of t (2 * k + 1)) n) in
+  edges_to : (k : ℕ) → k < c.edges → (r : ℕ) × (r < d.edges) × (ends u r ≡ ends t k)
+  edges_to k l =
+      let (i, j, n) = E.edge_is k l in
+      let (r, b, x, y) = F.edge-there i j (origin_of t (2 * k)) (origin_of t (2 * k + 1)) (near_to i j (origin_of t (2 * k)) (origin_of t (2 * k + 1)) n) in
       (r, b, λ z. (x z, y z))
 
-  edges-back : (k : ℕ) → k < d.edges → (r : ℕ) × (r < c.edges) × (ends t r ≡ ends u k)
-  edges-back k l =
-      let (i, j, n) = F.edge-is k l in
-      let (r, b, x, y) = E.edge-there i j (origin_of u (2 * k)) (origin_of u (2 * k + 1)) (near-back i j (origin_of u (2 * k)) (origin_of u (2 * k + 1)) n) in
+  edges_back : (k : ℕ) → k < d.edges → (r : ℕ) × (r < c.edges) × (ends t r ≡ ends u k)
+  edges_back k l =
+      let (i, j, n) = F.edge_is k l in
+      let (r, b, x, y) = E.edge-there i j (origin_of u (2 * k)) (origin_of u (2 * k + 1)) (near_back i j (origin_of u (2 * k)) (origin_of u (2 * k + 1)) n) in
       (r, b, λ z. (x z, y z))
 
   pub edges-agree : c.edges ≡ d.edges
-  edges-agree = same_count Sooner sooner-asym c.edges d.edges (ends t) (ends u) E.sorted F.sorted edges-to edges-back
+  edges-agree = same_count Sooner sooner-asym c.edges d.edges (ends t) (ends u) E.sorted F.sorted edges_to edges_back
 
   ends_same : (k : ℕ) → k < c.edges → ends t k ≡ ends u k
-  ends_same = same_at Sooner sooner-asym c.edges d.edges (ends t) (ends u) E.sorted F.sorted edges-to edges-back
+  ends_same = same_at Sooner sooner-asym c.edges d.edges (ends t) (ends u) E.sorted F.sorted edges_to edges_back
 
-  to-d : {k : ℕ} → k < c.edges → k < d.edges
-  to-d {k} = subst (λ (z : ℕ). k < z) edges-agree
+  to_d : {k : ℕ} → k < c.edges → k < d.edges
+  to_d {k} = subst (λ (z : ℕ). k < z) edges-agree
 
-  pub half-d : {h : ℕ} → h < 2 * c.edges → h < 2 * d.edges
-  half-d {h} = subst (λ (z : ℕ). h < 2 * z) edges-agree
+  pub half_d : {h : ℕ} → h < 2 * c.edges → h < 2 * d.edges
+  half_d {h} = subst (λ (z : ℕ). h < 2 * z) edges-agree
 
   -- ── sources ──
 
-  pub source-same : (k i : ℕ) → k < c.edges → i < length ms → sourceCell (length ms) t k i ≡ sourceCell (length ms) u k i
-  source-same k i l b = go (sourceCell (length ms) t k i) (sourceCell (length ms) u k i) refl refl
+  pub source_same : (k i : ℕ) → k < c.edges → i < length ms → source_cell (length ms) t k i ≡ source_cell (length ms) u k i
+  source_same k i l b = go (source_cell (length ms) t k i) (source_cell (length ms) u k i) refl refl
     where
       lo : origin_of t (2 * k) ≡ origin_of u (2 * k)
       lo = ap (λ (p : Pair). p.0) (ends_same k l)
@@ -137,50 +137,50 @@ module _ (ms : List Map) (c : Counts) (t : Tables) (X : VertexRows ms c t) (E : 
       hi : origin_of t (2 * k + 1) ≡ origin_of u (2 * k + 1)
       hi = ap (λ (p : Pair). p.1) (ends_same k l)
 
-      to : (j : ℕ) → sourceCell (length ms) t k i ≡ suc j → sourceCell (length ms) u k i ≡ suc j
+      to : (j : ℕ) → source_cell (length ms) t k i ≡ suc j → source_cell (length ms) u k i ≡ suc j
       to j e =
-          F.source-there k i j (to-d l)
+          F.source-there k i j (to_d l)
           (subst (λ (x : ℕ). Near ms d u i j x (origin_of u (2 * k + 1))) lo (subst (λ (y : ℕ). Near ms d u i j (origin_of t (2 * k)) y) hi
-          (near-to i j (origin_of t (2 * k)) (origin_of t (2 * k + 1)) (E.source_is k i j l b e))))
+          (near_to i j (origin_of t (2 * k)) (origin_of t (2 * k + 1)) (E.source_is k i j l b e))))
 
-      back : (j : ℕ) → sourceCell (length ms) u k i ≡ suc j → sourceCell (length ms) t k i ≡ suc j
+      back : (j : ℕ) → source_cell (length ms) u k i ≡ suc j → source_cell (length ms) t k i ≡ suc j
       back j e =
           E.source-there k i j l
           (subst (λ (x : ℕ). Near ms c t i j x (origin_of t (2 * k + 1))) (sym lo) (subst (λ (y : ℕ). Near ms c t i j (origin_of u (2 * k)) y) (sym hi)
-          (near-back i j (origin_of u (2 * k)) (origin_of u (2 * k + 1)) (F.source_is k i j (to-d l) b e))))
+          (near_back i j (origin_of u (2 * k)) (origin_of u (2 * k + 1)) (F.source_is k i j (to_d l) b e))))
 
-      go : (x y : ℕ) → sourceCell (length ms) t k i ≡ x → sourceCell (length ms) u k i ≡ y → x ≡ y
+      go : (x y : ℕ) → source_cell (length ms) t k i ≡ x → source_cell (length ms) u k i ≡ y → x ≡ y
       go (suc j) y e f = sym (to j e) ∙ f
       go zero (suc j) e f = sym e ∙ back j f
       go zero zero e f = refl
 
   -- ── half-edges ──
 
-  by-half : (Q : ℕ → Type 0) → ((k : ℕ) → k < c.edges → Q (2 * k)) → ((k : ℕ) → k < c.edges → Q (2 * k + 1)) → (h : ℕ) → h < 2 * c.edges → Q h
-  by-half Q a b h l = go (which h)
+  by_half : (Q : ℕ → Type 0) → ((k : ℕ) → k < c.edges → Q (2 * k)) → ((k : ℕ) → k < c.edges → Q (2 * k + 1)) → (h : ℕ) → h < 2 * c.edges → Q h
+  by_half Q a b h l = go (which h)
     where
       go : Which h → Q h
       go (first e) = subst Q (sym e) (a (h / 2) (omega arith))
       go (second e) = subst Q (sym e) (b (h / 2) (omega arith))
 
   pub origin-agrees : (h : ℕ) → h < 2 * c.edges → origin_of t h ≡ origin_of u h
-  origin-agrees = by-half (λ h. origin_of t h ≡ origin_of u h) (λ k l. ap (λ (p : Pair). p.0) (ends_same k l)) (λ k l. ap (λ (p : Pair). p.1) (ends_same k l))
+  origin-agrees = by_half (λ h. origin_of t h ≡ origin_of u h) (λ k l. ap (λ (p : Pair). p.0) (ends_same k l)) (λ k l. ap (λ (p : Pair). p.1) (ends_same k l))
 
-  pub twin-same : (h : ℕ) → h < 2 * c.edges → twinOf t h ≡ twinOf u h
-  twin-same = by-half (λ h. twinOf t h ≡ twinOf u h) (λ k l. S.twin-first k l ∙ sym (R.twin-first k (to-d l))) (λ k l. S.twin-second k l ∙ sym (R.twin-second k (to-d l)))
+  pub twin_same : (h : ℕ) → h < 2 * c.edges → twin_of t h ≡ twin_of u h
+  twin_same = by_half (λ h. twin_of t h ≡ twin_of u h) (λ k l. S.twin_first k l ∙ sym (R.twin_first k (to_d l))) (λ k l. S.twin-second k l ∙ sym (R.twin-second k (to_d l)))
 
-  twin-below : (h : ℕ) → h < 2 * c.edges → twinOf t h < 2 * c.edges
-  twin-below = by-half (λ h. twinOf t h < 2 * c.edges) (λ k l. omega (arith, S.twin-first k l)) (λ k l. omega (arith, S.twin-second k l))
+  twin_below : (h : ℕ) → h < 2 * c.edges → twin_of t h < 2 * c.edges
+  twin_below = by_half (λ h. twin_of t h < 2 * c.edges) (λ k l. omega (arith, S.twin_first k l)) (λ k l. omega (arith, S.twin-second k l))
 
-  pub from-same : (h : ℕ) → h < 2 * c.edges → fromAt t h ≡ fromAt u h
-  from-same h l = point-same (origin_of t h) (S.origin-below h l) ∙ ap (pointAt u) (origin-agrees h l)
+  pub from_same : (h : ℕ) → h < 2 * c.edges → the_from_at t h ≡ the_from_at u h
+  from_same h l = point_same (origin_of t h) (S.origin_below h l) ∙ ap (the_point_at u) (origin-agrees h l)
 
-  pub way_same : (h : ℕ) → h < 2 * c.edges → wayAt t h ≡ wayAt u h
-  way_same h l = λ i. dir (from-same h l i) ((from-same (twinOf t h) (twin-below h l) ∙ ap (fromAt u) (twin-same h l)) i)
+  pub way_same : (h : ℕ) → h < 2 * c.edges → way_at t h ≡ way_at u h
+  way_same h l = λ i. dir (from_same h l i) ((from_same (twin_of t h) (twin_below h l) ∙ ap (the_from_at u) (twin_same h l)) i)
 
   -- ── followers ──
 
-  pub follower-agrees : (h : ℕ) → h < 2 * c.edges → followerOf t h ≡ followerOf u h
+  pub follower-agrees : (h : ℕ) → h < 2 * c.edges → follower_of t h ≡ follower_of u h
   follower-agrees h l =
       elim (ℕ_discrete x y) [
         | yes e ↦ e
@@ -188,82 +188,82 @@ module _ (ms : List Map) (c : Counts) (t : Tables) (X : VertexRows ms c t) (E : 
       ]
     where
       x : ℕ
-      x = followerOf t h
+      x = follower_of t h
 
       y : ℕ
-      y = followerOf u h
+      y = follower_of u h
 
       lx : x < 2 * c.edges
-      lx = S.follower-below h l
+      lx = S.follower_below h l
 
       ly : y < 2 * c.edges
-      ly = subst (λ (z : ℕ). y < 2 * z) (sym edges-agree) (R.follower-below h (half-d l))
+      ly = subst (λ (z : ℕ). y < 2 * z) (sym edges-agree) (R.follower_below h (half_d l))
 
       a : ℕ
-      a = twinOf t h
+      a = twin_of t h
 
       la : a < 2 * c.edges
-      la = twin-below h l
+      la = twin_below h l
 
-      x-at : origin_of t x ≡ origin_of t a
-      x-at = S.follows h l
+      x_at : origin_of t x ≡ origin_of t a
+      x_at = S.follows h l
 
-      y-at : origin_of t y ≡ origin_of t a
-      y-at = origin-agrees y ly ∙ R.follows h (half-d l) ∙ ap (origin_of u) (sym (twin-same h l)) ∙ sym (origin-agrees a la)
+      y_at : origin_of t y ≡ origin_of t a
+      y_at = origin-agrees y ly ∙ R.follows h (half_d l) ∙ ap (origin_of u) (sym (twin_same h l)) ∙ sym (origin-agrees a la)
 
       together : origin_of t x ≡ origin_of t y
-      together = x-at ∙ sym y-at
+      together = x_at ∙ sym y_at
 
       -- y is not between the twin and x, nor x between the twin and y
-      xy : clockwiseBetween (wayAt t a) (wayAt t x) (wayAt t y) ≡ false
-      xy = S.first-clockwise h y l ly y-at
+      xy : clockwise_between (way_at t a) (way_at t x) (way_at t y) ≡ false
+      xy = S.first_clockwise h y l ly y_at
 
-      yx : clockwiseBetween (wayAt t a) (wayAt t y) (wayAt t x) ≡ false
+      yx : clockwise_between (way_at t a) (way_at t y) (way_at t x) ≡ false
       yx =
-          (λ i. clockwiseBetween ((way_same a la ∙ ap (wayAt u) (twin-same h l)) i) (way_same y ly i) (way_same x lx i))
-          ∙ R.first-clockwise h x (half-d l) (half-d lx) (sym (origin-agrees x lx) ∙ x-at ∙ origin-agrees a la ∙ ap (origin_of u) (twin-same h l))
+          (λ i. clockwise_between ((way_same a la ∙ ap (way_at u) (twin_same h l)) i) (way_same y ly i) (way_same x lx i))
+          ∙ R.first_clockwise h x (half_d l) (half_d lx) (sym (origin-agrees x lx) ∙ x_at ∙ origin-agrees a la ∙ ap (origin_of u) (twin_same h l))
 
-      go : (lessAngle (wayAt t x) (wayAt t y) ≡ true) ⊎ (lessAngle (wayAt t y) (wayAt t x) ≡ true) → ⊥
-      go (inl e) = first-less (wayAt t a) (wayAt t x) (wayAt t y) xy yx e
-      go (inr e) = first-less (wayAt t a) (wayAt t y) (wayAt t x) yx xy e
+      go : (less_angle (way_at t x) (way_at t y) ≡ true) ⊎ (less_angle (way_at t y) (way_at t x) ≡ true) → ⊥
+      go (inl e) = first_less (way_at t a) (way_at t x) (way_at t y) xy yx e
+      go (inr e) = first_less (way_at t a) (way_at t y) (way_at t x) yx xy e
 
-  pub predecessor-same : (h : ℕ) → h < 2 * c.edges → predecessorOf t h ≡ predecessorOf u h
-  predecessor-same h l =
-      let p = predecessorOf t h in
-      let lp = S.predecessor-below h l in
-      sym (R.back p (half-d lp)) ∙ ap (predecessorOf u) (sym (follower-agrees p lp) ∙ S.forth h l)
+  pub predecessor_same : (h : ℕ) → h < 2 * c.edges → predecessor_of t h ≡ predecessor_of u h
+  predecessor_same h l =
+      let p = predecessor_of t h in
+      let lp = S.predecessor_below h l in
+      sym (R.back p (half_d lp)) ∙ ap (predecessor_of u) (sym (follower-agrees p lp) ∙ S.forth h l)
 
-  pub followers-agree : followersIn c t ≡ followersIn d u
-  followers-agree = table-ext (followerOf t) (followerOf u) (2 * c.edges) follower-agrees ∙ ap (λ (n : ℕ). table (followerOf u) (2 * n)) edges-agree
+  pub followers-agree : followers_in c t ≡ followers_in d u
+  followers-agree = table-ext (follower_of t) (follower_of u) (2 * c.edges) follower-agrees ∙ ap (λ (n : ℕ). table (follower_of u) (2 * n)) edges-agree
 
   -- ── the graph ──
 
-  sources-same : (k i : ℕ) → k < c.edges → i < length ms → source_of (length ms) t k i ≡ source_of (length ms) u k i
-  sources-same k i l b = ap minusOne (source-same k i l b)
+  sources_same : (k i : ℕ) → k < c.edges → i < length ms → source_of (length ms) t k i ≡ source_of (length ms) u k i
+  sources_same k i l b = ap minus_one (source_same k i l b)
 
-  pub graph_same : graphIn ms c t ≡ graphIn ms d u
+  pub graph_same : graph_in ms c t ≡ graph_in ms d u
   graph_same = λ i. record { points = points i; edges = edges i }
     where
-      points : table (pointAt t) c.vertices ≡ table (pointAt u) d.vertices
-      points = table-ext (pointAt t) (pointAt u) c.vertices point-same ∙ ap (table (pointAt u)) vertices-same
+      points : table (the_point_at t) c.vertices ≡ table (the_point_at u) d.vertices
+      points = table-ext (the_point_at t) (the_point_at u) c.vertices point_same ∙ ap (table (the_point_at u)) vertices_same
 
-      edges : table (edgeIn ms t) c.edges ≡ table (edgeIn ms u) d.edges
+      edges : table (the_edge_in ms t) c.edges ≡ table (the_edge_in ms u) d.edges
       edges =
-          table-ext (edgeIn ms t) (edgeIn ms u) c.edges (λ k l. λ i. record {
+          table-ext (the_edge_in ms t) (the_edge_in ms u) c.edges (λ k l. λ i. record {
             from = (ends_same k l i).0;
             to = (ends_same k l i).1;
-            carrier = carrierOf ms (table-ext (source_of (length ms) t k) (source_of (length ms) u k) (length ms) (λ j b. sources-same k j l b) i);
+            carrier = carrier_of ms (table-ext (source_of (length ms) t k) (source_of (length ms) u k) (length ms) (λ j b. sources_same k j l b) i);
           })
-          ∙ ap (table (edgeIn ms u)) edges-agree
+          ∙ ap (table (the_edge_in ms u)) edges-agree
 
   -- ── a vertex's least outgoing half-edge ──
 
-  pub out-same : (v : ℕ) → v < c.vertices → vertexCell t v 3 ≡ vertexCell u v 3
-  out-same v l =
-      let (h, e, b, o, m) = X.least-out v l in
-      let (r, f, b', o', m') = W.least-out v (subst (λ (z : ℕ). v < z) vertices-same l) in
+  pub out_same : (v : ℕ) → v < c.vertices → vertex_cell t v 3 ≡ vertex_cell u v 3
+  out_same v l =
+      let (h, e, b, o, m) = X.least_out v l in
+      let (r, f, b', o', m') = W.least_out v (subst (λ (z : ℕ). v < z) vertices_same l) in
       let lr : r < 2 * c.edges = subst (λ (z : ℕ). r < 2 * z) (sym edges-agree) b' in
       let x : h ≤ r = m r lr (origin-agrees r lr ∙ o') in
-      let y : r ≤ h = m' h (half-d b) (sym (origin-agrees h b) ∙ o) in
+      let y : r ≤ h = m' h (half_d b) (sym (origin-agrees h b) ∙ o) in
       let q : h ≡ r = omega arith in
       e ∙ ap pos q ∙ sym f

@@ -1,15 +1,15 @@
--- Which refusal is given: of a list of rules the first that is broken. In order: a list that gives none, rule by rule (`nothing`, `is-nothing`); one rule (`given-none`, `least-none-is`, and
--- back); lists put together; what every refusal of a list keeps (`first-keeps`); tables of rules; a refusal of a map; what an answer says of the refusal. Assumes nothing.
+-- Which refusal is given: of a list of rules the first that is broken. In order: a list that gives none, rule by rule (`nothing`, `is_nothing`); one rule (`given_none`, `least_none_is`, and
+-- back); lists put together; what every refusal of a list keeps (`first_keeps`); tables of rules; a refusal of a map; what an answer says of the refusal. Assumes nothing.
 use Rattle.std.specs.Prelude.{◌≡◌, refl, ◌⊎◌, ◌<◌}
 use Rattle.std.proofs.Common.{sym, ◌∙◌, ap, subst, inl, inr, not-suc-le-zero, arith}
 use Rattle.std.proofs.Math.Decide.{ℕ_discrete}
-use Rattle.seq.specs.Seq.{Bool, true, false, List, [], ◌∷◌, ◌++◌, Option, none, some, ℕ, zero, suc, least, someBelow, table}
+use Rattle.seq.specs.Seq.{Bool, true, false, List, [], ◌∷◌, ◌++◌, Option, none, some, ℕ, zero, suc, least, the_some_below, table}
 use Rattle.seq.specs.Terms.{Every}
-use Rattle.seq.specs.Least.{no-some, no-some-is}
-use Rattle.paper.specs.Refusal.{Refusal, done, refused, beside, given, first_at, first_of, ofMap, answer}
+use Rattle.seq.specs.Least.{no_some, no_some_is}
+use Rattle.paper.specs.Refusal.{Refusal, done, refused, beside, given, first_at, first_of, the_of_map, answer}
 
-pub no-refusal : {r : Refusal} → some r ≡ none → ⊥
-no-refusal e = let z : ◌≡◌ {A = ℕ} 0 1 = cc in omega arith
+pub no_refusal : {r : Refusal} → some r ≡ none → ⊥
+no_refusal e = let z : ◌≡◌ {A = ℕ} 0 1 = cc in omega arith
 
 -- ── a list that gives none ──
 
@@ -20,40 +20,40 @@ Nothing rs = Every (λ r. r ≡ none) rs
 pub nothing : (rs : List (Option Refusal)) → first_of rs ≡ none → Nothing rs
 nothing [] e = tt
 nothing (none ∷ rs) e = (refl, nothing rs e)
-nothing (some r ∷ rs) e = absurd (no-refusal e)
+nothing (some r ∷ rs) e = absurd (no_refusal e)
 
-pub is-nothing : (rs : List (Option Refusal)) → Nothing rs → first_of rs ≡ none
-is-nothing [] n = refl
-is-nothing (none ∷ rs) n = is-nothing rs n.1
-is-nothing (some r ∷ rs) n = n.0
+pub is_nothing : (rs : List (Option Refusal)) → Nothing rs → first_of rs ≡ none
+is_nothing [] n = refl
+is_nothing (none ∷ rs) n = is_nothing rs n.1
+is_nothing (some r ∷ rs) n = n.0
 
 -- ── one rule ──
 
 pub beside_none : (r k j : ℕ) (b : Bool) → beside r k j b ≡ none → b ≡ false
-beside_none r k j true e = absurd (no-refusal e)
+beside_none r k j true e = absurd (no_refusal e)
 beside_none r k j false e = refl
 
 pub none_beside : (r k j : ℕ) (b : Bool) → b ≡ false → beside r k j b ≡ none
 none_beside r k j b e = rw e
 
-pub given-none : (r k : ℕ) (b : Bool) → given r k b ≡ none → b ≡ false
-given-none r k = beside_none r k 0
+pub given_none : (r k : ℕ) (b : Bool) → given r k b ≡ none → b ≡ false
+given_none r k = beside_none r k 0
 
-pub none-given : (r k : ℕ) (b : Bool) → b ≡ false → given r k b ≡ none
-none-given r k = none_beside r k 0
+pub none_given : (r k : ℕ) (b : Bool) → b ≡ false → given r k b ≡ none
+none_given r k = none_beside r k 0
 
 -- no number below n has the property; with j beside the place
-pub none_below : (r k j : ℕ) (p : ℕ → Bool) (n : ℕ) → beside r k j (someBelow p n) ≡ none → (i : ℕ) → i < n → p i ≡ false
-none_below r k j p n e = no-some-is p n (beside_none r k j (someBelow p n) e)
+pub none_below : (r k j : ℕ) (p : ℕ → Bool) (n : ℕ) → beside r k j (the_some_below p n) ≡ none → (i : ℕ) → i < n → p i ≡ false
+none_below r k j p n e = no_some_is p n (beside_none r k j (the_some_below p n) e)
 
-pub below_none : (r k j : ℕ) (p : ℕ → Bool) (n : ℕ) → ((i : ℕ) → i < n → p i ≡ false) → beside r k j (someBelow p n) ≡ none
-below_none r k j p n f = none_beside r k j (someBelow p n) (no-some p n f)
+pub below_none : (r k j : ℕ) (p : ℕ → Bool) (n : ℕ) → ((i : ℕ) → i < n → p i ≡ false) → beside r k j (the_some_below p n) ≡ none
+below_none r k j p n f = none_beside r k j (the_some_below p n) (no_some p n f)
 
-pub least-none-is : (r : ℕ) (p : ℕ → Bool) (n : ℕ) → first_at r p n ≡ none → (k : ℕ) → k < n → p k ≡ false
-least-none-is r p n = none_below r (least p n) 0 p n
+pub least_none_is : (r : ℕ) (p : ℕ → Bool) (n : ℕ) → first_at r p n ≡ none → (k : ℕ) → k < n → p k ≡ false
+least_none_is r p n = none_below r (least p n) 0 p n
 
-pub none-least : (r : ℕ) (p : ℕ → Bool) (n : ℕ) → ((k : ℕ) → k < n → p k ≡ false) → first_at r p n ≡ none
-none-least r p n = below_none r (least p n) 0 p n
+pub none_least : (r : ℕ) (p : ℕ → Bool) (n : ℕ) → ((k : ℕ) → k < n → p k ≡ false) → first_at r p n ≡ none
+none_least r p n = below_none r (least p n) 0 p n
 
 -- ── lists put together ──
 
@@ -62,13 +62,13 @@ first_one none = refl
 first_one (some r) = refl
 
 -- a list that gives nothing leaves it to the next, and one that gives a refusal is the end
-pub first-none : (xs ys : List (Option Refusal)) → first_of xs ≡ none → first_of (xs ++ ys) ≡ first_of ys
-first-none [] ys e = refl
-first-none (none ∷ xs) ys e = first-none xs ys e
-first-none (some r ∷ xs) ys e = absurd (no-refusal e)
+pub first_none : (xs ys : List (Option Refusal)) → first_of xs ≡ none → first_of (xs ++ ys) ≡ first_of ys
+first_none [] ys e = refl
+first_none (none ∷ xs) ys e = first_none xs ys e
+first_none (some r ∷ xs) ys e = absurd (no_refusal e)
 
 pub first_some : (xs ys : List (Option Refusal)) {r : Refusal} → first_of xs ≡ some r → first_of (xs ++ ys) ≡ some r
-first_some [] ys e = absurd (no-refusal (sym e))
+first_some [] ys e = absurd (no_refusal (sym e))
 first_some (none ∷ xs) ys e = first_some xs ys e
 first_some (some q ∷ xs) ys e = e
 
@@ -91,8 +91,8 @@ pub first_step : (n k : ℕ) (b : Bool) (rs : List (Option Refusal)) (r : Refusa
     → ((b ≡ true) × (r ≡ record { number = n; map = 0; place = k; other = 0 })) ⊎ ((b ≡ false) × (first_of rs ≡ some r))
 first_step n k = beside-step n k 0
 
-pub first-later : (n k : ℕ) (b : Bool) (rs : List (Option Refusal)) (r : Refusal) → (r.number ≡ n → ⊥) → first_of (given n k b ∷ rs) ≡ some r → (b ≡ false) × (first_of rs ≡ some r)
-first-later n k = beside-later n k 0
+pub first_later : (n k : ℕ) (b : Bool) (rs : List (Option Refusal)) (r : Refusal) → (r.number ≡ n → ⊥) → first_of (given n k b ∷ rs) ≡ some r → (b ≡ false) × (first_of rs ≡ some r)
+first_later n k = beside-later n k 0
 
 -- ── what every refusal of a list keeps ──
 
@@ -109,33 +109,33 @@ module _ (P : Refusal → Type 0) where
   beside-keeps n k j true p = record { by = p }
   beside-keeps n k j false p = record { by = tt }
 
-  pub first-keeps : (rs : List (Option Refusal)) → Every (Keeps P) rs → Keeps P (first_of rs)
-  first-keeps [] h = record { by = tt }
-  first-keeps (none ∷ rs) h = first-keeps rs h.1
-  first-keeps (some r ∷ rs) h = h.0
+  pub first_keeps : (rs : List (Option Refusal)) → Every (Keeps P) rs → Keeps P (first_of rs)
+  first_keeps [] h = record { by = tt }
+  first_keeps (none ∷ rs) h = first_keeps rs h.1
+  first_keeps (some r ∷ rs) h = h.0
 
-  pub keeps-some : (f : Option Refusal) (r : Refusal) → Keeps P f → f ≡ some r → P r
-  keeps-some none r h e = absurd (no-refusal (sym e))
-  keeps-some (some x) r h e = let q : x ≡ r = cc in subst P q h.by
+  pub keeps_some : (f : Option Refusal) (r : Refusal) → Keeps P f → f ≡ some r → P r
+  keeps_some none r h e = absurd (no_refusal (sym e))
+  keeps_some (some x) r h e = let q : x ≡ r = cc in subst P q h.by
 
 -- of a table: none, or the one of least number
-pub first-table-none : (f : ℕ → Option Refusal) (n : ℕ) → ((i : ℕ) → i < n → f i ≡ none) → first_of (table f n) ≡ none
-first-table-none f zero h = refl
-first-table-none f (suc n) h = first-none (table f n) (f n ∷ []) (first-table-none f n (λ i l. h i (omega arith))) ∙ first_one (f n) ∙ h n (omega arith)
+pub first_table_none : (f : ℕ → Option Refusal) (n : ℕ) → ((i : ℕ) → i < n → f i ≡ none) → first_of (table f n) ≡ none
+first_table_none f zero h = refl
+first_table_none f (suc n) h = first_none (table f n) (f n ∷ []) (first_table_none f n (λ i l. h i (omega arith))) ∙ first_one (f n) ∙ h n (omega arith)
 
-pub first-table : (f : ℕ → Option Refusal) (n i : ℕ) (r : Refusal) → i < n → ((j : ℕ) → j < i → f j ≡ none) → f i ≡ some r → first_of (table f n) ≡ some r
-first-table f zero i r l h e = absurd (not-suc-le-zero l)
-first-table f (suc n) i r l h e =
+pub first_table : (f : ℕ → Option Refusal) (n i : ℕ) (r : Refusal) → i < n → ((j : ℕ) → j < i → f j ≡ none) → f i ≡ some r → first_of (table f n) ≡ some r
+first_table f zero i r l h e = absurd (not-suc-le-zero l)
+first_table f (suc n) i r l h e =
     elim (ℕ_discrete i n) [
-      | yes q ↦ first-none (table f n) (f n ∷ []) (first-table-none f n (λ j k. h j (omega arith))) ∙ first_one (f n) ∙ ap f (sym q) ∙ e
-      | no q ↦ first_some (table f n) (f n ∷ []) (first-table f n i r (omega arith) h e)
+      | yes q ↦ first_none (table f n) (f n ∷ []) (first_table_none f n (λ j k. h j (omega arith))) ∙ first_one (f n) ∙ ap f (sym q) ∙ e
+      | no q ↦ first_some (table f n) (f n ∷ []) (first_table f n i r (omega arith) h e)
     ]
 
 -- ── of a map, and in an answer ──
 
-pub of_none : (i : ℕ) (r : Option Refusal) → ofMap i r ≡ none → r ≡ none
+pub of_none : (i : ℕ) (r : Option Refusal) → the_of_map i r ≡ none → r ≡ none
 of_none i none e = refl
-of_none i (some r) e = absurd (no-refusal e)
+of_none i (some r) e = absurd (no_refusal e)
 
 -- done is with what is answered where nothing is refused
 pub done_none : {A : Type 0} (a b : A) (r : Option Refusal) → answer a r ≡ done b → (r ≡ none) × (a ≡ b)
@@ -143,6 +143,6 @@ done_none a b none e = (refl, cc)
 done_none a b (some r) e = absurd (let z : ◌≡◌ {A = ℕ} 0 1 = cc in omega arith)
 
 -- refused is with the refusal that is given
-pub refused-some : {A : Type 0} (a : A) (x : Refusal) (r : Option Refusal) → answer a r ≡ refused x → r ≡ some x
-refused-some a x none e = absurd (let z : ◌≡◌ {A = ℕ} 0 1 = cc in omega arith)
-refused-some a x (some r) e = cc
+pub refused_some : {A : Type 0} (a : A) (x : Refusal) (r : Option Refusal) → answer a r ≡ refused x → r ≡ some x
+refused_some a x none e = absurd (let z : ◌≡◌ {A = ℕ} 0 1 = cc in omega arith)
+refused_some a x (some r) e = cc

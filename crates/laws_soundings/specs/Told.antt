@@ -9,20 +9,20 @@ use Rattle.seq.specs.Seq.{List, [], ◌∷◌, ◌++◌, map, Option, none, ℕ,
 use Rattle.seq.specs.Terms.{Every, Ordered}
 use Rattle.seq.specs.Table.{length-table, table_is, table-ext}
 use Rattle.paper.specs.Refusal.{Refusal, given, first_of, done}
-use Rattle.paper.specs.Map.{Map, mapOf}
-use Rattle.paper.specs.Overlay.{mapFaults}
-use Rattle.paper.specs.Soundings.{Entry, lesser, tally, cell_of, cells, soundingsIn, soundingAt, listFaults, entryRoom, labelRows, times, counted, soundings, readIn, Cells, CountRoom, Counted}
+use Rattle.paper.specs.Map.{Map, map_of}
+use Rattle.paper.specs.Overlay.{map_faults}
+use Rattle.paper.specs.Soundings.{Entry, lesser, tally, cell_of, cells, soundings_in, sounding_at, list_faults, entry_room, label_rows, times, counted, soundings, read_in, Cells, CountRoom, Counted}
 use Rattle.laws_refusals.specs.Refusals.{done_none}
-use Rattle.laws_soundings.specs.Tally.{Long, from-long, total, timesOf, occurs, tally-times, tally-ordered}
-use Rattle.laws_soundings.specs.Soundings.{counts-add-up}
-use Rattle.laws_soundings.specs.Reads.{edgesOf, reads-most}
+use Rattle.laws_soundings.specs.Tally.{Long, from_long, total, times_of, occurs, tally-times, tally-ordered}
+use Rattle.laws_soundings.specs.Soundings.{counts-add_up}
+use Rattle.laws_soundings.specs.Reads.{edges_of, reads-most}
 
 -- the entry in row r: n labels, and how often they occur; those in the first k rows
-abbrev pub rowEntry : ℕ → List ℕ → List ℕ → ℕ → Entry
-rowEntry n ls cs r = record { labels = table (cell 0 n ls r) n; times = get_or cs r 0 }
+abbrev pub row_entry : ℕ → List ℕ → List ℕ → ℕ → Entry
+row_entry n ls cs r = record { labels = table (cell 0 n ls r) n; times = get_or cs r 0 }
 
-abbrev pub rowEntries : ℕ → List ℕ → List ℕ → ℕ → List Entry
-rowEntries n ls cs k = table (rowEntry n ls cs) k
+abbrev pub row_entries : ℕ → List ℕ → List ℕ → ℕ → List Entry
+row_entries n ls cs k = table (row_entry n ls cs) k
 
 -- ── rows read back ──
 
@@ -40,18 +40,18 @@ module _ (n : ℕ) (zs ws : List ℕ) where
       table-ext (cell 0 n (xs ++ r) (suc i)) (cell 0 n r i) n
       (λ j q. let k : n * suc i + j ≡ length xs + (n * i + j) = omega (arith, mul-suc n i) in ap (λ (m : ℕ). get_or (xs ++ r) m 0) k ∙ get_or-append-add xs r (n * i + j) 0)
 
-  row_back : (t : List Entry) → Every (Long n) t → (i : ℕ) → i < length t → rowEntry n (labelRows t ++ zs) (times t ++ ws) i ≡ get_or t i nothing
+  row_back : (t : List Entry) → Every (Long n) t → (i : ℕ) → i < length t → row_entry n (label_rows t ++ zs) (times t ++ ws) i ≡ get_or t i nothing
   row_back [] h i l = absurd (omega arith)
   row_back (e ∷ es) h zero l =
-      let a = append_assoc e.labels (labelRows es) zs in
-      λ p. record { labels = (ap (λ (x : List ℕ). table (cell 0 n x 0) n) a ∙ row_first e.labels (labelRows es ++ zs) h.0) p; times = e.times }
+      let a = append_assoc e.labels (label_rows es) zs in
+      λ p. record { labels = (ap (λ (x : List ℕ). table (cell 0 n x 0) n) a ∙ row_first e.labels (label_rows es ++ zs) h.0) p; times = e.times }
   row_back (e ∷ es) h (suc i) l =
-      let a = append_assoc e.labels (labelRows es) zs in
-      (λ p. record { labels = (ap (λ (x : List ℕ). table (cell 0 n x (suc i)) n) a ∙ row_next e.labels (labelRows es ++ zs) i h.0) p; times = get_or (times es ++ ws) i 0 })
+      let a = append_assoc e.labels (label_rows es) zs in
+      (λ p. record { labels = (ap (λ (x : List ℕ). table (cell 0 n x (suc i)) n) a ∙ row_next e.labels (label_rows es ++ zs) i h.0) p; times = get_or (times es ++ ws) i 0 })
       ∙ row_back es h.1 i (omega arith)
 
-  rows_back : (t : List Entry) → Every (Long n) t → rowEntries n (labelRows t ++ zs) (times t ++ ws) (length t) ≡ t
-  rows_back t h = sym (table_is (rowEntry n (labelRows t ++ zs) (times t ++ ws)) (length t) t nothing refl (λ i l. sym (row_back t h i l)))
+  rows_back : (t : List Entry) → Every (Long n) t → row_entries n (label_rows t ++ zs) (times t ++ ws) (length t) ≡ t
+  rows_back t h = sym (table_is (row_entry n (label_rows t ++ zs) (times t ++ ws)) (length t) t nothing refl (λ i l. sym (row_back t h i l)))
 
 -- ── the labels of soundings ──
 
@@ -65,16 +65,16 @@ every-table P f (suc n) h = every-++ P (table f n) (f n ∷ []) (every-table P f
 
 module _ (files : List (List ℕ)) (s : List ℕ) where
   abbrev ms : List Map
-  ms = map mapOf files
+  ms = map map_of files
 
-  cell-long : (i : ℕ) → length (cell_of ms (soundingAt s i)) ≡ length files
-  cell-long i = length-table _ (length ms) ∙ length-map files mapOf
+  cell_long : (i : ℕ) → length (cell_of ms (sounding_at s i)) ≡ length files
+  cell_long i = length-table _ (length ms) ∙ length-map files map_of
 
-  cells-long : Every (λ x. length x ≡ length files) (cells ms s)
-  cells-long = every-table (λ x. length x ≡ length files) (λ i. cell_of ms (soundingAt s i)) (soundingsIn s) cell-long
+  cells_long : Every (λ x. length x ≡ length files) (cells ms s)
+  cells_long = every-table (λ x. length x ≡ length files) (λ i. cell_of ms (sounding_at s i)) (soundings_in s) cell_long
 
-  tally-long : Every (Long (length files)) (tally (cells ms s))
-  tally-long = from-long (length files) [] (cells ms s) tt cells-long
+  tally_long : Every (Long (length files)) (tally (cells ms s))
+  tally_long = from_long (length files) [] (cells ms s) tt cells_long
 
   -- ── what is told where it is done ──
 
@@ -86,39 +86,39 @@ module _ (files : List (List ℕ)) (s : List ℕ) where
     t = tally (cells ms s)
 
     abbrev faults : Option Refusal
-    faults = first_of (mapFaults files ++ (listFaults s ++ (given 11 6 (ltb (entryRoom (length files) l) (length t)) ∷ [])))
+    faults = first_of (map_faults files ++ (list_faults s ++ (given 11 6 (ltb (entry_room (length files) l) (length t)) ∷ [])))
 
-    is-done : (faults ≡ none) × (record { entries = length t; soundings = soundingsIn s; read = readIn ms s } ≡ c)
+    is_done : (faults ≡ none) × (record { entries = length t; soundings = soundings_in s; read = read_in ms s } ≡ c)
     unfolding soundings
-    is-done = done_none (record { entries = length t; soundings = soundingsIn s; read = readIn ms s }) c faults e
+    is_done = done_none (record { entries = length t; soundings = soundings_in s; read = read_in ms s }) c faults e
 
-    tables-are : (o.labels ≡ labelRows t ++ replicate (l.labels - length (labelRows t)) 0) × (o.counts ≡ times t ++ replicate (l.counts - length (times t)) 0)
+    tables-are : (o.labels ≡ label_rows t ++ replicate (l.labels - length (label_rows t)) 0) × (o.counts ≡ times t ++ replicate (l.counts - length (times t)) 0)
     unfolding soundings
-    tables-are = let r = ap (counted l (record { entries = length t; soundings = soundingsIn s; read = readIn ms s }) t) is-done.0 in (ap (λ (x : Counted). x.labels) r, ap (λ (x : Counted). x.counts) r)
+    tables-are = let r = ap (counted l (record { entries = length t; soundings = soundings_in s; read = read_in ms s }) t) is_done.0 in (ap (λ (x : Counted). x.labels) r, ap (λ (x : Counted). x.counts) r)
 
-    pub told-soundings : c.soundings ≡ soundingsIn s
-    told-soundings = sym (ap (λ (x : Cells). x.soundings) is-done.1)
+    pub told-soundings : c.soundings ≡ soundings_in s
+    told-soundings = sym (ap (λ (x : Cells). x.soundings) is_done.1)
 
     -- "The program prints the sum over all soundings and both maps" (02, Ask 8), and it has a ceiling: all edges for each sounding
-    pub told-read : c.read ≡ readIn ms s
-    told-read = sym (ap (λ (x : Cells). x.read) is-done.1)
+    pub told-read : c.read ≡ read_in ms s
+    told-read = sym (ap (λ (x : Cells). x.read) is_done.1)
 
-    pub told-ceiling : c.read ≤ edgesOf ms * c.soundings
-    told-ceiling = subst (λ (n : ℕ). c.read ≤ edgesOf ms * n) (sym told-soundings) (subst (λ (r : ℕ). r ≤ edgesOf ms * soundingsIn s) (sym told-read) (reads-most ms s))
+    pub told-ceiling : c.read ≤ edges_of ms * c.soundings
+    told-ceiling = subst (λ (n : ℕ). c.read ≤ edges_of ms * n) (sym told-soundings) (subst (λ (r : ℕ). r ≤ edges_of ms * soundings_in s) (sym told-read) (reads-most ms s))
 
-    pub told_entries : rowEntries (length files) o.labels o.counts c.entries ≡ t
+    pub told_entries : row_entries (length files) o.labels o.counts c.entries ≡ t
     told_entries =
-        (λ i. rowEntries (length files) (tables-are.0 i) (tables-are.1 i) (ap (λ (x : Cells). x.entries) (sym is-done.1) i))
-        ∙ rows_back (length files) (replicate (l.labels - length (labelRows t)) 0) (replicate (l.counts - length (times t)) 0) t tally-long
+        (λ i. row_entries (length files) (tables-are.0 i) (tables-are.1 i) (ap (λ (x : Cells). x.entries) (sym is_done.1) i))
+        ∙ rows_back (length files) (replicate (l.labels - length (label_rows t)) 0) (replicate (l.counts - length (times t)) 0) t tally_long
 
     -- "The counts add up to the number of soundings"
-    pub told-total : total (rowEntries (length files) o.labels o.counts c.entries) ≡ c.soundings
-    told-total = ap total told_entries ∙ counts-add-up ms s ∙ sym told-soundings
+    pub told-total : total (row_entries (length files) o.labels o.counts c.entries) ≡ c.soundings
+    told-total = ap total told_entries ∙ counts-add_up ms s ∙ sym told-soundings
 
     -- "each pair that occurs with its count"
-    pub told-times : (x : List ℕ) → timesOf x (rowEntries (length files) o.labels o.counts c.entries) ≡ occurs x (cells ms s)
-    told-times x = ap (timesOf x) told_entries ∙ tally-times (length files) x (cells ms s) cells-long
+    pub told-times : (x : List ℕ) → times_of x (row_entries (length files) o.labels o.counts c.entries) ≡ occurs x (cells ms s)
+    told-times x = ap (times_of x) told_entries ∙ tally-times (length files) x (cells ms s) cells_long
 
     -- "sorted by pair"
-    pub told-ordered : Ordered lesser (rowEntries (length files) o.labels o.counts c.entries)
+    pub told-ordered : Ordered lesser (row_entries (length files) o.labels o.counts c.entries)
     told-ordered = subst (Ordered lesser) (sym told_entries) (tally-ordered (cells ms s))

@@ -1,4 +1,4 @@
--- The line stops at the stops and nowhere else, in order (`swept-left`, `stops-swept`): by a step at a time, from a point before all of them. Also after fewer steps than there are stops: then at the
+-- The line stops at the stops and nowhere else, in order (`swept_left`, `stops-swept`): by a step at a time, from a point before all of them. Also after fewer steps than there are stops: then at the
 -- first so many. At every step what has been met and the queue together are a rising list of stops, so that there are never more of them than stops. Assumes nothing.
 use Rattle.std.specs.Prelude.{◌≡◌, ℤ, pos, ◌-ℤ◌, ◌*ℤ◌, ◌<ℤ◌}
 use Rattle.std.proofs.Math.Path.{refl, ap, subst}
@@ -13,41 +13,41 @@ use Rattle.seq.specs.Search.{trail}
 use Rattle.seq.specs.Slotted.{slots}
 use Rattle.paper.specs.Plane.{Pt, whole, nowhere, before}
 use Rattle.laws_plane.specs.Cone.{level}
-use Rattle.laws_plane.specs.Points.{up-before, before-trans}
+use Rattle.laws_plane.specs.Points.{up_before, before_trans}
 use Rattle.laws_plane.specs.Ends.{0<1}
-use Rattle.laws_sweep.specs.Sweep.{Strand, lo, startsAt, sooner, status, found, put, sweep}
+use Rattle.laws_sweep.specs.Sweep.{Strand, lo, starts_at, sooner, status, found, put, sweep}
 use Rattle.laws_sweep.specs.Scene.{Scene, State}
-use Rattle.laws_sweep.specs.Next.{queue-next, queue-done}
-use Rattle.laws_sweep.specs.Waiting.{Waiting, waits, waits-on}
+use Rattle.laws_sweep.specs.Next.{queue_next, queue-done}
+use Rattle.laws_sweep.specs.Waiting.{Waiting, waits, waits_on}
 use Rattle.laws_sweep.specs.Step.{stepped}
 
 module _ (es : List Strand) (corners stops : List Pt) (S : Scene es corners stops) where
   -- ── a step at a time ──
 
-  pub swept-left : (n : ℕ) (p : Pt) (left queue : List Pt) (s w : List Strand) → State es corners stops p left queue s → Waiting es p w → sweep n w queue s ≡ take n left
+  pub swept_left : (n : ℕ) (p : Pt) (left queue : List Pt) (s w : List Strand) → State es corners stops p left queue s → Waiting es p w → sweep n w queue s ≡ take n left
   unfolding sweep
-  swept-left zero p left queue s w I L = refl
-  swept-left (suc n) p [] queue s w I L = ap (λ (q : List Pt). sweep (suc n) w q s) (queue-done es corners stops p queue s I)
-  swept-left (suc n) p (v ∷ vs) queue s w I L =
-      let (rest, e) = queue-next es corners stops S p v vs queue s I in
+  swept_left zero p left queue s w I L = refl
+  swept_left (suc n) p [] queue s w I L = ap (λ (q : List Pt). sweep (suc n) w q s) (queue-done es corners stops p queue s I)
+  swept_left (suc n) p (v ∷ vs) queue s w I L =
+      let (rest, e) = queue_next es corners stops S p v vs queue s I in
       let J = subst (λ (q : List Pt). State es corners stops p (v ∷ vs) q s) e I in
       ap (λ (q : List Pt). sweep (suc n) w q s) e
       ∙ ap (λ (l : List Pt). v ∷ l)
-      (swept-left n v vs (put (found w v s) rest) (status w v s) (trail (startsAt v) w) (stepped es corners stops S p v vs rest s J w L) (waits-on es corners stops S p v vs (v ∷ rest) s J w L))
+      (swept_left n v vs (put (found w v s) rest) (status w v s) (trail (starts_at v) w) (stepped es corners stops S p v vs rest s J w L) (waits_on es corners stops S p v vs (v ∷ rest) s J w L))
 
   -- ── the start ──
 
-  pub start-by : (p : Pt) → pos 0 <ℤ p.D → ((z : Pt) → Among z stops → before p z ≡ true) → State es corners stops p stops corners []
-  start-by p h b = record {
+  pub start_by : (p : Pt) → pos 0 <ℤ p.D → ((z : Pt) → Among z stops → before p z ≡ true) → State es corners stops p stops corners []
+  start_by p h b = record {
     real = h;
     left_in = λ z i. (i, b z i);
-    left-has = λ z i l. i;
+    left_has = λ z i l. i;
     left_rising = S.rising;
-    queue-in = S.corner-in;
+    queue_in = S.corner_in_lem;
     queue-rising = S.corners-rising;
-    queue-has = λ z i l. i;
+    queue_has = λ z i l. i;
     cut = λ e i. absurd i;
-    cut_has = λ e c. absurd (clash (b (lo e) (S.corner-in (lo e) (S.low-in e c.is))) c.started);
+    cut_has = λ e c. absurd (clash (b (lo e) (S.corner_in_lem (lo e) (S.low_in e c.is))) c.started);
     sorted = tt;
     tested = tt;
   }
@@ -56,8 +56,8 @@ module _ (es : List Strand) (corners stops : List Pt) (S : Scene es corners stop
   abbrev westward : Pt → Pt
   westward w = record { X = w.X -ℤ w.D; Y = w.Y; D = w.D }
 
-  west-before : (w : Pt) → pos 0 <ℤ w.D → before (westward w) w ≡ true
-  west-before w h = up-before (westward w) w (level (flat w.Y w.D) (0<-by (wide w.X w.D) (0<-* h h)))
+  west_before : (w : Pt) → pos 0 <ℤ w.D → before (westward w) w ≡ true
+  west_before w h = up_before (westward w) w (level (flat w.Y w.D) (0<-by (wide w.X w.D) (0<-* h h)))
     where
       flat : (y d : ℤ) → y *ℤ d -ℤ y *ℤ d ≡ pos 0
       flat y d = ring (y ∷ d ∷ []) (search reify depth 20) tt
@@ -68,17 +68,17 @@ module _ (es : List Strand) (corners stops : List Pt) (S : Scene es corners stop
   pub begins : (l : List Pt) → stops ≡ l → (p : Pt) × (pos 0 <ℤ p.D) × ((z : Pt) → Among z stops → before p z ≡ true)
   begins [] e = (whole nowhere, 0<1, λ z i. absurd (subst (Among z) e i))
   begins (w ∷ ws) e =
-      let h : pos 0 <ℤ w.D = (S.lowest-in w (subst (Among w) (sym e) (inl refl))).positive in
+      let h : pos 0 <ℤ w.D = (S.lowest_in w (subst (Among w) (sym e) (inl refl))).positive in
       let r : Rising before (w ∷ ws) = subst (Rising before) e S.rising in (
         westward w,
         h,
         λ z i.
-            ⊎_elim (λ k. subst (λ (y : Pt). before (westward w) y ≡ true) (sym k) (west-before w h))
-            (λ k. before-trans (westward w) w z h h (S.lowest-in z i).positive (west-before w h) (r.0 z k)) (subst (Among z) e i),
+            ⊎_elim (λ k. subst (λ (y : Pt). before (westward w) y ≡ true) (sym k) (west_before w h))
+            (λ k. before_trans (westward w) w z h h (S.lowest_in z i).positive (west_before w h) (r.0 z k)) (subst (Among z) e i),
       )
 
   -- the line stops at the first n stops
   pub stops-swept : (n : ℕ) → sweep n (slots sooner [] es) corners [] ≡ take n stops
   stops-swept n =
       let (p, h, b) = begins stops refl in
-      swept-left n p stops corners [] (slots sooner [] es) (start-by p h b) (waits es p (λ z i. b (lo z) (S.corner-in (lo z) (S.low-in z i))))
+      swept_left n p stops corners [] (slots sooner [] es) (start_by p h b) (waits es p (λ z i. b (lo z) (S.corner_in_lem (lo z) (S.low_in z i))))

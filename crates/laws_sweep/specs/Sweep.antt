@@ -3,16 +3,16 @@
 -- those that have it on their left. The edges through the point that go on, and those that start there, take the place of those through it, the greatest angle first. The edges that have not
 -- started wait in the order of their lower ends. Where two edges are neighbours for the first time, their crossing, if it is still ahead, goes into the queue. Each list is what a table of the
 -- code holds, step by step. Assumes nothing.
-use Rattle.seq.specs.Seq.{Bool, cond, List, [], ◌∷◌, ◌++◌, Option, none, some, ℕ, zero, suc, eqb, length, table, rows, optional, insertBy}
+use Rattle.seq.specs.Seq.{Bool, cond, List, [], ◌∷◌, ◌++◌, Option, none, some, ℕ, zero, suc, eqb, length, table, rows, optional, insert_by}
 use Rattle.seq.specs.Search.{lead, trail}
 use Rattle.seq.specs.Slotted.{slots}
 use Rattle.seq.specs.Pairs.{first, last}
 use Rattle.seq.specs.Kept.{kept}
-use Rattle.exact.specs.Sign.{sgn, isNeg, isZer, isPlus}
-use Rattle.paper.specs.Plane.{Pt, Seg, cross, head, whole, before, same, leftBy, crossing}
+use Rattle.exact.specs.Sign.{sgn, is_neg, is_zer, is_plus}
+use Rattle.paper.specs.Plane.{Pt, Seg, cross, head, whole, before, same, the_left_by, crossing}
 use Rattle.paper.specs.Graph.{edge_count, edge}
 use Rattle.paper.specs.Map.{Map}
-use Rattle.paper.specs.Pieces.{layer, inOrder}
+use Rattle.paper.specs.Pieces.{layer, the_in_order}
 
 -- an edge of one of the maps
 pub record Strand : Type 0 where
@@ -29,42 +29,42 @@ hi e = whole (head e.seg)
 
 -- p is to the right of e: e is west of p
 abbrev pub right : Pt → Strand → Bool
-right p e = isNeg (sgn (leftBy e.seg p))
+right p e = is_neg (sgn (the_left_by e.seg p))
 
 abbrev pub on : Pt → Strand → Bool
-on p e = isZer (sgn (leftBy e.seg p))
+on p e = is_zer (sgn (the_left_by e.seg p))
 
 -- e does not end at p
-abbrev pub goesOn : Pt → Strand → Bool
-goesOn p e = before p (hi e)
+abbrev pub the_goes_on : Pt → Strand → Bool
+the_goes_on p e = before p (hi e)
 
-abbrev pub startsAt : Pt → Strand → Bool
-startsAt p e = same (lo e) p
+abbrev pub starts_at : Pt → Strand → Bool
+starts_at p e = same (lo e) p
 
 -- the upward angle of e is greater than that of f
 abbrev pub steeper : Strand → Strand → Bool
-steeper e f = isPlus (sgn (cross f.seg.up e.seg.up))
+steeper e f = is_plus (sgn (cross f.seg.up e.seg.up))
 
 abbrev pub sooner : Strand → Strand → Bool
 sooner e f = before (lo e) (lo f)
 
 -- ── the status ──
 
-abbrev pub westOf : Pt → List Strand → List Strand
-westOf p s = lead (right p) s
+abbrev pub west_of : Pt → List Strand → List Strand
+west_of p s = lead (right p) s
 
 abbrev pub through : Pt → List Strand → List Strand
 through p s = lead (on p) (trail (right p) s)
 
-abbrev pub eastOf : Pt → List Strand → List Strand
-eastOf p s = trail (on p) (trail (right p) s)
+abbrev pub east_of : Pt → List Strand → List Strand
+east_of p s = trail (on p) (trail (right p) s)
 
 -- the edges that leave p upward, of the status s and of those that wait, w
 abbrev pub leaving : List Strand → Pt → List Strand → List Strand
-leaving w p s = slots steeper [] (kept (goesOn p) (through p s) ++ lead (startsAt p) w)
+leaving w p s = slots steeper [] (kept (the_goes_on p) (through p s) ++ lead (starts_at p) w)
 
 abbrev pub status : List Strand → Pt → List Strand → List Strand
-status w p s = westOf p s ++ (leaving w p s ++ eastOf p s)
+status w p s = west_of p s ++ (leaving w p s ++ east_of p s)
 
 -- ── the queue ──
 
@@ -84,11 +84,11 @@ joint p l r = ahead_of p (last l) (first r)
 -- points into a queue in order, each once
 abbrev pub put : List Pt → List Pt → List Pt
 put [] q = q
-put (x ∷ xs) q = insertBy before (λ p r. r) x (put xs q)
+put (x ∷ xs) q = insert_by before (λ p r. r) x (put xs q)
 
 abbrev pub found : List Strand → Pt → List Strand → List Pt
 found w p s =
-    let l = westOf p s in let m = leaving w p s in let r = eastOf p s in
+    let l = west_of p s in let m = leaving w p s in let r = east_of p s in
     joint p l (m ++ r) ++ joint p m r
 
 -- ── the sweep ──
@@ -97,15 +97,15 @@ found w p s =
 unfoldable pub sweep : ℕ → List Strand → List Pt → List Strand → List Pt
 sweep zero w q s = []
 sweep (suc n) w [] s = []
-sweep (suc n) w (p ∷ q) s = p ∷ sweep n (trail (startsAt p) w) (put (found w p s) q) (status w p s)
+sweep (suc n) w (p ∷ q) s = p ∷ sweep n (trail (starts_at p) w) (put (found w p s) q) (status w p s)
 
 -- the edges of all maps, and their corners in order
-abbrev pub strandsOf : List Map → List Strand
-strandsOf ms = rows (λ i. table (λ k. record { of = i; seg = (edge (layer ms i).graph k).carrier }) (edge_count (layer ms i).graph)) (length ms)
+abbrev pub strands_of : List Map → List Strand
+strands_of ms = rows (λ i. table (λ k. record { of = i; seg = (edge (layer ms i).graph k).carrier }) (edge_count (layer ms i).graph)) (length ms)
 
-abbrev pub cornersOf : List Map → List Pt
-cornersOf ms = inOrder (rows (λ i. (layer ms i).graph.points) (length ms))
+abbrev pub corners_of : List Map → List Pt
+corners_of ms = the_in_order (rows (λ i. (layer ms i).graph.points) (length ms))
 
 -- the vertices as the line meets them, n at most
 abbrev pub swept : ℕ → List Map → List Pt
-swept n ms = sweep n (slots sooner [] (strandsOf ms)) (cornersOf ms) []
+swept n ms = sweep n (slots sooner [] (strands_of ms)) (corners_of ms) []

@@ -1,6 +1,6 @@
 -- How large a float of 64 bits is, for any float: `AtMost B x` says that x is finite and its magnitude is at most B. In order: a wider bound; the order of two floats as that of their
--- fractions; a fraction of at most B, a whole number, is rounded to a float of at most B (`round-at-most`); so a product is at most the product of the bounds and a sum at most their
--- sum (`mul-at-most`, `add-at-most`); a whole number is a float of its size (`int-at-most`). Assumes nothing.
+-- fractions; a fraction of at most B, a whole number, is rounded to a float of at most B (`round_at_most`); so a product is at most the product of the bounds and a sum at most their
+-- sum (`mul_at_most`, `add_at_most`); a whole number is a float of its size (`int_at_most`). Assumes nothing.
 use Rattle.std.specs.Prelude.{◌≡◌, refl, suc, ◌^◌, ◌≤◌, ◌<◌, T, eqb, Float}
 use Rattle.std.proofs.Common.{sym, ap, ◌∙◌, subst, inl, inr, le_trans, le_of_eq, le_of_lt, mul_comm, mul_assoc, mul_right_comm, mul-le-mul, mul-le-mul_right, le_of_mul-le-mul_right, mul-one, mul-pos, add-mul, zero-lt-suc, arith, ltb→lt, eqb→eq, pow_pos}
 use Rattle.std.specs.Bool.{beq}
@@ -13,7 +13,7 @@ use Rattle.std.specs.Float.Ieee.Order.{drop, kept, round_mono, transfer}
 use Rattle.std.specs.Float.Ieee.Scale.{grid, overflow, finite, round_val, round_under}
 use Rattle.std.specs.Float.Ieee.Back.{round_whole}
 use Rattle.seq.specs.Seq.{Bool, true, false, cond, ◌&&◌, ◌||◌, ℕ, ◌+◌, ◌*◌, ◌-◌, ltb, ℤ, pos, negsuc, nat_abs}
-use Rattle.exact.specs.Tests.{never, true_of, true-T, or_cases}
+use Rattle.exact.specs.Tests.{never, true_of, true_T, or_cases}
 
 abbrev pub AtMost : ℕ → Float → Type 0
 AtMost B nan = ⊥
@@ -27,8 +27,8 @@ wider (fin s m e) A B h p = le_trans p (mul-le-mul_right (down e) h)
 
 -- ── the order of two floats that are not negative, as that of their fractions ──
 
-pub le-or-eq : (a b : ℕ) (c : Bool) → T (ltb a b || (eqb a b && c)) → a ≤ b
-le-or-eq a b c t = elim (or_cases (ltb a b) (eqb a b && c) (true_of t)) [ inl u ↦ le_of_lt (ltb→lt a b (true-T u)) | inr u ↦ le_of_eq (eqb→eq a b (and_l (eqb a b) c (true-T u))) ]
+pub le_or_eq : (a b : ℕ) (c : Bool) → T (ltb a b || (eqb a b && c)) → a ≤ b
+le_or_eq a b c t = elim (or_cases (ltb a b) (eqb a b && c) (true_of t)) [ inl u ↦ le_of_lt (ltb→lt a b (true_T u)) | inr u ↦ le_of_eq (eqb→eq a b (and_l (eqb a b) c (true_T u))) ]
 
 fraction-le : (x y : Float) (a c B : ℕ) → HasValue x false a c → HasValue y false B 1 → T (le x y) → a ≤ B * c
 unfolding le
@@ -40,19 +40,19 @@ fraction-le (fin true m e) (fin t n d) a c B p q h = never (sym p.0)
 fraction-le (fin false m e) (fin true n d) a c B p q h = never (sym q.0)
 fraction-le (fin false m e) (fin false n d) a c B p q h =
     le_trans (le_of_eq (sym (mul-one a)))
-    (transfer a B c 1 (m * up e) (n * up d) (down e) (down d) (down_pos e) (down_pos d) (sym p.1) (sym q.1) (le-or-eq (m * up e * down d) (n * up d * down e) true h))
+    (transfer a B c 1 (m * up e) (n * up d) (down e) (down d) (down_pos e) (down_pos d) (sym p.1) (sym q.1) (le_or_eq (m * up e * down d) (n * up d * down e) true h))
 
 -- ── rounding ──
 
 -- a float with a minus sign that is at least 0 is a zero: no infinity
-finite-between : (x y : Float) (B : ℕ) → HasValue y false B 1 → T (le (fin false 0 (pos 0)) x) → T (le x y) → T (finite x)
+finite_between : (x y : Float) (B : ℕ) → HasValue y false B 1 → T (le (fin false 0 (pos 0)) x) → T (le x y) → T (finite x)
 unfolding le
-finite-between nan y B v l h = absurd h
-finite-between (inf true) y B v l h = absurd l
-finite-between (inf false) nan B v l h = absurd v
-finite-between (inf false) (inf t) B v l h = absurd v
-finite-between (inf false) (fin t m e) B v l h = absurd h
-finite-between (fin s m e) y B v l h = tt
+finite_between nan y B v l h = absurd h
+finite_between (inf true) y B v l h = absurd l
+finite_between (inf false) nan B v l h = absurd v
+finite_between (inf false) (inf t) B v l h = absurd v
+finite_between (inf false) (fin t m e) B v l h = absurd h
+finite_between (fin s m e) y B v l h = tt
 
 zero_is : round binary64 false 0 1 ≡ fin false 0 (pos 0)
 unfolding round
@@ -65,13 +65,13 @@ bounded (fin t m e) s g l B L v h =
     le_of_mul-le-mul_right (le_trans (le_of_eq v.1) (le_trans (mul-le-mul_right (down e) h) (le_of_eq (mul_right_comm B l (down e))))) L
 
 -- a / c is at most B, a whole number that the format holds: so is what it is rounded to, with either sign
-pub round-at-most : (s : Bool) (a c B : ℕ) → 0 < c → B ≤ 2 ^ 53 → a ≤ B * c → AtMost B (round binary64 s a c)
-round-at-most s a c B C W h =
+pub round_at_most : (s : Bool) (a c B : ℕ) → 0 < c → B ≤ 2 ^ 53 → a ≤ B * c → AtMost B (round binary64 s a c)
+round_at_most s a c B C W h =
     let top : HasValue (round binary64 false B 1) false B 1 = round_whole binary64 false B W in
     let below : T (le (round binary64 false a c) (round binary64 false B 1)) = round_mono binary64 a c B 1 C (zero-lt-suc 0) (le_trans (le_of_eq (mul-one a)) h) in
     let above : T (le (fin false 0 (pos 0)) (round binary64 false a c)) =
     subst (λ (x : Float). T (le x (round binary64 false a c))) zero_is (round_mono binary64 0 1 a c (zero-lt-suc 0) C (none a c)) in
-    let under : grid binary64 a c < overflow binary64 = round_under binary64 a c (finite-between (round binary64 false a c) (round binary64 false B 1) B top above below) in
+    let under : grid binary64 a c < overflow binary64 = round_under binary64 a c (finite_between (round binary64 false a c) (round binary64 false B 1) B top above below) in
     let most : grid binary64 a c ≤ B * 2 ^ low binary64 =
     fraction-le (round binary64 false a c) (round binary64 false B 1) (grid binary64 a c) (2 ^ low binary64) B (round_val binary64 a c under) top below in
     let n = a * 2 ^ low binary64 in
@@ -84,27 +84,27 @@ round-at-most s a c B C W h =
 
 -- ── products and sums ──
 
-pub mul-at-most : (x y : Float) (A B : ℕ) → AtMost A x → AtMost B y → A * B ≤ 2 ^ 53 → AtMost (A * B) (mul binary64 x y)
+pub mul_at_most : (x y : Float) (A B : ℕ) → AtMost A x → AtMost B y → A * B ≤ 2 ^ 53 → AtMost (A * B) (mul binary64 x y)
 unfolding mul
-mul-at-most nan y A B p q W = p
-mul-at-most (inf s) y A B p q W = absurd p
-mul-at-most (fin s m e) nan A B p q W = q
-mul-at-most (fin s m e) (inf t) A B p q W = absurd q
-mul-at-most (fin s m e) (fin t n d) A B p q W =
-    round-at-most (unlike s t) (m * up e * (n * up d)) (down e * down d) (A * B) (mul-pos (down_pos e) (down_pos d)) W
+mul_at_most nan y A B p q W = p
+mul_at_most (inf s) y A B p q W = absurd p
+mul_at_most (fin s m e) nan A B p q W = q
+mul_at_most (fin s m e) (inf t) A B p q W = absurd q
+mul_at_most (fin s m e) (fin t n d) A B p q W =
+    round_at_most (unlike s t) (m * up e * (n * up d)) (down e * down d) (A * B) (mul-pos (down_pos e) (down_pos d)) W
     (le_trans (mul-le-mul p q) (le_of_eq (mul-mul-mul_comm A (down e) B (down d))))
 
 more : (a b C : ℕ) → a + b ≤ C → (b - a ≤ C) × (a - b ≤ C)
 more a b C h = (omega arith, omega arith)
 
-sum-at-most : (s : Bool) (a : ℕ) (t : Bool) (b c B : ℕ) → 0 < c → B ≤ 2 ^ 53 → a + b ≤ B * c → AtMost B (sum binary64 s a t b c)
+sum_at_most : (s : Bool) (a : ℕ) (t : Bool) (b c B : ℕ) → 0 < c → B ≤ 2 ^ 53 → a + b ≤ B * c → AtMost B (sum binary64 s a t b c)
 unfolding sum
-sum-at-most s a t b c B C W h = go (beq s t) (ltb a b)
+sum_at_most s a t b c B C W h = go (beq s t) (ltb a b)
   where
     go : (p q : Bool) → AtMost B (cond p (round binary64 s (a + b) c) (cond q (round binary64 t (b - a) c) (round binary64 (s && ltb b a) (a - b) c)))
-    go true q = round-at-most s (a + b) c B C W h
-    go false true = round-at-most t (b - a) c B C W (more a b (B * c) h).0
-    go false false = round-at-most (s && ltb b a) (a - b) c B C W (more a b (B * c) h).1
+    go true q = round_at_most s (a + b) c B C W h
+    go false true = round_at_most t (b - a) c B C W (more a b (B * c) h).0
+    go false false = round_at_most (s && ltb b a) (a - b) c B C W (more a b (B * c) h).1
 
 -- a / d and b / e, over the common denominator
 common : (a d b e A B : ℕ) → a ≤ A * d → b ≤ B * e → a * e + b * d ≤ (A + B) * (d * e)
@@ -114,22 +114,22 @@ common a d b e A B h k =
     let z : (A + B) * (d * e) ≡ A * (d * e) + B * (d * e) = add-mul A B (d * e) in
     omega arith
 
-pub add-at-most : (x y : Float) (A B : ℕ) → AtMost A x → AtMost B y → A + B ≤ 2 ^ 53 → AtMost (A + B) (add binary64 x y)
+pub add_at_most : (x y : Float) (A B : ℕ) → AtMost A x → AtMost B y → A + B ≤ 2 ^ 53 → AtMost (A + B) (add binary64 x y)
 unfolding add
-add-at-most nan y A B p q W = p
-add-at-most (inf s) y A B p q W = absurd p
-add-at-most (fin s m e) nan A B p q W = q
-add-at-most (fin s m e) (inf t) A B p q W = absurd q
-add-at-most (fin s m e) (fin t n d) A B p q W =
-    sum-at-most s (m * up e * down d) t (n * up d * down e) (down e * down d) (A + B) (mul-pos (down_pos e) (down_pos d)) W (common (m * up e) (down e) (n * up d) (down d) A B p q)
+add_at_most nan y A B p q W = p
+add_at_most (inf s) y A B p q W = absurd p
+add_at_most (fin s m e) nan A B p q W = q
+add_at_most (fin s m e) (inf t) A B p q W = absurd q
+add_at_most (fin s m e) (fin t n d) A B p q W =
+    sum_at_most s (m * up e * down d) t (n * up d * down e) (down e * down d) (A + B) (mul-pos (down_pos e) (down_pos d)) W (common (m * up e) (down e) (n * up d) (down d) A B p q)
 
 -- ── whole numbers ──
 
-whole-at-most : (x : Float) (s : Bool) (n B : ℕ) → n ≤ B → HasValue x s n 1 → AtMost B x
-whole-at-most x s n B h v = bounded x s n 1 B (zero-lt-suc 0) v (le_trans h (le_of_eq (sym (mul-one B))))
+whole_at_most : (x : Float) (s : Bool) (n B : ℕ) → n ≤ B → HasValue x s n 1 → AtMost B x
+whole_at_most x s n B h v = bounded x s n 1 B (zero-lt-suc 0) v (le_trans h (le_of_eq (sym (mul-one B))))
 
 -- a whole number is a float without rounding
-pub int-at-most : (z : ℤ) (B : ℕ) → nat_abs z ≤ B → B ≤ 2 ^ 53 → AtMost B (of_int binary64 z)
+pub int_at_most : (z : ℤ) (B : ℕ) → nat_abs z ≤ B → B ≤ 2 ^ 53 → AtMost B (of_int binary64 z)
 unfolding of_int
-int-at-most (pos n) B h W = whole-at-most (round binary64 false n 1) false n B h (round_whole binary64 false n (le_trans h W))
-int-at-most (negsuc n) B h W = whole-at-most (round binary64 true (suc n) 1) true (suc n) B h (round_whole binary64 true (suc n) (le_trans h W))
+int_at_most (pos n) B h W = whole_at_most (round binary64 false n 1) false n B h (round_whole binary64 false n (le_trans h W))
+int_at_most (negsuc n) B h W = whole_at_most (round binary64 true (suc n) 1) true (suc n) B h (round_whole binary64 true (suc n) (le_trans h W))

@@ -13,10 +13,10 @@ use Rattle.std.specs.Float.Ieee.Bits.{of_bits-to_bits, is_true, is_false}
 use Rattle.std.specs.Float.Ieee.Exact.{HasValue, odd_sign}
 use Rattle.std.specs.Float.Ieee.Nearest.{div_same}
 use Rattle.seq.specs.Seq.{Bool, true, false, cond, not, ℕ, ◌+◌, ◌*◌, ◌-◌, ◌/◌, ◌%◌, leb, ltb, pos, neg_ℤ, nat_abs}
-use Rattle.paper.specs.Tide.{signed, halfUp, nearestWhole}
+use Rattle.paper.specs.Tide.{signed, the_half_up, nearest_whole}
 use Rattle.laws_tide.specs.Nearest.{twice, abs-signed}
 use Rattle.laws_tide.specs.AtMost.{AtMost}
-use Rattle.laws_tide.specs.Bound.{nearest-at-most}
+use Rattle.laws_tide.specs.Bound.{nearest_at_most}
 
 abbrev pub negative : ℕ → Bool
 negative b = leb (2 ^ 63) b
@@ -27,11 +27,11 @@ field b = b % 2 ^ 63 / 2 ^ 52
 abbrev pub digits : ℕ → ℕ
 digits b = b % 2 ^ 52
 
-abbrev wholeBy : ℕ → ℕ → ℕ
-wholeBy x t = cond (ltb x 1022) 0 ((2 ^ 52 + t + 2 ^ (1074 - x)) / 2 ^ (1075 - x))
+abbrev whole_by : ℕ → ℕ → ℕ
+whole_by x t = cond (ltb x 1022) 0 ((2 ^ 52 + t + 2 ^ (1074 - x)) / 2 ^ (1075 - x))
 
 abbrev pub whole_of : ℕ → ℕ
-whole_of b = wholeBy (field b) (digits b)
+whole_of b = whole_by (field b) (digits b)
 
 -- ── rounding sees only the value of a fraction ──
 
@@ -44,24 +44,24 @@ cross n d a l e =
     let r : d * (2 * l) ≡ l * (2 * d) = simp (mul_comm, mul_left_comm) in
     omega arith
 
-pub half-up-same : (n d a l : ℕ) → 0 < d → 0 < l → n * l ≡ a * d → halfUp n d ≡ halfUp a l
-half-up-same n d a l D L e = div_same (2 * n + d) (2 * d) (2 * a + l) (2 * l) (twice d D) (twice l L) (cross n d a l e)
+pub half_up_same : (n d a l : ℕ) → 0 < d → 0 < l → n * l ≡ a * d → the_half_up n d ≡ the_half_up a l
+half_up_same n d a l D L e = div_same (2 * n + d) (2 * d) (2 * a + l) (2 * l) (twice d D) (twice l L) (cross n d a l e)
 
-near-of-value : (v : Float) (s : Bool) (a l : ℕ) → 0 < l → HasValue v s a l → nearestWhole v ≡ signed s (halfUp a l)
-unfolding nearestWhole
-near-of-value nan s a l L h = absurd h
-near-of-value (inf t) s a l L h = absurd h
-near-of-value (fin t m e) s a l L h = (λ i. signed (h.0 i) (halfUp (m * up e) (down e))) ∙ ap (signed s) (half-up-same (m * up e) (down e) a l (down_pos e) L h.1)
+near_of_value : (v : Float) (s : Bool) (a l : ℕ) → 0 < l → HasValue v s a l → nearest_whole v ≡ signed s (the_half_up a l)
+unfolding nearest_whole
+near_of_value nan s a l L h = absurd h
+near_of_value (inf t) s a l L h = absurd h
+near_of_value (fin t m e) s a l L h = (λ i. signed (h.0 i) (the_half_up (m * up e) (down e))) ∙ ap (signed s) (half_up_same (m * up e) (down e) a l (down_pos e) L h.1)
 
-value-at-most : (v : Float) (s : Bool) (a l B : ℕ) → 0 < l → HasValue v s a l → AtMost B v → a ≤ B * l
-value-at-most nan s a l B L h p = absurd h
-value-at-most (inf t) s a l B L h p = absurd h
-value-at-most (fin t m e) s a l B L h p = le_of_mul-le-mul_right (le_trans (le_of_eq (sym h.1)) (le_trans (mul-le-mul_right l p) (le_of_eq (mul_right_comm B (down e) l)))) (down_pos e)
+value_at_most : (v : Float) (s : Bool) (a l B : ℕ) → 0 < l → HasValue v s a l → AtMost B v → a ≤ B * l
+value_at_most nan s a l B L h p = absurd h
+value_at_most (inf t) s a l B L h p = absurd h
+value_at_most (fin t m e) s a l B L h p = le_of_mul-le-mul_right (le_trans (le_of_eq (sym h.1)) (le_trans (mul-le-mul_right l p) (le_of_eq (mul_right_comm B (down e) l)))) (down_pos e)
 
 -- ── less than a half, and shifted digits ──
 
-half-up-none : (a l : ℕ) → 2 * a < l → halfUp a l ≡ 0
-half-up-none a l h = div-eq_of_lt (less a l h)
+half_up_none : (a l : ℕ) → 2 * a < l → the_half_up a l ≡ 0
+half_up_none a l h = div-eq_of_lt (less a l h)
   where
     less : (a l : ℕ) → 2 * a < l → 2 * a + l < 2 * l
     less a l h = omega arith
@@ -74,11 +74,11 @@ rescaled q p h =
     let v : h * (2 * (p * (2 * h))) ≡ p * (2 * h) * (2 * h) = simp (mul_assoc, mul_left_comm) in
     omega arith
 
-shifted : (q j d : ℕ) → j + suc d ≡ 1074 → halfUp (q * 2 ^ j) (2 ^ 1074) ≡ (q + 2 ^ d) / 2 ^ suc d
+shifted : (q j d : ℕ) → j + suc d ≡ 1074 → the_half_up (q * 2 ^ j) (2 ^ 1074) ≡ (q + 2 ^ d) / 2 ^ suc d
 shifted q j d e =
     let l : 2 ^ 1074 ≡ 2 ^ j * (2 * 2 ^ d) = ap (λ (k : ℕ). 2 ^ k) (sym e) ∙ pow-add 2 j (suc d) ∙ ap (λ (k : ℕ). 2 ^ j * k) (pow-succ' 2 d) in
     let D : 0 < 2 * 2 ^ d = twice (2 ^ d) (pow_pos d) in
-    ap (λ (k : ℕ). halfUp (q * 2 ^ j) k) l
+    ap (λ (k : ℕ). the_half_up (q * 2 ^ j) k) l
     ∙ sym (div_same (q + 2 ^ d) (2 * 2 ^ d) (2 * (q * 2 ^ j) + 2 ^ j * (2 * 2 ^ d)) (2 * (2 ^ j * (2 * 2 ^ d))) D (twice (2 ^ j * (2 * 2 ^ d)) (mul-pos (pow_pos j) D)) (rescaled q (2 ^ j) (2 ^ d)))
     ∙ ap (λ (k : ℕ). (q + 2 ^ d) / k) (sym (pow-succ' 2 d))
 
@@ -103,11 +103,11 @@ doubled-lt q j h k =
     room j k = omega arith
 
 abbrev Near : Bool → ℕ → ℕ → Float → Type 0
-Near s x t v = (x ≤ 1053) × (nearestWhole v ≡ signed s (wholeBy x t))
+Near s x t v = (x ≤ 1053) × (nearest_whole v ≡ signed s (whole_by x t))
 
 -- a field of suc j that is not all ones
 normal : (s : Bool) (j t : ℕ) → t < 2 ^ 52 → AtMost 2147483647 (odd 53 s (2 ^ 52 + t) j 1074) → Near s (suc j) t (odd 53 s (2 ^ 52 + t) j 1074)
-normal s j t h b = (field_lt, near-of-value v s (q * 2 ^ j) (2 ^ 1074) (pow_pos 1074) has ∙ ap (signed s) (go (ltb (suc j) 1022) (ltb→lt (suc j) 1022) (nltb→le (suc j) 1022)))
+normal s j t h b = (field_lt, near_of_value v s (q * 2 ^ j) (2 ^ 1074) (pow_pos 1074) has ∙ ap (signed s) (go (ltb (suc j) 1022) (ltb→lt (suc j) 1022) (nltb→le (suc j) 1022)))
   where
     q : ℕ
     q = 2 ^ 52 + t
@@ -119,7 +119,7 @@ normal s j t h b = (field_lt, near-of-value v s (q * 2 ^ j) (2 ^ 1074) (pow_pos 
     has = odd_sign 53 s q j 1074
 
     most : q * 2 ^ j ≤ 2147483647 * 2 ^ 1074
-    most = value-at-most v s (q * 2 ^ j) (2 ^ 1074) 2147483647 (pow_pos 1074) has b
+    most = value_at_most v s (q * 2 ^ j) (2 ^ 1074) 2147483647 (pow_pos 1074) has b
 
     below : 2 ^ (52 + j) < 2 ^ (31 + 1074)
     below =
@@ -141,16 +141,16 @@ normal s j t h b = (field_lt, near-of-value v s (q * 2 ^ j) (2 ^ 1074) (pow_pos 
     one_more : (j : ℕ) → suc j ≤ 1053 → suc (1074 - suc j) ≡ 1075 - suc j
     one_more j h = omega arith
 
-    go : (c : Bool) → (T c → suc j < 1022) → (T (not c) → 1022 ≤ suc j) → halfUp (q * 2 ^ j) (2 ^ 1074) ≡ cond c 0 ((q + 2 ^ (1074 - suc j)) / 2 ^ (1075 - suc j))
-    go true y n = half-up-none (q * 2 ^ j) (2 ^ 1074) (doubled-lt q j (with_lead t h) (small j (y tt)))
+    go : (c : Bool) → (T c → suc j < 1022) → (T (not c) → 1022 ≤ suc j) → the_half_up (q * 2 ^ j) (2 ^ 1074) ≡ cond c 0 ((q + 2 ^ (1074 - suc j)) / 2 ^ (1075 - suc j))
+    go true y n = half_up_none (q * 2 ^ j) (2 ^ 1074) (doubled-lt q j (with_lead t h) (small j (y tt)))
     go false y n = shifted q j (1074 - suc j) (apart j field_lt) ∙ ap (λ (k : ℕ). (q + 2 ^ (1074 - suc j)) / 2 ^ k) (one_more j field_lt)
 
-by-fields : (s : Bool) (x t : ℕ) → t < 2 ^ 52 → AtMost 2147483647 (of_fields binary64 s x t) → Near s x t (of_fields binary64 s x t)
+by_fields : (s : Bool) (x t : ℕ) → t < 2 ^ 52 → AtMost 2147483647 (of_fields binary64 s x t) → Near s x t (of_fields binary64 s x t)
 unfolding of_fields
-by-fields s zero t h b =
+by_fields s zero t h b =
     let v = odd 53 s t 0 1074 in
-    (zero-le, near-of-value v s (t * 2 ^ 0) (2 ^ 1074) (pow_pos 1074) (odd_sign 53 s t 0 1074) ∙ ap (signed s) (half-up-none (t * 2 ^ 0) (2 ^ 1074) (doubled-lt t 0 (lt_of_lt_of_le h (lit≤ tt)) zero-le)))
-by-fields s (suc j) t h b = go (eqb (suc j) 2047) (eqb t 0) b
+    (zero-le, near_of_value v s (t * 2 ^ 0) (2 ^ 1074) (pow_pos 1074) (odd_sign 53 s t 0 1074) ∙ ap (signed s) (half_up_none (t * 2 ^ 0) (2 ^ 1074) (doubled-lt t 0 (lt_of_lt_of_le h (lit≤ tt)) zero-le)))
+by_fields s (suc j) t h b = go (eqb (suc j) 2047) (eqb t 0) b
   where
     go : (c z : Bool) → AtMost 2147483647 (cond c (cond z (inf s) nan) (odd 53 s (2 ^ 52 + t) j 1074)) → Near s (suc j) t (cond c (cond z (inf s) nan) (odd 53 s (2 ^ 52 + t) j 1074))
     go true true b = absurd b
@@ -163,11 +163,11 @@ of_bits_is : (b : ℕ) → of_bits binary64 b ≡ of_fields binary64 (negative b
 unfolding of_bits
 of_bits_is b = refl
 
-pub by-pattern : (x : Float) → T (fits binary64 x) → AtMost 2147483647 x → (field (to_bits binary64 x) ≤ 1053) × (nearestWhole x ≡ signed (negative (to_bits binary64 x)) (whole_of (to_bits binary64 x)))
-by-pattern x F h =
+pub by_pattern : (x : Float) → T (fits binary64 x) → AtMost 2147483647 x → (field (to_bits binary64 x) ≤ 1053) × (nearest_whole x ≡ signed (negative (to_bits binary64 x)) (whole_of (to_bits binary64 x)))
+by_pattern x F h =
     let b = to_bits binary64 x in
     let e : of_fields binary64 (negative b) (field b) (digits b) ≡ x = sym (of_bits_is b) ∙ of_bits-to_bits binary64 x F in
-    subst (λ (v : Float). Near (negative b) (field b) (digits b) v) e (by-fields (negative b) (field b) (digits b) (mod-lt b (pow_pos 52)) (subst (AtMost 2147483647) (sym e) h))
+    subst (λ (v : Float). Near (negative b) (field b) (digits b) v) e (by_fields (negative b) (field b) (digits b) (mod-lt b (pow_pos 52)) (subst (AtMost 2147483647) (sym e) h))
 
 -- ── for the code ──
 
@@ -201,14 +201,14 @@ no_nan B nan h = absurd h
 no_nan B (inf s) h = tt
 no_nan B (fin s m e) h = tt
 
-pub whole-at-most : (x : Float) → T (fits binary64 x) → AtMost 2147483647 x → whole_of (to_bits binary64 x) ≤ 2147483647
-whole-at-most x F h =
+pub whole_at_most : (x : Float) → T (fits binary64 x) → AtMost 2147483647 x → whole_of (to_bits binary64 x) ≤ 2147483647
+whole_at_most x F h =
     let b = to_bits binary64 x in
-    le_trans (le_of_eq (sym (ap nat_abs (by-pattern x F h).1 ∙ abs-signed (negative b) (whole_of b)))) (nearest-at-most x 2147483647 h)
+    le_trans (le_of_eq (sym (ap nat_abs (by_pattern x F h).1 ∙ abs-signed (negative b) (whole_of b)))) (nearest_at_most x 2147483647 h)
 
 -- with the sign of the pattern
-pub below-zero : (x : Float) → T (fits binary64 x) → AtMost 2147483647 x → 2 ^ 63 ≤ to_bits binary64 x → neg_ℤ (pos (whole_of (to_bits binary64 x))) ≡ nearestWhole x
-below-zero x F h n = let b = to_bits binary64 x in sym ((by-pattern x F h).1 ∙ ap (λ (s : Bool). signed s (whole_of b)) (is_true (negative b) (le→leb (2 ^ 63) b n)))
+pub below_zero : (x : Float) → T (fits binary64 x) → AtMost 2147483647 x → 2 ^ 63 ≤ to_bits binary64 x → neg_ℤ (pos (whole_of (to_bits binary64 x))) ≡ nearest_whole x
+below_zero x F h n = let b = to_bits binary64 x in sym ((by_pattern x F h).1 ∙ ap (λ (s : Bool). signed s (whole_of b)) (is_true (negative b) (le→leb (2 ^ 63) b n)))
 
-pub above_zero : (x : Float) → T (fits binary64 x) → AtMost 2147483647 x → to_bits binary64 x < 2 ^ 63 → pos (whole_of (to_bits binary64 x)) ≡ nearestWhole x
-above_zero x F h n = let b = to_bits binary64 x in sym ((by-pattern x F h).1 ∙ ap (λ (s : Bool). signed s (whole_of b)) (is_false (negative b) (lt→nleb (2 ^ 63) b n)))
+pub above_zero : (x : Float) → T (fits binary64 x) → AtMost 2147483647 x → to_bits binary64 x < 2 ^ 63 → pos (whole_of (to_bits binary64 x)) ≡ nearest_whole x
+above_zero x F h n = let b = to_bits binary64 x in sym ((by_pattern x F h).1 ∙ ap (λ (s : Bool). signed s (whole_of b)) (is_false (negative b) (lt→nleb (2 ^ 63) b n)))

@@ -7,8 +7,8 @@ use Rattle.std.specs.Float.{inf, fin}
 use Rattle.std.specs.Float.Ieee.{up, down, le}
 use Rattle.std.specs.Float.Ieee.Fits.{and_i, and_l, and_r, down_pos}
 use Rattle.seq.specs.Seq.{Bool, true, false, ◌&&◌, ◌||◌, ℕ, ◌*◌, ltb, ℤ, pos, negsuc}
-use Rattle.paper.specs.Tide.{ratioIn, weightIn}
-use Rattle.laws_tide.specs.AtMost.{le-or-eq}
+use Rattle.paper.specs.Tide.{ratio_in, weight_in}
+use Rattle.laws_tide.specs.AtMost.{le_or_eq}
 
 -- ── a comparison of two fractions ──
 
@@ -25,14 +25,14 @@ of_le a b h = elim (eq-or-lt_of_le h) [ inl e ↦ right (ltb a b) (eqb a b && tr
 
 -- ── a ratio: not negative, and its numerator n and denominator d have  d ≤ 4 n  and  n ≤ 4 d ──
 
-pub ratio-means : (m : ℕ) (e : ℤ) → T (ratioIn (fin false m e)) → (down e ≤ 4 * (m * up e)) × (m * up e ≤ 4 * down e)
+pub ratio-means : (m : ℕ) (e : ℤ) → T (ratio_in (fin false m e)) → (down e ≤ 4 * (m * up e)) × (m * up e ≤ 4 * down e)
 unfolding le
 ratio-means m e t =
     let n = m * up e in
     let d = down e in
     let l = le (fin false 1 (negsuc 1)) (fin false m e) in
     let u = le (fin false m e) (fin false 1 (pos 2)) in
-    (low n d (le-or-eq (1 * 1 * d) (n * 4) true (and_l l u t)), high n d (le-or-eq (n * 1) (1 * 4 * d) true (and_r l u t)))
+    (low n d (le_or_eq (1 * 1 * d) (n * 4) true (and_l l u t)), high n d (le_or_eq (n * 1) (1 * 4 * d) true (and_r l u t)))
   where
     low : (n d : ℕ) → 1 * 1 * d ≤ n * 4 → d ≤ 4 * n
     low n d h = omega arith
@@ -40,9 +40,9 @@ ratio-means m e t =
     high : (n d : ℕ) → n * 1 ≤ 1 * 4 * d → n ≤ 4 * d
     high n d h = omega arith
 
-pub ratio-is-in : (m : ℕ) (e : ℤ) → down e ≤ 4 * (m * up e) → m * up e ≤ 4 * down e → T (ratioIn (fin false m e))
+pub ratio_is_in : (m : ℕ) (e : ℤ) → down e ≤ 4 * (m * up e) → m * up e ≤ 4 * down e → T (ratio_in (fin false m e))
 unfolding le
-ratio-is-in m e p q =
+ratio_is_in m e p q =
     let n = m * up e in
     let d = down e in
     and_i (le (fin false 1 (negsuc 1)) (fin false m e)) (le (fin false m e) (fin false 1 (pos 2))) (of_le (1 * 1 * d) (n * 4) (low n d p)) (of_le (n * 1) (1 * 4 * d) (high n d q))
@@ -55,19 +55,19 @@ ratio-is-in m e p q =
 
 -- ── a weight: not negative, and n ≤ d ──
 
-pub weight-means : (m : ℕ) (e : ℤ) → T (weightIn (fin false m e)) → m * up e ≤ down e
+pub weight-means : (m : ℕ) (e : ℤ) → T (weight_in (fin false m e)) → m * up e ≤ down e
 unfolding le
 weight-means m e t =
     let l = le (fin false 0 (pos 0)) (fin false m e) in
     let u = le (fin false m e) (fin false 1 (pos 0)) in
-    high (m * up e) (down e) (le-or-eq (m * up e * 1) (1 * 1 * down e) true (and_r l u t))
+    high (m * up e) (down e) (le_or_eq (m * up e * 1) (1 * 1 * down e) true (and_r l u t))
   where
     high : (n d : ℕ) → n * 1 ≤ 1 * 1 * d → n ≤ d
     high n d h = omega arith
 
-pub weight-is-in : (m : ℕ) (e : ℤ) → m * up e ≤ down e → T (weightIn (fin false m e))
+pub weight_is_in : (m : ℕ) (e : ℤ) → m * up e ≤ down e → T (weight_in (fin false m e))
 unfolding le
-weight-is-in m e h =
+weight_is_in m e h =
     let n = m * up e in
     let d = down e in
     and_i (le (fin false 0 (pos 0)) (fin false m e)) (le (fin false m e) (fin false 1 (pos 0))) (of_le (0 * 1 * d) (n * 1) (low n d)) (of_le (n * 1) (1 * 1 * d) (high n d h))
@@ -80,9 +80,9 @@ weight-is-in m e h =
 
 -- ── with a minus sign ──
 
-pub ratio-not-negative : (m : ℕ) (e : ℤ) → T (ratioIn (fin true m e)) → ⊥
+pub ratio_not_negative : (m : ℕ) (e : ℤ) → T (ratio_in (fin true m e)) → ⊥
 unfolding le
-ratio-not-negative m e t =
+ratio_not_negative m e t =
     let a = 1 * 1 * down e in
     let b = m * up e * 4 in
     let u = and_l (le (fin false 1 (negsuc 1)) (fin true m e)) (le (fin true m e) (fin false 1 (pos 2))) t in
@@ -91,7 +91,7 @@ ratio-not-negative m e t =
     some : (d : ℕ) → 0 < d → 1 * 1 * d ≡ 0 → ⊥
     some d p h = omega arith
 
-pub weight-negative : (m : ℕ) (e : ℤ) → T (weightIn (fin true m e)) → m * up e ≡ 0
+pub weight-negative : (m : ℕ) (e : ℤ) → T (weight_in (fin true m e)) → m * up e ≡ 0
 unfolding le
 weight-negative m e t =
     let a = 0 * 1 * down e in
@@ -104,12 +104,12 @@ weight-negative m e t =
 
 -- ── infinities ──
 
-pub ratio-finite : (s : Bool) → ratioIn (inf s) ≡ false
+pub ratio-finite : (s : Bool) → ratio_in (inf s) ≡ false
 unfolding le
 ratio-finite true = refl
 ratio-finite false = refl
 
-pub weight-finite : (s : Bool) → weightIn (inf s) ≡ false
+pub weight-finite : (s : Bool) → weight_in (inf s) ≡ false
 unfolding le
 weight-finite true = refl
 weight-finite false = refl

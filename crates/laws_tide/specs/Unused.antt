@@ -5,37 +5,37 @@ use Rattle.std.proofs.Common.{sym, ◌∙◌}
 use Rattle.std.specs.Float.{nan, fin}
 use Rattle.std.specs.Float.Ieee.{le}
 use Rattle.seq.specs.Seq.{Bool, true, false, ◌&&◌, pos}
-use Rattle.paper.specs.Tide.{TideRule, unset, ratio, weights, Reading, isUnset, ratioIn, weightIn, in_range, tide}
-use Rattle.laws_tide.specs.Cases.{no-rule, out_of_range}
+use Rattle.paper.specs.Tide.{TideRule, unset, ratio, weights, Reading, is_unset, ratio_in, weight_in, in_range, tide}
+use Rattle.laws_tide.specs.Cases.{no_rule, out_of_range}
 
 pub second-unused : (r : Float) (x y z : Reading) → tide (ratio r) x y ≡ tide (ratio r) x z
 unfolding tide
 second-unused r x y z = refl
 
-pub none-unused : (x y v w : Reading) → tide unset x y ≡ tide unset v w
-none-unused x y v w = no-rule x y ∙ sym (no-rule v w)
+pub none_unused : (x y v w : Reading) → tide unset x y ≡ tide unset v w
+none_unused x y v w = no_rule x y ∙ sym (no_rule v w)
 
-pub range-first : (t : TideRule) (x y v w : Reading) → isUnset t ≡ false → in_range t ≡ false → tide t x y ≡ tide t v w
-range-first t x y v w u i = out_of_range t x y u i ∙ sym (out_of_range t v w u i)
+pub range_first : (t : TideRule) (x y v w : Reading) → is_unset t ≡ false → in_range t ≡ false → tide t x y ≡ tide t v w
+range_first t x y v w u i = out_of_range t x y u i ∙ sym (out_of_range t v w u i)
 
 -- ── not a number, and -0 ──
 
-pub nan-out : ratioIn nan ≡ false
+pub nan_out : ratio_in nan ≡ false
 unfolding le
-nan-out = refl
+nan_out = refl
 
-pub nan-out-first : (b : Float) → in_range (weights nan b) ≡ false
+pub nan_out_first : (b : Float) → in_range (weights nan b) ≡ false
 unfolding le
-nan-out-first b = refl
+nan_out_first b = refl
 
-pub nan-out-second : (a : Float) → in_range (weights a nan) ≡ false
+pub nan_out-second : (a : Float) → in_range (weights a nan) ≡ false
 unfolding le
-nan-out-second a = go (weightIn a)
+nan_out-second a = go (weight_in a)
   where
-    go : (c : Bool) → (c && weightIn nan) ≡ false
+    go : (c : Bool) → (c && weight_in nan) ≡ false
     go true = refl
     go false = refl
 
-pub minus-zero-in : weightIn (fin true 0 (pos 0)) ≡ true
+pub minus-zero_in : weight_in (fin true 0 (pos 0)) ≡ true
 unfolding le
-minus-zero-in = refl
+minus-zero_in = refl

@@ -3,62 +3,62 @@
 use Rattle.std.specs.Prelude.{◌≡◌, refl, ◌≤◌, ◌<◌}
 use Rattle.std.proofs.Common.{sym, ◌∙◌, ap, subst, inl, inr, ⊎_elim, append-nil, le_refl, add-zero, add-suc, arith, eq-eqb, ne_eqb}
 use Rattle.std.proofs.Math.Seq.{append_snoc}
-use Rattle.seq.specs.Seq.{Bool, true, false, cond, List, [], ◌∷◌, ◌++◌, map, ℕ, suc, ◌+◌, length, isIn, insertBy}
+use Rattle.seq.specs.Seq.{Bool, true, false, cond, List, [], ◌∷◌, ◌++◌, map, ℕ, suc, ◌+◌, length, is_in, insert_by}
 use Rattle.seq.specs.Terms.{Among, Rising}
 use Rattle.seq.specs.Tests.{clash, not-true}
 use Rattle.seq.specs.Members.{among-++, ++-among}
-use Rattle.seq.specs.PairOrder.{pairBefore, same_pair, not_same, same-pair-self, pair-irr, pair-asym, pair_one}
-use Rattle.seq.specs.HowMany.{howMany, many-++, many-none}
-use Rattle.seq.specs.Inserted.{insert-grows, insert-slow}
-use Rattle.paper.specs.Year.{Pair, sortedPairs}
-use Rattle.laws_year.specs.Step.{Tally, tallyBefore, firstFace, oneMore, addFace, addFaces}
-use Rattle.laws_year.specs.Pairs.{sorted-rising, sorted-from, sorted-has, sorted-same, in-among, among_in}
+use Rattle.seq.specs.PairOrder.{pair_before, same_pair, not_same, same_pair-self, pair-irr, pair-asym, pair_one}
+use Rattle.seq.specs.HowMany.{how_many, many-++, many_none}
+use Rattle.seq.specs.Inserted.{insert-grows, insert_slow}
+use Rattle.paper.specs.Year.{Pair, sorted_pairs}
+use Rattle.laws_year.specs.Step.{Tally, tally_before, first_face, the_one_more, add_face, add_faces}
+use Rattle.laws_year.specs.Pairs.{sorted-rising, sorted_from, sorted_has, sorted_same, in_among, among_in}
 
 -- the tally of each pair by three functions
-abbrev pub tallyBy : (Pair → ℕ) → (Pair → ℕ) → (Pair → ℕ) → Pair → Tally
-tallyBy s t l p = record { pair = p; sheets = s p; faces = t p; last = l p }
+abbrev pub tally_by : (Pair → ℕ) → (Pair → ℕ) → (Pair → ℕ) → Pair → Tally
+tally_by s t l p = record { pair = p; sheets = s p; faces = t p; last = l p }
 
 -- ── one face more in a sorted list ──
 
 module _ (s t l s' t' l' : Pair → ℕ) (n : ℕ) (p : Pair) where
   abbrev f : Pair → Tally
-  f = tallyBy s t l
+  f = tally_by s t l
 
   abbrev f' : Pair → Tally
-  f' = tallyBy s' t' l'
+  f' = tally_by s' t' l'
 
   abbrev new : Tally
-  new = firstFace n p
+  new = first_face n p
 
   abbrev keep : Pair → Pair → Pair
   keep x y = y
 
-  module _ (other : (q : Pair) → (q ≡ p → ⊥) → tallyBy s t l q ≡ tallyBy s' t' l' q) where
+  module _ (other : (q : Pair) → (q ≡ p → ⊥) → tally_by s t l q ≡ tally_by s' t' l' q) where
     -- no other row changes
-    others : (qs : List Pair) → (Among p qs → ⊥) → map (tallyBy s t l) qs ≡ map (tallyBy s' t' l') qs
+    others : (qs : List Pair) → (Among p qs → ⊥) → map (tally_by s t l) qs ≡ map (tally_by s' t' l') qs
     others [] h = refl
     others (q ∷ qs) h = λ i. other q (λ e. h (inl (sym e))) i ∷ others qs (λ j. h (inr j)) i
 
-    module _ (Was : Type 0) (old : Was → oneMore (firstFace n p) (tallyBy s t l p) ≡ tallyBy s' t' l' p) (fresh : (Was → ⊥) → firstFace n p ≡ tallyBy s' t' l' p) where
-      insert-step : (q : Pair) (qs : List Pair) (c d : Bool) → pairBefore p q ≡ c → pairBefore q p ≡ d → Rising pairBefore (q ∷ qs) → (Was → Among p (q ∷ qs)) → (Among p (q ∷ qs) → Was)
-          → ((Was → Among p qs) → (Among p qs → Was) → insertBy tallyBefore oneMore new (map f qs) ≡ map f' (insertBy pairBefore keep p qs))
-          → cond c (new ∷ f q ∷ map f qs) (cond d (f q ∷ insertBy tallyBefore oneMore new (map f qs)) (oneMore new (f q) ∷ map f qs)) ≡ map f' (cond c (p ∷ q ∷ qs) (cond d (q ∷ insertBy pairBefore keep p qs) (keep p q ∷ qs)))
+    module _ (Was : Type 0) (old : Was → the_one_more (first_face n p) (tally_by s t l p) ≡ tally_by s' t' l' p) (fresh : (Was → ⊥) → first_face n p ≡ tally_by s' t' l' p) where
+      insert-step : (q : Pair) (qs : List Pair) (c d : Bool) → pair_before p q ≡ c → pair_before q p ≡ d → Rising pair_before (q ∷ qs) → (Was → Among p (q ∷ qs)) → (Among p (q ∷ qs) → Was)
+          → ((Was → Among p qs) → (Among p qs → Was) → insert_by tally_before the_one_more new (map f qs) ≡ map f' (insert_by pair_before keep p qs))
+          → cond c (new ∷ f q ∷ map f qs) (cond d (f q ∷ insert_by tally_before the_one_more new (map f qs)) (the_one_more new (f q) ∷ map f qs)) ≡ map f' (cond c (p ∷ q ∷ qs) (cond d (q ∷ insert_by pair_before keep p qs) (keep p q ∷ qs)))
       insert-step q qs true d e g h was is ih =
-          let away : Among p (q ∷ qs) → ⊥ = λ i. ⊎_elim (λ x. pair-irr p (subst (λ (y : Pair). pairBefore p y ≡ true) (sym x) e)) (λ j. pair-asym p q e (h.0 p j)) i in
+          let away : Among p (q ∷ qs) → ⊥ = λ i. ⊎_elim (λ x. pair-irr p (subst (λ (y : Pair). pair_before p y ≡ true) (sym x) e)) (λ j. pair-asym p q e (h.0 p j)) i in
           (λ i. fresh (λ w. away (was w)) i ∷ others (q ∷ qs) away i)
       insert-step q qs false true e g h was is ih =
-          let apart : q ≡ p → ⊥ = λ x. pair-irr p (subst (λ (y : Pair). pairBefore y p ≡ true) x g) in
+          let apart : q ≡ p → ⊥ = λ x. pair-irr p (subst (λ (y : Pair). pair_before y p ≡ true) x g) in
           let r = ih (λ w. ⊎_elim (λ x. absurd (apart (sym x))) (λ j. j) (was w)) (λ j. is (inr j)) in
           (λ i. other q apart i ∷ r i)
       insert-step q qs false false e g h was is ih =
           let x : p ≡ q = pair_one p q e g in
-          let away : Among p qs → ⊥ = λ j. pair-irr p (subst (λ (y : Pair). pairBefore y p ≡ true) (sym x) (h.0 p j)) in
-          let z : oneMore new (f q) ≡ f' q = subst (λ (y : Pair). oneMore new (f y) ≡ f' y) x (old (is (inl x))) in
+          let away : Among p qs → ⊥ = λ j. pair-irr p (subst (λ (y : Pair). pair_before y p ≡ true) (sym x) (h.0 p j)) in
+          let z : the_one_more new (f q) ≡ f' q = subst (λ (y : Pair). the_one_more new (f y) ≡ f' y) x (old (is (inl x))) in
           (λ i. z i ∷ others qs away i)
 
-      insert-map : (qs : List Pair) → Rising pairBefore qs → (Was → Among p qs) → (Among p qs → Was) → insertBy tallyBefore oneMore new (map f qs) ≡ map f' (insertBy pairBefore keep p qs)
+      insert-map : (qs : List Pair) → Rising pair_before qs → (Was → Among p qs) → (Among p qs → Was) → insert_by tally_before the_one_more new (map f qs) ≡ map f' (insert_by pair_before keep p qs)
       insert-map [] h was is = λ i. fresh (λ w. was w) i ∷ []
-      insert-map (q ∷ qs) h was is = insert-step q qs (pairBefore p q) (pairBefore q p) refl refl h was is (insert-map qs h.1)
+      insert-map (q ∷ qs) h was is = insert-step q qs (pair_before p q) (pair_before q p) refl refl h was is (insert-map qs h.1)
 
 -- ── the faces of one sheet ──
 
@@ -68,48 +68,48 @@ module _ (before : List Pair) (S T L : Pair → ℕ) (n : ℕ) (earlier : (p : P
   abbrev pub one : Bool → ℕ
   one b = cond b 1 0
 
-  abbrev pub sheetsTo : List Pair → Pair → ℕ
-  sheetsTo seen p = S p + one (isIn same_pair p seen)
+  abbrev pub sheets_to : List Pair → Pair → ℕ
+  sheets_to seen p = S p + one (is_in same_pair p seen)
 
-  abbrev pub facesTo : List Pair → Pair → ℕ
-  facesTo seen p = T p + howMany (same_pair p) seen
+  abbrev pub faces_to : List Pair → Pair → ℕ
+  faces_to seen p = T p + how_many (same_pair p) seen
 
   abbrev pub last_to : List Pair → Pair → ℕ
-  last_to seen p = cond (isIn same_pair p seen) n (L p)
+  last_to seen p = cond (is_in same_pair p seen) n (L p)
 
-  abbrev pub talliesTo : List Pair → List Tally
-  talliesTo seen = map (tallyBy (sheetsTo seen) (facesTo seen) (last_to seen)) (sortedPairs (before ++ seen))
+  abbrev pub tallies_to : List Pair → List Tally
+  tallies_to seen = map (tally_by (sheets_to seen) (faces_to seen) (last_to seen)) (sorted_pairs (before ++ seen))
 
   module _ (seen : List Pair) (p : Pair) where
     abbrev more : List Pair
     more = seen ++ (p ∷ [])
 
-    more-in : (q : Pair) → (q ≡ p → ⊥) → isIn same_pair q (seen ++ (p ∷ [])) ≡ isIn same_pair q seen
-    more-in q d = go (isIn same_pair q seen) refl
+    more_in : (q : Pair) → (q ≡ p → ⊥) → is_in same_pair q (seen ++ (p ∷ [])) ≡ is_in same_pair q seen
+    more_in q d = go (is_in same_pair q seen) refl
       where
-        go : (c : Bool) → isIn same_pair q seen ≡ c → isIn same_pair q (seen ++ (p ∷ [])) ≡ c
-        go true e = among_in q more (++-among q seen (p ∷ []) (inl (in-among q seen e)))
-        go false e = not-true (isIn same_pair q more) (λ g. ⊎_elim (λ i. clash (among_in q seen i) e) (λ i. ⊎_elim (λ x. d x) (λ w. absurd w) i) (among-++ q seen (p ∷ []) (in-among q more g)))
+        go : (c : Bool) → is_in same_pair q seen ≡ c → is_in same_pair q (seen ++ (p ∷ [])) ≡ c
+        go true e = among_in q more (++-among q seen (p ∷ []) (inl (in_among q seen e)))
+        go false e = not-true (is_in same_pair q more) (λ g. ⊎_elim (λ i. clash (among_in q seen i) e) (λ i. ⊎_elim (λ x. d x) (λ w. absurd w) i) (among-++ q seen (p ∷ []) (in_among q more g)))
 
-    p-in : isIn same_pair p (seen ++ (p ∷ [])) ≡ true
-    p-in = among_in p more (++-among p seen (p ∷ []) (inr (inl refl)))
+    p_in : is_in same_pair p (seen ++ (p ∷ [])) ≡ true
+    p_in = among_in p more (++-among p seen (p ∷ []) (inr (inl refl)))
 
-    more-times : (q : Pair) → (q ≡ p → ⊥) → howMany (same_pair q) (seen ++ (p ∷ [])) ≡ howMany (same_pair q) seen
-    more-times q d = many-++ (same_pair q) seen (p ∷ []) ∙ rw (not_same q p d) (add-zero (howMany (same_pair q) seen))
+    more_times : (q : Pair) → (q ≡ p → ⊥) → how_many (same_pair q) (seen ++ (p ∷ [])) ≡ how_many (same_pair q) seen
+    more_times q d = many-++ (same_pair q) seen (p ∷ []) ∙ rw (not_same q p d) (add-zero (how_many (same_pair q) seen))
 
-    p-times : howMany (same_pair p) (seen ++ (p ∷ [])) ≡ suc (howMany (same_pair p) seen)
-    p-times = many-++ (same_pair p) seen (p ∷ []) ∙ rw (same-pair-self p) (omega arith)
+    p_times : how_many (same_pair p) (seen ++ (p ∷ [])) ≡ suc (how_many (same_pair p) seen)
+    p_times = many-++ (same_pair p) seen (p ∷ []) ∙ rw (same_pair-self p) (omega arith)
 
-    other_row : (q : Pair) → (q ≡ p → ⊥) → tallyBy (sheetsTo seen) (facesTo seen) (last_to seen) q ≡ tallyBy (sheetsTo more) (facesTo more) (last_to more) q
-    other_row q d = rw (more-in q d, more-times q d)
+    other_row : (q : Pair) → (q ≡ p → ⊥) → tally_by (sheets_to seen) (faces_to seen) (last_to seen) q ≡ tally_by (sheets_to more) (faces_to more) (last_to more) q
+    other_row q d = rw (more_in q d, more_times q d)
 
     abbrev Was : Type 0
     Was = Among p (before ++ seen)
 
-    old-step : (c : Bool) → isIn same_pair p seen ≡ c → oneMore (firstFace n p) (tallyBy (λ q. S q + one c) (facesTo seen) (λ q. cond c n (L q)) p)
-        ≡ record { pair = p; sheets = S p + 1; faces = T p + suc (howMany (same_pair p) seen); last = n }
-    old-step true e = λ i. record { pair = p; sheets = cond (eq-eqb n n refl i) (S p + 1) (suc (S p + 1)); faces = sym (add-suc (T p) (howMany (same_pair p) seen)) i; last = n }
-    old-step false e = (λ i. record { pair = p; sheets = cond (ne_eqb (L p) n apart i) (S p + 0) (suc (S p + 0)); faces = sym (add-suc (T p) (howMany (same_pair p) seen)) i; last = n }) ∙ (λ i. record { pair = p; sheets = first i; faces = T p + suc (howMany (same_pair p) seen); last = n })
+    old_step : (c : Bool) → is_in same_pair p seen ≡ c → the_one_more (first_face n p) (tally_by (λ q. S q + one c) (faces_to seen) (λ q. cond c n (L q)) p)
+        ≡ record { pair = p; sheets = S p + 1; faces = T p + suc (how_many (same_pair p) seen); last = n }
+    old_step true e = λ i. record { pair = p; sheets = cond (eq-eqb n n refl i) (S p + 1) (suc (S p + 1)); faces = sym (add-suc (T p) (how_many (same_pair p) seen)) i; last = n }
+    old_step false e = (λ i. record { pair = p; sheets = cond (ne_eqb (L p) n apart i) (S p + 0) (suc (S p + 0)); faces = sym (add-suc (T p) (how_many (same_pair p) seen)) i; last = n }) ∙ (λ i. record { pair = p; sheets = first i; faces = T p + suc (how_many (same_pair p) seen); last = n })
       where
         apart : L p ≡ n → ⊥
         apart x = omega (arith, earlier p)
@@ -117,28 +117,28 @@ module _ (before : List Pair) (S T L : Pair → ℕ) (n : ℕ) (earlier : (p : P
         first : suc (S p + 0) ≡ S p + 1
         first = omega arith
 
-    now : tallyBy (sheetsTo more) (facesTo more) (last_to more) p ≡ record { pair = p; sheets = S p + 1; faces = T p + suc (howMany (same_pair p) seen); last = n }
-    now = rw (p-in, p-times)
+    now : tally_by (sheets_to more) (faces_to more) (last_to more) p ≡ record { pair = p; sheets = S p + 1; faces = T p + suc (how_many (same_pair p) seen); last = n }
+    now = rw (p_in, p_times)
 
-    old_row : oneMore (firstFace n p) (tallyBy (sheetsTo seen) (facesTo seen) (last_to seen) p) ≡ tallyBy (sheetsTo more) (facesTo more) (last_to more) p
-    old_row = old-step (isIn same_pair p seen) refl ∙ sym now
+    old_row : the_one_more (first_face n p) (tally_by (sheets_to seen) (faces_to seen) (last_to seen) p) ≡ tally_by (sheets_to more) (faces_to more) (last_to more) p
+    old_row = old_step (is_in same_pair p seen) refl ∙ sym now
 
-    new_row : (Among p (before ++ seen) → ⊥) → firstFace n p ≡ tallyBy (sheetsTo more) (facesTo more) (last_to more) p
+    new_row : (Among p (before ++ seen) → ⊥) → first_face n p ≡ tally_by (sheets_to more) (faces_to more) (last_to more) p
     new_row h =
         let z = unseen p (λ i. h (++-among p before seen (inl i))) in
         let a : 1 ≡ S p + 1 = omega (arith, z.0) in
-        let b : 1 ≡ T p + suc (howMany (same_pair p) seen) = rw (not_seen) (omega (arith, z.1)) in
+        let b : 1 ≡ T p + suc (how_many (same_pair p) seen) = rw (not_seen) (omega (arith, z.1)) in
         (λ i. record { pair = p; sheets = a i; faces = b i; last = n }) ∙ sym now
       where
-        not_seen : howMany (same_pair p) seen ≡ 0
-        not_seen = many-none (same_pair p) seen (λ q i. not_same p q (λ e. h (++-among p before seen (inr (subst (λ (z : Pair). Among z seen) (sym e) i)))))
+        not_seen : how_many (same_pair p) seen ≡ 0
+        not_seen = many_none (same_pair p) seen (λ q i. not_same p q (λ e. h (++-among p before seen (inr (subst (λ (z : Pair). Among z seen) (sym e) i)))))
 
-    pub add-face : addFace n (talliesTo seen) p ≡ talliesTo more
+    pub add-face : add_face n (tallies_to seen) p ≡ tallies_to more
     add-face =
-        insert-map (sheetsTo seen) (facesTo seen) (last_to seen) (sheetsTo more) (facesTo more) (last_to more) n p other_row
-        (Among p (before ++ seen)) (λ w. old_row) new_row (sortedPairs (before ++ seen)) (sorted-rising (before ++ seen))
-        (λ i. sorted-has (before ++ seen) p i) (λ i. sorted-from (before ++ seen) p i)
-        ∙ ap (map (tallyBy (sheetsTo more) (facesTo more) (last_to more))) (sorted-same (p ∷ (before ++ seen)) (before ++ more) there back)
+        insert-map (sheets_to seen) (faces_to seen) (last_to seen) (sheets_to more) (faces_to more) (last_to more) n p other_row
+        (Among p (before ++ seen)) (λ w. old_row) new_row (sorted_pairs (before ++ seen)) (sorted-rising (before ++ seen))
+        (λ i. sorted_has (before ++ seen) p i) (λ i. sorted_from (before ++ seen) p i)
+        ∙ ap (map (tally_by (sheets_to more) (faces_to more) (last_to more))) (sorted_same (p ∷ (before ++ seen)) (before ++ more) there back)
       where
         there : (z : Pair) → Among z (p ∷ (before ++ seen)) → Among z (before ++ more)
         there z (inl e) = ++-among z before more (inr (++-among z seen (p ∷ []) (inr (inl e))))
@@ -150,25 +150,25 @@ module _ (before : List Pair) (S T L : Pair → ℕ) (n : ℕ) (earlier : (p : P
             (λ j. ⊎_elim (λ k. inr (++-among z before seen (inr k))) (λ k. ⊎_elim (λ e. inl e) (λ w. absurd w) k) (among-++ z seen (p ∷ []) j))
             (among-++ z before more i)
 
-  pub add-faces : (seen ps : List Pair) → addFaces n (talliesTo seen) ps ≡ talliesTo (seen ++ ps)
-  add-faces seen [] = ap talliesTo (sym (append-nil seen))
+  pub add-faces : (seen ps : List Pair) → add_faces n (tallies_to seen) ps ≡ tallies_to (seen ++ ps)
+  add-faces seen [] = ap tallies_to (sym (append-nil seen))
   add-faces seen (p ∷ ps) =
-      ap (λ (ts : List Tally). addFaces n ts ps) (add-face seen p) ∙ add-faces (seen ++ (p ∷ [])) ps ∙ ap talliesTo (append_snoc seen p ps)
+      ap (λ (ts : List Tally). add_faces n ts ps) (add-face seen p) ∙ add-faces (seen ++ (p ∷ [])) ps ∙ ap tallies_to (append_snoc seen p ps)
 
   -- a whole sheet
-  pub add-sheet : (ps : List Pair) → addFaces n (talliesTo []) ps ≡ talliesTo ps
+  pub add-sheet : (ps : List Pair) → add_faces n (tallies_to []) ps ≡ tallies_to ps
   add-sheet ps = add-faces [] ps
 
 -- ── tallies only grow ──
 
 module _ (n : ℕ) where
-  pub face-grows : (ts : List Tally) (p : Pair) → length ts ≤ length (addFace n ts p)
-  face-grows ts p = insert-grows tallyBefore oneMore (firstFace n p) ts
+  pub face-grows : (ts : List Tally) (p : Pair) → length ts ≤ length (add_face n ts p)
+  face-grows ts p = insert-grows tally_before the_one_more (first_face n p) ts
 
   -- by one at most
-  pub face-slow : (ts : List Tally) (p : Pair) → length (addFace n ts p) ≤ suc (length ts)
-  face-slow ts p = insert-slow tallyBefore oneMore (firstFace n p) ts
+  pub face_slow : (ts : List Tally) (p : Pair) → length (add_face n ts p) ≤ suc (length ts)
+  face_slow ts p = insert_slow tally_before the_one_more (first_face n p) ts
 
-  pub faces-grow : (ts : List Tally) (ps : List Pair) → length ts ≤ length (addFaces n ts ps)
+  pub faces-grow : (ts : List Tally) (ps : List Pair) → length ts ≤ length (add_faces n ts ps)
   faces-grow ts [] = le_refl (length ts)
-  faces-grow ts (p ∷ ps) = omega (arith, face-grows ts p, faces-grow (addFace n ts p) ps)
+  faces-grow ts (p ∷ ps) = omega (arith, face-grows ts p, faces-grow (add_face n ts p) ps)

@@ -12,29 +12,29 @@ use Rattle.ovfile_write.specs.declared.answer.WriteAnswer.{WriteAnswer}
 use Rattle.ovfile_write.specs.Answers.{written_of}
 use Rattle.ovfile_write.specs.Unique.{answer-once}
 use Rattle.lists.specs.Listed.{Roomy}
-use Rattle.lists.specs.Laws.Room.{roomy-as, overlay-roomy}
+use Rattle.lists.specs.Laws.Room.{roomy_as, overlay-roomy}
 use Rattle.lists.specs.Laws.Melted.{melt-roomy}
 
 -- in a buffer of n bytes: what the writer makes of the counts and tables; where the overlay is refused, that refusal, and zeros
-abbrev pub filedBy : ℕ → Tables → Answer Counts → Written
-filedBy n t (done c) = write n c t
-filedBy n t (refused r) = record { answer = refused r; buffer = padded 0 n [] }
+abbrev pub filed_by : ℕ → Tables → Answer Counts → Written
+filed_by n t (done c) = write n c t
+filed_by n t (refused r) = record { answer = refused r; buffer = padded 0 n [] }
 
 abbrev pub filed : ℕ → Outcome → Written
-filed n o = filedBy n o.tables o.answer
+filed n o = filed_by n o.tables o.answer
 
 -- an outcome that is that of an overlay
 pub overlay-answered : (l : Lengths) (x y z : List ℕ) {a : Answer Counts} {t : Tables} → ◌≡◌ {A = Outcome} (record { answer = a; tables = t }) (overlay l x y z) → Roomy a
-overlay-answered l x y z {a} {t} e = roomy-as (ap (λ (o : Outcome). o.answer) e) (overlay-roomy l x y z)
+overlay-answered l x y z {a} {t} e = roomy_as (ap (λ (o : Outcome). o.answer) e) (overlay-roomy l x y z)
 
 -- an outcome that is that of melting
 pub melt-answered : (l : Lengths) (x y z : List ℕ) {a : Answer Counts} {t : Tables} → ◌≡◌ {A = Outcome} (record { answer = a; tables = t }) (melt l x y z) → Roomy a
-melt-answered l x y z {a} {t} e = roomy-as (ap (λ (o : Outcome). o.answer) e) (melt-roomy l x y z)
+melt-answered l x y z {a} {t} e = roomy_as (ap (λ (o : Outcome). o.answer) e) (melt-roomy l x y z)
 
 -- what is filed of an answer that is known is filed of the outcome
-pub filed-by : (n : ℕ) (o : Outcome) {a b : Answer Counts} {t : Tables} {w : Written}
-    → ◌≡◌ {A = Outcome} (record { answer = a; tables = t }) o → a ≡ b → w ≡ filedBy n t b → w ≡ filed n o
-filed-by n o {a} {b} {t} {w} e g h = h ∙ ap (filedBy n t) (sym g) ∙ ap (filed n) e
+pub filed_by_lem : (n : ℕ) (o : Outcome) {a b : Answer Counts} {t : Tables} {w : Written}
+    → ◌≡◌ {A = Outcome} (record { answer = a; tables = t }) o → a ≡ b → w ≡ filed_by n t b → w ≡ filed n o
+filed_by_lem n o {a} {b} {t} {w} e g h = h ∙ ap (filed_by n t) (sym g) ∙ ap (filed n) e
 
 -- no second answer and buffer are what is filed
 pub filed-once : {w : Written} (a b : WriteAnswer) (x y : List ℕ) → written_of a x ≡ w → written_of b y ≡ w → (a ≡ b) × (x ≡ y)

@@ -1,8 +1,8 @@
 // The text of an answer: the listing of the counts and the face table, or the line of a refusal.
 ghost use Rattle.paper.specs.Limits.{maps};
-ghost use Rattle.paper.specs.Listing.{listingBy};
+ghost use Rattle.paper.specs.Listing.{listing_by};
 ghost use Rattle.tables.specs.Values.{answer_of};
-ghost use Rattle.text.specs.Lines.{Line, facesOnly};
+ghost use Rattle.text.specs.Lines.{Line, faces_only};
 ghost use Rattle.lists.specs.Listed.{Roomy};
 
 use limits::LISTING;
@@ -18,7 +18,7 @@ pub struct Listed {
 // Puts the text of an answer at the start of a lent text, and answers its length.
 pub fn put(answer: Answer, faces: &[u16], out: &mut [u8; LISTING]) -> usize
     requires { Roomy (answer_of answer) }
-    ensures { Line 85504 (listingBy maps (facesOnly faces.now) (answer_of answer)) out.old out.new result }
+    ensures { Line 85504 (listing_by maps (faces_only faces.now) (answer_of answer)) out.old out.new result }
 {
     match answer {
         Answer::Done(c) => text::listing(c.vertices, c.edges, c.faces, faces, out),

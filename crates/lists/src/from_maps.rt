@@ -1,7 +1,7 @@
 // Three map files laid over each other: the listing of their overlay, and its overlay file.
 ghost use Rattle.std.specs.Prelude.{◌≡◌, length};
 ghost use Rattle.paper.specs.Overlay.{overlay};
-ghost use Rattle.lists.specs.Listed.{ListedOf, fullTables};
+ghost use Rattle.lists.specs.Listed.{ListedOf, full_tables};
 ghost use Rattle.ovfile_write.specs.Answers.{written_of};
 ghost use Rattle.lists.specs.Filed.{filed};
 
@@ -13,7 +13,7 @@ use tables::Answer;
 
 // The listing of the overlay of three map files of any bytes, or the line of what is refused.
 pub fn list(zones: &[u8], blocks: &[u8], bed: &[u8], out: &mut [u8; LISTING]) -> Listed
-    ensures { ListedOf (overlay fullTables zones.now blocks.now bed.now) out.old out.new result }
+    ensures { ListedOf (overlay full_tables zones.now blocks.now bed.now) out.old out.new result }
 {
     let mut vertices = [0i64; VERTEX_CELLS];
     let mut halves = [0u16; HALF_CELLS];
@@ -34,7 +34,7 @@ pub fn list(zones: &[u8], blocks: &[u8], bed: &[u8], out: &mut [u8; LISTING]) ->
 
 // The overlay file of the overlay of three map files of any bytes, into a buffer of any length: its length, or what is refused.
 pub fn file(zones: &[u8], blocks: &[u8], bed: &[u8], buffer: &mut [u8]) -> WriteAnswer
-    ensures { written_of result buffer.new ≡ filed (length buffer.old) (overlay fullTables zones.now blocks.now bed.now) }
+    ensures { written_of result buffer.new ≡ filed (length buffer.old) (overlay full_tables zones.now blocks.now bed.now) }
 {
     let mut vertices = [0i64; VERTEX_CELLS];
     let mut halves = [0u16; HALF_CELLS];

@@ -5,7 +5,7 @@ ghost use Rattle.paper.specs.Limits.{absent};
 ghost use Rattle.plane.specs.Values.{vec_of};
 ghost use Rattle.plane.specs.Bounds.{Corner};
 ghost use Rattle.graph.specs.Flat.{Carriers};
-ghost use Rattle.looks.specs.Rails.{railsRead, railLabel};
+ghost use Rattle.looks.specs.Rails.{rails_read, rail_label};
 
 use super::reading::look_read;
 use plane::Vector;
@@ -34,8 +34,8 @@ pub fn label_read(rails: &[i16], easts: &[u16], e: usize, c: Vector) -> Labelled
     requires fact_2 { e ≤ absent }
     requires fact_3 { e ≤ length easts.now }
     requires fact_4 { Corner (vec_of c) }
-    ensures same { result.label ≡ railLabel rails.now easts.now e (vec_of c) }
-    ensures read { result.read ≡ railsRead rails.now e (vec_of c) }
+    ensures same { result.label ≡ rail_label rails.now easts.now e (vec_of c) }
+    ensures read { result.read ≡ rails_read rails.now e (vec_of c) }
 {
     let looked = look_read(rails, e, c);
     let label = label_seen(easts, e, looked.rail);

@@ -2,10 +2,10 @@
 ghost use Rattle.std.specs.Prelude.{◌≡◌, ◌*◌, ◌≤◌, length, get_or};
 ghost use Rattle.seq.specs.Seq.{filled, laid};
 ghost use Rattle.paper.specs.Limits.{absent};
-ghost use Rattle.graph.specs.Flat.{carrierAt, Carriers, Numbers};
-ghost use Rattle.graph.specs.Look.{eastAt};
-ghost use Rattle.looks.specs.Ordering.{edgeIn, EachEnds};
-ghost use Rattle.looks.specs.Rails.{segRow};
+ghost use Rattle.graph.specs.Flat.{carrier_at, Carriers, Numbers};
+ghost use Rattle.graph.specs.Look.{east_at};
+ghost use Rattle.looks.specs.Ordering.{the_edge_in, EachEnds};
+ghost use Rattle.looks.specs.Rails.{seg_row};
 
 use graph::{carrier_at, east_side, store_carrier};
 
@@ -14,7 +14,7 @@ fn lay_rows(carriers: &[i16], order: &[u16], e: usize, rails: &mut [i16])
     requires fact_1 { Carriers carriers.now e }
     requires fact_2 { Numbers order.now e e }
     requires fact_3 { 4 * e ≤ length rails.old }
-    ensures { rails.new ≡ laid e (λ i. segRow (carrierAt carriers.now (edgeIn order.now i))) rails.old }
+    ensures { rails.new ≡ laid e (λ i. seg_row (carrier_at carriers.now (the_edge_in order.now i))) rails.old }
 {
     let mut i = 0;
     while i < e {
@@ -36,7 +36,7 @@ fn lay_easts(
     requires fact_1 { (2 * e ≤ absent) × (2 * e ≤ length labels.now) × EachEnds points.now origins.now e }
     requires fact_2 { Numbers order.now e e }
     requires fact_3 { e ≤ length easts.old }
-    ensures { easts.new ≡ filled e (λ i. get_or labels.now (eastAt points.now origins.now (edgeIn order.now i)) 0) easts.old }
+    ensures { easts.new ≡ filled e (λ i. get_or labels.now (east_at points.now origins.now (the_edge_in order.now i)) 0) easts.old }
 {
     let mut i = 0;
     while i < e {
@@ -58,8 +58,8 @@ pub fn lay_rails(
     easts: &mut [u16],
 )
     requires { ((2 * e ≤ absent) × (2 * e ≤ length labels.now) × EachEnds points.now origins.now e) × ((Carriers carriers.now e) × ((Numbers order.now e e) × ((4 * e ≤ length rails.old) × (e ≤ length easts.old)))) }
-    ensures rows { rails.new ≡ laid e (λ i. segRow (carrierAt carriers.now (edgeIn order.now i))) rails.old }
-    ensures labels { easts.new ≡ filled e (λ i. get_or labels.now (eastAt points.now origins.now (edgeIn order.now i)) 0) easts.old }
+    ensures rows { rails.new ≡ laid e (λ i. seg_row (carrier_at carriers.now (the_edge_in order.now i))) rails.old }
+    ensures labels { easts.new ≡ filled e (λ i. get_or labels.now (east_at points.now origins.now (the_edge_in order.now i)) 0) easts.old }
 {
     lay_rows(carriers, order, e, rails);
     lay_easts(points, origins, labels, order, e, easts);

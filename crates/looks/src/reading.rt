@@ -3,12 +3,12 @@
 ghost use Rattle.std.specs.Prelude.{◌≡◌, ◌≤◌, ◌<◌, nat_abs};
 ghost use Rattle.seq.specs.Seq.{cond};
 ghost use Rattle.paper.specs.Limits.{absent};
-ghost use Rattle.paper.specs.Plane.{vec, whole, leftBy};
-ghost use Rattle.plane.specs.Values.{seg, vec_of, segOf};
+ghost use Rattle.paper.specs.Plane.{vec, whole, the_left_by};
+ghost use Rattle.plane.specs.Values.{seg, vec_of, seg_of};
 ghost use Rattle.plane.specs.Bounds.{Corner, Edge};
-ghost use Rattle.graph.specs.Flat.{carrierAt, Carried, Carriers};
+ghost use Rattle.graph.specs.Flat.{carrier_at, Carried, Carriers};
 ghost use Rattle.graph.specs.Pick.{better};
-ghost use Rattle.looks.specs.Rails.{wholeLefts, above, passes, closer, passesAt, closerAt, Looks};
+ghost use Rattle.looks.specs.Rails.{whole_lefts, above, passes, closer, passes_at, closer_at, Looks};
 
 use graph::carrier_at;
 use plane::{Seg, Vector, cross_of, rises};
@@ -22,8 +22,8 @@ pub struct Looked {
 
 // Whether the lower end of s is higher than c.
 fn starts_above(s: Seg, c: Vector) -> bool
-    requires { Edge (segOf s) × Corner (vec_of c) }
-    ensures { result ≡ above (vec_of c) (segOf s) }
+    requires { Edge (seg_of s) × Corner (vec_of c) }
+    ensures { result ≡ above (vec_of c) (seg_of s) }
 {
     c.y < s.y
 }
@@ -31,25 +31,25 @@ fn starts_above(s: Seg, c: Vector) -> bool
 // How far the corner a, b lies to the left of the edge from x, y along u, v.
 fn left_of(x: i64, y: i64, u: i64, v: i64, a: i64, b: i64) -> i64
     requires { Edge (seg x y u v) × Corner (vec a b) }
-    ensures is { result ≡ leftBy (seg x y u v) (whole (vec a b)) }
-    ensures bound { nat_abs result ≤ wholeLefts }
+    ensures is { result ≡ the_left_by (seg x y u v) (whole (vec a b)) }
+    ensures bound { nat_abs result ≤ whole_lefts }
 {
     u * (b - y) - v * (a - x)
 }
 
 // How far c lies to the left of s.
 fn left_at(s: Seg, c: Vector) -> i64
-    requires { Edge (segOf s) × Corner (vec_of c) }
-    ensures is { result ≡ leftBy (segOf s) (whole (vec_of c)) }
-    ensures bound { nat_abs result ≤ wholeLefts }
+    requires { Edge (seg_of s) × Corner (vec_of c) }
+    ensures is { result ≡ the_left_by (seg_of s) (whole (vec_of c)) }
+    ensures bound { nat_abs result ≤ whole_lefts }
 {
     left_of(s.x, s.y, s.u, s.v, c.x, c.y)
 }
 
 // Whether s, which does not start above c, is a candidate: its upper end is above, and it lies west of c or goes through it.
 fn passes(s: Seg, c: Vector) -> bool
-    requires { Edge (segOf s) × Corner (vec_of c) }
-    ensures { result ≡ passes (vec_of c) (segOf s) }
+    requires { Edge (seg_of s) × Corner (vec_of c) }
+    ensures { result ≡ passes (vec_of c) (seg_of s) }
 {
     if c.y < s.y + s.v {
         let left = left_at(s, c);
@@ -61,8 +61,8 @@ fn passes(s: Seg, c: Vector) -> bool
 
 // "The nearest has the greatest x at that height; among equals, the smallest upward angle": whether s is nearer than t.
 fn closer(s: Seg, t: Seg, c: Vector) -> bool
-    requires { Edge (segOf s) × Edge (segOf t) × Corner (vec_of c) }
-    ensures { result ≡ closer (vec_of c) (segOf s) (segOf t) }
+    requires { Edge (seg_of s) × Edge (seg_of t) × Corner (vec_of c) }
+    ensures { result ≡ closer (vec_of c) (seg_of s) (seg_of t) }
 {
     let turn = cross_of(s.u, s.v, t.u, t.v);
     let mine = left_at(s, c);
@@ -76,7 +76,7 @@ fn closer(s: Seg, t: Seg, c: Vector) -> bool
 // With r the nearest candidate so far, `none` where there is none yet: edge i too.
 fn nearest(rails: &[i16], none: usize, i: usize, r: usize, c: Vector) -> usize
     requires { Carried rails.now i × (r < none → Carried rails.now r) × (r ≤ none) × Corner (vec_of c) }
-    ensures { result ≡ better (closerAt rails.now (vec_of c)) none i r }
+    ensures { result ≡ better (closer_at rails.now (vec_of c)) none i r }
 {
     if r == none {
         return i;
@@ -91,7 +91,7 @@ fn nearest(rails: &[i16], none: usize, i: usize, r: usize, c: Vector) -> usize
 // The same, if edge i is a candidate.
 fn take(rails: &[i16], none: usize, i: usize, r: usize, c: Vector) -> usize
     requires { Carried rails.now i × (r < none → Carried rails.now r) × (r ≤ none) × Corner (vec_of c) }
-    ensures { result ≡ cond (passesAt rails.now (vec_of c) i) (better (closerAt rails.now (vec_of c)) none i r) r }
+    ensures { result ≡ cond (passes_at rails.now (vec_of c) i) (better (closer_at rails.now (vec_of c)) none i r) r }
 {
     if passes(carrier_at(rails, i), c) {
         return nearest(rails, none, i, r, c);

@@ -1,14 +1,14 @@
 // Rows that anyone may have handed in: whether each is an edge between corners, so that what a look reckons of it fits 64 bits.
 ghost use Rattle.std.specs.Prelude.{◌≡◌, ◌+◌, ◌*◌, ◌≤◌, length};
-ghost use Rattle.seq.specs.Seq.{someBelow};
-ghost use Rattle.looks.specs.Straying.{straysBy, straysAt};
+ghost use Rattle.seq.specs.Seq.{the_some_below};
+ghost use Rattle.looks.specs.Straying.{strays_by, strays_at};
 
 use exact::magnitude;
 use limits::{CARRIER_WIDTH, REACH};
 
 // Whether a coordinate of an edge's lower end, the way from there, or the upper end's coordinate is beyond what corners have.
 fn strays_by(x: i64, u: i64) -> bool
-    ensures { result ≡ straysBy x u }
+    ensures { result ≡ strays_by x u }
 {
     if REACH < magnitude(x) {
         return true;
@@ -22,7 +22,7 @@ fn strays_by(x: i64, u: i64) -> bool
 // Whether row i is no edge between corners.
 fn strays_at(rails: &[i16], i: usize) -> bool
     requires { 4 * i + 4 ≤ length rails.now }
-    ensures { result ≡ straysAt rails.now i }
+    ensures { result ≡ strays_at rails.now i }
 {
     let at = CARRIER_WIDTH * i;
     if strays_by(rails[at] as i64, rails[at + 2] as i64) {
@@ -34,7 +34,7 @@ fn strays_at(rails: &[i16], i: usize) -> bool
 // Whether one of the first e rows is none.
 pub fn strays(rails: &[i16], e: usize) -> bool
     requires { 4 * e ≤ length rails.now }
-    ensures { result ≡ someBelow (straysAt rails.now) e }
+    ensures { result ≡ the_some_below (strays_at rails.now) e }
 {
     let mut i = 0;
     while i < e {

@@ -12,11 +12,11 @@ use Rattle.exact.specs.Abs.{abs-+, abs_neg}
 use Rattle.exact.specs.Solve.{ring, reify}
 use Rattle.paper.specs.Graph.{point, edge, origin}
 use Rattle.paper.specs.Limits.{reach}
-use Rattle.paper.specs.Map.{vertexCount, edgesIn, originAt, mapOf}
-use Rattle.paper.specs.Plane.{Vec, minusV, whole, before, between}
+use Rattle.paper.specs.Map.{vertex_count, edges_in, origin_at, map_of}
+use Rattle.paper.specs.Plane.{Vec, minus_v, whole, before, between}
 use Rattle.plane.specs.Bounds.{numerators, span, Corner, Near, Edge}
 use Rattle.map_check.specs.Laws.Kept.{Kept}
-use Rattle.laws_graph.specs.Reading.{point_at, carrier-at, origin-at}
+use Rattle.laws_graph.specs.Reading.{point_at, carrier_at_lem, origin_at_lem}
 
 -- ── an edge between corners ──
 
@@ -29,42 +29,42 @@ back a b h = rw (there a b) h
 apart : (a b : ℤ) → nat_abs a ≤ reach → nat_abs b ≤ reach → nat_abs (b -ℤ a) ≤ span
 apart a b h l = omega (arith, abs-+ b (neg_ℤ a), abs_neg a)
 
-straight : (a b : Vec) → Corner a → Corner b → Edge (record { foot = a; up = minusV b a })
+straight : (a b : Vec) → Corner a → Corner b → Edge (record { foot = a; up = minus_v b a })
 straight a b p q = record {
-  foot-is = p;
-  head-is = record { x-is = back a.x b.x q.x-is; y-is = back a.y b.y q.y-is };
-  up_is = record { x-is = apart a.x b.x p.x-is q.x-is; y-is = apart a.y b.y p.y-is q.y-is };
+  foot_is = p;
+  head_is = record { x_is = back a.x b.x q.x_is; y_is = back a.y b.y q.y_is };
+  up_is = record { x_is = apart a.x b.x p.x_is q.x_is; y_is = apart a.y b.y p.y_is q.y_is };
 }
 
-either_way : (t : Bool) (a b : Vec) → Corner a → Corner b → Edge (cond t (record { foot = b; up = minusV a b }) (record { foot = a; up = minusV b a }))
+either_way : (t : Bool) (a b : Vec) → Corner a → Corner b → Edge (cond t (record { foot = b; up = minus_v a b }) (record { foot = a; up = minus_v b a }))
 either_way true a b p q = straight b a q p
 either_way false a b p q = straight a b p q
 
-between-edge : (a b : Vec) → Corner a → Corner b → Edge (between a b)
-between-edge a b = either_way (before (whole b) (whole a)) a b
+between_edge : (a b : Vec) → Corner a → Corner b → Edge (between a b)
+between_edge a b = either_way (before (whole b) (whole a)) a b
 
 -- ── the map's graph ──
 
 module _ (s : List ℕ) (kept : Kept s) where
-  pub point-near : (v : ℕ) → v < vertexCount s → Near (point (mapOf s).graph v)
+  pub point-near : (v : ℕ) → v < vertex_count s → Near (point (map_of s).graph v)
   point-near v l =
       let c = kept.near v l in
       let far : reach ≤ numerators = lit≤ tt in
-      subst Near (sym (point_at s v l)) (record { positive = record { lt = tt }; X-is = le_trans c.x-is far; Y-is = le_trans c.y-is far; D-is = lit≤ tt })
+      subst Near (sym (point_at s v l)) (record { positive = record { lt = tt }; X-is = le_trans c.x_is far; Y-is = le_trans c.y_is far; D-is = lit≤ tt })
 
-  pub carrier-edge : (k : ℕ) → k < edgesIn s → Edge (edge (mapOf s).graph k).carrier
+  pub carrier-edge : (k : ℕ) → k < edges_in s → Edge (edge (map_of s).graph k).carrier
   carrier-edge k l =
       let a = kept.from k l in
       let b = kept.to k l in
-      subst Edge (sym (carrier-at s k l a b)) (between-edge _ _ (kept.near (originAt s (2 * k)) a) (kept.near (originAt s (2 * k + 1)) b))
+      subst Edge (sym (carrier_at_lem s k l a b)) (between_edge _ _ (kept.near (origin_at s (2 * k)) a) (kept.near (origin_at s (2 * k + 1)) b))
 
   -- the half-edge is 2k or 2k + 1
-  named : (h : ℕ) → h < 2 * edgesIn s → originAt s h < vertexCount s
+  named : (h : ℕ) → h < 2 * edges_in s → origin_at s h < vertex_count s
   named h l =
       elim (dec_lt 0 (h % 2)) [
-        | yes o ↦ let e : 2 * (h / 2) + 1 ≡ h = omega arith in subst (λ (x : ℕ). originAt s x < vertexCount s) e (kept.to (h / 2) (omega arith))
-        | no o ↦ let e : 2 * (h / 2) ≡ h = omega arith in subst (λ (x : ℕ). originAt s x < vertexCount s) e (kept.from (h / 2) (omega arith))
+        | yes o ↦ let e : 2 * (h / 2) + 1 ≡ h = omega arith in subst (λ (x : ℕ). origin_at s x < vertex_count s) e (kept.to (h / 2) (omega arith))
+        | no o ↦ let e : 2 * (h / 2) ≡ h = omega arith in subst (λ (x : ℕ). origin_at s x < vertex_count s) e (kept.from (h / 2) (omega arith))
       ]
 
-  pub origin-named : (h : ℕ) → h < 2 * edgesIn s → origin (mapOf s).graph h < vertexCount s
-  origin-named h l = subst (λ (v : ℕ). v < vertexCount s) (sym (origin-at s h l)) (named h l)
+  pub origin-named : (h : ℕ) → h < 2 * edges_in s → origin (map_of s).graph h < vertex_count s
+  origin-named h l = subst (λ (v : ℕ). v < vertex_count s) (sym (origin_at_lem s h l)) (named h l)

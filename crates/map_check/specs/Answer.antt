@@ -2,11 +2,11 @@
 -- nothing.
 use Rattle.seq.specs.Seq.{ℕ}
 use Rattle.paper.specs.Refusal.{Answer, done, refused}
-use Rattle.map_file.specs.Verdict.{refusalOf}
+use Rattle.map_file.specs.Verdict.{refusal_of}
 use Rattle.map_check.specs.declared.answer.Checked.{Checked}
 use Rattle.map_check.specs.declared.answer.Checked.TheVariants.{Good, Bad}
 
 -- the two counts, or the refusal with its number, map and place
 abbrev pub answer_of : Checked → Answer (ℕ × ℕ)
 answer_of (Good c) = done (c.vertices, c.edges)
-answer_of (Bad r) = refused (refusalOf r)
+answer_of (Bad r) = refused (refusal_of r)

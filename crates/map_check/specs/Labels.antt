@@ -1,43 +1,43 @@
 -- Rule 10 on flat tables: what the code tests of one half-edge, and what its tables are (`Linked`). Assumes nothing.
 use Rattle.std.specs.Prelude.{◌≤◌, ◌<◌}
-use Rattle.seq.specs.Seq.{Bool, true, not, ◌&&◌, ◌||◌, List, [], ◌∷◌, ℕ, ◌*◌, eqb, length, get_or, ℤ, walkFrom}
+use Rattle.seq.specs.Seq.{Bool, true, not, ◌&&◌, ◌||◌, List, [], ◌∷◌, ℕ, ◌*◌, eqb, length, get_or, ℤ, walk_from}
 use Rattle.paper.specs.Limits.{absent}
 use Rattle.paper.specs.Plane.{nowhere, before}
-use Rattle.graph.specs.Flat.{originAt, start_at, flatGraph, Flat, Starts, Numbers}
-use Rattle.graph.specs.Look.{seenLabel}
+use Rattle.graph.specs.Flat.{origin_at, start_at, flat_graph, Flat, Starts, Numbers}
+use Rattle.graph.specs.Look.{seen_label}
 
 -- no element of a list has p
-abbrev pub noneOf : (ℕ → Bool) → List ℕ → Bool
-noneOf p [] = true
-noneOf p (x ∷ xs) = not (p x) && noneOf p xs
+abbrev pub the_none_of : (ℕ → Bool) → List ℕ → Bool
+the_none_of p [] = true
+the_none_of p (x ∷ xs) = not (p x) && the_none_of p xs
 
 -- its label differs from its follower's
 abbrev pub unlike : List ℕ → List ℕ → ℕ → Bool
 unlike ls nx h = not (eqb (get_or ls h 0) (get_or ls (get_or nx h 0) 0))
 
 -- x starts at a smaller vertex than h
-abbrev pub earlierAt : List ℤ → List ℕ → ℕ → ℕ → Bool
-earlierAt ps os h x = before (start_at ps os x) (start_at ps os h)
+abbrev pub earlier_at : List ℤ → List ℕ → ℕ → ℕ → Bool
+earlier_at ps os h x = before (start_at ps os x) (start_at ps os h)
 
 -- no half-edge of the walk of h, in at most m steps, starts at a smaller vertex
-abbrev pub smallestAt : List ℤ → List ℕ → List ℕ → ℕ → ℕ → Bool
-smallestAt ps os nx m h = noneOf (earlierAt ps os h) (walkFrom nx h m (get_or nx h 0))
+abbrev pub smallest_at : List ℤ → List ℕ → List ℕ → ℕ → ℕ → Bool
+smallest_at ps os nx m h = the_none_of (earlier_at ps os h) (walk_from nx h m (get_or nx h 0))
 
 -- the table gs has h as the half-edge of greatest angle out of its origin
-abbrev pub topAt : List ℕ → List ℕ → ℕ → Bool
-topAt os gs h = eqb (get_or gs (originAt os h) 0) h
+abbrev pub top_at : List ℕ → List ℕ → ℕ → Bool
+top_at os gs h = eqb (get_or gs (origin_at os h) 0) h
 
 -- it does, and of m half-edges none on the walk of h starts at a smaller vertex
-abbrev pub makesHoleAt : List ℤ → List ℕ → List ℕ → List ℕ → ℕ → ℕ → Bool
-makesHoleAt ps os gs nx m h = topAt os gs h && smallestAt ps os nx m h
+abbrev pub makes_hole_at : List ℤ → List ℕ → List ℕ → List ℕ → ℕ → ℕ → Bool
+makes_hole_at ps os gs nx m h = top_at os gs h && smallest_at ps os nx m h
 
 -- the label of what is seen strictly west of where h starts, or 0 "where the outside is seen"
-abbrev pub seenWest : List ℤ → List ℕ → List ℤ → List ℕ → ℕ → ℕ → ℕ → ℕ
-seenWest ps os cs ls n e h = seenLabel (flatGraph ps os cs n e) ls (start_at ps os h) nowhere
+abbrev pub seen_west : List ℤ → List ℕ → List ℤ → List ℕ → ℕ → ℕ → ℕ → ℕ
+seen_west ps os cs ls n e h = seen_label (flat_graph ps os cs n e) ls (start_at ps os h) nowhere
 
 -- 10 "Labels disagree at a half-edge"
-abbrev pub disagreesAt : List ℤ → List ℕ → List ℤ → List ℕ → List ℕ → List ℕ → ℕ → ℕ → ℕ → Bool
-disagreesAt ps os cs ls gs nx n e h = unlike ls nx h || (makesHoleAt ps os gs nx (2 * e) h && not (eqb (get_or ls h 0) (seenWest ps os cs ls n e h)))
+abbrev pub disagrees_at : List ℤ → List ℕ → List ℤ → List ℕ → List ℕ → List ℕ → ℕ → ℕ → ℕ → Bool
+disagrees_at ps os cs ls gs nx n e h = unlike ls nx h || (makes_hole_at ps os gs nx (2 * e) h && not (eqb (get_or ls h 0) (seen_west ps os cs ls n e h)))
 
 -- ── the tables ──
 

@@ -1,28 +1,28 @@
 -- Rules 8 and 9 on flat tables: what the code tests of one edge or vertex. Assumes nothing.
-use Rattle.seq.specs.Seq.{Bool, not, ◌&&◌, List, Option, ℕ, eqb, ℤ, least, someBelow}
+use Rattle.seq.specs.Seq.{Bool, not, ◌&&◌, List, Option, ℕ, eqb, ℤ, least, the_some_below}
 use Rattle.paper.specs.Plane.{clash}
 use Rattle.paper.specs.Refusal.{beside, Refusal}
-use Rattle.graph.specs.Flat.{carrierAt, originAt}
+use Rattle.graph.specs.Flat.{carrier_at, origin_at}
 
 -- edges k and j are two, and share a point that is not an end of both
-abbrev pub clashAt : List ℤ → ℕ → ℕ → Bool
-clashAt cs k j = not (eqb k j) && clash (carrierAt cs k) (carrierAt cs j)
+abbrev pub clash_at : List ℤ → ℕ → ℕ → Bool
+clash_at cs k j = not (eqb k j) && clash (carrier_at cs k) (carrier_at cs j)
 
 -- 8 "an edge shares with another any point that is not an end of both", of e edges
-abbrev pub clashingAt : List ℤ → ℕ → ℕ → Bool
-clashingAt cs e k = someBelow (clashAt cs k) e
+abbrev pub clashing_at : List ℤ → ℕ → ℕ → Bool
+clashing_at cs e k = the_some_below (clash_at cs k) e
 
 -- its place, of e edges, and "the other edge's number, the least one that clashes with it"
-abbrev pub clashPlaceAt : List ℤ → ℕ → ℕ
-clashPlaceAt cs e = least (clashingAt cs e) e
+abbrev pub clash_place_at : List ℤ → ℕ → ℕ
+clash_place_at cs e = least (clashing_at cs e) e
 
-abbrev pub clashFaultAt : List ℤ → ℕ → Option Refusal
-clashFaultAt cs e = let k = clashPlaceAt cs e in beside 8 k (least (clashAt cs k) e) (someBelow (clashingAt cs e) e)
+abbrev pub clash_fault_at : List ℤ → ℕ → Option Refusal
+clash_fault_at cs e = let k = clash_place_at cs e in beside 8 k (least (clash_at cs k) e) (the_some_below (clashing_at cs e) e)
 
 -- half-edge h starts from vertex v
-abbrev pub startsAt : List ℕ → ℕ → ℕ → Bool
-startsAt os v h = eqb (originAt os h) v
+abbrev pub starts_at : List ℕ → ℕ → ℕ → Bool
+starts_at os v h = eqb (origin_at os h) v
 
 -- 9 "a vertex has no edge", of m half-edges
-abbrev pub lonelyAt : List ℕ → ℕ → ℕ → Bool
-lonelyAt os m v = not (someBelow (startsAt os v) m)
+abbrev pub lonely_at : List ℕ → ℕ → ℕ → Bool
+lonely_at os m v = not (the_some_below (starts_at os v) m)

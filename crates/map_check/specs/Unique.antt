@@ -5,7 +5,7 @@ use Rattle.seq.specs.Seq.{List, ℕ}
 use Rattle.seq.specs.Unique.{determined}
 use Rattle.paper.specs.Refusal.{Answer, done, refused, Refusal}
 use Rattle.paper.specs.Map.{check}
-use Rattle.map_file.specs.Verdict.{refusalOf}
+use Rattle.map_file.specs.Verdict.{refusal_of}
 use Rattle.map_check.specs.declared.answer.Checked.{Checked}
 use Rattle.map_check.specs.declared.answer.Checked.TheVariants.{Good, Bad}
 use Rattle.map_check.specs.Answer.{answer_of}
@@ -35,7 +35,7 @@ answer-only (Good a) (Good b) e =
 answer-only (Good a) (Bad b) e = absurd (differ (answer_of (Good a)) (answer_of (Bad b)) e (λ z. omega arith))
 answer-only (Bad a) (Good b) e = absurd (differ (answer_of (Bad a)) (answer_of (Good b)) e (λ z. omega arith))
 answer-only (Bad a) (Bad b) e =
-    let d : refusalOf a ≡ refusalOf b = ap (refusal (refusalOf a)) e in
+    let d : refusal_of a ≡ refusal_of b = ap (refusal (refusal_of a)) e in
     λ i. Bad (record { number = (d i).number; map = (d i).map; place = (d i).place; other = (d i).other })
 
 pub check-unique : (s : List ℕ) (a b : Checked) → answer_of a ≡ check s → answer_of b ≡ check s → a ≡ b

@@ -2,14 +2,14 @@
 ghost use Rattle.std.specs.Prelude.{◌≡◌, ◌≤◌, ◌<◌, length};
 ghost use Rattle.std.specs.Int.Signed.{lt_z};
 ghost use Rattle.seq.specs.Seq.{least};
-ghost use Rattle.paper.specs.Limits.{absent, mapVertices, mapEdges};
+ghost use Rattle.paper.specs.Limits.{absent, map_vertices, map_edges};
 ghost use Rattle.paper.specs.Plane.{head, clash};
-ghost use Rattle.plane.specs.Values.{segOf};
+ghost use Rattle.plane.specs.Values.{seg_of};
 ghost use Rattle.plane.specs.Bounds.{Edge};
-ghost use Rattle.graph.specs.Flat.{carrierAt, Carriers, Numbers};
+ghost use Rattle.graph.specs.Flat.{carrier_at, Carriers, Numbers};
 ghost use Rattle.graph.specs.Upright.{Upright};
-ghost use Rattle.map_check.specs.Net.{clashingAt, startsAt, lonelyAt};
-ghost use Rattle.map_check.specs.Later.{laterAt};
+ghost use Rattle.map_check.specs.Net.{clashing_at, starts_at, lonely_at};
+ghost use Rattle.map_check.specs.Later.{later_at};
 
 use super::pass::all_clear;
 use graph::{carrier_at, first_places};
@@ -18,8 +18,8 @@ use plane::{Seg, boxes_apart, clash_by};
 
 // Whether the upper end of s is lower than the lower end of t: as edges go up, s then lies wholly below t.
 pub fn lies_under(s: Seg, t: Seg) -> bool
-    requires { Edge (segOf s) × Edge (segOf t) }
-    ensures { result ≡ lt_z (head (segOf s)).y (segOf t).foot.y }
+    requires { Edge (seg_of s) × Edge (seg_of t) }
+    ensures { result ≡ lt_z (head (seg_of s)).y (seg_of t).foot.y }
 {
     s.y + s.v < t.y
 }
@@ -28,7 +28,7 @@ pub fn lies_under(s: Seg, t: Seg) -> bool
 // comparison says; and nothing more is reckoned of two whose boxes are apart.
 fn clashes(carriers: &[i16], e: usize, k: usize, j: usize) -> bool
     requires { Carriers carriers.now e × (k < e) × (j < e) × Upright carriers.now e }
-    ensures { result ≡ clash (carrierAt carriers.now k) (carrierAt carriers.now j) }
+    ensures { result ≡ clash (carrier_at carriers.now k) (carrier_at carriers.now j) }
 {
     let s = carrier_at(carriers, k);
     let t = carrier_at(carriers, j);
@@ -47,7 +47,7 @@ fn clashes(carriers: &[i16], e: usize, k: usize, j: usize) -> bool
 // The least edge after k that edge k clashes with, or e.
 pub fn first_clash(carriers: &[i16], e: usize, k: usize) -> usize
     requires { Carriers carriers.now e × (k < e) × Upright carriers.now e }
-    ensures { result ≡ least (laterAt carriers.now k) e }
+    ensures { result ≡ least (later_at carriers.now k) e }
 {
     let mut j = k + 1;
     while j < e {
@@ -62,7 +62,7 @@ pub fn first_clash(carriers: &[i16], e: usize, k: usize) -> usize
 // The least edge that clashes with a later one, or e: the least that clashes with another.
 fn search_clashing(carriers: &[i16], e: usize) -> usize
     requires { Carriers carriers.now e × Upright carriers.now e }
-    ensures { result ≡ least (clashingAt carriers.now e) e }
+    ensures { result ≡ least (clashing_at carriers.now e) e }
 {
     let mut k = 0;
     while k < e {
@@ -76,8 +76,8 @@ fn search_clashing(carriers: &[i16], e: usize) -> usize
 
 // 8 "an edge shares with another any point that is not an end of both": the least such edge, or e. It is searched only where the pass from below does not find that there is none.
 pub fn first_clashing(carriers: &[i16], e: usize) -> usize
-    requires { Carriers carriers.now e × Upright carriers.now e × (e ≤ mapEdges) }
-    ensures { result ≡ least (clashingAt carriers.now e) e }
+    requires { Carriers carriers.now e × Upright carriers.now e × (e ≤ map_edges) }
+    ensures { result ≡ least (clashing_at carriers.now e) e }
 {
     if all_clear(carriers, e) {
         e
@@ -89,7 +89,7 @@ pub fn first_clashing(carriers: &[i16], e: usize) -> usize
 // The least of m cells that holds v, or m.
 fn first_holding(cells: &[u16], m: usize, v: usize) -> usize
     requires { m ≤ length cells.now }
-    ensures { result ≡ least (startsAt cells.now v) m }
+    ensures { result ≡ least (starts_at cells.now v) m }
 {
     let mut i = 0;
     while i < m {
@@ -106,7 +106,7 @@ fn first_lonely_in(origins: &[u16], m: usize, n: usize, firsts: &mut [u16]) -> u
     requires fact_1 { Numbers origins.now m n }
     requires fact_2 { m ≤ absent }
     requires fact_3 { n ≤ length firsts.old }
-    ensures { result ≡ least (lonelyAt origins.now m) n }
+    ensures { result ≡ least (lonely_at origins.now m) n }
 {
     first_places(origins, m, m as u16, firsts, n);
     first_holding(firsts, n, m)
@@ -114,8 +114,8 @@ fn first_lonely_in(origins: &[u16], m: usize, n: usize, firsts: &mut [u16]) -> u
 
 // The same, with a table of its own. Few vertices take a small one: less to clear.
 pub fn first_lonely(origins: &[u16], m: usize, n: usize) -> usize
-    requires { Numbers origins.now m n × (m ≤ absent) × (n ≤ mapVertices) }
-    ensures { result ≡ least (lonelyAt origins.now m) n }
+    requires { Numbers origins.now m n × (m ≤ absent) × (n ≤ map_vertices) }
+    ensures { result ≡ least (lonely_at origins.now m) n }
 {
     if n <= SMALL_VERTICES {
         let mut firsts = [0u16; SMALL_VERTICES];

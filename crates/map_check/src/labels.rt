@@ -4,17 +4,17 @@ ghost use Rattle.seq.specs.Seq.{least};
 ghost use Rattle.paper.specs.Limits.{absent};
 ghost use Rattle.paper.specs.Plane.{before};
 ghost use Rattle.plane.specs.Bounds.{Near};
-ghost use Rattle.plane.specs.Values.{ptOf};
-ghost use Rattle.graph.specs.Flat.{originAt, Starts, Flat};
-ghost use Rattle.map_check.specs.Labels.{earlierAt, smallestAt, makesHoleAt, seenWest, disagreesAt, Walked, Linked};
+ghost use Rattle.plane.specs.Values.{pt_of};
+ghost use Rattle.graph.specs.Flat.{origin_at, Starts, Flat};
+ghost use Rattle.map_check.specs.Labels.{earlier_at, smallest_at, makes_hole_at, seen_west, disagrees_at, Walked, Linked};
 
 use graph::{seen_label, start};
 use plane::{Point, Vector, before};
 
 // Whether p comes before q. Of corners the whole numbers tell: "smaller y first, then smaller x".
 fn comes_before(p: Point, q: Point) -> bool
-    requires { Near (ptOf p) × Near (ptOf q) }
-    ensures { result ≡ before (ptOf p) (ptOf q) }
+    requires { Near (pt_of p) × Near (pt_of q) }
+    ensures { result ≡ before (pt_of p) (pt_of q) }
 {
     if p.d != 1 {
         return before(p, q);
@@ -28,7 +28,7 @@ fn comes_before(p: Point, q: Point) -> bool
 // Whether half-edge x starts at a smaller vertex than h.
 fn earlier(points: &[i64], origins: &[u16], h: usize, x: usize) -> bool
     requires { Starts points.now origins.now h × Starts points.now origins.now x }
-    ensures { result ≡ earlierAt points.now origins.now h x }
+    ensures { result ≡ earlier_at points.now origins.now h x }
 {
     comes_before(start(points, origins, x), start(points, origins, h))
 }
@@ -36,7 +36,7 @@ fn earlier(points: &[i64], origins: &[u16], h: usize, x: usize) -> bool
 // Whether no half-edge of the walk of h starts at a smaller vertex.
 fn is_smallest(points: &[i64], origins: &[u16], next: &[u16], m: usize, h: usize) -> bool
     requires { Walked points.now origins.now next.now m × (h < m) }
-    ensures { result ≡ smallestAt points.now origins.now next.now m h }
+    ensures { result ≡ smallest_at points.now origins.now next.now m h }
 {
     let mut x = next[h] as usize;
     let mut left = m;
@@ -63,8 +63,8 @@ fn makes_hole(
     m: usize,
     h: usize,
 ) -> bool
-    requires { (m ≤ length origins.now) × Walked points.now origins.now next.now m × (h < m) × (originAt origins.now h < length heads.now) × (m ≤ absent) }
-    ensures { result ≡ makesHoleAt points.now origins.now heads.now next.now m h }
+    requires { (m ≤ length origins.now) × Walked points.now origins.now next.now m × (h < m) × (origin_at origins.now h < length heads.now) × (m ≤ absent) }
+    ensures { result ≡ makes_hole_at points.now origins.now heads.now next.now m h }
 {
     let v = origins[h] as usize;
     if heads[v] != h as u16 {
@@ -87,7 +87,7 @@ fn seen_west(
     requires fact_2 { 2 * e ≤ absent }
     requires fact_3 { 2 * e ≤ length labels.now }
     requires fact_4 { h < 2 * e }
-    ensures { result ≡ seenWest points.now origins.now carriers.now labels.now n e h }
+    ensures { result ≡ seen_west points.now origins.now carriers.now labels.now n e h }
 {
     let p = start(points, origins, h);
     seen_label(
@@ -115,7 +115,7 @@ fn disagrees(
     h: usize,
 ) -> bool
     requires { Linked points.now origins.now carriers.now labels.now heads.now next.now n e × (h < 2 * e) }
-    ensures { result ≡ disagreesAt points.now origins.now carriers.now labels.now heads.now next.now n e h }
+    ensures { result ≡ disagrees_at points.now origins.now carriers.now labels.now heads.now next.now n e h }
 {
     let f = next[h] as usize;
     let label = labels[h];
@@ -141,7 +141,7 @@ pub fn first_disagreeing(
     e: usize,
 ) -> usize
     requires { Linked points.now origins.now carriers.now labels.now heads.now next.now n e }
-    ensures { result ≡ least (disagreesAt points.now origins.now carriers.now labels.now heads.now next.now n e) (2 * e) }
+    ensures { result ≡ least (disagrees_at points.now origins.now carriers.now labels.now heads.now next.now n e) (2 * e) }
 {
     let m = 2 * e;
     let mut h = 0;

@@ -4,9 +4,9 @@ ghost use Rattle.std.specs.Prelude.{◌≡◌, ◌*◌, ◌≤◌, length};
 ghost use Rattle.std.proofs.Math.Option.{none};
 ghost use Rattle.seq.specs.Seq.{laid};
 ghost use Rattle.paper.specs.Refusal.{first_of, answer};
-ghost use Rattle.paper.specs.Map.{mapOf, vertexCount, edgesIn, formFaults, fault, check};
-ghost use Rattle.map_file.specs.Header.{headerOf};
-ghost use Rattle.map_file.specs.Rows.{carrierRow};
+ghost use Rattle.paper.specs.Map.{map_of, vertex_count, edges_in, form_faults, fault, check};
+ghost use Rattle.map_file.specs.Header.{header_of};
+ghost use Rattle.map_file.specs.Rows.{carrier_row};
 ghost use Rattle.map_file.specs.Verdict.{verdict};
 ghost use Rattle.map_check.specs.Answer.{answer_of};
 ghost use Rattle.map_check.specs.Held.{MapRoom, stored, MapRead, MapLaid};
@@ -25,11 +25,11 @@ fn read_fault(
     carriers: &mut [i16],
     labels: &[u16],
 ) -> Check
-    requires fact_1 { h ≡ headerOf file.now }
-    requires fact_2 { first_of (formFaults file.now) ≡ none }
+    requires fact_1 { h ≡ header_of file.now }
+    requires fact_2 { first_of (form_faults file.now) ≡ none }
     requires fact_3 { MapRead file.now points.now origins.now labels.now }
-    requires fact_4 { 4 * edgesIn file.now ≤ length carriers.old }
-    ensures { (verdict result ≡ fault file.now) × (fault file.now ≡ none → carriers.new ≡ laid (edgesIn file.now) (carrierRow (mapOf file.now).graph) carriers.old) }
+    requires fact_4 { 4 * edges_in file.now ≤ length carriers.old }
+    ensures { (verdict result ≡ fault file.now) × (fault file.now ≡ none → carriers.new ≡ laid (edges_in file.now) (carrier_row (map_of file.now).graph) carriers.old) }
 {
     let n = h.vertices as usize;
     let e = h.edges as usize;
@@ -64,7 +64,7 @@ pub fn lay_map(
     carriers: &mut [i16],
     labels: &mut [u16],
 ) -> Checked
-    requires { MapRoom (stored vertexCount file.now) (stored edgesIn file.now) corners.old origins.old carriers.old labels.old }
+    requires { MapRoom (stored vertex_count file.now) (stored edges_in file.now) corners.old origins.old carriers.old labels.old }
     ensures { (answer_of result ≡ check file.now) × (fault file.now ≡ none → MapLaid file.now corners.old origins.old carriers.old labels.old corners.new origins.new carriers.new labels.new) }
 {
     let h = read_header(file);

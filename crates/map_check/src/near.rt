@@ -2,15 +2,15 @@
 // held to the edge itself.
 ghost use Rattle.std.specs.Prelude.{true, cond, ◌≡◌, ◌≤◌, ◌<◌, length};
 ghost use Rattle.seq.specs.Seq.{least, filled};
-ghost use Rattle.paper.specs.Limits.{mapEdges};
+ghost use Rattle.paper.specs.Limits.{map_edges};
 ghost use Rattle.plane.specs.Bounds.{Corner};
 ghost use Rattle.plane.specs.Values.{vec_of};
 ghost use Rattle.graph.specs.Flat.{Carriers};
 ghost use Rattle.graph.specs.Upright.{Upright};
 ghost use Rattle.keys.specs.Cells.{InTurn};
-ghost use Rattle.map_check.specs.Net.{clashingAt};
+ghost use Rattle.map_check.specs.Net.{clashing_at};
 ghost use Rattle.map_check.specs.Pass.{ClearAbove};
-ghost use Rattle.map_check.specs.Near.{westOf, eastOf, fromWest, besideOf, carrierIn, Boxes, Picked};
+ghost use Rattle.map_check.specs.Near.{west_of, east_of, from_west, beside_of, carrier_in, Boxes, Picked};
 
 use super::pairs::{clear, head};
 use super::pass::{carrier_in, end_of};
@@ -24,7 +24,7 @@ const WEST: i64 = REACH as i64;
 // How far a corner is from the west of the reach.
 fn from_west(a: Vector) -> u16
     requires { Corner (vec_of a) }
-    ensures { result ≡ fromWest (vec_of a).x }
+    ensures { result ≡ from_west (vec_of a).x }
 {
     (a.x + WEST) as u16
 }
@@ -32,7 +32,7 @@ fn from_west(a: Vector) -> u16
 // How far from the west of the reach the edge in cell i starts.
 fn west_in(carriers: &[i16], cells: &[usize], e: usize, i: usize) -> u16
     requires { Carriers carriers.now e × InTurn carriers.now cells.now e × (i < e) }
-    ensures { result ≡ fromWest (westOf (carrierIn carriers.now cells.now i)) }
+    ensures { result ≡ from_west (west_of (carrier_in carriers.now cells.now i)) }
 {
     let s = carrier_in(carriers, cells, e, i);
     if s.u < 0 {
@@ -45,7 +45,7 @@ fn west_in(carriers: &[i16], cells: &[usize], e: usize, i: usize) -> u16
 // How far from it the edge ends.
 fn east_in(carriers: &[i16], cells: &[usize], e: usize, i: usize) -> u16
     requires { Carriers carriers.now e × InTurn carriers.now cells.now e × (i < e) }
-    ensures { result ≡ fromWest (eastOf (carrierIn carriers.now cells.now i)) }
+    ensures { result ≡ from_west (east_of (carrier_in carriers.now cells.now i)) }
 {
     let s = carrier_in(carriers, cells, e, i);
     if s.u < 0 {
@@ -59,7 +59,7 @@ fn east_in(carriers: &[i16], cells: &[usize], e: usize, i: usize) -> u16
 fn lay_wests(carriers: &[i16], cells: &[usize], e: usize, wests: &mut [u16])
     requires fact_1 { Carriers carriers.now e × InTurn carriers.now cells.now e }
     requires fact_2 { e ≤ length wests.old }
-    ensures { wests.new ≡ filled e (λ i. fromWest (westOf (carrierIn carriers.now cells.now i))) wests.old }
+    ensures { wests.new ≡ filled e (λ i. from_west (west_of (carrier_in carriers.now cells.now i))) wests.old }
 {
     let mut i = 0;
     while i < e {
@@ -72,7 +72,7 @@ fn lay_wests(carriers: &[i16], cells: &[usize], e: usize, wests: &mut [u16])
 fn lay_easts(carriers: &[i16], cells: &[usize], e: usize, easts: &mut [u16])
     requires fact_1 { Carriers carriers.now e × InTurn carriers.now cells.now e }
     requires fact_2 { e ≤ length easts.old }
-    ensures { easts.new ≡ filled e (λ i. fromWest (eastOf (carrierIn carriers.now cells.now i))) easts.old }
+    ensures { easts.new ≡ filled e (λ i. from_west (east_of (carrier_in carriers.now cells.now i))) easts.old }
 {
     let mut i = 0;
     while i < e {
@@ -83,7 +83,7 @@ fn lay_easts(carriers: &[i16], cells: &[usize], e: usize, easts: &mut [u16])
 
 // 0 where the box from w to e lies beside that from v to f, and 1 where it does not.
 fn over(w: u16, e: u16, v: u16, f: u16) -> usize
-    ensures is { result ≡ cond (besideOf w e v f) 0 1 }
+    ensures is { result ≡ cond (beside_of w e v f) 0 1 }
     ensures few { result ≤ 1 }
 {
     if e < v {
@@ -106,7 +106,7 @@ fn near_above(
     easts: &[u16],
     near: &mut [u16],
 ) -> usize
-    requires fact_1 { Carriers carriers.now e × Upright carriers.now e × InTurn carriers.now cells.now e × (e ≤ mapEdges) × (i < e) }
+    requires fact_1 { Carriers carriers.now e × Upright carriers.now e × InTurn carriers.now cells.now e × (e ≤ map_edges) × (i < e) }
     requires fact_2 { Boxes carriers.now cells.now wests.now easts.now e }
     requires fact_3 { e ≤ length near.old }
     ensures { Picked carriers.now cells.now e i e near.new result }
@@ -129,7 +129,7 @@ fn near_above(
 
 // Whether the edge in cell i clashes with none of those in the c cells that are listed.
 fn clear_of(carriers: &[i16], cells: &[usize], e: usize, i: usize, near: &[u16], c: usize) -> bool
-    requires fact_1 { Carriers carriers.now e × Upright carriers.now e × InTurn carriers.now cells.now e × (i < e) × (e ≤ mapEdges) }
+    requires fact_1 { Carriers carriers.now e × Upright carriers.now e × InTurn carriers.now cells.now e × (i < e) × (e ≤ map_edges) }
     requires fact_2 { (c ≤ length near.now) × Picked carriers.now cells.now e i e near.now c }
     ensures { result ≡ true → ClearAbove carriers.now cells.now e i }
 {
@@ -156,7 +156,7 @@ fn clear_above(
     easts: &[u16],
     near: &mut [u16],
 ) -> bool
-    requires fact_1 { Carriers carriers.now e × Upright carriers.now e × InTurn carriers.now cells.now e × (e ≤ mapEdges) × (i < e) }
+    requires fact_1 { Carriers carriers.now e × Upright carriers.now e × InTurn carriers.now cells.now e × (e ≤ map_edges) × (i < e) }
     requires fact_2 { Boxes carriers.now cells.now wests.now easts.now e }
     requires fact_3 { e ≤ length near.old }
     ensures { result ≡ true → ClearAbove carriers.now cells.now e i }
@@ -174,10 +174,10 @@ fn all_above(
     easts: &[u16],
     near: &mut [u16],
 ) -> bool
-    requires fact_1 { Carriers carriers.now e × Upright carriers.now e × InTurn carriers.now cells.now e × (e ≤ mapEdges) }
+    requires fact_1 { Carriers carriers.now e × Upright carriers.now e × InTurn carriers.now cells.now e × (e ≤ map_edges) }
     requires fact_2 { Boxes carriers.now cells.now wests.now easts.now e }
     requires fact_3 { e ≤ length near.old }
-    ensures { result ≡ true → least (clashingAt carriers.now e) e ≡ e }
+    ensures { result ≡ true → least (clashing_at carriers.now e) e ≡ e }
 {
     let mut i = 0;
     while i < e {
@@ -191,8 +191,8 @@ fn all_above(
 
 // Whether no edge clashes with one in a later cell.
 pub fn each_clear(carriers: &[i16], cells: &[usize], e: usize) -> bool
-    requires { Carriers carriers.now e × Upright carriers.now e × InTurn carriers.now cells.now e × (e ≤ mapEdges) }
-    ensures { result ≡ true → least (clashingAt carriers.now e) e ≡ e }
+    requires { Carriers carriers.now e × Upright carriers.now e × InTurn carriers.now cells.now e × (e ≤ map_edges) }
+    ensures { result ≡ true → least (clashing_at carriers.now e) e ≡ e }
 {
     let mut wests = [0u16; MAP_EDGES as usize];
     lay_wests(carriers, cells, e, &mut wests);

@@ -1,9 +1,9 @@
 // Two edges that do not clash, found without the point where they meet: by their boxes, by sides, or by an end that they have in common.
 ghost use Rattle.std.specs.Prelude.{true, false, ◌≡◌};
-ghost use Rattle.paper.specs.Plane.{whole, head, leftBy, clash};
+ghost use Rattle.paper.specs.Plane.{whole, head, the_left_by, clash};
 ghost use Rattle.laws_plane.specs.Cone.{UpV};
-ghost use Rattle.laws_fast.specs.Sides.{oneSide};
-ghost use Rattle.plane.specs.Values.{vec_of, segOf};
+ghost use Rattle.laws_fast.specs.Sides.{the_one_side};
+ghost use Rattle.plane.specs.Values.{vec_of, seg_of};
 ghost use Rattle.plane.specs.Bounds.{Corner, Edge};
 ghost use Rattle.map_check.specs.Pairs.{CommonEnd};
 
@@ -12,8 +12,8 @@ use plane::{Seg, Vector, boxes_apart, cross_of, left_by, whole};
 
 // The upper end of s.
 pub fn head(s: Seg) -> Vector
-    requires { Edge (segOf s) }
-    ensures is { vec_of result ≡ head (segOf s) }
+    requires { Edge (seg_of s) }
+    ensures is { vec_of result ≡ head (seg_of s) }
     ensures near { Corner (vec_of result) }
 {
     Vector {
@@ -35,7 +35,7 @@ fn one_corner(a: Vector, b: Vector) -> bool
 
 // Whether a and b are both positive or both negative.
 fn one_side(a: i64, b: i64) -> bool
-    ensures { result ≡ oneSide a b }
+    ensures { result ≡ the_one_side a b }
 {
     if 0 < a {
         0 < b
@@ -48,8 +48,8 @@ fn one_side(a: i64, b: i64) -> bool
 
 // Whether both ends of t lie strictly on one side of s.
 fn lies_aside(s: Seg, t: Seg) -> bool
-    requires { Edge (segOf s) × Edge (segOf t) }
-    ensures { result ≡ oneSide (leftBy (segOf s) (whole (segOf t).foot)) (leftBy (segOf s) (whole (head (segOf t)))) }
+    requires { Edge (seg_of s) × Edge (seg_of t) }
+    ensures { result ≡ the_one_side (the_left_by (seg_of s) (whole (seg_of t).foot)) (the_left_by (seg_of s) (whole (head (seg_of t)))) }
 {
     let a = left_by(s, whole(foot(t)));
     let b = left_by(s, whole(head(t)));
@@ -58,8 +58,8 @@ fn lies_aside(s: Seg, t: Seg) -> bool
 
 // Whether s and t start together or end together.
 fn share_end(s: Seg, t: Seg) -> bool
-    requires { Edge (segOf s) × Edge (segOf t) }
-    ensures { result ≡ true → CommonEnd (segOf s) (segOf t) }
+    requires { Edge (seg_of s) × Edge (seg_of t) }
+    ensures { result ≡ true → CommonEnd (seg_of s) (seg_of t) }
 {
     if one_corner(foot(s), foot(t)) {
         return true;
@@ -69,8 +69,8 @@ fn share_end(s: Seg, t: Seg) -> bool
 
 // Whether s and t go different ways from a common lower end, or to a common upper end.
 fn fork(s: Seg, t: Seg) -> bool
-    requires { Edge (segOf s) × Edge (segOf t) × UpV (segOf s).up × UpV (segOf t).up }
-    ensures { result ≡ true → clash (segOf s) (segOf t) ≡ false }
+    requires { Edge (seg_of s) × Edge (seg_of t) × UpV (seg_of s).up × UpV (seg_of t).up }
+    ensures { result ≡ true → clash (seg_of s) (seg_of t) ≡ false }
 {
     if !share_end(s, t) {
         return false;
@@ -83,8 +83,8 @@ fn fork(s: Seg, t: Seg) -> bool
 
 // Whether s and t have an end in common and nothing else: one ends where the other starts, or they fork.
 fn join(s: Seg, t: Seg) -> bool
-    requires { Edge (segOf s) × Edge (segOf t) × UpV (segOf s).up × UpV (segOf t).up }
-    ensures { result ≡ true → clash (segOf s) (segOf t) ≡ false }
+    requires { Edge (seg_of s) × Edge (seg_of t) × UpV (seg_of s).up × UpV (seg_of t).up }
+    ensures { result ≡ true → clash (seg_of s) (seg_of t) ≡ false }
 {
     if one_corner(head(s), foot(t)) {
         return true;
@@ -97,8 +97,8 @@ fn join(s: Seg, t: Seg) -> bool
 
 // Whether s and t, which go up, do not clash: their boxes are apart, or they only join, as most of the others do, or one lies on one side of the other.
 pub fn clear(s: Seg, t: Seg) -> bool
-    requires { Edge (segOf s) × Edge (segOf t) × UpV (segOf s).up × UpV (segOf t).up }
-    ensures { result ≡ true → clash (segOf s) (segOf t) ≡ false }
+    requires { Edge (seg_of s) × Edge (seg_of t) × UpV (seg_of s).up × UpV (seg_of t).up }
+    ensures { result ≡ true → clash (seg_of s) (seg_of t) ≡ false }
 {
     if boxes_apart(s, t) {
         return true;

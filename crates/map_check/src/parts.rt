@@ -2,13 +2,13 @@
 // find nothing.
 ghost use Rattle.std.specs.Prelude.{◌≡◌, ◌+◌, ◌*◌, ◌≤◌, ◌<◌, length};
 ghost use Rattle.seq.specs.Seq.{least, laid};
-ghost use Rattle.paper.specs.Limits.{mapVertices, mapEdges};
+ghost use Rattle.paper.specs.Limits.{map_vertices, map_edges};
 ghost use Rattle.paper.specs.Refusal.{first_of};
 ghost use Rattle.plane.specs.Bounds.{Edge};
-ghost use Rattle.plane.specs.Values.{vec_of, segOf};
+ghost use Rattle.plane.specs.Values.{vec_of, seg_of};
 ghost use Rattle.graph.specs.Flat.{Origins};
 ghost use Rattle.map_file.specs.Verdict.{verdict};
-ghost use Rattle.map_check.specs.Parts.{cornerIn, farAt, liesOn, doubledAt, badEndsAt, partFaultsAt, Corners, carrierBy, carrierRowBy};
+ghost use Rattle.map_check.specs.Parts.{corner_in, far_at, lies_on, doubled_at, bad_ends_at, part_faults_at, Corners, carrier_by, carrier_row_by};
 
 use exact::magnitude;
 use graph::store_carrier;
@@ -19,7 +19,7 @@ use plane::{Seg, Vector, between};
 // The corner in row v.
 fn corner(points: &[i64], v: usize) -> Vector
     requires { 4 * v + 4 ≤ length points.now }
-    ensures { vec_of result ≡ cornerIn points.now v }
+    ensures { vec_of result ≡ corner_in points.now v }
 {
     let at = POINT_WIDTH * v;
     Vector {
@@ -31,7 +31,7 @@ fn corner(points: &[i64], v: usize) -> Vector
 // 5 "a coordinate beyond its range"
 fn too_far(points: &[i64], v: usize) -> bool
     requires { 4 * v + 4 ≤ length points.now }
-    ensures { result ≡ farAt points.now v }
+    ensures { result ≡ far_at points.now v }
 {
     let a = corner(points, v);
     if REACH < magnitude(a.x) {
@@ -43,7 +43,7 @@ fn too_far(points: &[i64], v: usize) -> bool
 // The least vertex too far out, or the number of vertices.
 pub fn first_too_far(points: &[i64], n: usize) -> usize
     requires { 4 * n ≤ length points.now }
-    ensures { result ≡ least (farAt points.now) n }
+    ensures { result ≡ least (far_at points.now) n }
 {
     let mut v = 0;
     while v < n {
@@ -58,7 +58,7 @@ pub fn first_too_far(points: &[i64], n: usize) -> usize
 // Vertex v lies on vertex u.
 fn lies_on(points: &[i64], v: usize, u: usize) -> bool
     requires { (4 * v + 4 ≤ length points.now) × (4 * u + 4 ≤ length points.now) }
-    ensures { result ≡ liesOn points.now v u }
+    ensures { result ≡ lies_on points.now v u }
 {
     let a = corner(points, v);
     let b = corner(points, u);
@@ -71,7 +71,7 @@ fn lies_on(points: &[i64], v: usize, u: usize) -> bool
 // The least vertex below v that v lies on, or v.
 fn first_under(points: &[i64], v: usize) -> usize
     requires { 4 * v + 4 ≤ length points.now }
-    ensures { result ≡ least (liesOn points.now v) v }
+    ensures { result ≡ least (lies_on points.now v) v }
 {
     let mut u = 0;
     while u < v {
@@ -86,7 +86,7 @@ fn first_under(points: &[i64], v: usize) -> usize
 // 6 "a vertex lies on one of lower number": the least such, or the number of vertices.
 fn first_doubled(points: &[i64], n: usize) -> usize
     requires { 4 * n ≤ length points.now }
-    ensures { result ≡ least (doubledAt points.now) n }
+    ensures { result ≡ least (doubled_at points.now) n }
 {
     let mut higher = 0;
     while higher < n {
@@ -102,7 +102,7 @@ fn first_doubled(points: &[i64], n: usize) -> usize
 // 7 "an end names no vertex, or both ends are the same"
 fn bad_ends(origins: &[u16], n: usize, k: usize) -> bool
     requires { 2 * k + 2 ≤ length origins.now }
-    ensures { result ≡ badEndsAt origins.now n k }
+    ensures { result ≡ bad_ends_at origins.now n k }
 {
     let a = origins[2 * k] as usize;
     let b = origins[2 * k + 1] as usize;
@@ -118,7 +118,7 @@ fn bad_ends(origins: &[u16], n: usize, k: usize) -> bool
 // The least edge with bad ends, or the number of edges.
 fn first_bad_ends(origins: &[u16], n: usize, e: usize) -> usize
     requires { 2 * e ≤ length origins.now }
-    ensures { result ≡ least (badEndsAt origins.now n) e }
+    ensures { result ≡ least (bad_ends_at origins.now n) e }
 {
     let mut k = 0;
     while k < e {
@@ -134,9 +134,9 @@ fn first_bad_ends(origins: &[u16], n: usize, e: usize) -> usize
 pub fn part_fault(points: &[i64], origins: &[u16], n: usize, e: usize) -> Check
     requires fact_1 { 4 * n ≤ length points.now }
     requires fact_2 { 2 * e ≤ length origins.now }
-    requires fact_3 { n ≤ mapVertices }
-    requires fact_4 { e ≤ mapEdges }
-    ensures { verdict result ≡ first_of (partFaultsAt points.now origins.now n e) }
+    requires fact_3 { n ≤ map_vertices }
+    requires fact_4 { e ≤ map_edges }
+    ensures { verdict result ≡ first_of (part_faults_at points.now origins.now n e) }
 {
     let far = first_too_far(points, n);
     let twice = first_doubled(points, n);
@@ -152,8 +152,8 @@ fn carrier(points: &[i64], origins: &[u16], n: usize, e: usize, k: usize) -> Seg
     requires fact_1 { Corners points.now n }
     requires fact_2 { Origins origins.now (2 * e) n }
     requires fact_3 { k < e }
-    ensures is { segOf result ≡ carrierBy points.now origins.now k }
-    ensures near { Edge (segOf result) }
+    ensures is { seg_of result ≡ carrier_by points.now origins.now k }
+    ensures near { Edge (seg_of result) }
 {
     let a = corner(points, origins[2 * k] as usize);
     let b = corner(points, origins[2 * k + 1] as usize);
@@ -165,7 +165,7 @@ pub fn lay_carriers(points: &[i64], origins: &[u16], n: usize, e: usize, carrier
     requires fact_1 { Corners points.now n }
     requires fact_2 { Origins origins.now (2 * e) n }
     requires fact_3 { 4 * e ≤ length carriers.old }
-    ensures { carriers.new ≡ laid e (carrierRowBy points.now origins.now) carriers.old }
+    ensures { carriers.new ≡ laid e (carrier_row_by points.now origins.now) carriers.old }
 {
     let mut k = 0;
     while k < e {

@@ -1,16 +1,16 @@
 // Rules 8 to 10 of a map in its tables: n vertices, e edges, and rules 5 to 7 find nothing.
 ghost use Rattle.std.specs.Prelude.{◌≡◌, ◌*◌, ◌≤◌, length, take};
 ghost use Rattle.seq.specs.Seq.{least};
-ghost use Rattle.paper.specs.Limits.{mapVertices, mapEdges};
-ghost use Rattle.paper.specs.Graph.{halfCount, followers};
+ghost use Rattle.paper.specs.Limits.{map_vertices, map_edges};
+ghost use Rattle.paper.specs.Graph.{the_half_count, followers};
 ghost use Rattle.paper.specs.Refusal.{first_at, first_of};
-ghost use Rattle.paper.specs.Map.{disagrees, netFaults};
+ghost use Rattle.paper.specs.Map.{disagrees, net_faults};
 ghost use Rattle.laws_graph.specs.Laid.{Laid};
 ghost use Rattle.laws_graph.specs.Plane.{Plane};
 ghost use Rattle.graph.specs.Upright.{Upright};
-ghost use Rattle.graph.specs.Flat.{flatGraph, Carriers, Flat};
+ghost use Rattle.graph.specs.Flat.{flat_graph, Carriers, Flat};
 ghost use Rattle.map_file.specs.Verdict.{verdict};
-ghost use Rattle.map_check.specs.Net.{clashFaultAt};
+ghost use Rattle.map_check.specs.Net.{clash_fault_at};
 ghost use Rattle.map_check.specs.Held.{flat_map};
 
 use super::edges::{first_clash, first_clashing, first_lonely};
@@ -23,8 +23,8 @@ use map_file::{Check, beside, first, given};
 
 // 8 "an edge shares with another any point that is not an end of both", and "the other edge's number": it comes after the place, and is searched only where there is one.
 fn edges_clash(carriers: &[i16], e: usize) -> Check
-    requires { Carriers carriers.now e × (e ≤ mapEdges) × Upright carriers.now e }
-    ensures { verdict result ≡ clashFaultAt carriers.now e }
+    requires { Carriers carriers.now e × (e ≤ map_edges) × Upright carriers.now e }
+    ensures { verdict result ≡ clash_fault_at carriers.now e }
 {
     let k = first_clashing(carriers, e);
     if k < e {
@@ -49,11 +49,11 @@ fn first_by_followers_in(
     next: &mut [u16],
 ) -> usize
     requires fact_1 { Flat points.now origins.now carriers.now n e }
-    requires fact_2 { e ≤ mapEdges }
+    requires fact_2 { e ≤ map_edges }
     requires fact_3 { 2 * e ≤ length labels.now }
-    requires fact_4 { Plane (flatGraph points.now origins.now carriers.now n e) }
+    requires fact_4 { Plane (flat_graph points.now origins.now carriers.now n e) }
     requires fact_5 { (2 * (2 * e) ≤ length ways.old) × (n ≤ length heads.old) × (2 * e ≤ length next.old) }
-    ensures { result ≡ least (disagrees (flat_map points.now origins.now carriers.now labels.now n e) (followers (flatGraph points.now origins.now carriers.now n e))) (2 * e) }
+    ensures { result ≡ least (disagrees (flat_map points.now origins.now carriers.now labels.now n e) (followers (flat_graph points.now origins.now carriers.now n e))) (2 * e) }
 {
     headings(points, origins, carriers, n, e, ways);
     follow_stars(origins, ways, n, e, heads, next);
@@ -70,11 +70,11 @@ fn first_by_followers(
     e: usize,
 ) -> usize
     requires fact_1 { Flat points.now origins.now carriers.now n e }
-    requires fact_2 { n ≤ mapVertices }
-    requires fact_3 { e ≤ mapEdges }
+    requires fact_2 { n ≤ map_vertices }
+    requires fact_3 { e ≤ map_edges }
     requires fact_4 { 2 * e ≤ length labels.now }
-    requires fact_5 { Plane (flatGraph points.now origins.now carriers.now n e) }
-    ensures { result ≡ least (disagrees (flat_map points.now origins.now carriers.now labels.now n e) (followers (flatGraph points.now origins.now carriers.now n e))) (2 * e) }
+    requires fact_5 { Plane (flat_graph points.now origins.now carriers.now n e) }
+    ensures { result ≡ least (disagrees (flat_map points.now origins.now carriers.now labels.now n e) (followers (flat_graph points.now origins.now carriers.now n e))) (2 * e) }
 {
     if is_small(n, e) {
         let mut ways = [0i16; SMALL_HEADING_CELLS];
@@ -103,11 +103,11 @@ fn labels_disagree(
     e: usize,
 ) -> Check
     requires fact_1 { Flat points.now origins.now carriers.now n e }
-    requires fact_2 { n ≤ mapVertices }
-    requires fact_3 { e ≤ mapEdges }
+    requires fact_2 { n ≤ map_vertices }
+    requires fact_3 { e ≤ map_edges }
     requires fact_4 { 2 * e ≤ length labels.now }
-    requires fact_5 { Plane (flatGraph points.now origins.now carriers.now n e) }
-    ensures { verdict result ≡ first_at 10 (disagrees (flat_map points.now origins.now carriers.now (take (2 * e) labels.now) n e) (followers (flatGraph points.now origins.now carriers.now n e))) (halfCount (flatGraph points.now origins.now carriers.now n e)) }
+    requires fact_5 { Plane (flat_graph points.now origins.now carriers.now n e) }
+    ensures { verdict result ≡ first_at 10 (disagrees (flat_map points.now origins.now carriers.now (take (2 * e) labels.now) n e) (followers (flat_graph points.now origins.now carriers.now n e))) (the_half_count (flat_graph points.now origins.now carriers.now n e)) }
 {
     if e == 0 {
         return Check::Fine;
@@ -127,11 +127,11 @@ pub fn net_fault(
     e: usize,
 ) -> Check
     requires fact_1 { Flat points.now origins.now carriers.now n e }
-    requires fact_2 { n ≤ mapVertices }
-    requires fact_3 { e ≤ mapEdges }
+    requires fact_2 { n ≤ map_vertices }
+    requires fact_3 { e ≤ map_edges }
     requires fact_4 { 2 * e ≤ length labels.now }
-    requires fact_5 { Laid (flatGraph points.now origins.now carriers.now n e) }
-    ensures { verdict result ≡ first_of (netFaults (flat_map points.now origins.now carriers.now (take (2 * e) labels.now) n e)) }
+    requires fact_5 { Laid (flat_graph points.now origins.now carriers.now n e) }
+    ensures { verdict result ≡ first_of (net_faults (flat_map points.now origins.now carriers.now (take (2 * e) labels.now) n e)) }
 {
     let eight = edges_clash(carriers, e);
     let lonely = first_lonely(origins, 2 * e, n);

@@ -4,7 +4,7 @@ use Prim.Native.Nat.{◌≤◌, ◌<◌}
 use native.Mathlib.Omega.{arith}
 use borrow.Author.Tests.{lt-ltb, le-ltb}
 use Rattle.seq.specs.Seq.{Bool, true, ◌||◌, List, ℕ, ◌+◌, ◌*◌, ltb}
-use Rattle.paper.specs.Map.{vertexCount, edgesIn, vertexPlace, mapLength}
+use Rattle.paper.specs.Map.{vertex_count, edges_in, vertex_place, map_length}
 
 -- ── one of two ──
 
@@ -18,5 +18,5 @@ within k x b h = rw (le-ltb k x h)
 
 module _ (s : List ℕ) where
   -- "Length is 9 + 4V + 8E"
-  pub length-is : vertexPlace (vertexCount s) + 8 * edgesIn s ≡ mapLength s
-  length-is = omega arith
+  pub length_is : vertex_place (vertex_count s) + 8 * edges_in s ≡ map_length s
+  length_is = omega arith

@@ -7,10 +7,10 @@ use Rattle.map_file.specs.declared.refusal.Check.{Check}
 use Rattle.map_file.specs.declared.refusal.Check.TheVariants.{Fine, Bad}
 
 -- "a refusal with number, map and place", and the other edge
-abbrev pub refusalOf : Refusal → paper.Refusal
-refusalOf r = record { number = r.number; map = r.map; place = r.place; other = r.other }
+abbrev pub refusal_of : Refusal → paper.Refusal
+refusal_of r = record { number = r.number; map = r.map; place = r.place; other = r.other }
 
 -- nothing is refused, or this is
 abbrev pub verdict : Check → Option paper.Refusal
 verdict Fine = none
-verdict (Bad r) = some (refusalOf r)
+verdict (Bad r) = some (refusal_of r)

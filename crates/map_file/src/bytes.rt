@@ -1,6 +1,6 @@
 // The mark and numbers in a file's bytes, "low byte first". A byte past the end counts as 0, so that every place of every file has an answer.
 ghost use Rattle.std.specs.Prelude.{◌≡◌};
-ghost use Rattle.paper.specs.Bytes.{ascii, byte_at, marked, u16, signedAt};
+ghost use Rattle.paper.specs.Bytes.{ascii, byte_at, marked, u16, signed_at};
 
 pub fn byte_at(file: &[u8], at: usize) -> u8
     ensures { result ≡ byte_at file.now at }
@@ -39,7 +39,7 @@ pub fn u16_at(file: &[u8], at: usize) -> u16
 
 // The signed number there, two's complement, by arithmetic.
 pub fn i16_at(file: &[u8], at: usize) -> i64
-    ensures { result ≡ signedAt 2 file.now at }
+    ensures { result ≡ signed_at 2 file.now at }
 {
     let n = u16_at(file, at);
     if n < 32768 {

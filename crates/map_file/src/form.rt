@@ -1,9 +1,9 @@
 // Rules 1 to 4: the form of a map file.
 ghost use Rattle.std.specs.Prelude.{◌≡◌, not, ◌||◌, ◌+◌, ◌*◌, ltb};
-ghost use Rattle.paper.specs.Limits.{mapHead, mapVertices, mapEdges};
+ghost use Rattle.paper.specs.Limits.{map_head, map_vertices, map_edges};
 ghost use Rattle.paper.specs.Refusal.{first_of};
-ghost use Rattle.paper.specs.Map.{vertexPlace, formFaults};
-ghost use Rattle.map_file.specs.Header.{headerOf};
+ghost use Rattle.paper.specs.Map.{vertex_place, form_faults};
+ghost use Rattle.map_file.specs.Header.{header_of};
 ghost use Rattle.map_file.specs.Verdict.{verdict};
 
 use crate::fields::vertex_place;
@@ -13,7 +13,7 @@ use limits::{MAP_EDGE_SIZE, MAP_EDGES, MAP_HEAD, MAP_VERTICES};
 
 // 1 "under 9 bytes, or mark wrong"
 pub fn bad_mark(length: usize, mark: bool) -> bool
-    ensures { result ≡ (ltb length mapHead || not mark) }
+    ensures { result ≡ (ltb length map_head || not mark) }
 {
     if length < MAP_HEAD {
         return true;
@@ -23,7 +23,7 @@ pub fn bad_mark(length: usize, mark: bool) -> bool
 
 // 3 "V > 200 or E > 300"
 pub fn over_limits(vertices: u16, edges: u16) -> bool
-    ensures { result ≡ (ltb mapVertices vertices || ltb mapEdges edges) }
+    ensures { result ≡ (ltb map_vertices vertices || ltb map_edges edges) }
 {
     if MAP_VERTICES < vertices {
         return true;
@@ -33,15 +33,15 @@ pub fn over_limits(vertices: u16, edges: u16) -> bool
 
 // "Length is 9 + 4V + 8E"
 pub fn map_length(vertices: u16, edges: u16) -> usize
-    ensures { result ≡ vertexPlace vertices + 8 * edges }
+    ensures { result ≡ vertex_place vertices + 8 * edges }
 {
     vertex_place(vertices) + MAP_EDGE_SIZE * edges as usize
 }
 
 // The first of rules 1 to 4 that the file with this header breaks.
 pub fn form_fault(file: &[u8], h: Header) -> Check
-    requires { h ≡ headerOf file.now }
-    ensures { verdict result ≡ first_of (formFaults file.now) }
+    requires { h ≡ header_of file.now }
+    ensures { verdict result ≡ first_of (form_faults file.now) }
 {
     let mark = given(1, 0, bad_mark(file.len(), h.mark));
     let version = given(2, 0, h.version != 1);

@@ -3,10 +3,10 @@
 ghost use Rattle.std.specs.Prelude.{◌≡◌, ◌+◌, ◌*◌, ◌≤◌, ◌<◌, ◌^◌, length};
 ghost use Rattle.seq.specs.Seq.{filled, laid};
 ghost use Rattle.paper.specs.Bytes.{ascii, marked, u16};
-ghost use Rattle.paper.specs.Limits.{mapHead};
-ghost use Rattle.paper.specs.Map.{vertexPlace};
-ghost use Rattle.map_file.specs.Header.{headerOf};
-ghost use Rattle.map_file.specs.Places.{pointFrom, originFrom, labelFrom};
+ghost use Rattle.paper.specs.Limits.{map_head};
+ghost use Rattle.paper.specs.Map.{vertex_place};
+ghost use Rattle.map_file.specs.Header.{header_of};
+ghost use Rattle.map_file.specs.Places.{point_from, origin_from, label_from};
 
 use crate::bytes::{marked_at, u16_at};
 use crate::rows::{edges_at, points_at};
@@ -58,7 +58,7 @@ pub fn word<'a>(r: Reader<'a>) -> u16
 // The n vertices from its place on; the reader behind them.
 pub fn points<'a>(r: Reader<'a>, n: u16, points: &mut [i64]) -> Reader<'a>
     requires { (r.at + 4 * n < 2 ^ 64) × (4 * n ≤ length points.old) }
-    ensures { (result.file ≡ r.entry.file) × (result.at ≡ r.entry.at + 4 * n) × (points.new ≡ laid n (pointFrom r.entry.file.now r.entry.at) points.old) }
+    ensures { (result.file ≡ r.entry.file) × (result.at ≡ r.entry.at + 4 * n) × (points.new ≡ laid n (point_from r.entry.file.now r.entry.at) points.old) }
 {
     let behind = points_at(r.file, r.at, n, points);
     Reader {
@@ -70,7 +70,7 @@ pub fn points<'a>(r: Reader<'a>, n: u16, points: &mut [i64]) -> Reader<'a>
 // The n edges from its place on; the reader behind them.
 pub fn edges<'a>(r: Reader<'a>, n: u16, origins: &mut [u16], labels: &mut [u16]) -> Reader<'a>
     requires { (r.at + 8 * n < 2 ^ 64) × (2 * n ≤ length origins.old) × (2 * n ≤ length labels.old) }
-    ensures { (result.file ≡ r.entry.file) × (result.at ≡ r.entry.at + 8 * n) × (origins.new ≡ filled (2 * n) (originFrom r.entry.file.now r.entry.at) origins.old) × (labels.new ≡ filled (2 * n) (labelFrom r.entry.file.now r.entry.at) labels.old) }
+    ensures { (result.file ≡ r.entry.file) × (result.at ≡ r.entry.at + 8 * n) × (origins.new ≡ filled (2 * n) (origin_from r.entry.file.now r.entry.at) origins.old) × (labels.new ≡ filled (2 * n) (label_from r.entry.file.now r.entry.at) labels.old) }
 {
     let behind = edges_at(r.file, r.at, n, origins, labels);
     Reader {
@@ -90,7 +90,7 @@ pub struct Header {
 
 // The mark and the three numbers after it, front to back. Whoever calls it needs to know nothing of a reader.
 pub fn read_header(file: &[u8]) -> Header
-    ensures { result ≡ headerOf file.now }
+    ensures { result ≡ header_of file.now }
 {
     let start = new(file);
     let right = mark(start);
@@ -118,7 +118,7 @@ pub fn read_body(
     labels: &mut [u16],
 )
     requires { (4 * v ≤ length vertices.old) × (2 * e ≤ length origins.old) × (2 * e ≤ length labels.old) }
-    ensures { (vertices.new ≡ laid v (pointFrom file.now mapHead) vertices.old) × (origins.new ≡ filled (2 * e) (originFrom file.now (vertexPlace v)) origins.old) × (labels.new ≡ filled (2 * e) (labelFrom file.now (vertexPlace v)) labels.old) }
+    ensures { (vertices.new ≡ laid v (point_from file.now map_head) vertices.old) × (origins.new ≡ filled (2 * e) (origin_from file.now (vertex_place v)) origins.old) × (labels.new ≡ filled (2 * e) (label_from file.now (vertex_place v)) labels.old) }
 {
     let body = past(new(file), MAP_HEAD);
     let rest = points(body, v, vertices);

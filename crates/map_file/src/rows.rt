@@ -2,7 +2,7 @@
 // table may be longer than needed: the other cells stay as they were.
 ghost use Rattle.std.specs.Prelude.{◌≡◌, ◌+◌, ◌*◌, ◌≤◌, ◌<◌, ◌^◌, length};
 ghost use Rattle.seq.specs.Seq.{filled, laid};
-ghost use Rattle.map_file.specs.Places.{pointFrom, originFrom, labelFrom};
+ghost use Rattle.map_file.specs.Places.{point_from, origin_from, label_from};
 
 use crate::bytes::{i16_at, u16_at};
 use limits::{MAP_EDGE_SIZE, MAP_VERTEX_SIZE};
@@ -11,7 +11,7 @@ use seq::store4_i64;
 // The n vertices, each a row of X, Y, D = 1 and a spare cell; the place behind them.
 pub fn points_at(file: &[u8], at: usize, n: u16, points: &mut [i64]) -> usize
     requires { (at + 4 * n < 2 ^ 64) × (4 * n ≤ length points.old) }
-    ensures { (result ≡ at + 4 * n) × (points.new ≡ laid n (pointFrom file.now at) points.old) }
+    ensures { (result ≡ at + 4 * n) × (points.new ≡ laid n (point_from file.now at) points.old) }
 {
     let mut place = at;
     let mut v: u16 = 0;
@@ -28,7 +28,7 @@ pub fn points_at(file: &[u8], at: usize, n: u16, points: &mut [i64]) -> usize
 // The n edges: of each half-edge the vertex that it starts from, and its label; the place behind them.
 pub fn edges_at(file: &[u8], at: usize, n: u16, origins: &mut [u16], labels: &mut [u16]) -> usize
     requires { (at + 8 * n < 2 ^ 64) × (2 * n ≤ length origins.old) × (2 * n ≤ length labels.old) }
-    ensures { (result ≡ at + 8 * n) × (origins.new ≡ filled (2 * n) (originFrom file.now at) origins.old) × (labels.new ≡ filled (2 * n) (labelFrom file.now at) labels.old) }
+    ensures { (result ≡ at + 8 * n) × (origins.new ≡ filled (2 * n) (origin_from file.now at) origins.old) × (labels.new ≡ filled (2 * n) (label_from file.now at) labels.old) }
 {
     let mut place = at;
     let mut k: u16 = 0;

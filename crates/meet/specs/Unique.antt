@@ -10,7 +10,7 @@ use Rattle.paper.specs.Meeting as Meetings
 use Rattle.paper.specs.Meeting.{apart, touching, crossing, sharing, meeting, meet}
 use Rattle.plane.specs.declared.kinds.Meeting.{Meeting}
 use Rattle.plane.specs.declared.kinds.Meeting.TheVariants.{Apart, Touching, Crossing, Sharing}
-use Rattle.plane.specs.Values.{meetingOf}
+use Rattle.plane.specs.Values.{meeting_of}
 use Rattle.meet.specs.declared.answer.MeetAnswer.{MeetAnswer}
 use Rattle.meet.specs.declared.answer.MeetAnswer.TheVariants.{Met, Refused}
 use Rattle.meet.specs.Answer.{answer_of}
@@ -26,24 +26,24 @@ kind (touching p) = Touching (point p)
 kind (crossing p) = Crossing (point p)
 kind sharing = Sharing
 
-kind-of : (m : Meeting) → kind (meetingOf m) ≡ m
-kind-of Apart = refl
-kind-of (Touching p) = refl
-kind-of (Crossing p) = refl
-kind-of Sharing = refl
+kind_of : (m : Meeting) → kind (meeting_of m) ≡ m
+kind_of Apart = refl
+kind_of (Touching p) = refl
+kind_of (Crossing p) = refl
+kind_of Sharing = refl
 
 abbrev outcome : Answer Meetings.Meeting → MeetAnswer
 outcome (done m) = Met (kind m)
 outcome (refused r) = Refused (record { number = r.number; map = r.map; place = r.place; other = r.other })
 
-outcome-of : (a : MeetAnswer) → outcome (answer_of a) ≡ a
-outcome-of (Met m) = ap Met (kind-of m)
-outcome-of (Refused r) = refl
+outcome_of_lem : (a : MeetAnswer) → outcome (answer_of a) ≡ a
+outcome_of_lem (Met m) = ap Met (kind_of m)
+outcome_of_lem (Refused r) = refl
 
 -- ── one outcome ──
 
-pub meeting-unique : (s t : Seg) (a b : Meeting) → meetingOf a ≡ meeting s t → meetingOf b ≡ meeting s t → a ≡ b
-meeting-unique s t a b p q = sym (kind-of a) ∙ ap kind (p ∙ sym q) ∙ kind-of b
+pub meeting-unique : (s t : Seg) (a b : Meeting) → meeting_of a ≡ meeting s t → meeting_of b ≡ meeting s t → a ≡ b
+meeting-unique s t a b p q = sym (kind_of a) ∙ ap kind (p ∙ sym q) ∙ kind_of b
 
 pub meet-unique : (ax ay bx by cx cy dx dy : ℤ) (a b : MeetAnswer) → answer_of a ≡ meet ax ay bx by cx cy dx dy → answer_of b ≡ meet ax ay bx by cx cy dx dy → a ≡ b
-meet-unique ax ay bx by cx cy dx dy a b p q = sym (outcome-of a) ∙ ap outcome (p ∙ sym q) ∙ outcome-of b
+meet-unique ax ay bx by cx cy dx dy a b p q = sym (outcome_of_lem a) ∙ ap outcome (p ∙ sym q) ∙ outcome_of_lem b

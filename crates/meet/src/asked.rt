@@ -2,7 +2,7 @@
 ghost use Rattle.std.specs.Prelude.{◌≡◌, ◌||◌};
 ghost use Rattle.paper.specs.Plane.{vec, whole, same};
 ghost use Rattle.paper.specs.Refusal.{first_of};
-ghost use Rattle.paper.specs.Meeting.{beyond, meetFaults, meetCorners};
+ghost use Rattle.paper.specs.Meeting.{beyond, meet_faults, meet_corners};
 ghost use Rattle.plane.specs.Values.{vec_of};
 ghost use Rattle.map_file.specs.Verdict.{verdict};
 ghost use Rattle.meet.specs.Answer.{answer_of};
@@ -55,7 +55,7 @@ fn no_length(a: Vector, b: Vector) -> bool
 
 // The first fault of the edge from a to b and the edge from c to d: 5 of both, then 7 of both.
 fn faults(a: Vector, b: Vector, c: Vector, d: Vector) -> Check
-    ensures { verdict result ≡ first_of (meetFaults (vec_of a) (vec_of b) (vec_of c) (vec_of d)) }
+    ensures { verdict result ≡ first_of (meet_faults (vec_of a) (vec_of b) (vec_of c) (vec_of d)) }
 {
     let far = given(5, 0, either_beyond(a, b));
     let second_far = given(5, 1, either_beyond(c, d));
@@ -66,7 +66,7 @@ fn faults(a: Vector, b: Vector, c: Vector, d: Vector) -> Check
 
 // How the edge from a to b and the edge from c to d meet, or the refusal.
 pub fn meet_corners(a: Vector, b: Vector, c: Vector, d: Vector) -> MeetAnswer
-    ensures { answer_of result ≡ meetCorners (vec_of a) (vec_of b) (vec_of c) (vec_of d) }
+    ensures { answer_of result ≡ meet_corners (vec_of a) (vec_of b) (vec_of c) (vec_of d) }
 {
     let found = faults(a, b, c, d);
     match found {

@@ -1,18 +1,18 @@
 // What is left of an overlay within the room, laid out: its half-edges, walks, faces and labels first, then the edges that separate nothing dropped, and the tables of the rest.
 ghost use Rattle.std.specs.Prelude.{◌≡◌, ℕ, ◌+◌, ◌*◌, ◌≤◌, length};
-ghost use Rattle.paper.specs.Limits.{maps, overlayFaces};
-ghost use Rattle.paper.specs.Lent.{lengthsOf, roomIn};
-ghost use Rattle.paper.specs.Tables.{countsOf, tables_of};
-ghost use Rattle.paper.specs.Melt.{meltedOf};
-ghost use Rattle.tables.specs.Values.{tablesBy, outcomeOf};
-ghost use Rattle.overlay_cut.specs.PieceRows.{pieceWidth};
-ghost use Rattle.overlay_maps.specs.Layers.{layersBy};
-ghost use Rattle.overlay_maps.specs.Held.{Held, heldMaps};
-ghost use Rattle.overlay_graph.specs.Cut.{cutBy, CutOf, DrawableCut};
+ghost use Rattle.paper.specs.Limits.{maps, overlay_faces};
+ghost use Rattle.paper.specs.Lent.{lengths_of, room_in};
+ghost use Rattle.paper.specs.Tables.{counts_of, tables_of};
+ghost use Rattle.paper.specs.Melt.{melted_of};
+ghost use Rattle.tables.specs.Values.{tables_by, outcome_of};
+ghost use Rattle.overlay_cut.specs.PieceRows.{piece_width};
+ghost use Rattle.overlay_maps.specs.Layers.{layers_by};
+ghost use Rattle.overlay_maps.specs.Held.{Held, held_maps};
+ghost use Rattle.overlay_graph.specs.Cut.{cut_by, CutOf, DrawableCut};
 ghost use Rattle.overlay_graph.specs.Traced.{Blank};
 ghost use Rattle.overlay_pairs.specs.Pairs.{Outlined};
-ghost use Rattle.overlay_fill.specs.Judged.{doneWith, Within};
-ghost use Rattle.melt.specs.Melted.{meltedIn, FacesIn};
+ghost use Rattle.overlay_fill.specs.Judged.{done_with, Within};
+ghost use Rattle.melt.specs.Melted.{melted_in, FacesIn};
 
 use limits::{
     CARRIER_CELLS, FACE_ROWS, FACES, HALVES, MAPS, PIECE_CELLS, POINT_CELLS, SMALL_CARRIER_CELLS,
@@ -59,12 +59,12 @@ fn melt_faces(
     sources: &mut [u32],
     faces: &mut [u16],
 ) -> Answer
-    requires fact_1 { CutOf (heldMaps (layersBy vstarts.now estarts.now corners.now origins.now carriers.now labels.now)) (cutBy n points.now e pieces.now) }
-    requires fact_2 { Outlined (layersBy vstarts.now estarts.now corners.now origins.now carriers.now labels.now) (cutBy n points.now e pieces.now) ends.now lines.now next.now outers.now count }
-    requires fact_3 { FacesIn (heldMaps (layersBy vstarts.now estarts.now corners.now origins.now carriers.now labels.now)) (cutBy n points.now e pieces.now) face.now }
-    requires fact_4 { Within (cutBy n points.now e pieces.now) (lengthsOf (tablesBy vertices.old halves.old sources.old faces.old)) }
-    requires fact_5 { (count + 1 ≤ (roomIn maps (lengthsOf (tablesBy vertices.old halves.old sources.old faces.old))).faces) × (maps * (count + 1) ≤ length triples.old) × (4 * n ≤ length newpoints.old) × (pieceWidth * e ≤ length newpieces.old) }
-    ensures { outcomeOf result (tablesBy vertices.new halves.new sources.new faces.new) ≡ doneWith (lengthsOf (tablesBy vertices.old halves.old sources.old faces.old)) (countsOf (meltedOf (heldMaps (layersBy vstarts.now estarts.now corners.now origins.now carriers.now labels.now)))) (tables_of (heldMaps (layersBy vstarts.now estarts.now corners.now origins.now carriers.now labels.now)) (meltedOf (heldMaps (layersBy vstarts.now estarts.now corners.now origins.now carriers.now labels.now)))) }
+    requires fact_1 { CutOf (held_maps (layers_by vstarts.now estarts.now corners.now origins.now carriers.now labels.now)) (cut_by n points.now e pieces.now) }
+    requires fact_2 { Outlined (layers_by vstarts.now estarts.now corners.now origins.now carriers.now labels.now) (cut_by n points.now e pieces.now) ends.now lines.now next.now outers.now count }
+    requires fact_3 { FacesIn (held_maps (layers_by vstarts.now estarts.now corners.now origins.now carriers.now labels.now)) (cut_by n points.now e pieces.now) face.now }
+    requires fact_4 { Within (cut_by n points.now e pieces.now) (lengths_of (tables_by vertices.old halves.old sources.old faces.old)) }
+    requires fact_5 { (count + 1 ≤ (room_in maps (lengths_of (tables_by vertices.old halves.old sources.old faces.old))).faces) × (maps * (count + 1) ≤ length triples.old) × (4 * n ≤ length newpoints.old) × (piece_width * e ≤ length newpieces.old) }
+    ensures { outcome_of result (tables_by vertices.new halves.new sources.new faces.new) ≡ done_with (lengths_of (tables_by vertices.old halves.old sources.old faces.old)) (counts_of (melted_of (held_maps (layers_by vstarts.now estarts.now corners.now origins.now carriers.now labels.now)))) (tables_of (held_maps (layers_by vstarts.now estarts.now corners.now origins.now carriers.now labels.now)) (melted_of (held_maps (layers_by vstarts.now estarts.now corners.now origins.now carriers.now labels.now)))) }
 {
     lay_labels(
         vstarts,
@@ -128,12 +128,12 @@ fn melt_cut_with(
     sources: &mut [u32],
     faces: &mut [u16],
 ) -> Answer
-    requires fact_1 { Held (layersBy vstarts.now estarts.now corners.now origins.now carriers.now labels.now) }
-    requires fact_2 { CutOf (heldMaps (layersBy vstarts.now estarts.now corners.now origins.now carriers.now labels.now)) (cutBy n points.now e pieces.now) }
-    requires fact_3 { DrawableCut (heldMaps (layersBy vstarts.now estarts.now corners.now origins.now carriers.now labels.now)) (cutBy n points.now e pieces.now) }
-    requires fact_4 { Within (cutBy n points.now e pieces.now) (lengthsOf (tablesBy vertices.old halves.old sources.old faces.old)) }
-    requires fact_5 { (2 * e ≤ length ends.old) × (4 * e ≤ length lines.old) × Blank (2 * e) next.old × Blank (2 * e) face.old × Blank (2 * e) outers.old × Blank (2 * e + 1) holes.old × ((count : ℕ) → count ≤ length outers.old → count + 1 ≤ overlayFaces → maps * (count + 1) ≤ length triples.old) × (4 * n ≤ length newpoints.old) × (pieceWidth * e ≤ length newpieces.old) }
-    ensures { outcomeOf result (tablesBy vertices.new halves.new sources.new faces.new) ≡ meltedIn (heldMaps (layersBy vstarts.now estarts.now corners.now origins.now carriers.now labels.now)) (lengthsOf (tablesBy vertices.old halves.old sources.old faces.old)) }
+    requires fact_1 { Held (layers_by vstarts.now estarts.now corners.now origins.now carriers.now labels.now) }
+    requires fact_2 { CutOf (held_maps (layers_by vstarts.now estarts.now corners.now origins.now carriers.now labels.now)) (cut_by n points.now e pieces.now) }
+    requires fact_3 { DrawableCut (held_maps (layers_by vstarts.now estarts.now corners.now origins.now carriers.now labels.now)) (cut_by n points.now e pieces.now) }
+    requires fact_4 { Within (cut_by n points.now e pieces.now) (lengths_of (tables_by vertices.old halves.old sources.old faces.old)) }
+    requires fact_5 { (2 * e ≤ length ends.old) × (4 * e ≤ length lines.old) × Blank (2 * e) next.old × Blank (2 * e) face.old × Blank (2 * e) outers.old × Blank (2 * e + 1) holes.old × ((count : ℕ) → count ≤ length outers.old → count + 1 ≤ overlay_faces → maps * (count + 1) ≤ length triples.old) × (4 * n ≤ length newpoints.old) × (piece_width * e ≤ length newpieces.old) }
+    ensures { outcome_of result (tables_by vertices.new halves.new sources.new faces.new) ≡ melted_in (held_maps (layers_by vstarts.now estarts.now corners.now origins.now carriers.now labels.now)) (lengths_of (tables_by vertices.old halves.old sources.old faces.old)) }
 {
     lay_net(
         vstarts, estarts, corners, origins, carriers, labels, n, points, e, pieces, ends, lines,
@@ -174,11 +174,11 @@ pub fn melt_cut(
     sources: &mut [u32],
     faces: &mut [u16],
 ) -> Answer
-    requires fact_1 { Held (layersBy vstarts.now estarts.now corners.now origins.now carriers.now labels.now) }
-    requires fact_2 { CutOf (heldMaps (layersBy vstarts.now estarts.now corners.now origins.now carriers.now labels.now)) (cutBy n points.now e pieces.now) }
-    requires fact_3 { DrawableCut (heldMaps (layersBy vstarts.now estarts.now corners.now origins.now carriers.now labels.now)) (cutBy n points.now e pieces.now) }
-    requires fact_4 { Within (cutBy n points.now e pieces.now) (lengthsOf (tablesBy vertices.old halves.old sources.old faces.old)) }
-    ensures { outcomeOf result (tablesBy vertices.new halves.new sources.new faces.new) ≡ meltedIn (heldMaps (layersBy vstarts.now estarts.now corners.now origins.now carriers.now labels.now)) (lengthsOf (tablesBy vertices.old halves.old sources.old faces.old)) }
+    requires fact_1 { Held (layers_by vstarts.now estarts.now corners.now origins.now carriers.now labels.now) }
+    requires fact_2 { CutOf (held_maps (layers_by vstarts.now estarts.now corners.now origins.now carriers.now labels.now)) (cut_by n points.now e pieces.now) }
+    requires fact_3 { DrawableCut (held_maps (layers_by vstarts.now estarts.now corners.now origins.now carriers.now labels.now)) (cut_by n points.now e pieces.now) }
+    requires fact_4 { Within (cut_by n points.now e pieces.now) (lengths_of (tables_by vertices.old halves.old sources.old faces.old)) }
+    ensures { outcome_of result (tables_by vertices.new halves.new sources.new faces.new) ≡ melted_in (held_maps (layers_by vstarts.now estarts.now corners.now origins.now carriers.now labels.now)) (lengths_of (tables_by vertices.old halves.old sources.old faces.old)) }
 {
     if n <= SMALL_VERTICES && e <= SMALL_EDGES {
         let mut ends = [0u16; SMALL_HALVES];

@@ -3,8 +3,8 @@ mod left; // what is left of an overlay, laid out
 mod stages; // from layers to the melted tables
 
 ghost use Rattle.std.specs.Prelude.{[], ◌∷◌};
-ghost use Rattle.paper.specs.Lent.{lengthsOf};
-ghost use Rattle.tables.specs.Values.{tablesBy};
+ghost use Rattle.paper.specs.Lent.{lengths_of};
+ghost use Rattle.tables.specs.Values.{tables_by};
 ghost use Rattle.tables.specs.Promise.{PromisedMelted};
 
 use crate::stages::melt_layers;
@@ -25,7 +25,7 @@ pub fn melt(
     sources: &mut [u32],
     faces: &mut [u16],
 ) -> Answer
-    ensures { PromisedMelted (lengthsOf (tablesBy vertices.old halves.old sources.old faces.old)) (zones.now ∷ blocks.now ∷ bed.now ∷ []) result (tablesBy vertices.new halves.new sources.new faces.new) }
+    ensures { PromisedMelted (lengths_of (tables_by vertices.old halves.old sources.old faces.old)) (zones.now ∷ blocks.now ∷ bed.now ∷ []) result (tables_by vertices.new halves.new sources.new faces.new) }
 {
     let mut vertex_starts = [0usize; LAYER_STARTS];
     let mut edge_starts = [0usize; LAYER_STARTS];

@@ -1,13 +1,13 @@
 // From the layers of maps that keep the rules to the melted tables. Each stage ends in a refusal or hands on to the next; room "is judged on the overlay before
 // melting".
 ghost use Rattle.std.specs.Prelude.{◌≡◌};
-ghost use Rattle.paper.specs.Lent.{lengthsOf};
-ghost use Rattle.tables.specs.Values.{tablesBy, outcomeOf};
-ghost use Rattle.overlay_maps.specs.Layers.{layersBy};
-ghost use Rattle.overlay_maps.specs.Held.{Held, heldMaps};
-ghost use Rattle.overlay_graph.specs.Cut.{cutBy, CutOf};
+ghost use Rattle.paper.specs.Lent.{lengths_of};
+ghost use Rattle.tables.specs.Values.{tables_by, outcome_of};
+ghost use Rattle.overlay_maps.specs.Layers.{layers_by};
+ghost use Rattle.overlay_maps.specs.Held.{Held, held_maps};
+ghost use Rattle.overlay_graph.specs.Cut.{cut_by, CutOf};
 ghost use Rattle.overlay_fill.specs.Judged.{Rowed};
-ghost use Rattle.melt.specs.Melted.{meltedIn};
+ghost use Rattle.melt.specs.Melted.{melted_in};
 
 use crate::left::melt_cut;
 use limits::{
@@ -36,10 +36,10 @@ fn melt_laid(
     sources: &mut [u32],
     faces: &mut [u16],
 ) -> Answer
-    requires fact_1 { Held (layersBy vstarts.now estarts.now corners.now origins.now carriers.now labels.now) }
-    requires fact_2 { CutOf (heldMaps (layersBy vstarts.now estarts.now corners.now origins.now carriers.now labels.now)) (cutBy n points.now e pieces.now) }
-    requires fact_3 { Rowed (cutBy n points.now e pieces.now) }
-    ensures { outcomeOf result (tablesBy vertices.new halves.new sources.new faces.new) ≡ meltedIn (heldMaps (layersBy vstarts.now estarts.now corners.now origins.now carriers.now labels.now)) (lengthsOf (tablesBy vertices.old halves.old sources.old faces.old)) }
+    requires fact_1 { Held (layers_by vstarts.now estarts.now corners.now origins.now carriers.now labels.now) }
+    requires fact_2 { CutOf (held_maps (layers_by vstarts.now estarts.now corners.now origins.now carriers.now labels.now)) (cut_by n points.now e pieces.now) }
+    requires fact_3 { Rowed (cut_by n points.now e pieces.now) }
+    ensures { outcome_of result (tables_by vertices.new halves.new sources.new faces.new) ≡ melted_in (held_maps (layers_by vstarts.now estarts.now corners.now origins.now carriers.now labels.now)) (lengths_of (tables_by vertices.old halves.old sources.old faces.old)) }
 {
     let room = room_in(vertices.len(), halves.len(), sources.len(), faces.len());
     let check = over_room(room, n, e);
@@ -65,8 +65,8 @@ fn melt_many(
     sources: &mut [u32],
     faces: &mut [u16],
 ) -> Answer
-    requires { Held (layersBy vstarts.now estarts.now corners.now origins.now carriers.now labels.now) }
-    ensures { outcomeOf result (tablesBy vertices.new halves.new sources.new faces.new) ≡ meltedIn (heldMaps (layersBy vstarts.now estarts.now corners.now origins.now carriers.now labels.now)) (lengthsOf (tablesBy vertices.old halves.old sources.old faces.old)) }
+    requires { Held (layers_by vstarts.now estarts.now corners.now origins.now carriers.now labels.now) }
+    ensures { outcome_of result (tables_by vertices.new halves.new sources.new faces.new) ≡ melted_in (held_maps (layers_by vstarts.now estarts.now corners.now origins.now carriers.now labels.now)) (lengths_of (tables_by vertices.old halves.old sources.old faces.old)) }
 {
     let mut points = [0i64; POINT_CELLS];
     let mut pieces = [0u16; PIECE_CELLS];
@@ -112,8 +112,8 @@ fn melt_few(
     sources: &mut [u32],
     faces: &mut [u16],
 ) -> Answer
-    requires { Held (layersBy vstarts.now estarts.now corners.now origins.now carriers.now labels.now) }
-    ensures { outcomeOf result (tablesBy vertices.new halves.new sources.new faces.new) ≡ meltedIn (heldMaps (layersBy vstarts.now estarts.now corners.now origins.now carriers.now labels.now)) (lengthsOf (tablesBy vertices.old halves.old sources.old faces.old)) }
+    requires { Held (layers_by vstarts.now estarts.now corners.now origins.now carriers.now labels.now) }
+    ensures { outcome_of result (tables_by vertices.new halves.new sources.new faces.new) ≡ melted_in (held_maps (layers_by vstarts.now estarts.now corners.now origins.now carriers.now labels.now)) (lengths_of (tables_by vertices.old halves.old sources.old faces.old)) }
 {
     let mut points = [0i64; SMALL_POINT_CELLS];
     let mut pieces = [0u16; SMALL_PIECE_CELLS];
@@ -164,8 +164,8 @@ pub fn melt_layers(
     sources: &mut [u32],
     faces: &mut [u16],
 ) -> Answer
-    requires { Held (layersBy vstarts.now estarts.now corners.now origins.now carriers.now labels.now) }
-    ensures { outcomeOf result (tablesBy vertices.new halves.new sources.new faces.new) ≡ meltedIn (heldMaps (layersBy vstarts.now estarts.now corners.now origins.now carriers.now labels.now)) (lengthsOf (tablesBy vertices.old halves.old sources.old faces.old)) }
+    requires { Held (layers_by vstarts.now estarts.now corners.now origins.now carriers.now labels.now) }
+    ensures { outcome_of result (tables_by vertices.new halves.new sources.new faces.new) ≡ melted_in (held_maps (layers_by vstarts.now estarts.now corners.now origins.now carriers.now labels.now)) (lengths_of (tables_by vertices.old halves.old sources.old faces.old)) }
 {
     if estarts[MAPS] <= FEW_EDGES {
         melt_few(

@@ -9,39 +9,39 @@ use native.Mathlib.Omega.{arith}
 use borrow.Author.Tests.{eq-eqb, ne_eqb, lt-ltb, ltb-true, le-ltb}
 use lib.ListN.{set, length-set}
 use lib.Seq.{get_or-set_same, get_or-set_other}
-use Rattle.seq.specs.Seq.{Bool, true, false, cond, ◌&&◌, ◌||◌, List, ℕ, suc, ◌+◌, ltb, eqb, length, get_or, least, someBelow}
+use Rattle.seq.specs.Seq.{Bool, true, false, cond, ◌&&◌, ◌||◌, List, ℕ, suc, ◌+◌, ltb, eqb, length, get_or, least, the_some_below}
 use Rattle.seq.specs.Filled.{Holds}
 
 -- one more
-some-step : (r n : ℕ) (b c : Bool) → ltb r n ≡ b → ltb (cond b r (cond c n (suc n))) (suc n) ≡ (b || c)
-some-step r n true c e = lt-ltb r (suc n) (omega (arith, ltb-true r n e))
-some-step r n false true e = lt-ltb n (suc n) (omega arith)
-some-step r n false false e = le-ltb (suc n) (suc n) (omega arith)
+some_step : (r n : ℕ) (b c : Bool) → ltb r n ≡ b → ltb (cond b r (cond c n (suc n))) (suc n) ≡ (b || c)
+some_step r n true c e = lt-ltb r (suc n) (omega (arith, ltb-true r n e))
+some_step r n false true e = lt-ltb n (suc n) (omega arith)
+some_step r n false false e = le-ltb (suc n) (suc n) (omega arith)
 
-pub some-one-more : (p : ℕ → Bool) (n : ℕ) → someBelow p (n + 1) ≡ (someBelow p n || p n)
-some-one-more p n = ap (someBelow p) (add-one n) ∙ some-step (least p n) n (ltb (least p n) n) (p n) refl
+pub some_one_more : (p : ℕ → Bool) (n : ℕ) → the_some_below p (n + 1) ≡ (the_some_below p n || p n)
+some_one_more p n = ap (the_some_below p) (add-one n) ∙ some_step (least p n) n (ltb (least p n) n) (p n) refl
 
 -- ── whether there is one ──
 
 pub record Seeing (p : ℕ → Bool) (n : ℕ) (found : Bool) (j : ℕ) : Type 0 where
   pub within : j ≤ n
-  pub is : found ≡ someBelow p j
+  pub is : found ≡ the_some_below p j
 
 module _ {p : ℕ → Bool} {n : ℕ} where
-  pub see-starts : Seeing p n false 0
-  see-starts = record { within = omega arith; is = refl }
+  pub see_starts : Seeing p n false 0
+  see_starts = record { within = omega arith; is = refl }
 
   module _ {found : Bool} {j : ℕ} (r : Seeing p n found j) where
-    pub see-turns : {b : Bool} → j < n → b ≡ p j → Seeing p n (found || b) (j + 1)
-    see-turns {b} l e = record { within = omega arith; is = (λ i. r.is i || e i) ∙ sym (some-one-more p j) }
+    pub see_turns : {b : Bool} → j < n → b ≡ p j → Seeing p n (found || b) (j + 1)
+    see_turns {b} l e = record { within = omega arith; is = (λ i. r.is i || e i) ∙ sym (some_one_more p j) }
 
-    pub see-ends : n ≤ j → found ≡ someBelow p n
-    see-ends l = let e : j ≡ n = omega (arith, r.within) in r.is ∙ ap (someBelow p) e
+    pub see_ends : n ≤ j → found ≡ the_some_below p n
+    see_ends l = let e : j ≡ n = omega (arith, r.within) in r.is ∙ ap (the_some_below p) e
 
 -- ── ends ──
 
-zero-at : (t : List ℕ) (x v : ℕ) → v < length t → get_or (set t x 0) v 0 ≡ cond (eqb v x) 0 (get_or t v 0)
-zero-at t x v l =
+zero_at : (t : List ℕ) (x v : ℕ) → v < length t → get_or (set t x 0) v 0 ≡ cond (eqb v x) 0 (get_or t v 0)
+zero_at t x v l =
     elim (ℕ_discrete v x) [
       | yes q ↦ ap (λ (y : ℕ). get_or (set t y 0) v 0) (sym q) ∙ get_or-set_same t v 0 0 l ∙ sym (ap (λ (b : Bool). cond b 0 (get_or t v 0)) (eq-eqb v x q))
       | no q ↦ get_or-set_other t x v 0 0 q ∙ sym (ap (λ (b : Bool). cond b 0 (get_or t v 0)) (ne_eqb v x q))
@@ -65,14 +65,14 @@ neither false c x d e = rw e
 pub record Marking (p : ℕ → Bool) (f g : ℕ → ℕ) (m : ℕ) (d t : List ℕ) (k : ℕ) : Type 0 where
   pub within : k ≤ m
   pub kept : length t ≡ length d
-  pub at : (v : ℕ) → v < length d → get_or t v 0 ≡ cond (someBelow (λ j. p j && (eqb v (f j) || eqb v (g j))) k) 0 (get_or d v 0)
+  pub at : (v : ℕ) → v < length d → get_or t v 0 ≡ cond (the_some_below (λ j. p j && (eqb v (f j) || eqb v (g j))) k) 0 (get_or d v 0)
 
 abbrev ending : (ℕ → Bool) → (ℕ → ℕ) → (ℕ → ℕ) → ℕ → ℕ → Bool
 ending p f g v j = p j && (eqb v (f j) || eqb v (g j))
 
 module _ {p : ℕ → Bool} {f g : ℕ → ℕ} {m : ℕ} {d : List ℕ} where
-  pub mark-starts : Marking p f g m d d 0
-  mark-starts = record { within = omega arith; kept = refl; at = λ v l. refl }
+  pub mark_starts : Marking p f g m d d 0
+  mark_starts = record { within = omega arith; kept = refl; at = λ v l. refl }
 
   module _ {t : List ℕ} {k : ℕ} (r : Marking p f g m d t k) where
     pub mark-takes : {u : List ℕ} → k < m → p k ≡ true → u ≡ set (set t (f k) 0) (g k) 0 → Marking p f g m d u (k + 1)
@@ -81,10 +81,10 @@ module _ {p : ℕ → Bool} {f g : ℕ → ℕ} {m : ℕ} {d : List ℕ} where
       kept = ap length q ∙ length-set (set t (f k) 0) (g k) 0 ∙ length-set t (f k) 0 ∙ r.kept;
       at = λ v h.
           ap (λ (x : List ℕ). get_or x v 0) q
-          ∙ zero-at (set t (f k) 0) (g k) v (omega (arith, length-set t (f k) 0, r.kept))
-          ∙ ap (cond (eqb v (g k)) 0) (zero-at t (f k) v (omega (arith, r.kept)) ∙ ap (cond (eqb v (f k)) 0) (r.at v h))
-          ∙ both (someBelow (ending p f g v) k) (p k) (eqb v (f k)) (eqb v (g k)) (get_or d v 0) e
-          ∙ ap (λ (b : Bool). cond b 0 (get_or d v 0)) (sym (some-one-more (ending p f g v) k));
+          ∙ zero_at (set t (f k) 0) (g k) v (omega (arith, length-set t (f k) 0, r.kept))
+          ∙ ap (cond (eqb v (g k)) 0) (zero_at t (f k) v (omega (arith, r.kept)) ∙ ap (cond (eqb v (f k)) 0) (r.at v h))
+          ∙ both (the_some_below (ending p f g v) k) (p k) (eqb v (f k)) (eqb v (g k)) (get_or d v 0) e
+          ∙ ap (λ (b : Bool). cond b 0 (get_or d v 0)) (sym (some_one_more (ending p f g v) k));
     }
 
     pub mark-skips : {u : List ℕ} → k < m → p k ≡ false → u ≡ t → Marking p f g m d u (k + 1)
@@ -93,10 +93,10 @@ module _ {p : ℕ → Bool} {f g : ℕ → ℕ} {m : ℕ} {d : List ℕ} where
       kept = ap length q ∙ r.kept;
       at = λ v h.
           ap (λ (x : List ℕ). get_or x v 0) q ∙ r.at v h
-          ∙ neither (someBelow (ending p f g v) k) (p k) (eqb v (f k) || eqb v (g k)) (get_or d v 0) e
-          ∙ ap (λ (b : Bool). cond b 0 (get_or d v 0)) (sym (some-one-more (ending p f g v) k));
+          ∙ neither (the_some_below (ending p f g v) k) (p k) (eqb v (f k) || eqb v (g k)) (get_or d v 0) e
+          ∙ ap (λ (b : Bool). cond b 0 (get_or d v 0)) (sym (some_one_more (ending p f g v) k));
     }
 
-    pub mark-ends : m ≤ k → Holds (λ v. cond (someBelow (λ j. p j && (eqb v (f j) || eqb v (g j))) m) 0 (get_or d v 0)) t (length d)
-    mark-ends l = let q : k ≡ m = omega (arith, r.within) in
-        record { long = omega (arith, r.kept); at = λ v h. r.at v h ∙ ap (λ (j : ℕ). cond (someBelow (ending p f g v) j) 0 (get_or d v 0)) q }
+    pub mark_ends : m ≤ k → Holds (λ v. cond (the_some_below (λ j. p j && (eqb v (f j) || eqb v (g j))) m) 0 (get_or d v 0)) t (length d)
+    mark_ends l = let q : k ≡ m = omega (arith, r.within) in
+        record { long = omega (arith, r.kept); at = λ v h. r.at v h ∙ ap (λ (j : ℕ). cond (the_some_below (ending p f g v) j) 0 (get_or d v 0)) q }

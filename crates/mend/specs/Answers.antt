@@ -2,19 +2,19 @@
 use Rattle.seq.specs.Seq.{List, [], ℕ, padded}
 use Rattle.paper.specs.Mend as paper
 use Rattle.paper.specs.Refusal.{Refusal, Answer, done, refused}
-use Rattle.map_file.specs.Verdict.{refusalOf}
+use Rattle.map_file.specs.Verdict.{refusal_of}
 use Rattle.mend.specs.declared.answer.Mended.{Mended}
 use Rattle.mend.specs.declared.answer.Mended.TheVariants.{Done, Refused}
 
 -- the file's length and the number of entries, or a refusal
 abbrev pub answer_of : Mended → Answer (ℕ × ℕ)
 answer_of (Done m) = done (m.length, m.entries)
-answer_of (Refused r) = refused (refusalOf r)
+answer_of (Refused r) = refused (refusal_of r)
 
 -- all that comes out: the answer, the file and the list
-abbrev pub mendingOf : Mended → List ℕ → List ℕ → paper.Mending
-mendingOf a f l = record { answer = answer_of a; file = f; list = l }
+abbrev pub mending_of : Mended → List ℕ → List ℕ → paper.Mending
+mending_of a f l = record { answer = answer_of a; file = f; list = l }
 
 -- "with file and list left all zero": n bytes and l numbers
-abbrev pub allZero : ℕ → ℕ → Refusal → paper.Mending
-allZero n l r = record { answer = refused r; file = padded 0 n []; list = padded 0 l [] }
+abbrev pub all_zero : ℕ → ℕ → Refusal → paper.Mending
+all_zero n l r = record { answer = refused r; file = padded 0 n []; list = padded 0 l [] }

@@ -2,20 +2,20 @@
 -- (proofs/KeyLaws.antt). Assumes nothing.
 use Rattle.seq.specs.Seq.{Bool, cond, List, ℕ, ◌+◌, ◌*◌, leb, eqb, get_or, ℤ}
 use Rattle.laws_file.specs.Bytes.{wrapped}
-use Rattle.map_check.specs.Parts.{cornerIn}
+use Rattle.map_check.specs.Parts.{corner_in}
 
 -- the corner of vertex v: each coordinate as its two bytes have it
-abbrev pub cornerKey : List ℤ → ℕ → ℕ
-cornerKey ps v = wrapped 2 (cornerIn ps v).x + 65536 * wrapped 2 (cornerIn ps v).y
+abbrev pub corner_key : List ℤ → ℕ → ℕ
+corner_key ps v = wrapped 2 (corner_in ps v).x + 65536 * wrapped 2 (corner_in ps v).y
 
 -- two vertices, the lower number first
-abbrev pub pairKey : ℕ → ℕ → ℕ
-pairKey a b = cond (leb a b) (65536 * a + b) (65536 * b + a)
+abbrev pub pair_key : ℕ → ℕ → ℕ
+pair_key a b = cond (leb a b) (65536 * a + b) (65536 * b + a)
 
 -- the ends of edge k
-abbrev pub edgeKey : List ℕ → ℕ → ℕ
-edgeKey t k = pairKey (get_or t (2 * k) 0) (get_or t (2 * k + 1) 0)
+abbrev pub edge_key : List ℕ → ℕ → ℕ
+edge_key t k = pair_key (get_or t (2 * k) 0) (get_or t (2 * k + 1) 0)
 
 -- cells i and j are the same
-abbrev pub likeIn : List ℕ → ℕ → ℕ → Bool
-likeIn ks i j = eqb (get_or ks i 0) (get_or ks j 0)
+abbrev pub like_in : List ℕ → ℕ → ℕ → Bool
+like_in ks i j = eqb (get_or ks i 0) (get_or ks j 0)

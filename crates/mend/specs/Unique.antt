@@ -8,20 +8,20 @@ use Rattle.paper.specs.Mend as paper
 use Rattle.paper.specs.Mend.{mend}
 use Rattle.mend.specs.declared.answer.Mended.{Mended}
 use Rattle.mend.specs.declared.answer.Mended.TheVariants.{Done, Refused}
-use Rattle.mend.specs.Answers.{answer_of, mendingOf}
+use Rattle.mend.specs.Answers.{answer_of, mending_of}
 
-abbrev answerBack : Answer (ℕ × ℕ) → Mended
-answerBack (done m) = Done (record { length = m.0; entries = m.1 })
-answerBack (refused r) = Refused (record { number = r.number; map = r.map; place = r.place; other = r.other })
+abbrev answer_back : Answer (ℕ × ℕ) → Mended
+answer_back (done m) = Done (record { length = m.0; entries = m.1 })
+answer_back (refused r) = Refused (record { number = r.number; map = r.map; place = r.place; other = r.other })
 
-there_and_back : (a : Mended) → answerBack (answer_of a) ≡ a
+there_and_back : (a : Mended) → answer_back (answer_of a) ≡ a
 there_and_back (Done m) = refl
 there_and_back (Refused r) = refl
 
 pub answer-once : (a b : Mended) → answer_of a ≡ answer_of b → a ≡ b
-answer-once a b e = sym (there_and_back a) ∙ ap answerBack e ∙ there_and_back b
+answer-once a b e = sym (there_and_back a) ∙ ap answer_back e ∙ there_and_back b
 
-pub mend-unique : (n l : ℕ) (s : List ℕ) (a b : Mended) (f g x y : List ℕ) → mendingOf a f x ≡ mend n l s → mendingOf b g y ≡ mend n l s → (a ≡ b) × (f ≡ g) × (x ≡ y)
+pub mend-unique : (n l : ℕ) (s : List ℕ) (a b : Mended) (f g x y : List ℕ) → mending_of a f x ≡ mend n l s → mending_of b g y ≡ mend n l s → (a ≡ b) × (f ≡ g) × (x ≡ y)
 mend-unique n l s a b f g x y e h =
-    let d = determined (mend n l) s (mendingOf a f x) (mendingOf b g y) e h in
+    let d = determined (mend n l) s (mending_of a f x) (mending_of b g y) e h in
     (answer-once a b (ap (λ (m : paper.Mending). m.answer) d), ap (λ (m : paper.Mending). m.file) d, ap (λ (m : paper.Mending). m.list) d)

@@ -2,14 +2,14 @@
 ghost use Rattle.std.specs.Prelude.{◌≡◌, [], ◌∷◌, ◌++◌, ◌+◌, ◌*◌, ◌≤◌, length};
 ghost use Rattle.std.proofs.lemmas.List.Edits.{sets};
 ghost use Rattle.seq.specs.Seq.{count, rows, gather, padded};
-ghost use Rattle.paper.specs.Limits.{mapHead};
+ghost use Rattle.paper.specs.Limits.{map_head};
 ghost use Rattle.paper.specs.Bytes.{ascii, le};
-ghost use Rattle.paper.specs.Map.{vertexPlace};
-ghost use Rattle.paper.specs.Mend.{cornerBytes};
+ghost use Rattle.paper.specs.Map.{vertex_place};
+ghost use Rattle.paper.specs.Mend.{corner_bytes};
 ghost use Rattle.plane.specs.Bounds.{Corner};
-ghost use Rattle.map_check.specs.Parts.{cornerIn, Corners};
-ghost use Rattle.mend.specs.Steps.{stepIs};
-ghost use Rattle.mend.specs.Stored.{pointIn, row_in, edgeIn, fileIn, Counted};
+ghost use Rattle.map_check.specs.Parts.{corner_in, Corners};
+ghost use Rattle.mend.specs.Steps.{step_is};
+ghost use Rattle.mend.specs.Stored.{point_in, row_in, the_edge_in, file_in, Counted};
 
 use crate::merge::{from_now, to_now};
 use crate::steps::is_step;
@@ -30,7 +30,7 @@ fn put_mark(out: &mut [u8])
 
 // "version (1), vertex count V, edge count E"
 fn put_head(vertices: u16, edges: u16, out: &mut [u8])
-    requires { mapHead ≤ length out.old }
+    requires { map_head ≤ length out.old }
     ensures { out.new ≡ sets out.old 0 (ascii "ZMP" ++ gather (le 2) (1 ∷ vertices ∷ edges ∷ [])) }
 {
     put_mark(out);
@@ -42,8 +42,8 @@ fn put_head(vertices: u16, edges: u16, out: &mut [u8])
 
 // The corner of vertex v: "x, y as signed 16-bit".
 fn put_corner(points: &[i64], v: u16, out: &mut [u8], at: usize)
-    requires { Corner (cornerIn points.now v) × (at + 4 ≤ length out.old) }
-    ensures { out.new ≡ sets out.old at (cornerBytes (cornerIn points.now v)) }
+    requires { Corner (corner_in points.now v) × (at + 4 ≤ length out.old) }
+    ensures { out.new ≡ sets out.old at (corner_bytes (corner_in points.now v)) }
 {
     let x = twos(vertex_cell(points, v, 0), 2);
     let y = twos(vertex_cell(points, v, 1), 2);
@@ -53,8 +53,8 @@ fn put_corner(points: &[i64], v: u16, out: &mut [u8], at: usize)
 
 // "No corner that stays moves"
 fn put_corners(points: &[i64], steps: &[u16], n: u16, out: &mut [u8])
-    requires { Corners points.now n × (n ≤ length steps.now) × (mapHead + 4 * count (stepIs steps.now 0) n ≤ length out.old) }
-    ensures { out.new ≡ sets out.old mapHead (rows (pointIn points.now steps.now) n) }
+    requires { Corners points.now n × (n ≤ length steps.now) × (map_head + 4 * count (step_is steps.now 0) n ≤ length out.old) }
+    ensures { out.new ≡ sets out.old map_head (rows (point_in points.now steps.now) n) }
 {
     let mut at = MAP_HEAD;
     let mut v: u16 = 0;
@@ -92,8 +92,8 @@ fn put_edges(
     out: &mut [u8],
     start: usize,
 )
-    requires { (e ≤ length steps.now) × (start + 8 * count (stepIs steps.now 0) e ≤ length out.old) }
-    ensures { out.new ≡ sets out.old start (rows (edgeIn labels.now ends.now numbers.now steps.now) e) }
+    requires { (e ≤ length steps.now) × (start + 8 * count (step_is steps.now 0) e ≤ length out.old) }
+    ensures { out.new ≡ sets out.old start (rows (the_edge_in labels.now ends.now numbers.now steps.now) e) }
 {
     let mut at = start;
     let mut k: u16 = 0;
@@ -120,8 +120,8 @@ pub fn put_file(
     edges: u16,
     out: &mut [u8],
 )
-    requires { Corners points.now n × Counted corners.now pieces.now n e vertices edges × (vertexPlace vertices + 8 * edges ≤ length out.old) }
-    ensures { out.new ≡ padded 0 (length out.old) (fileIn points.now labels.now ends.now numbers.now corners.now pieces.now n e) }
+    requires { Corners points.now n × Counted corners.now pieces.now n e vertices edges × (vertex_place vertices + 8 * edges ≤ length out.old) }
+    ensures { out.new ≡ padded 0 (length out.old) (file_in points.now labels.now ends.now numbers.now corners.now pieces.now n e) }
 {
     put_head(vertices, edges, out);
     put_corners(points, corners, n, out);

@@ -2,17 +2,17 @@
 ghost use Rattle.std.specs.Prelude.{◌≡◌, ◌+◌, ◌*◌, ◌≤◌, length};
 ghost use Rattle.std.proofs.lemmas.List.Edits.{sets};
 ghost use Rattle.seq.specs.Seq.{count, rows, padded};
-ghost use Rattle.mend.specs.Steps.{stepIs};
-ghost use Rattle.mend.specs.Stored.{entryIn, listCount, listIn};
+ghost use Rattle.mend.specs.Steps.{step_is};
+ghost use Rattle.mend.specs.Stored.{entry_in, the_list_count, list_in};
 
 use crate::steps::is_step;
 use seq::wipe_from_u16;
 
 // The entries of one step, of n vertices or edges, from a place on; and the place behind them.
 fn put_step(steps: &[u16], step: u16, n: u16, list: &mut [u16], start: usize) -> usize
-    requires { (n ≤ length steps.now) × (start + 2 * count (stepIs steps.now step) n ≤ length list.old) }
-    ensures list { list.new ≡ sets list.old start (rows (entryIn steps.now step) n) }
-    ensures at { result ≡ start + 2 * count (stepIs steps.now step) n }
+    requires { (n ≤ length steps.now) × (start + 2 * count (step_is steps.now step) n ≤ length list.old) }
+    ensures list { list.new ≡ sets list.old start (rows (entry_in steps.now step) n) }
+    ensures at { result ≡ start + 2 * count (step_is steps.now step) n }
 {
     let mut at = start;
     let mut i: u16 = 0;
@@ -29,8 +29,8 @@ fn put_step(steps: &[u16], step: u16, n: u16, list: &mut [u16], start: usize) ->
 
 // The whole list, and zeros past it: by the steps of n vertices and e edges.
 pub fn put_list(vertices: &[u16], edges: &[u16], n: u16, e: u16, list: &mut [u16])
-    requires { (n ≤ length vertices.now) × (e ≤ length edges.now) × (2 * listCount vertices.now edges.now n e ≤ length list.old) }
-    ensures { list.new ≡ padded 0 (length list.old) (listIn vertices.now edges.now n e) }
+    requires { (n ≤ length vertices.now) × (e ≤ length edges.now) × (2 * the_list_count vertices.now edges.now n e ≤ length list.old) }
+    ensures { list.new ≡ padded 0 (length list.old) (list_in vertices.now edges.now n e) }
 {
     let a = put_step(vertices, 1, n, list, 0);
     let b = put_step(edges, 2, e, list, a);

@@ -1,10 +1,10 @@
 // Refusals of a map that is read into tables: "1 to 5 as before, 7 only for an end that names no vertex".
 ghost use Rattle.std.specs.Prelude.{◌≡◌, ◌+◌, ◌*◌, ◌≤◌, length};
 ghost use Rattle.seq.specs.Seq.{least};
-ghost use Rattle.paper.specs.Limits.{mapVertices, mapEdges};
+ghost use Rattle.paper.specs.Limits.{map_vertices, map_edges};
 ghost use Rattle.paper.specs.Refusal.{first_of};
 ghost use Rattle.map_file.specs.Verdict.{verdict};
-ghost use Rattle.mend.specs.Steps.{noVertexAt, tableFaults};
+ghost use Rattle.mend.specs.Steps.{no_vertex_at, table_faults};
 
 use map_check::first_too_far;
 use map_file::{Check, first, given};
@@ -12,7 +12,7 @@ use map_file::{Check, first, given};
 // 7: an end of edge k names none of n vertices.
 fn no_vertex(origins: &[u16], n: usize, k: usize) -> bool
     requires { 2 * k + 2 ≤ length origins.now }
-    ensures { result ≡ noVertexAt origins.now n k }
+    ensures { result ≡ no_vertex_at origins.now n k }
 {
     let a = origins[2 * k] as usize;
     let b = origins[2 * k + 1] as usize;
@@ -22,7 +22,7 @@ fn no_vertex(origins: &[u16], n: usize, k: usize) -> bool
 // The least such of e edges, or e.
 fn first_no_vertex(origins: &[u16], n: usize, e: usize) -> usize
     requires { 2 * e ≤ length origins.now }
-    ensures { result ≡ least (noVertexAt origins.now n) e }
+    ensures { result ≡ least (no_vertex_at origins.now n) e }
 {
     let mut k = 0;
     while k < e {
@@ -38,9 +38,9 @@ fn first_no_vertex(origins: &[u16], n: usize, e: usize) -> usize
 pub fn table_fault(points: &[i64], origins: &[u16], n: usize, e: usize) -> Check
     requires fact_1 { 4 * n ≤ length points.now }
     requires fact_2 { 2 * e ≤ length origins.now }
-    requires fact_3 { n ≤ mapVertices }
-    requires fact_4 { e ≤ mapEdges }
-    ensures { verdict result ≡ first_of (tableFaults points.now origins.now n e) }
+    requires fact_3 { n ≤ map_vertices }
+    requires fact_4 { e ≤ map_edges }
+    ensures { verdict result ≡ first_of (table_faults points.now origins.now n e) }
 {
     let far = first_too_far(points, n);
     let ends = first_no_vertex(origins, n, e);

@@ -1,10 +1,10 @@
 // Step 1: "a vertex on another is merged into the one of lowest number". A table of the vertex into which each is merged, and one of the ends of all half-edges afterwards.
 ghost use Rattle.std.specs.Prelude.{◌≡◌, ◌+◌, ◌*◌, ◌≤◌, ◌<◌, length, get_or};
 ghost use Rattle.seq.specs.Seq.{least, filled};
-ghost use Rattle.paper.specs.Limits.{mapVertices};
+ghost use Rattle.paper.specs.Limits.{map_vertices};
 ghost use Rattle.map_check.specs.Parts.{Corners};
-ghost use Rattle.mend.specs.Steps.{into_at, nowIn};
-ghost use Rattle.mend.specs.Keys.{likeIn};
+ghost use Rattle.mend.specs.Steps.{into_at, now_in};
+ghost use Rattle.mend.specs.Keys.{like_in};
 
 use crate::packed::{corner_keys, first_like, seen};
 use limits::{MAP_VERTICES, SMALL_VERTICES};
@@ -13,7 +13,7 @@ use ovfile::u16_at;
 // The lowest vertex with the key of vertex v: itself, where none before it has the key.
 fn lowest(keys: &[u32], v: u16) -> u16
     requires { v < length keys.now }
-    ensures { result ≡ least (likeIn keys.now v) v }
+    ensures { result ≡ least (like_in keys.now v) v }
 {
     let i = v as usize;
     if seen(keys, i) {
@@ -26,7 +26,7 @@ fn lowest(keys: &[u32], v: u16) -> u16
 // That of each of n vertices.
 fn merge_by(keys: &[u32], n: u16, into: &mut [u16])
     requires { (n ≤ length keys.now) × (n ≤ length into.old) }
-    ensures { into.new ≡ filled n (λ v. least (likeIn keys.now v) v) into.old }
+    ensures { into.new ≡ filled n (λ v. least (like_in keys.now v) v) into.old }
 {
     let mut v: u16 = 0;
     while v < n {
@@ -47,7 +47,7 @@ fn merge_in(points: &[i64], n: u16, keys: &mut [u32], into: &mut [u16])
 
 // The same, with a table of its own. Few vertices take a small one: less to clear.
 pub fn merge(points: &[i64], n: u16, into: &mut [u16])
-    requires { Corners points.now n × (n ≤ mapVertices) × (n ≤ length into.old) }
+    requires { Corners points.now n × (n ≤ map_vertices) × (n ≤ length into.old) }
     ensures { into.new ≡ filled n (into_at points.now) into.old }
 {
     if n as usize <= SMALL_VERTICES {
@@ -62,7 +62,7 @@ pub fn merge(points: &[i64], n: u16, into: &mut [u16])
 // The vertex that each half-edge of e edges starts from afterwards.
 pub fn move_ends(into: &[u16], origins: &[u16], e: u16, ends: &mut [u16])
     requires { 2 * e ≤ length ends.old }
-    ensures { ends.new ≡ filled (2 * e) (nowIn into.now origins.now) ends.old }
+    ensures { ends.new ≡ filled (2 * e) (now_in into.now origins.now) ends.old }
 {
     let m = 2 * e as usize;
     let mut h = 0;

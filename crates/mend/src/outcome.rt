@@ -1,15 +1,15 @@
 // The operation: judged first, with nothing stored; then both are stored, or both are wiped.
 ghost use Rattle.std.specs.Prelude.{◌≡◌, [], ◌∷◌, ◌*◌, ◌/◌, ◌≤◌, ltb, length};
 ghost use Rattle.std.proofs.Math.Option.{none};
-ghost use Rattle.paper.specs.Map.{vertexCount, edgesIn, formFaults};
-ghost use Rattle.paper.specs.Mend.{mend, entryWidth};
+ghost use Rattle.paper.specs.Map.{vertex_count, edges_in, form_faults};
+ghost use Rattle.paper.specs.Mend.{mend, entry_width};
 ghost use Rattle.paper.specs.Refusal.{given, first_of};
-ghost use Rattle.map_file.specs.Header.{headerOf};
-ghost use Rattle.map_file.specs.Verdict.{refusalOf, verdict};
+ghost use Rattle.map_file.specs.Header.{header_of};
+ghost use Rattle.map_file.specs.Verdict.{refusal_of, verdict};
 ghost use Rattle.map_check.specs.Held.{MapRead};
-ghost use Rattle.mend.specs.Steps.{fileFaults};
+ghost use Rattle.mend.specs.Steps.{file_faults};
 ghost use Rattle.mend.specs.Ready.{Ready};
-ghost use Rattle.mend.specs.Answers.{mendingOf, allZero};
+ghost use Rattle.mend.specs.Answers.{mending_of, all_zero};
 
 use crate::answer::{Mended, Mending};
 use crate::bytes::put_file;
@@ -29,7 +29,7 @@ use seq::{wipe_u8, wipe_u16};
 
 // "with file and list left all zero"
 fn refuse(r: Refusal, out: &mut [u8], list: &mut [u16]) -> Mended
-    ensures { mendingOf result out.new list.new ≡ allZero (length out.old) (length list.old) (refusalOf r) }
+    ensures { mending_of result out.new list.new ≡ all_zero (length out.old) (length list.old) (refusal_of r) }
 {
     wipe_u8(out);
     wipe_u16(list);
@@ -38,7 +38,7 @@ fn refuse(r: Refusal, out: &mut [u8], list: &mut [u16]) -> Mended
 
 // "11 with place 4 for a lent file too short, then place 5 for a list too short"
 fn judge(n: usize, l: usize, long: usize, many: u16) -> Check
-    ensures { verdict result ≡ first_of (given 11 4 (ltb n long) ∷ given 11 5 (ltb (l / entryWidth) many) ∷ []) }
+    ensures { verdict result ≡ first_of (given 11 4 (ltb n long) ∷ given 11 5 (ltb (l / entry_width) many) ∷ []) }
 {
     let short = given(11, 4, n < long);
     let few = given(11, 5, l / 2 < many as usize);
@@ -61,8 +61,8 @@ fn finish(
     out: &mut [u8],
     list: &mut [u16],
 ) -> Mended
-    requires { (n ≡ vertexCount file.now) × (e ≡ edgesIn file.now) × Ready file.now points.now labels.now ends.now numbers.now corners.now pieces.now vertices edges }
-    ensures { mendingOf result out.new list.new ≡ mend (length out.old) (length list.old) file.now }
+    requires { (n ≡ vertex_count file.now) × (e ≡ edges_in file.now) × Ready file.now points.now labels.now ends.now numbers.now corners.now pieces.now vertices edges }
+    ensures { mending_of result out.new list.new ≡ mend (length out.old) (length list.old) file.now }
 {
     let bytes = map_length(vertices, edges);
     let length = bytes as u16;
@@ -90,10 +90,10 @@ fn mend_map(
     out: &mut [u8],
     list: &mut [u16],
 ) -> Mended
-    requires fact_1 { h ≡ headerOf file.now }
-    requires fact_2 { first_of (fileFaults file.now) ≡ none }
+    requires fact_1 { h ≡ header_of file.now }
+    requires fact_2 { first_of (file_faults file.now) ≡ none }
     requires fact_3 { MapRead file.now points.now origins.now labels.now }
-    ensures { mendingOf result out.new list.new ≡ mend (length out.old) (length list.old) file.now }
+    ensures { mending_of result out.new list.new ≡ mend (length out.old) (length list.old) file.now }
 {
     let n = h.vertices;
     let e = h.edges;
@@ -123,10 +123,10 @@ fn mend_in(
     out: &mut [u8],
     list: &mut [u16],
 ) -> Mended
-    requires fact_1 { h ≡ headerOf file.now }
-    requires fact_2 { first_of (formFaults file.now) ≡ none }
-    requires fact_3 { (4 * vertexCount file.now ≤ length points.old) × (2 * edgesIn file.now ≤ length origins.old) × (2 * edgesIn file.now ≤ length labels.old) }
-    ensures { mendingOf result out.new list.new ≡ mend (length out.old) (length list.old) file.now }
+    requires fact_1 { h ≡ header_of file.now }
+    requires fact_2 { first_of (form_faults file.now) ≡ none }
+    requires fact_3 { (4 * vertex_count file.now ≤ length points.old) × (2 * edges_in file.now ≤ length origins.old) × (2 * edges_in file.now ≤ length labels.old) }
+    ensures { mending_of result out.new list.new ≡ mend (length out.old) (length list.old) file.now }
 {
     read_map(file, h, points, origins, labels);
     let check = table_fault(points, origins, h.vertices as usize, h.edges as usize);
@@ -138,9 +138,9 @@ fn mend_in(
 
 // The same, with tables of its own. A small map takes small ones: less to clear.
 fn mend_read(file: &[u8], h: Header, out: &mut [u8], list: &mut [u16]) -> Mended
-    requires fact_1 { h ≡ headerOf file.now }
-    requires fact_2 { first_of (formFaults file.now) ≡ none }
-    ensures { mendingOf result out.new list.new ≡ mend (length out.old) (length list.old) file.now }
+    requires fact_1 { h ≡ header_of file.now }
+    requires fact_2 { first_of (form_faults file.now) ≡ none }
+    ensures { mending_of result out.new list.new ≡ mend (length out.old) (length list.old) file.now }
 {
     if (h.vertices as usize <= SMALL_VERTICES) & (h.edges as usize <= SMALL_EDGES) {
         let mut points = [0i64; SMALL_POINT_CELLS];
@@ -157,7 +157,7 @@ fn mend_read(file: &[u8], h: Header, out: &mut [u8], list: &mut [u16]) -> Mended
 
 // Mends a map file of any bytes into a lent file and a lent list, which has two numbers an entry: the step and the original number.
 pub fn mend(file: &[u8], out: &mut [u8], list: &mut [u16]) -> Mended
-    ensures { mendingOf result out.new list.new ≡ mend (length out.old) (length list.old) file.now }
+    ensures { mending_of result out.new list.new ≡ mend (length out.old) (length list.old) file.now }
 {
     let h = read_header(file);
     let check = form_fault(file, h);

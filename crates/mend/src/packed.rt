@@ -1,17 +1,17 @@
 // Pairs of numbers as one number each, so that two pairs are told apart by one comparison: a vertex's corner, and the ends of an edge whichever way it runs.
 ghost use Rattle.std.specs.Prelude.{◌≡◌, ◌≤◌, ◌<◌, length};
-ghost use Rattle.seq.specs.Seq.{least, someBelow, filled};
+ghost use Rattle.seq.specs.Seq.{least, the_some_below, filled};
 ghost use Rattle.plane.specs.Bounds.{Corner};
-ghost use Rattle.map_check.specs.Parts.{cornerIn, Corners};
-ghost use Rattle.mend.specs.Keys.{cornerKey, pairKey, edgeKey, likeIn};
+ghost use Rattle.map_check.specs.Parts.{corner_in, Corners};
+ghost use Rattle.mend.specs.Keys.{corner_key, pair_key, edge_key, like_in};
 
 use crate::merge::{from_now, to_now};
 use ovfile::{twos, vertex_cell};
 
 // Both coordinates of vertex v.
 fn corner_key(points: &[i64], v: u16) -> u32
-    requires { Corner (cornerIn points.now v) }
-    ensures { result ≡ cornerKey points.now v }
+    requires { Corner (corner_in points.now v) }
+    ensures { result ≡ corner_key points.now v }
 {
     let x = twos(vertex_cell(points, v, 0), 2);
     let y = twos(vertex_cell(points, v, 1), 2);
@@ -21,7 +21,7 @@ fn corner_key(points: &[i64], v: u16) -> u32
 // Those of n vertices.
 pub fn corner_keys(points: &[i64], n: u16, keys: &mut [u32])
     requires { Corners points.now n × (n ≤ length keys.old) }
-    ensures { keys.new ≡ filled n (cornerKey points.now) keys.old }
+    ensures { keys.new ≡ filled n (corner_key points.now) keys.old }
 {
     let mut v: u16 = 0;
     while v < n {
@@ -33,7 +33,7 @@ pub fn corner_keys(points: &[i64], n: u16, keys: &mut [u32])
 
 // Two vertices, the lower number first.
 fn pair_key(a: u16, b: u16) -> u32
-    ensures { result ≡ pairKey a b }
+    ensures { result ≡ pair_key a b }
 {
     if a <= b {
         65536 * a as u32 + b as u32
@@ -45,7 +45,7 @@ fn pair_key(a: u16, b: u16) -> u32
 // The ends of e edges.
 pub fn edge_keys(ends: &[u16], e: u16, keys: &mut [u32])
     requires { e ≤ length keys.old }
-    ensures { keys.new ≡ filled e (edgeKey ends.now) keys.old }
+    ensures { keys.new ≡ filled e (edge_key ends.now) keys.old }
 {
     let mut k: u16 = 0;
     while k < e {
@@ -58,7 +58,7 @@ pub fn edge_keys(ends: &[u16], e: u16, keys: &mut [u32])
 // Whether an earlier one is the same as number i. All are looked at, with no way out of the loop: that is quick where there is none.
 pub fn seen(keys: &[u32], i: usize) -> bool
     requires { i < length keys.now }
-    ensures { result ≡ someBelow (likeIn keys.now i) i }
+    ensures { result ≡ the_some_below (like_in keys.now i) i }
 {
     let key = keys[i];
     let mut found = false;
@@ -73,7 +73,7 @@ pub fn seen(keys: &[u32], i: usize) -> bool
 // The least that is the same as number i, or i.
 pub fn first_like(keys: &[u32], i: usize) -> usize
     requires { i < length keys.now }
-    ensures { result ≡ least (likeIn keys.now i) i }
+    ensures { result ≡ least (like_in keys.now i) i }
 {
     let key = keys[i];
     let mut j = 0;

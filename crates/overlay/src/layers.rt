@@ -1,10 +1,10 @@
 // From files to tables: the maps laid one after the other in tables that are lent for them, which are small where the maps are, and the overlay from there.
 ghost use Rattle.std.specs.Prelude.{◌≡◌, [], ◌∷◌};
-ghost use Rattle.paper.specs.Lent.{lengthsOf};
-ghost use Rattle.tables.specs.Values.{tablesBy};
+ghost use Rattle.paper.specs.Lent.{lengths_of};
+ghost use Rattle.tables.specs.Values.{tables_by};
 ghost use Rattle.tables.specs.Promise.{Promised};
 ghost use Rattle.overlay_maps.specs.Layers.{StackRoom};
-ghost use Rattle.overlay.specs.Layers.{fewRows};
+ghost use Rattle.overlay.specs.Layers.{few_rows};
 
 use crate::stages::from_layers;
 use limits::{
@@ -19,7 +19,7 @@ use tables::Answer;
 
 // Whether the maps of three files have room in small tables, by the counts in their headers.
 fn few_rows(zones: &[u8], blocks: &[u8], bed: &[u8]) -> bool
-    ensures { result ≡ fewRows (zones.now ∷ blocks.now ∷ bed.now ∷ []) }
+    ensures { result ≡ few_rows (zones.now ∷ blocks.now ∷ bed.now ∷ []) }
 {
     let v = vertex_count(zones) as usize
         + vertex_count(blocks) as usize
@@ -49,7 +49,7 @@ fn overlay_in(
     faces: &mut [u16],
 ) -> Answer
     requires { StackRoom (zones.now ∷ blocks.now ∷ bed.now ∷ []) corners.old origins.old carriers.old labels.old }
-    ensures { Promised (lengthsOf (tablesBy vertices.old halves.old sources.old faces.old)) (zones.now ∷ blocks.now ∷ bed.now ∷ []) result (tablesBy vertices.new halves.new sources.new faces.new) }
+    ensures { Promised (lengths_of (tables_by vertices.old halves.old sources.old faces.old)) (zones.now ∷ blocks.now ∷ bed.now ∷ []) result (tables_by vertices.new halves.new sources.new faces.new) }
 {
     let mut vertex_starts = [0usize; LAYER_STARTS];
     let mut edge_starts = [0usize; LAYER_STARTS];
@@ -97,7 +97,7 @@ pub fn overlay_with(
     sources: &mut [u32],
     faces: &mut [u16],
 ) -> Answer
-    ensures { Promised (lengthsOf (tablesBy vertices.old halves.old sources.old faces.old)) (zones.now ∷ blocks.now ∷ bed.now ∷ []) result (tablesBy vertices.new halves.new sources.new faces.new) }
+    ensures { Promised (lengths_of (tables_by vertices.old halves.old sources.old faces.old)) (zones.now ∷ blocks.now ∷ bed.now ∷ []) result (tables_by vertices.new halves.new sources.new faces.new) }
 {
     if few_rows(zones, blocks, bed) {
         let mut corners = [0i64; POINT_WIDTH * SMALL_VERTICES];

@@ -3,8 +3,8 @@ mod stages; // from layers to tables
 mod layers; // from files to layers
 
 ghost use Rattle.std.specs.Prelude.{[], ◌∷◌};
-ghost use Rattle.paper.specs.Lent.{lengthsOf};
-ghost use Rattle.tables.specs.Values.{tablesBy};
+ghost use Rattle.paper.specs.Lent.{lengths_of};
+ghost use Rattle.tables.specs.Values.{tables_by};
 ghost use Rattle.tables.specs.Promise.{Promised};
 
 use crate::layers::overlay_with;
@@ -23,7 +23,7 @@ pub fn overlay_by(
     sources: &mut [u32],
     faces: &mut [u16],
 ) -> Answer
-    ensures { Promised (lengthsOf (tablesBy vertices.old halves.old sources.old faces.old)) (zones.now ∷ blocks.now ∷ bed.now ∷ []) result (tablesBy vertices.new halves.new sources.new faces.new) }
+    ensures { Promised (lengths_of (tables_by vertices.old halves.old sources.old faces.old)) (zones.now ∷ blocks.now ∷ bed.now ∷ []) result (tables_by vertices.new halves.new sources.new faces.new) }
 {
     overlay_with(
         way, false, zones, blocks, bed, vertices, halves, sources, faces,
@@ -41,7 +41,7 @@ pub fn overlay(
     sources: &mut [u32],
     faces: &mut [u16],
 ) -> Answer
-    ensures { Promised (lengthsOf (tablesBy vertices.old halves.old sources.old faces.old)) (zones.now ∷ blocks.now ∷ bed.now ∷ []) result (tablesBy vertices.new halves.new sources.new faces.new) }
+    ensures { Promised (lengths_of (tables_by vertices.old halves.old sources.old faces.old)) (zones.now ∷ blocks.now ∷ bed.now ∷ []) result (tables_by vertices.new halves.new sources.new faces.new) }
 {
     overlay_with(
         Way::Swept,

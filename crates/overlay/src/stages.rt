@@ -1,10 +1,10 @@
 // From the layers of maps that keep the rules to the lent tables. Each stage ends in a refusal or hands on to the next; "room comes last".
 ghost use Rattle.std.specs.Prelude.{◌≡◌};
-ghost use Rattle.paper.specs.Lent.{lengthsOf};
-ghost use Rattle.tables.specs.Values.{tablesBy, outcomeOf};
-ghost use Rattle.overlay_maps.specs.Layers.{layersBy};
-ghost use Rattle.overlay_maps.specs.Held.{Held, heldMaps};
-ghost use Rattle.overlay_graph.specs.Cut.{cutBy, CutOf};
+ghost use Rattle.paper.specs.Lent.{lengths_of};
+ghost use Rattle.tables.specs.Values.{tables_by, outcome_of};
+ghost use Rattle.overlay_maps.specs.Layers.{layers_by};
+ghost use Rattle.overlay_maps.specs.Held.{Held, held_maps};
+ghost use Rattle.overlay_graph.specs.Cut.{cut_by, CutOf};
 ghost use Rattle.overlay_fill.specs.Judged.{overlaid, Rowed};
 
 use limits::{
@@ -33,10 +33,10 @@ fn lay_cut(
     sources: &mut [u32],
     faces: &mut [u16],
 ) -> Answer
-    requires fact_1 { Held (layersBy vstarts.now estarts.now corners.now origins.now carriers.now labels.now) }
-    requires fact_2 { CutOf (heldMaps (layersBy vstarts.now estarts.now corners.now origins.now carriers.now labels.now)) (cutBy n points.now e pieces.now) }
-    requires fact_3 { Rowed (cutBy n points.now e pieces.now) }
-    ensures { outcomeOf result (tablesBy vertices.new halves.new sources.new faces.new) ≡ overlaid (heldMaps (layersBy vstarts.now estarts.now corners.now origins.now carriers.now labels.now)) (lengthsOf (tablesBy vertices.old halves.old sources.old faces.old)) }
+    requires fact_1 { Held (layers_by vstarts.now estarts.now corners.now origins.now carriers.now labels.now) }
+    requires fact_2 { CutOf (held_maps (layers_by vstarts.now estarts.now corners.now origins.now carriers.now labels.now)) (cut_by n points.now e pieces.now) }
+    requires fact_3 { Rowed (cut_by n points.now e pieces.now) }
+    ensures { outcome_of result (tables_by vertices.new halves.new sources.new faces.new) ≡ overlaid (held_maps (layers_by vstarts.now estarts.now corners.now origins.now carriers.now labels.now)) (lengths_of (tables_by vertices.old halves.old sources.old faces.old)) }
 {
     let room = room_in(vertices.len(), halves.len(), sources.len(), faces.len());
     let check = over_room(room, n, e);
@@ -63,8 +63,8 @@ fn from_many(
     sources: &mut [u32],
     faces: &mut [u16],
 ) -> Answer
-    requires { Held (layersBy vstarts.now estarts.now corners.now origins.now carriers.now labels.now) }
-    ensures { outcomeOf result (tablesBy vertices.new halves.new sources.new faces.new) ≡ overlaid (heldMaps (layersBy vstarts.now estarts.now corners.now origins.now carriers.now labels.now)) (lengthsOf (tablesBy vertices.old halves.old sources.old faces.old)) }
+    requires { Held (layers_by vstarts.now estarts.now corners.now origins.now carriers.now labels.now) }
+    ensures { outcome_of result (tables_by vertices.new halves.new sources.new faces.new) ≡ overlaid (held_maps (layers_by vstarts.now estarts.now corners.now origins.now carriers.now labels.now)) (lengths_of (tables_by vertices.old halves.old sources.old faces.old)) }
 {
     let mut points = [0i64; POINT_CELLS];
     let mut pieces = [0u16; PIECE_CELLS];
@@ -111,8 +111,8 @@ fn from_few(
     sources: &mut [u32],
     faces: &mut [u16],
 ) -> Answer
-    requires { Held (layersBy vstarts.now estarts.now corners.now origins.now carriers.now labels.now) }
-    ensures { outcomeOf result (tablesBy vertices.new halves.new sources.new faces.new) ≡ overlaid (heldMaps (layersBy vstarts.now estarts.now corners.now origins.now carriers.now labels.now)) (lengthsOf (tablesBy vertices.old halves.old sources.old faces.old)) }
+    requires { Held (layers_by vstarts.now estarts.now corners.now origins.now carriers.now labels.now) }
+    ensures { outcome_of result (tables_by vertices.new halves.new sources.new faces.new) ≡ overlaid (held_maps (layers_by vstarts.now estarts.now corners.now origins.now carriers.now labels.now)) (lengths_of (tables_by vertices.old halves.old sources.old faces.old)) }
 {
     let mut points = [0i64; SMALL_POINT_CELLS];
     let mut pieces = [0u16; SMALL_PIECE_CELLS];
@@ -166,8 +166,8 @@ pub fn from_layers(
     sources: &mut [u32],
     faces: &mut [u16],
 ) -> Answer
-    requires { Held (layersBy vstarts.now estarts.now corners.now origins.now carriers.now labels.now) }
-    ensures { outcomeOf result (tablesBy vertices.new halves.new sources.new faces.new) ≡ overlaid (heldMaps (layersBy vstarts.now estarts.now corners.now origins.now carriers.now labels.now)) (lengthsOf (tablesBy vertices.old halves.old sources.old faces.old)) }
+    requires { Held (layers_by vstarts.now estarts.now corners.now origins.now carriers.now labels.now) }
+    ensures { outcome_of result (tables_by vertices.new halves.new sources.new faces.new) ≡ overlaid (held_maps (layers_by vstarts.now estarts.now corners.now origins.now carriers.now labels.now)) (lengths_of (tables_by vertices.old halves.old sources.old faces.old)) }
 {
     if small && estarts[MAPS] <= FEW_EDGES {
         from_few(

@@ -4,32 +4,32 @@ use Rattle.seq.specs.Seq.{cond, List, [], ◌∷◌, ℕ, ◌+◌, ◌-◌, ltb,
 use Rattle.paper.specs.Limits.{maps}
 use Rattle.paper.specs.Plane.{Seg}
 use Rattle.paper.specs.Graph.{no_edge}
-use Rattle.graph.specs.Flat.{carrierAt}
-use Rattle.overlay_cut.specs.PieceRows.{pieceWidth, piece_at}
+use Rattle.graph.specs.Flat.{carrier_at}
+use Rattle.overlay_cut.specs.PieceRows.{piece_width, piece_at}
 use Rattle.overlay_cut.specs.Cuts.{start_of}
 
 -- "Half-edge 2k goes from lower to upper, 2k+1 back"
-abbrev pub endsOf : List ℕ → ℕ → List ℕ
-endsOf t k = (piece_at t k).lo ∷ (piece_at t k).hi ∷ []
+abbrev pub ends_of : List ℕ → ℕ → List ℕ
+ends_of t k = (piece_at t k).lo ∷ (piece_at t k).hi ∷ []
 
 -- what is stored for map m: a source + 1 or 0
-abbrev pub sourceIn : List ℕ → ℕ → ℕ → ℕ
-sourceIn t k m = cell 0 pieceWidth t k (2 + m)
+abbrev pub the_source_in : List ℕ → ℕ → ℕ → ℕ
+the_source_in t k m = cell 0 piece_width t k (2 + m)
 
 -- the first map that the piece in row k comes from, or how many maps there are
-abbrev pub firstMap : List ℕ → ℕ → ℕ
-firstMap t k = least (λ m. ltb 0 (sourceIn t k m)) maps
+abbrev pub first_map : List ℕ → ℕ → ℕ
+first_map t k = least (λ m. ltb 0 (the_source_in t k m)) maps
 
-abbrev pub noSeg : Seg
-noSeg = no_edge.carrier
+abbrev pub no_seg : Seg
+no_seg = no_edge.carrier
 
 -- edge j of map m, where it has one
-abbrev pub edgeIn : List ℤ → List ℕ → ℕ → ℕ → Seg
-edgeIn cs st m j = cond (ltb (start_of st m + j) (start_of st (m + 1))) (carrierAt cs (start_of st m + j)) noSeg
+abbrev pub the_edge_in : List ℤ → List ℕ → ℕ → ℕ → Seg
+the_edge_in cs st m j = cond (ltb (start_of st m + j) (start_of st (m + 1))) (carrier_at cs (start_of st m + j)) no_seg
 
 -- the edge of an input map that the piece in row k lies along
-abbrev pub carrierIn : List ℕ → List ℤ → List ℕ → ℕ → Seg
-carrierIn t cs st k = let m = firstMap t k in cond (ltb m maps) (edgeIn cs st m (sourceIn t k m - 1)) noSeg
+abbrev pub carrier_in : List ℕ → List ℤ → List ℕ → ℕ → Seg
+carrier_in t cs st k = let m = first_map t k in cond (ltb m maps) (the_edge_in cs st m (the_source_in t k m - 1)) no_seg
 
-abbrev pub segRow : Seg → List ℤ
-segRow s = s.foot.x ∷ s.foot.y ∷ s.up.x ∷ s.up.y ∷ []
+abbrev pub seg_row : Seg → List ℤ
+seg_row s = s.foot.x ∷ s.foot.y ∷ s.up.x ∷ s.up.y ∷ []

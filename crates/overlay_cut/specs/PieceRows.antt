@@ -8,31 +8,31 @@ use Rattle.seq.specs.Table.{length-table, table-ext}
 use Rattle.paper.specs.Limits.{maps}
 use Rattle.paper.specs.Pieces.{Piece, only, merged, joined}
 
-abbrev pub pieceWidth : ℕ
-pieceWidth = 2 + maps
+abbrev pub piece_width : ℕ
+piece_width = 2 + maps
 
 -- a source that is stored as a number + 1 or 0
-abbrev pub minusOne : ℕ → Option ℕ
-minusOne zero = none
-minusOne (suc k) = some k
+abbrev pub minus_one : ℕ → Option ℕ
+minus_one zero = none
+minus_one (suc k) = some k
 
 abbrev pub piece : ℕ → ℕ → List (Option ℕ) → Piece
 piece lo hi ss = record { lo = lo; hi = hi; sources = ss }
 
 -- what is read of a row's cells
-abbrev pub readPiece : (ℕ → ℕ) → Piece
-readPiece f = piece (f 0) (f 1) (table (λ i. minusOne (f (2 + i))) maps)
+abbrev pub read_piece : (ℕ → ℕ) → Piece
+read_piece f = piece (f 0) (f 1) (table (λ i. minus_one (f (2 + i))) maps)
 
-pub read-ext : (f g : ℕ → ℕ) → ((j : ℕ) → j < pieceWidth → f j ≡ g j) → readPiece f ≡ readPiece g
-read-ext f g h = λ i. piece (h 0 (omega arith) i) (h 1 (omega arith) i) (table-ext (λ k. minusOne (f (2 + k))) (λ k. minusOne (g (2 + k))) maps (λ k l. ap minusOne (h (2 + k) (omega arith))) i)
+pub read-ext : (f g : ℕ → ℕ) → ((j : ℕ) → j < piece_width → f j ≡ g j) → read_piece f ≡ read_piece g
+read-ext f g h = λ i. piece (h 0 (omega arith) i) (h 1 (omega arith) i) (table-ext (λ k. minus_one (f (2 + k))) (λ k. minus_one (g (2 + k))) maps (λ k l. ap minus_one (h (2 + k) (omega arith))) i)
 
 -- the piece in row r
 abbrev pub piece_at : List ℕ → ℕ → Piece
-piece_at t r = readPiece (λ j. cell 0 pieceWidth t r j)
+piece_at t r = read_piece (λ j. cell 0 piece_width t r j)
 
 -- those in the first n rows
-abbrev pub piecesIn : List ℕ → ℕ → List Piece
-piecesIn t n = table (piece_at t) n
+abbrev pub pieces_in : List ℕ → ℕ → List Piece
+pieces_in t n = table (piece_at t) n
 
 abbrev pub no_piece : Piece
 no_piece = piece 0 0 []
@@ -53,43 +53,43 @@ merged-snoc (x ∷ ss) [] s t e = absurd (omega arith)
 merged-snoc (none ∷ ss) (y ∷ ts) s t e = ap (λ (l : List (Option ℕ)). y ∷ l) (merged-snoc ss ts s t (omega arith))
 merged-snoc (some x ∷ ss) (y ∷ ts) s t e = ap (λ (l : List (Option ℕ)). some x ∷ l) (merged-snoc ss ts s t (omega arith))
 
-merged-one : (c : Bool) (k : ℕ) (t : Option ℕ) → merged (cond c (some k) none ∷ []) (t ∷ []) ≡ cond c (some k) t ∷ []
-merged-one true k t = refl
-merged-one false k t = refl
+merged_one : (c : Bool) (k : ℕ) (t : Option ℕ) → merged (cond c (some k) none ∷ []) (t ∷ []) ≡ cond c (some k) t ∷ []
+merged_one true k t = refl
+merged_one false k t = refl
 
 -- the source of map m alone, merged with others
 pub merged-only : (n m k : ℕ) (f : ℕ → Option ℕ) → merged (only n m k) (table f n) ≡ table (λ j. cond (eqb j m) (some k) (f j)) n
 merged-only zero m k f = refl
 merged-only (suc n) m k f =
     merged-snoc (only n m k) (table f n) (cond (eqb n m) (some k) none) (f n) (length-table (λ j. cond (eqb j m) (some k) none) n ∙ sym (length-table f n))
-    ∙ (λ i. merged-only n m k f i ++ merged-one (eqb n m) k (f n) i)
+    ∙ (λ i. merged-only n m k f i ++ merged_one (eqb n m) k (f n) i)
 
 -- ── a source stored ──
 
-module _ (t : List ℕ) (r m k : ℕ) (h : m < maps) (room : pieceWidth * r + pieceWidth ≤ length t) where
+module _ (t : List ℕ) (r m k : ℕ) (h : m < maps) (room : piece_width * r + piece_width ≤ length t) where
   abbrev pub sourced : List ℕ
-  sourced = set t (pieceWidth * r + 2 + m) (suc k)
+  sourced = set t (piece_width * r + 2 + m) (suc k)
 
-  cell_other : (i j : ℕ) → j < pieceWidth → (pieceWidth * i + j ≡ pieceWidth * r + 2 + m → ⊥) → cell 0 pieceWidth sourced i j ≡ cell 0 pieceWidth t i j
-  cell_other i j l q = get_or-set_other t (pieceWidth * r + 2 + m) (pieceWidth * i + j) (suc k) 0 q
+  cell_other : (i j : ℕ) → j < piece_width → (piece_width * i + j ≡ piece_width * r + 2 + m → ⊥) → cell 0 piece_width sourced i j ≡ cell 0 piece_width t i j
+  cell_other i j l q = get_or-set_other t (piece_width * r + 2 + m) (piece_width * i + j) (suc k) 0 q
 
-  cell-source : (j : ℕ) → j < maps → minusOne (cell 0 pieceWidth sourced r (2 + j)) ≡ cond (eqb j m) (some k) (minusOne (cell 0 pieceWidth t r (2 + j)))
+  cell-source : (j : ℕ) → j < maps → minus_one (cell 0 piece_width sourced r (2 + j)) ≡ cond (eqb j m) (some k) (minus_one (cell 0 piece_width t r (2 + j)))
   cell-source j l =
       elim (ℕ_discrete j m) [
-        | yes q ↦ let at : pieceWidth * r + (2 + j) ≡ pieceWidth * r + 2 + m = omega arith in
-            ap minusOne (ap (λ (i : ℕ). get_or sourced i 0) at ∙ get_or-set_same t (pieceWidth * r + 2 + m) (suc k) 0 (omega arith)) ∙ sym (rw (eq-eqb j m q))
-        | no q ↦ ap minusOne (cell_other r (2 + j) (omega arith) (λ e. q (omega arith))) ∙ sym (rw (ne_eqb j m q))
+        | yes q ↦ let at : piece_width * r + (2 + j) ≡ piece_width * r + 2 + m = omega arith in
+            ap minus_one (ap (λ (i : ℕ). get_or sourced i 0) at ∙ get_or-set_same t (piece_width * r + 2 + m) (suc k) 0 (omega arith)) ∙ sym (rw (eq-eqb j m q))
+        | no q ↦ ap minus_one (cell_other r (2 + j) (omega arith) (λ e. q (omega arith))) ∙ sym (rw (ne_eqb j m q))
       ]
 
   -- the piece in the row, joined
   abbrev new : Piece
   new = joined (single (piece_at t r).lo (piece_at t r).hi m k) (piece_at t r)
 
-  pub source-same : piece_at sourced r ≡ new
-  source-same =
+  pub source_same : piece_at sourced r ≡ new
+  source_same =
       λ i. piece (cell_other r 0 (omega arith) (λ e. omega arith) i) (cell_other r 1 (omega arith) (λ e. omega arith) i)
-      ((table-ext (λ j. minusOne (cell 0 pieceWidth sourced r (2 + j))) (λ j. cond (eqb j m) (some k) (minusOne (cell 0 pieceWidth t r (2 + j)))) maps cell-source
-      ∙ sym (merged-only maps m k (λ j. minusOne (cell 0 pieceWidth t r (2 + j))))) i)
+      ((table-ext (λ j. minus_one (cell 0 piece_width sourced r (2 + j))) (λ j. cond (eqb j m) (some k) (minus_one (cell 0 piece_width t r (2 + j)))) maps cell-source
+      ∙ sym (merged-only maps m k (λ j. minus_one (cell 0 piece_width t r (2 + j))))) i)
 
-  pub source-other : (i : ℕ) → (i ≡ r → ⊥) → piece_at sourced i ≡ piece_at t i
-  source-other i q = read-ext (λ j. cell 0 pieceWidth sourced i j) (λ j. cell 0 pieceWidth t i j) (λ j l. cell_other i j l (λ e. q (omega arith)))
+  pub source_other : (i : ℕ) → (i ≡ r → ⊥) → piece_at sourced i ≡ piece_at t i
+  source_other i q = read-ext (λ j. cell 0 piece_width sourced i j) (λ j. cell 0 piece_width t i j) (λ j l. cell_other i j l (λ e. q (omega arith)))

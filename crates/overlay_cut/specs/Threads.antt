@@ -3,10 +3,10 @@
 use Rattle.std.specs.Prelude.{◌≡◌, ◌≤◌, ◌<◌}
 use Rattle.seq.specs.Seq.{Bool, true, false, cond, ◌||◌, List, [], ◌∷◌, ◌++◌, ℕ, zero, suc, ◌+◌, ◌-◌, ◌*◌, ℤ, eqb, length, get_or, rows}
 use Rattle.paper.specs.Limits.{maps, absent}
-use Rattle.paper.specs.Plane.{onSeg}
+use Rattle.paper.specs.Plane.{on_seg}
 use Rattle.paper.specs.Pieces.{Piece, only, links}
-use Rattle.graph.specs.Flat.{pointAt, carrierAt}
-use Rattle.overlay_cut.specs.Cuts.{start_of, edgesFrom, Starts}
+use Rattle.graph.specs.Flat.{the_point_at, carrier_at}
+use Rattle.overlay_cut.specs.Cuts.{start_of, edges_from, Starts}
 
 -- the numbers below i that pass, falling
 abbrev pub down : (ℕ → Bool) → ℕ → List ℕ
@@ -24,8 +24,8 @@ abbrev pub thread : List ℕ → ℕ → List ℕ
 thread ns x = along ns x x
 
 -- the thread of edge k
-abbrev pub threadOf : List ℕ → List ℕ → ℕ → List ℕ
-threadOf last ns k = thread ns (get_or last k 0)
+abbrev pub thread_of : List ℕ → List ℕ → ℕ → List ℕ
+thread_of last ns k = thread ns (get_or last k 0)
 
 -- e threads in t nodes: links go to earlier nodes
 pub record Chains (e : ℕ) (last ns : List ℕ) (t : ℕ) : Type 0 where
@@ -35,7 +35,7 @@ pub record Chains (e : ℕ) (last ns : List ℕ) (t : ℕ) : Type 0 where
 -- they are the threads of the vertices below i
 pub record Threaded (ps cs : List ℤ) (e : ℕ) (last ns : List ℕ) (t i : ℕ) : Type 0 where
   pub chains : Chains e last ns t
-  pub is : (k : ℕ) → k < e → threadOf last ns k ≡ down (λ v. onSeg (carrierAt cs k) (pointAt ps v)) i
+  pub is : (k : ℕ) → k < e → thread_of last ns k ≡ down (λ v. on_seg (carrier_at cs k) (the_point_at ps v)) i
 
 -- where they are kept
 abbrev pub ThreadedIf : List ℤ → List ℤ → ℕ → List ℕ → List ℕ → ℕ → ℕ → ℕ → Type 0
@@ -65,7 +65,7 @@ named_in cells a (suc n) k = named_in cells a n k || eqb (get_or cells (a + n) 0
 -- v is remembered of the edges that are named, and the other threads are as they were
 pub record Remembered (e v : ℕ) (named : ℕ → Bool) (last ns : List ℕ) (last' ns' : List ℕ) (t' : ℕ) : Type 0 where
   pub chains : Chains e last' ns' t'
-  pub is : (k : ℕ) → k < e → threadOf last' ns' k ≡ cond (named k) (topped v (threadOf last ns k)) (threadOf last ns k)
+  pub is : (k : ℕ) → k < e → thread_of last' ns' k ≡ cond (named k) (topped v (thread_of last ns k)) (thread_of last ns k)
 
 -- where it is
 pub record RememberedIf (e room v : ℕ) (named : ℕ → Bool) (last ns : List ℕ) (t : ℕ) (last' ns' : List ℕ) (t' : ℕ) : Type 0 where
@@ -89,17 +89,17 @@ abbrev pub strung : ℕ → ℕ → List ℕ → List Piece
 strung m k l = links (only maps m k) (rising l)
 
 -- of edge k of map m, whose edges start at row a; of a map's e edges; of all maps
-abbrev pub threadRow : List ℕ → List ℕ → ℕ → ℕ → ℕ → List Piece
-threadRow last ns a m k = strung m k (threadOf last ns (a + k))
+abbrev pub thread_row : List ℕ → List ℕ → ℕ → ℕ → ℕ → List Piece
+thread_row last ns a m k = strung m k (thread_of last ns (a + k))
 
-abbrev pub threadMap : List ℕ → List ℕ → ℕ → ℕ → ℕ → List Piece
-threadMap last ns a m e = rows (threadRow last ns a m) e
+abbrev pub thread_map : List ℕ → List ℕ → ℕ → ℕ → ℕ → List Piece
+thread_map last ns a m e = rows (thread_row last ns a m) e
 
-abbrev pub threadPart : List ℕ → List ℕ → List ℕ → ℕ → List Piece
-threadPart last ns st m = threadMap last ns (start_of st m) m (edgesFrom st m)
+abbrev pub thread_part : List ℕ → List ℕ → List ℕ → ℕ → List Piece
+thread_part last ns st m = thread_map last ns (start_of st m) m (edges_from st m)
 
-abbrev pub threadAll : List ℕ → List ℕ → List ℕ → List Piece
-threadAll last ns st = rows (threadPart last ns st) maps
+abbrev pub thread_all : List ℕ → List ℕ → List ℕ → List Piece
+thread_all last ns st = rows (thread_part last ns st) maps
 
 -- the thread from the link x on, of some of n vertices: links go to earlier nodes
 pub record Thread (ns : List ℕ) (x n : ℕ) : Type 0 where

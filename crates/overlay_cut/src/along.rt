@@ -1,11 +1,11 @@
 // The same pieces put into a table where the vertices on each edge are remembered: along the threads, with no test.
 ghost use Rattle.std.specs.Prelude.{◌≡◌, [], ◌+◌, ◌≤◌, ◌<◌};
 ghost use Rattle.paper.specs.Limits.{maps, absent};
-ghost use Rattle.overlay_cut.specs.Rooms.{vertexRows};
+ghost use Rattle.overlay_cut.specs.Rooms.{vertex_rows};
 ghost use Rattle.overlay_cut.specs.Links.{pieced, Linked};
 ghost use Rattle.overlay_cut.specs.Cutting.{puts};
 ghost use Rattle.overlay_cut.specs.Cuts.{start_of};
-ghost use Rattle.overlay_cut.specs.Threads.{thread, strung, Thread, Strung, threadMap, threadAll, Started};
+ghost use Rattle.overlay_cut.specs.Threads.{thread, strung, Thread, Strung, thread_map, thread_all, Started};
 
 use crate::cutting::link;
 use limits::MAPS;
@@ -23,7 +23,7 @@ fn cut_thread(
     room: usize,
 ) -> usize
     requires fact_1 { Linked room rows.old links.old n count }
-    requires fact_2 { Thread nodes.now x n × (n ≤ vertexRows) }
+    requires fact_2 { Thread nodes.now x n × (n ≤ vertex_rows) }
     requires fact_3 { m < maps }
     requires fact_4 { number < absent }
     ensures { Linked room rows.new links.new n result × (pieced rows.new result ≡ puts room (pieced rows.old count) (strung m number (thread nodes.now x))) }
@@ -54,10 +54,10 @@ fn thread_map(
     room: usize,
 ) -> usize
     requires fact_1 { Linked room rows.old links.old n count }
-    requires fact_2 { Strung (from + e) n last.now nodes.now × (n ≤ vertexRows) }
+    requires fact_2 { Strung (from + e) n last.now nodes.now × (n ≤ vertex_rows) }
     requires fact_3 { m < maps }
     requires fact_4 { e < absent }
-    ensures { Linked room rows.new links.new n result × (pieced rows.new result ≡ puts room (pieced rows.old count) (threadMap last.now nodes.now from m e)) }
+    ensures { Linked room rows.new links.new n result × (pieced rows.new result ≡ puts room (pieced rows.old count) (thread_map last.now nodes.now from m e)) }
 {
     let mut total = count;
     let mut k = e;
@@ -80,9 +80,9 @@ pub fn thread_all(
     room: usize,
 ) -> usize
     requires fact_1 { Started starts.now }
-    requires fact_2 { Strung (start_of starts.now maps) n last.now nodes.now × (n ≤ vertexRows) }
+    requires fact_2 { Strung (start_of starts.now maps) n last.now nodes.now × (n ≤ vertex_rows) }
     requires fact_3 { Linked room rows.old links.old n 0 }
-    ensures { Linked room rows.new links.new n result × (pieced rows.new result ≡ puts room [] (threadAll last.now nodes.now starts.now)) }
+    ensures { Linked room rows.new links.new n result × (pieced rows.new result ≡ puts room [] (thread_all last.now nodes.now starts.now)) }
 {
     let mut total = 0;
     let mut m = MAPS;

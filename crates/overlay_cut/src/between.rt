@@ -6,9 +6,9 @@ ghost use Rattle.seq.specs.Seq.{least};
 ghost use Rattle.seq.specs.Halves.{reached};
 ghost use Rattle.paper.specs.Plane.{before, whole, head};
 ghost use Rattle.plane.specs.Bounds.{Near, Corner, Edge};
-ghost use Rattle.plane.specs.Values.{seg, ptOf, vec_of, segOf};
-ghost use Rattle.graph.specs.Flat.{Points, pointAt};
-ghost use Rattle.laws_cut.specs.Between.{onLine};
+ghost use Rattle.plane.specs.Values.{seg, pt_of, vec_of, seg_of};
+ghost use Rattle.graph.specs.Flat.{Points, the_point_at};
+ghost use Rattle.laws_cut.specs.Between.{the_on_line};
 ghost use Rattle.overlay_cut.specs.Between.{InRowOrder};
 
 use graph::point_at;
@@ -16,8 +16,8 @@ use plane::{Point, Seg, Vector};
 
 // An edge's lower end.
 pub fn foot(s: Seg) -> Vector
-    requires { Edge (segOf s) }
-    ensures is { vec_of result ≡ (segOf s).foot }
+    requires { Edge (seg_of s) }
+    ensures is { vec_of result ≡ (seg_of s).foot }
     ensures near { Corner (vec_of result) }
 {
     Vector { x: s.x, y: s.y }
@@ -25,8 +25,8 @@ pub fn foot(s: Seg) -> Vector
 
 // Its upper end.
 pub fn head(s: Seg) -> Vector
-    requires { Edge (segOf s) }
-    ensures is { vec_of result ≡ head (segOf s) }
+    requires { Edge (seg_of s) }
+    ensures is { vec_of result ≡ head (seg_of s) }
     ensures near { Corner (vec_of result) }
 {
     Vector {
@@ -37,8 +37,8 @@ pub fn head(s: Seg) -> Vector
 
 // Whether p comes before the corner a.
 fn before_corner(p: Point, a: Vector) -> bool
-    requires { Near (ptOf p) × Corner (vec_of a) }
-    ensures { result ≡ before (ptOf p) (whole (vec_of a)) }
+    requires { Near (pt_of p) × Corner (vec_of a) }
+    ensures { result ≡ before (pt_of p) (whole (vec_of a)) }
 {
     let level = a.y * p.d;
     if p.y == level {
@@ -53,7 +53,7 @@ pub fn place(points: &[i64], n: usize, a: Vector) -> usize
     requires fact_1 { Points points.now n }
     requires fact_2 { Corner (vec_of a) }
     requires fact_3 { InRowOrder points.now n }
-    ensures { result ≡ least (reached before (pointAt points.now) (whole (vec_of a))) n }
+    ensures { result ≡ least (reached before (the_point_at points.now) (whole (vec_of a))) n }
 {
     let mut low = 0;
     let mut high = n;
@@ -71,7 +71,7 @@ pub fn place(points: &[i64], n: usize, a: Vector) -> usize
 // Whether the point px/d, py/d lies on the line of the edge from x, y along u, v: as far along across its direction as its lower end, which is the same for every point.
 fn across(x: i64, y: i64, u: i64, v: i64, px: i64, py: i64, d: i64) -> bool
     requires { Edge (seg x y u v) × Near (pt px py d) }
-    ensures { result ≡ onLine (seg x y u v) (pt px py d) }
+    ensures { result ≡ the_on_line (seg x y u v) (pt px py d) }
 {
     if u * py - v * px == (u * y - v * x) * d {
         true
@@ -82,8 +82,8 @@ fn across(x: i64, y: i64, u: i64, v: i64, px: i64, py: i64, d: i64) -> bool
 
 // Whether p lies on the line of s.
 pub fn on_line(s: Seg, p: Point) -> bool
-    requires { Edge (segOf s) × Near (ptOf p) }
-    ensures { result ≡ onLine (segOf s) (ptOf p) }
+    requires { Edge (seg_of s) × Near (pt_of p) }
+    ensures { result ≡ the_on_line (seg_of s) (pt_of p) }
 {
     across(s.x, s.y, s.u, s.v, p.x, p.y, p.d)
 }

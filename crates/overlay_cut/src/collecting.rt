@@ -6,12 +6,12 @@ ghost use Rattle.paper.specs.Meeting.{meeting, point_of};
 ghost use Rattle.paper.specs.Limits.{maps};
 ghost use Rattle.laws_plane.specs.Cone.{UpV};
 ghost use Rattle.plane.specs.Bounds.{Near, Edge};
-ghost use Rattle.plane.specs.Values.{ptOf, segOf};
-ghost use Rattle.graph.specs.Flat.{Points, Carriers, pointAt};
+ghost use Rattle.plane.specs.Values.{pt_of, seg_of};
+ghost use Rattle.graph.specs.Flat.{Points, Carriers, the_point_at};
 ghost use Rattle.graph.specs.Upright.{Upright};
 ghost use Rattle.overlay_cut.specs.Points.{points_of, equal};
-ghost use Rattle.overlay_cut.specs.Collecting.{gathered, standsAmong};
-ghost use Rattle.overlay_cut.specs.Crossed.{PointTable, crossRow, crossMap, crossAll};
+ghost use Rattle.overlay_cut.specs.Collecting.{gathered, stands_among};
+ghost use Rattle.overlay_cut.specs.Crossed.{PointTable, cross_row, cross_map, cross_all};
 ghost use Rattle.overlay_cut.specs.Cuts.{start_of, Starts};
 
 use graph::{carrier_at, point_at};
@@ -22,8 +22,8 @@ use seq::store4_i64;
 // Whether row k holds the three numbers of p.
 fn is_at(points: &[i64], k: usize, p: Point) -> bool
     requires fact_1 { 4 * k + 4 ≤ length points.now }
-    requires fact_2 { Near (ptOf p) }
-    ensures { result ≡ equal (ptOf p) (pointAt points.now k) }
+    requires fact_2 { Near (pt_of p) }
+    ensures { result ≡ equal (pt_of p) (the_point_at points.now k) }
 {
     let at = POINT_WIDTH * k;
     if p.x == points[at] {
@@ -40,8 +40,8 @@ fn is_at(points: &[i64], k: usize, p: Point) -> bool
 // Whether one of the first n rows does.
 fn stands(points: &[i64], n: usize, p: Point) -> bool
     requires fact_1 { 4 * n ≤ length points.now }
-    requires fact_2 { Near (ptOf p) }
-    ensures { result ≡ standsAmong points.now n (ptOf p) }
+    requires fact_2 { Near (pt_of p) }
+    ensures { result ≡ stands_among points.now n (pt_of p) }
 {
     let mut k = 0;
     while k < n {
@@ -56,8 +56,8 @@ fn stands(points: &[i64], n: usize, p: Point) -> bool
 // Appends p to n points where it is new, if there is room for one more row. Answers how many there are.
 fn append_new(points: &mut [i64], room: usize, n: usize, p: Point) -> usize
     requires fact_1 { PointTable points.old room n }
-    requires fact_2 { Near (ptOf p) }
-    ensures { points_of points.new result ≡ gathered room (points_of points.old n) (ptOf p ∷ []) }
+    requires fact_2 { Near (pt_of p) }
+    ensures { points_of points.new result ≡ gathered room (points_of points.old n) (pt_of p ∷ []) }
 {
     if room <= n {
         return n;
@@ -72,9 +72,9 @@ fn append_new(points: &mut [i64], room: usize, n: usize, p: Point) -> usize
 // Appends the point where s and t touch or cross; edges go up. Nothing is reckoned of two whose boxes are apart.
 fn cross_pair(s: Seg, t: Seg, points: &mut [i64], room: usize, n: usize) -> usize
     requires fact_1 { PointTable points.old room n }
-    requires fact_2 { Edge (segOf s) × Edge (segOf t) }
-    requires fact_3 { UpV (segOf s).up × UpV (segOf t).up }
-    ensures { points_of points.new result ≡ gathered room (points_of points.old n) (optional (point_of (meeting (segOf s) (segOf t)))) }
+    requires fact_2 { Edge (seg_of s) × Edge (seg_of t) }
+    requires fact_3 { UpV (seg_of s).up × UpV (seg_of t).up }
+    ensures { points_of points.new result ≡ gathered room (points_of points.old n) (optional (point_of (meeting (seg_of s) (seg_of t)))) }
 {
     if boxes_apart(s, t) {
         return n;
@@ -91,10 +91,10 @@ fn cross_pair(s: Seg, t: Seg, points: &mut [i64], room: usize, n: usize) -> usiz
 fn cross_row(carriers: &[i16], e: usize, t: Seg, points: &mut [i64], room: usize, n: usize) -> usize
     requires fact_1 { PointTable points.old room n }
     requires fact_2 { Carriers carriers.now e }
-    requires fact_3 { Edge (segOf t) }
+    requires fact_3 { Edge (seg_of t) }
     requires fact_4 { Upright carriers.now e }
-    requires fact_5 { UpV (segOf t).up }
-    ensures { points_of points.new result ≡ gathered room (points_of points.old n) (crossRow carriers.now e (segOf t)) }
+    requires fact_5 { UpV (seg_of t).up }
+    ensures { points_of points.new result ≡ gathered room (points_of points.old n) (cross_row carriers.now e (seg_of t)) }
 {
     let mut total = n;
     let mut j = 0;
@@ -118,7 +118,7 @@ fn cross_map(
     requires fact_1 { PointTable points.old room n }
     requires fact_2 { Carriers carriers.now (from + e) }
     requires fact_3 { Upright carriers.now (from + e) }
-    ensures { points_of points.new result ≡ gathered room (points_of points.old n) (crossMap carriers.now from e) }
+    ensures { points_of points.new result ≡ gathered room (points_of points.old n) (cross_map carriers.now from e) }
 {
     let mut total = n;
     let mut k = 0;
@@ -151,7 +151,7 @@ fn crossings(carriers: &[i16], starts: &[usize], points: &mut [i64], room: usize
     requires fact_1 { PointTable points.old room n }
     requires fact_2 { Starts starts.now carriers.now }
     requires fact_3 { Upright carriers.now (start_of starts.now maps) }
-    ensures { points_of points.new result ≡ gathered room (points_of points.old n) (crossAll carriers.now starts.now) }
+    ensures { points_of points.new result ≡ gathered room (points_of points.old n) (cross_all carriers.now starts.now) }
 {
     let mut total = n;
     let mut m = 0;
@@ -177,7 +177,7 @@ pub fn collect(
     requires fact_2 { Points corner_rows.now c }
     requires fact_3 { Starts starts.now carriers.now }
     requires fact_4 { Upright carriers.now (start_of starts.now maps) }
-    ensures { points_of out.new result ≡ gathered room [] (points_of corner_rows.now c ++ crossAll carriers.now starts.now) }
+    ensures { points_of out.new result ≡ gathered room [] (points_of corner_rows.now c ++ cross_all carriers.now starts.now) }
 {
     let n = corners(corner_rows, c, out, room, 0);
     crossings(carriers, starts, out, room, n)

@@ -2,13 +2,13 @@
 ghost use Rattle.std.specs.Prelude.{◌≡◌, ◌&&◌, [], ◌+◌, ◌*◌, ◌≤◌, ◌<◌, leb, length};
 ghost use Rattle.paper.specs.Limits.{maps};
 ghost use Rattle.graph.specs.Flat.{Points};
-ghost use Rattle.graph.specs.Small.{smallVertices, smallEdges};
-ghost use Rattle.overlay_cut.specs.Rooms.{vertexRows, edgeRows};
-ghost use Rattle.overlay_cut.specs.PieceRows.{pieceWidth, piecesIn};
+ghost use Rattle.graph.specs.Small.{small_vertices, small_edges};
+ghost use Rattle.overlay_cut.specs.Rooms.{vertex_rows, edge_rows};
+ghost use Rattle.overlay_cut.specs.PieceRows.{piece_width, pieces_in};
 ghost use Rattle.overlay_cut.specs.Links.{pieced, Linked};
 ghost use Rattle.overlay_cut.specs.Cutting.{puts};
 ghost use Rattle.overlay_cut.specs.Between.{InRowOrder, Ended};
-ghost use Rattle.overlay_cut.specs.Cuts.{start_of, Starts, cutAll};
+ghost use Rattle.overlay_cut.specs.Cuts.{start_of, Starts, cut_all};
 ghost use Rattle.overlay_cut.specs.Threads.{Spools, ThreadedIf};
 
 use crate::along::thread_all;
@@ -32,11 +32,11 @@ fn cut(
     links: &mut [u16],
     room: usize,
 ) -> usize
-    requires fact_1 { Points points.now n × (n ≤ vertexRows) × InRowOrder points.now n }
+    requires fact_1 { Points points.now n × (n ≤ vertex_rows) × InRowOrder points.now n }
     requires fact_2 { Starts starts.now carriers.now × Ended points.now n carriers.now (start_of starts.now maps) }
     requires fact_3 { Spools (start_of starts.now maps) limit last.now nodes.now × ThreadedIf points.now carriers.now (start_of starts.now maps) last.now nodes.now limit t n }
     requires fact_4 { Linked room rows.old links.old n 0 }
-    ensures { Linked room rows.new links.new n result × (pieced rows.new result ≡ puts room [] (cutAll points.now n carriers.now starts.now)) }
+    ensures { Linked room rows.new links.new n result × (pieced rows.new result ≡ puts room [] (cut_all points.now n carriers.now starts.now)) }
 {
     if t < limit {
         return thread_all(starts, last, nodes, n, rows, links, room);
@@ -58,12 +58,12 @@ fn pieces_in(
     room: usize,
     out: &mut [u16],
 ) -> usize
-    requires fact_1 { Points points.now n × (n ≤ vertexRows) × InRowOrder points.now n }
+    requires fact_1 { Points points.now n × (n ≤ vertex_rows) × InRowOrder points.now n }
     requires fact_2 { Starts starts.now carriers.now × Ended points.now n carriers.now (start_of starts.now maps) }
     requires fact_3 { Spools (start_of starts.now maps) limit last.now out.old × ThreadedIf points.now carriers.now (start_of starts.now maps) last.now out.old limit t n }
     requires fact_4 { Linked room rows.old links.old n 0 }
-    requires fact_5 { pieceWidth * room ≤ length out.old }
-    ensures { piecesIn out.new result ≡ puts room [] (cutAll points.now n carriers.now starts.now) }
+    requires fact_5 { piece_width * room ≤ length out.old }
+    ensures { pieces_in out.new result ≡ puts room [] (cut_all points.now n carriers.now starts.now) }
 {
     let count = cut(
         points, n, carriers, starts, last, out, limit, t, rows, links, room,
@@ -73,7 +73,7 @@ fn pieces_in(
 
 // Whether small tables have room for the links of n lower ends and for so many pieces.
 fn few(n: usize, room: usize) -> bool
-    ensures { result ≡ (leb n smallVertices && leb room (smallEdges + 1)) }
+    ensures { result ≡ (leb n small_vertices && leb room (small_edges + 1)) }
 {
     n <= SMALL_VERTICES && room <= SMALL_EDGE_ROWS
 }
@@ -91,12 +91,12 @@ pub fn pieces(
     room: usize,
     out: &mut [u16],
 ) -> usize
-    requires fact_1 { Points points.now n × (n ≤ vertexRows) × InRowOrder points.now n }
+    requires fact_1 { Points points.now n × (n ≤ vertex_rows) × InRowOrder points.now n }
     requires fact_2 { Starts starts.now carriers.now × Ended points.now n carriers.now (start_of starts.now maps) }
     requires fact_3 { Spools (start_of starts.now maps) limit last.now out.old × ThreadedIf points.now carriers.now (start_of starts.now maps) last.now out.old limit t n }
-    requires fact_4 { room ≤ edgeRows }
-    requires fact_5 { pieceWidth * room ≤ length out.old }
-    ensures { piecesIn out.new result ≡ puts room [] (cutAll points.now n carriers.now starts.now) }
+    requires fact_4 { room ≤ edge_rows }
+    requires fact_5 { piece_width * room ≤ length out.old }
+    ensures { pieces_in out.new result ≡ puts room [] (cut_all points.now n carriers.now starts.now) }
 {
     if few(n, room) {
         let mut rows = [0u16; SMALL_PIECE_CELLS];

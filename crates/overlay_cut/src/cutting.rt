@@ -2,15 +2,15 @@
 // vertex down, so that each turn does what the definition does. Which vertices are on an edge is tested.
 ghost use Rattle.std.specs.Prelude.{◌≡◌, [], ◌+◌, ◌≤◌, ◌<◌};
 ghost use Rattle.paper.specs.Limits.{maps, absent};
-ghost use Rattle.paper.specs.Pieces.{only, linksFrom};
+ghost use Rattle.paper.specs.Pieces.{only, links_from};
 ghost use Rattle.plane.specs.Bounds.{Edge};
-ghost use Rattle.plane.specs.Values.{segOf};
+ghost use Rattle.plane.specs.Values.{seg_of};
 ghost use Rattle.graph.specs.Flat.{Points, Carriers};
-ghost use Rattle.overlay_cut.specs.Rooms.{vertexRows};
+ghost use Rattle.overlay_cut.specs.Rooms.{vertex_rows};
 ghost use Rattle.overlay_cut.specs.Links.{pieced, Linked};
 ghost use Rattle.overlay_cut.specs.Cutting.{puts, upper};
 ghost use Rattle.overlay_cut.specs.Between.{InRowOrder, EndsIn, Ended};
-ghost use Rattle.overlay_cut.specs.Cuts.{start_of, Starts, cutEdge, cutMap, cutAll};
+ghost use Rattle.overlay_cut.specs.Cuts.{start_of, Starts, cut_edge, cut_map, cut_all};
 
 use crate::between::{foot, head, on_line, place};
 use crate::put::put;
@@ -32,10 +32,10 @@ pub fn link(
 ) -> usize
     requires fact_1 { Linked room rows.old links.old n count }
     requires fact_2 { v < n }
-    requires fact_3 { n ≤ vertexRows }
+    requires fact_3 { n ≤ vertex_rows }
     requires fact_4 { m < maps }
     requires fact_5 { number < absent }
-    ensures { Linked room rows.new links.new n result × (pieced rows.new result ≡ puts room (pieced rows.old count) (linksFrom (only maps m number) v (upper n next))) }
+    ensures { Linked room rows.new links.new n result × (pieced rows.new result ≡ puts room (pieced rows.old count) (links_from (only maps m number) v (upper n next))) }
 {
     if n <= next {
         return count;
@@ -66,11 +66,11 @@ fn cut_edge(
     room: usize,
 ) -> usize
     requires fact_1 { Linked room rows.old links.old n count }
-    requires fact_2 { Points points.now n × (n ≤ vertexRows) × InRowOrder points.now n }
-    requires fact_3 { Edge (segOf s) × EndsIn points.now n (segOf s) }
+    requires fact_2 { Points points.now n × (n ≤ vertex_rows) × InRowOrder points.now n }
+    requires fact_3 { Edge (seg_of s) × EndsIn points.now n (seg_of s) }
     requires fact_4 { m < maps }
     requires fact_5 { number < absent }
-    ensures { Linked room rows.new links.new n result × (pieced rows.new result ≡ puts room (pieced rows.old count) (cutEdge points.now n (segOf s) m number)) }
+    ensures { Linked room rows.new links.new n result × (pieced rows.new result ≡ puts room (pieced rows.old count) (cut_edge points.now n (seg_of s) m number)) }
 {
     let first = place(points, n, foot(s));
     let top = place(points, n, head(s));
@@ -101,11 +101,11 @@ fn cut_map(
     room: usize,
 ) -> usize
     requires fact_1 { Linked room rows.old links.old n count }
-    requires fact_2 { Points points.now n × (n ≤ vertexRows) × InRowOrder points.now n }
+    requires fact_2 { Points points.now n × (n ≤ vertex_rows) × InRowOrder points.now n }
     requires fact_3 { Carriers carriers.now (from + e) × Ended points.now n carriers.now (from + e) }
     requires fact_4 { m < maps }
     requires fact_5 { e < absent }
-    ensures { Linked room rows.new links.new n result × (pieced rows.new result ≡ puts room (pieced rows.old count) (cutMap points.now n carriers.now from m e)) }
+    ensures { Linked room rows.new links.new n result × (pieced rows.new result ≡ puts room (pieced rows.old count) (cut_map points.now n carriers.now from m e)) }
 {
     let mut total = count;
     let mut k = e;
@@ -127,10 +127,10 @@ pub fn cut_all(
     links: &mut [u16],
     room: usize,
 ) -> usize
-    requires fact_1 { Points points.now n × (n ≤ vertexRows) × InRowOrder points.now n }
+    requires fact_1 { Points points.now n × (n ≤ vertex_rows) × InRowOrder points.now n }
     requires fact_2 { Starts starts.now carriers.now × Ended points.now n carriers.now (start_of starts.now maps) }
     requires fact_3 { Linked room rows.old links.old n 0 }
-    ensures { Linked room rows.new links.new n result × (pieced rows.new result ≡ puts room [] (cutAll points.now n carriers.now starts.now)) }
+    ensures { Linked room rows.new links.new n result × (pieced rows.new result ≡ puts room [] (cut_all points.now n carriers.now starts.now)) }
 {
     let mut total = 0;
     let mut m = MAPS;

@@ -3,10 +3,10 @@ ghost use Rattle.std.specs.Prelude.{◌≡◌, ◌+◌, ◌*◌, ◌^◌, ◌≤
 ghost use Rattle.seq.specs.Seq.{laid};
 ghost use Rattle.paper.specs.Limits.{maps};
 ghost use Rattle.plane.specs.Bounds.{Edge};
-ghost use Rattle.plane.specs.Values.{segOf};
-ghost use Rattle.overlay_cut.specs.PieceRows.{pieceWidth};
+ghost use Rattle.plane.specs.Values.{seg_of};
+ghost use Rattle.overlay_cut.specs.PieceRows.{piece_width};
 ghost use Rattle.overlay_cut.specs.Cuts.{Starts};
-ghost use Rattle.overlay_cut.specs.Net.{endsOf, sourceIn, firstMap, edgeIn, carrierIn, noSeg, segRow};
+ghost use Rattle.overlay_cut.specs.Net.{ends_of, the_source_in, first_map, the_edge_in, carrier_in, no_seg, seg_row};
 
 use graph::{carrier_at, store_carrier};
 use limits::{MAPS, PIECE_SOURCES, PIECE_WIDTH};
@@ -14,9 +14,9 @@ use plane::Seg;
 
 // Of e edges the origins of both half-edges: the lower end, and the upper.
 pub fn origins(pieces: &[u16], e: usize, out: &mut [u16])
-    requires fact_1 { pieceWidth * e ≤ length pieces.now }
+    requires fact_1 { piece_width * e ≤ length pieces.now }
     requires fact_2 { 2 * e ≤ length out.old }
-    ensures { out.new ≡ laid e (endsOf pieces.now) out.old }
+    ensures { out.new ≡ laid e (ends_of pieces.now) out.old }
 {
     let mut k = 0;
     while k < e {
@@ -30,17 +30,17 @@ pub fn origins(pieces: &[u16], e: usize, out: &mut [u16])
 
 // What the piece in row k has for map m: its source + 1 or 0.
 pub fn source_in(pieces: &[u16], k: usize, m: usize) -> u16
-    requires fact_1 { pieceWidth * k + pieceWidth ≤ length pieces.now }
+    requires fact_1 { piece_width * k + piece_width ≤ length pieces.now }
     requires fact_2 { m < maps }
-    ensures { result ≡ sourceIn pieces.now k m }
+    ensures { result ≡ the_source_in pieces.now k m }
 {
     pieces[PIECE_WIDTH * k + PIECE_SOURCES + m]
 }
 
 // The first map that the piece in row k comes from, or MAPS.
 fn first_map(pieces: &[u16], k: usize) -> usize
-    requires { pieceWidth * k + pieceWidth ≤ length pieces.now }
-    ensures { result ≡ firstMap pieces.now k }
+    requires { piece_width * k + piece_width ≤ length pieces.now }
+    ensures { result ≡ first_map pieces.now k }
 {
     let mut m = 0;
     while m < MAPS {
@@ -54,8 +54,8 @@ fn first_map(pieces: &[u16], k: usize) -> usize
 
 // No edge.
 fn nothing() -> Seg
-    ensures is { segOf result ≡ noSeg }
-    ensures near { Edge (segOf result) }
+    ensures is { seg_of result ≡ no_seg }
+    ensures near { Edge (seg_of result) }
 {
     Seg {
         x: 0,
@@ -70,8 +70,8 @@ fn edge_in(starts: &[usize], carriers: &[i16], m: usize, j: usize) -> Seg
     requires fact_1 { Starts starts.now carriers.now }
     requires fact_2 { m < maps }
     requires fact_3 { j < 2 ^ 16 }
-    ensures is { segOf result ≡ edgeIn carriers.now starts.now m j }
-    ensures near { Edge (segOf result) }
+    ensures is { seg_of result ≡ the_edge_in carriers.now starts.now m j }
+    ensures near { Edge (seg_of result) }
 {
     let row = starts[m] + j;
     if row < starts[m + 1] {
@@ -83,10 +83,10 @@ fn edge_in(starts: &[usize], carriers: &[i16], m: usize, j: usize) -> Seg
 
 // The input edge that the piece in row k lies along: of the first map that it comes from.
 fn carrier_of(pieces: &[u16], k: usize, starts: &[usize], carriers: &[i16]) -> Seg
-    requires fact_1 { pieceWidth * k + pieceWidth ≤ length pieces.now }
+    requires fact_1 { piece_width * k + piece_width ≤ length pieces.now }
     requires fact_2 { Starts starts.now carriers.now }
-    ensures is { segOf result ≡ carrierIn pieces.now carriers.now starts.now k }
-    ensures near { Edge (segOf result) }
+    ensures is { seg_of result ≡ carrier_in pieces.now carriers.now starts.now k }
+    ensures near { Edge (seg_of result) }
 {
     let m = first_map(pieces, k);
     if MAPS <= m {
@@ -97,10 +97,10 @@ fn carrier_of(pieces: &[u16], k: usize, starts: &[usize], carriers: &[i16]) -> S
 
 // Of e edges the carriers.
 pub fn carriers(pieces: &[u16], e: usize, starts: &[usize], carriers: &[i16], out: &mut [i16])
-    requires fact_1 { pieceWidth * e ≤ length pieces.now }
+    requires fact_1 { piece_width * e ≤ length pieces.now }
     requires fact_2 { Starts starts.now carriers.now }
     requires fact_3 { 4 * e ≤ length out.old }
-    ensures { out.new ≡ laid e (λ k. segRow (carrierIn pieces.now carriers.now starts.now k)) out.old }
+    ensures { out.new ≡ laid e (λ k. seg_row (carrier_in pieces.now carriers.now starts.now k)) out.old }
 {
     let mut k = 0;
     while k < e {

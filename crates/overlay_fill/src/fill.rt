@@ -1,14 +1,14 @@
 // The lent tables filled from what the stages hold, zeros past the counts.
 ghost use Rattle.std.specs.Prelude.{◌≡◌, true, ◌+◌, ◌*◌, ◌≤◌, length};
 ghost use Rattle.paper.specs.Limits.{maps};
-ghost use Rattle.paper.specs.Tables.{countsOf, tables_of};
-ghost use Rattle.paper.specs.Lent.{lengthsOf, roomIn};
-ghost use Rattle.tables.specs.Values.{tablesBy, outcomeOf};
-ghost use Rattle.overlay_maps.specs.Layers.{layersBy};
-ghost use Rattle.overlay_maps.specs.Held.{Held, heldMaps};
-ghost use Rattle.overlay_graph.specs.Cut.{cutBy, overlayIn, DrawableCut};
+ghost use Rattle.paper.specs.Tables.{counts_of, tables_of};
+ghost use Rattle.paper.specs.Lent.{lengths_of, room_in};
+ghost use Rattle.tables.specs.Values.{tables_by, outcome_of};
+ghost use Rattle.overlay_maps.specs.Layers.{layers_by};
+ghost use Rattle.overlay_maps.specs.Held.{Held, held_maps};
+ghost use Rattle.overlay_graph.specs.Cut.{cut_by, overlay_in, DrawableCut};
 ghost use Rattle.overlay_graph.specs.Traced.{NetBy, FacesBy};
-ghost use Rattle.overlay_fill.specs.Judged.{doneWith, Within};
+ghost use Rattle.overlay_fill.specs.Judged.{done_with, Within};
 ghost use Rattle.overlay_fill.specs.Small.{Small};
 
 use graph::first_places;
@@ -71,12 +71,12 @@ fn fill_with(
     sources: &mut [u32],
     faces: &mut [u16],
 ) -> Answer
-    requires fact_1 { Held (layersBy vstarts.now estarts.now corners.now origins.now carriers.now labels.now) }
-    requires fact_2 { DrawableCut (heldMaps (layersBy vstarts.now estarts.now corners.now origins.now carriers.now labels.now)) (cutBy nv points.now ne pieces.now) }
-    requires fact_3 { Within (cutBy nv points.now ne pieces.now) (lengthsOf (tablesBy vertices.old halves.old sources.old faces.old)) }
-    requires fact_4 { NetBy (overlayIn (heldMaps (layersBy vstarts.now estarts.now corners.now origins.now carriers.now labels.now)) (cutBy nv points.now ne pieces.now)) (cutBy nv points.now ne pieces.now) ends.now lines.now × FacesBy (overlayIn (heldMaps (layersBy vstarts.now estarts.now corners.now origins.now carriers.now labels.now)) (cutBy nv points.now ne pieces.now)) next.now face.now outers.now holes.now count }
-    requires fact_5 { (count + 1 ≤ (roomIn maps (lengthsOf (tablesBy vertices.old halves.old sources.old faces.old))).faces) × (2 * ne ≤ length prev.old) × (nv ≤ length least.old) × (maps * (count + 1) ≤ length triples.old) × (count + 1 ≤ length outer.old) × (count + 1 ≤ length counts.old) }
-    ensures { outcomeOf result (tablesBy vertices.new halves.new sources.new faces.new) ≡ doneWith (lengthsOf (tablesBy vertices.old halves.old sources.old faces.old)) (countsOf (overlayIn (heldMaps (layersBy vstarts.now estarts.now corners.now origins.now carriers.now labels.now)) (cutBy nv points.now ne pieces.now))) (tables_of (heldMaps (layersBy vstarts.now estarts.now corners.now origins.now carriers.now labels.now)) (overlayIn (heldMaps (layersBy vstarts.now estarts.now corners.now origins.now carriers.now labels.now)) (cutBy nv points.now ne pieces.now))) }
+    requires fact_1 { Held (layers_by vstarts.now estarts.now corners.now origins.now carriers.now labels.now) }
+    requires fact_2 { DrawableCut (held_maps (layers_by vstarts.now estarts.now corners.now origins.now carriers.now labels.now)) (cut_by nv points.now ne pieces.now) }
+    requires fact_3 { Within (cut_by nv points.now ne pieces.now) (lengths_of (tables_by vertices.old halves.old sources.old faces.old)) }
+    requires fact_4 { NetBy (overlay_in (held_maps (layers_by vstarts.now estarts.now corners.now origins.now carriers.now labels.now)) (cut_by nv points.now ne pieces.now)) (cut_by nv points.now ne pieces.now) ends.now lines.now × FacesBy (overlay_in (held_maps (layers_by vstarts.now estarts.now corners.now origins.now carriers.now labels.now)) (cut_by nv points.now ne pieces.now)) next.now face.now outers.now holes.now count }
+    requires fact_5 { (count + 1 ≤ (room_in maps (lengths_of (tables_by vertices.old halves.old sources.old faces.old))).faces) × (2 * ne ≤ length prev.old) × (nv ≤ length least.old) × (maps * (count + 1) ≤ length triples.old) × (count + 1 ≤ length outer.old) × (count + 1 ≤ length counts.old) }
+    ensures { outcome_of result (tables_by vertices.new halves.new sources.new faces.new) ≡ done_with (lengths_of (tables_by vertices.old halves.old sources.old faces.old)) (counts_of (overlay_in (held_maps (layers_by vstarts.now estarts.now corners.now origins.now carriers.now labels.now)) (cut_by nv points.now ne pieces.now))) (tables_of (held_maps (layers_by vstarts.now estarts.now corners.now origins.now carriers.now labels.now)) (overlay_in (held_maps (layers_by vstarts.now estarts.now corners.now origins.now carriers.now labels.now)) (cut_by nv points.now ne pieces.now))) }
 {
     first_places(next, 2 * ne, ABSENT, prev, 2 * ne);
     first_places(ends, 2 * ne, ABSENT, least, nv);
@@ -122,12 +122,12 @@ pub fn fill(
     sources: &mut [u32],
     faces: &mut [u16],
 ) -> Answer
-    requires fact_1 { Held (layersBy vstarts.now estarts.now corners.now origins.now carriers.now labels.now) }
-    requires fact_2 { DrawableCut (heldMaps (layersBy vstarts.now estarts.now corners.now origins.now carriers.now labels.now)) (cutBy nv points.now ne pieces.now) }
-    requires fact_3 { Within (cutBy nv points.now ne pieces.now) (lengthsOf (tablesBy vertices.old halves.old sources.old faces.old)) }
-    requires fact_4 { NetBy (overlayIn (heldMaps (layersBy vstarts.now estarts.now corners.now origins.now carriers.now labels.now)) (cutBy nv points.now ne pieces.now)) (cutBy nv points.now ne pieces.now) ends.now lines.now × FacesBy (overlayIn (heldMaps (layersBy vstarts.now estarts.now corners.now origins.now carriers.now labels.now)) (cutBy nv points.now ne pieces.now)) next.now face.now outers.now holes.now count }
-    requires fact_5 { count + 1 ≤ (roomIn maps (lengthsOf (tablesBy vertices.old halves.old sources.old faces.old))).faces }
-    ensures { outcomeOf result (tablesBy vertices.new halves.new sources.new faces.new) ≡ doneWith (lengthsOf (tablesBy vertices.old halves.old sources.old faces.old)) (countsOf (overlayIn (heldMaps (layersBy vstarts.now estarts.now corners.now origins.now carriers.now labels.now)) (cutBy nv points.now ne pieces.now))) (tables_of (heldMaps (layersBy vstarts.now estarts.now corners.now origins.now carriers.now labels.now)) (overlayIn (heldMaps (layersBy vstarts.now estarts.now corners.now origins.now carriers.now labels.now)) (cutBy nv points.now ne pieces.now))) }
+    requires fact_1 { Held (layers_by vstarts.now estarts.now corners.now origins.now carriers.now labels.now) }
+    requires fact_2 { DrawableCut (held_maps (layers_by vstarts.now estarts.now corners.now origins.now carriers.now labels.now)) (cut_by nv points.now ne pieces.now) }
+    requires fact_3 { Within (cut_by nv points.now ne pieces.now) (lengths_of (tables_by vertices.old halves.old sources.old faces.old)) }
+    requires fact_4 { NetBy (overlay_in (held_maps (layers_by vstarts.now estarts.now corners.now origins.now carriers.now labels.now)) (cut_by nv points.now ne pieces.now)) (cut_by nv points.now ne pieces.now) ends.now lines.now × FacesBy (overlay_in (held_maps (layers_by vstarts.now estarts.now corners.now origins.now carriers.now labels.now)) (cut_by nv points.now ne pieces.now)) next.now face.now outers.now holes.now count }
+    requires fact_5 { count + 1 ≤ (room_in maps (lengths_of (tables_by vertices.old halves.old sources.old faces.old))).faces }
+    ensures { outcome_of result (tables_by vertices.new halves.new sources.new faces.new) ≡ done_with (lengths_of (tables_by vertices.old halves.old sources.old faces.old)) (counts_of (overlay_in (held_maps (layers_by vstarts.now estarts.now corners.now origins.now carriers.now labels.now)) (cut_by nv points.now ne pieces.now))) (tables_of (held_maps (layers_by vstarts.now estarts.now corners.now origins.now carriers.now labels.now)) (overlay_in (held_maps (layers_by vstarts.now estarts.now corners.now origins.now carriers.now labels.now)) (cut_by nv points.now ne pieces.now))) }
 {
     if few(nv, ne, count) {
         let mut prev = [0u16; SMALL_HALVES];

@@ -1,13 +1,13 @@
 // From points and pieces within the room to the lent tables: half-edges, walks, faces, labels; or a refusal, "room comes last".
 ghost use Rattle.std.specs.Prelude.{◌≡◌, ◌+◌, ◌*◌, ◌≤◌, length};
-ghost use Rattle.paper.specs.Lent.{lengthsOf};
-ghost use Rattle.map_file.specs.Verdict.{refusalOf};
-ghost use Rattle.tables.specs.Values.{tablesBy, outcomeOf};
-ghost use Rattle.overlay_maps.specs.Layers.{layersBy};
-ghost use Rattle.overlay_maps.specs.Held.{Held, heldMaps};
-ghost use Rattle.overlay_graph.specs.Cut.{cutBy, overlayIn, DrawableCut};
+ghost use Rattle.paper.specs.Lent.{lengths_of};
+ghost use Rattle.map_file.specs.Verdict.{refusal_of};
+ghost use Rattle.tables.specs.Values.{tables_by, outcome_of};
+ghost use Rattle.overlay_maps.specs.Layers.{layers_by};
+ghost use Rattle.overlay_maps.specs.Held.{Held, held_maps};
+ghost use Rattle.overlay_graph.specs.Cut.{cut_by, overlay_in, DrawableCut};
 ghost use Rattle.overlay_graph.specs.Traced.{Blank};
-ghost use Rattle.overlay_fill.specs.Judged.{laidOut, refusedWith, Within};
+ghost use Rattle.overlay_fill.specs.Judged.{laid_out, refused_with, Within};
 
 use crate::fill::fill;
 use limits::{CARRIER_CELLS, FACE_ROWS, HALVES, SMALL_CARRIER_CELLS, SMALL_EDGES, SMALL_HALVES};
@@ -23,7 +23,7 @@ pub fn refuse(
     sources: &mut [u32],
     faces: &mut [u16],
 ) -> Answer
-    ensures { outcomeOf result (tablesBy vertices.new halves.new sources.new faces.new) ≡ refusedWith (lengthsOf (tablesBy vertices.old halves.old sources.old faces.old)) (refusalOf r) }
+    ensures { outcome_of result (tables_by vertices.new halves.new sources.new faces.new) ≡ refused_with (lengths_of (tables_by vertices.old halves.old sources.old faces.old)) (refusal_of r) }
 {
     wipe_all(vertices, halves, sources, faces);
     Answer::Refused(r)
@@ -55,12 +55,12 @@ fn from_cut_with(
     sources: &mut [u32],
     faces: &mut [u16],
 ) -> Answer
-    requires fact_1 { Held (layersBy vstarts.now estarts.now corners.now origins.now carriers.now labels.now) }
-    requires fact_2 { DrawableCut (heldMaps (layersBy vstarts.now estarts.now corners.now origins.now carriers.now labels.now)) (cutBy n points.now e pieces.now) }
-    requires fact_3 { Within (cutBy n points.now e pieces.now) (lengthsOf (tablesBy vertices.old halves.old sources.old faces.old)) }
+    requires fact_1 { Held (layers_by vstarts.now estarts.now corners.now origins.now carriers.now labels.now) }
+    requires fact_2 { DrawableCut (held_maps (layers_by vstarts.now estarts.now corners.now origins.now carriers.now labels.now)) (cut_by n points.now e pieces.now) }
+    requires fact_3 { Within (cut_by n points.now e pieces.now) (lengths_of (tables_by vertices.old halves.old sources.old faces.old)) }
     requires fact_4 { (2 * e ≤ length ends.old) × (4 * e ≤ length lines.old) }
     requires fact_5 { Blank (2 * e) next.old × Blank (2 * e) face.old × Blank (2 * e) outers.old × Blank (2 * e + 1) holes.old }
-    ensures { outcomeOf result (tablesBy vertices.new halves.new sources.new faces.new) ≡ laidOut (heldMaps (layersBy vstarts.now estarts.now corners.now origins.now carriers.now labels.now)) (overlayIn (heldMaps (layersBy vstarts.now estarts.now corners.now origins.now carriers.now labels.now)) (cutBy n points.now e pieces.now)) (lengthsOf (tablesBy vertices.old halves.old sources.old faces.old)) }
+    ensures { outcome_of result (tables_by vertices.new halves.new sources.new faces.new) ≡ laid_out (held_maps (layers_by vstarts.now estarts.now corners.now origins.now carriers.now labels.now)) (overlay_in (held_maps (layers_by vstarts.now estarts.now corners.now origins.now carriers.now labels.now)) (cut_by n points.now e pieces.now)) (lengths_of (tables_by vertices.old halves.old sources.old faces.old)) }
 {
     lay_net(
         vstarts, estarts, corners, origins, carriers, labels, n, points, e, pieces, ends, lines,
@@ -100,10 +100,10 @@ pub fn from_cut(
     sources: &mut [u32],
     faces: &mut [u16],
 ) -> Answer
-    requires fact_1 { Held (layersBy vstarts.now estarts.now corners.now origins.now carriers.now labels.now) }
-    requires fact_2 { DrawableCut (heldMaps (layersBy vstarts.now estarts.now corners.now origins.now carriers.now labels.now)) (cutBy n points.now e pieces.now) }
-    requires fact_3 { Within (cutBy n points.now e pieces.now) (lengthsOf (tablesBy vertices.old halves.old sources.old faces.old)) }
-    ensures { outcomeOf result (tablesBy vertices.new halves.new sources.new faces.new) ≡ laidOut (heldMaps (layersBy vstarts.now estarts.now corners.now origins.now carriers.now labels.now)) (overlayIn (heldMaps (layersBy vstarts.now estarts.now corners.now origins.now carriers.now labels.now)) (cutBy n points.now e pieces.now)) (lengthsOf (tablesBy vertices.old halves.old sources.old faces.old)) }
+    requires fact_1 { Held (layers_by vstarts.now estarts.now corners.now origins.now carriers.now labels.now) }
+    requires fact_2 { DrawableCut (held_maps (layers_by vstarts.now estarts.now corners.now origins.now carriers.now labels.now)) (cut_by n points.now e pieces.now) }
+    requires fact_3 { Within (cut_by n points.now e pieces.now) (lengths_of (tables_by vertices.old halves.old sources.old faces.old)) }
+    ensures { outcome_of result (tables_by vertices.new halves.new sources.new faces.new) ≡ laid_out (held_maps (layers_by vstarts.now estarts.now corners.now origins.now carriers.now labels.now)) (overlay_in (held_maps (layers_by vstarts.now estarts.now corners.now origins.now carriers.now labels.now)) (cut_by n points.now e pieces.now)) (lengths_of (tables_by vertices.old halves.old sources.old faces.old)) }
 {
     if e <= SMALL_EDGES {
         let mut ends = [0u16; SMALL_HALVES];

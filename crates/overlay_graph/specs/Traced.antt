@@ -3,11 +3,11 @@
 use Rattle.std.specs.Prelude.{◌≡◌, ◌≤◌, ◌<◌}
 use Rattle.seq.specs.Seq.{List, ℕ, suc, ◌*◌, length, get_or, replicate, ℤ, table, position, over, padded}
 use Rattle.paper.specs.Map.{Map}
-use Rattle.paper.specs.Graph.{halfCount, leaves}
-use Rattle.paper.specs.Faces.{Overlay, net, holesOf}
-use Rattle.paper.specs.Tables.{leastHalf}
-use Rattle.graph.specs.Flat.{Flat, flatGraph}
-use Rattle.overlay_graph.specs.Cut.{Cut, overlayIn}
+use Rattle.paper.specs.Graph.{the_half_count, leaves}
+use Rattle.paper.specs.Faces.{Overlay, net, holes_of}
+use Rattle.paper.specs.Tables.{least_half}
+use Rattle.graph.specs.Flat.{Flat, flat_graph}
+use Rattle.overlay_graph.specs.Cut.{Cut, overlay_in}
 
 -- a table of zeros, with n cells or more
 pub record Blank (n : ℕ) (t : List ℕ) : Type 0 where
@@ -34,8 +34,8 @@ pub record Traced : Type 0 where
   pub count : ℕ
 
 -- of the tables that a function has
-abbrev pub tracedBy : List ℕ → List ℤ → List ℕ → List ℕ → List ℕ → List ℕ → List ℕ → List ℕ → ℕ → Traced
-tracedBy os cs next prev least face outers holes n = record {
+abbrev pub traced_by : List ℕ → List ℤ → List ℕ → List ℕ → List ℕ → List ℕ → List ℕ → List ℕ → ℕ → Traced
+traced_by os cs next prev least face outers holes n = record {
   origins = os;
   carriers = cs;
   next = next;
@@ -52,37 +52,37 @@ tracedBy os cs next prev least face outers holes n = record {
 -- the half-edges, by where they start and what they lie along
 pub record NetBy (o : Overlay) (c : Cut) (origins : List ℕ) (carriers : List ℤ) : Type 0 where
   pub flat : Flat c.points origins carriers c.vertices c.edges
-  pub net-is : flatGraph c.points origins carriers c.vertices c.edges ≡ net o
+  pub net_is : flat_graph c.points origins carriers c.vertices c.edges ≡ net o
 
 -- followers and faces, over the tables as they were
 pub record FacesOver (o : Overlay) (next₀ face₀ outers₀ holes₀ next face outers holes : List ℕ) (count : ℕ) : Type 0 where
-  pub next-is : next ≡ over o.walks.next next₀
-  pub face-is : face ≡ over o.face face₀
-  pub outers-is : outers ≡ over o.outers outers₀
-  pub count-is : count ≡ length o.outers
-  pub holes-is : holes ≡ over (table (holesOf o) (suc count)) holes₀
+  pub next_is : next ≡ over o.walks.next next₀
+  pub face_is : face ≡ over o.face face₀
+  pub outers_is : outers ≡ over o.outers outers₀
+  pub count_is : count ≡ length o.outers
+  pub holes_is : holes ≡ over (table (holes_of o) (suc count)) holes₀
 
 -- and over zeros
 pub record FacesBy (o : Overlay) (next face outers holes : List ℕ) (count : ℕ) : Type 0 where
-  pub next-is : Zeroed o.walks.next next
-  pub face-is : Zeroed o.face face
-  pub outers-is : Zeroed o.outers outers
-  pub count-is : count ≡ length o.outers
-  pub holes-is : Zeroed (table (holesOf o) (suc count)) holes
+  pub next_is : Zeroed o.walks.next next
+  pub face_is : Zeroed o.face face
+  pub outers_is : Zeroed o.outers outers
+  pub count_is : count ≡ length o.outers
+  pub holes_is : Zeroed (table (holes_of o) (suc count)) holes
 
 -- predecessors, and the least outgoing half-edges
 abbrev pub PrevBy : Overlay → Cut → List ℕ → Type 0
 PrevBy o c prev = (h : ℕ) → h < 2 * c.edges → get_or prev h 0 ≡ position h o.walks.next
 
 abbrev pub LeastBy : Overlay → Cut → List ℕ → Type 0
-LeastBy o c least = (v : ℕ) → v < c.vertices → get_or least v 0 ≡ leastHalf (leaves (net o) v) (halfCount (net o))
+LeastBy o c least = (v : ℕ) → v < c.vertices → get_or least v 0 ≡ least_half (leaves (net o) v) (the_half_count (net o))
 
 pub record TracedBy (o : Overlay) (c : Cut) (t : Traced) : Type 0 where
-  pub net-by : NetBy o c t.origins t.carriers
-  pub faces-by : FacesBy o t.next t.face t.outers t.holes t.count
-  pub prev-is : PrevBy o c t.prev
-  pub least-is : LeastBy o c t.least
+  pub net_by : NetBy o c t.origins t.carriers
+  pub faces_by : FacesBy o t.next t.face t.outers t.holes t.count
+  pub prev_is : PrevBy o c t.prev
+  pub least_is : LeastBy o c t.least
 
 -- of the points and pieces in c
 abbrev pub TracedOf : List Map → Cut → Traced → Type 0
-TracedOf ms c t = TracedBy (overlayIn ms c) c t
+TracedOf ms c t = TracedBy (overlay_in ms c) c t

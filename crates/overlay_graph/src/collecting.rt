@@ -1,12 +1,12 @@
 // The vertices of the overlay in point order, by either of two ways: "Add a second way to collect the vertices .. Keep the plain way" (02, Ask 10).
 ghost use Rattle.std.specs.Prelude.{◌*◌, ◌≤◌, length};
 ghost use Rattle.paper.specs.Limits.{maps};
-ghost use Rattle.graph.specs.Flat.{pointWidth};
+ghost use Rattle.graph.specs.Flat.{point_width};
 ghost use Rattle.overlay_cut.specs.Cuts.{start_of};
-ghost use Rattle.overlay_cut.specs.Rooms.{vertexRows};
+ghost use Rattle.overlay_cut.specs.Rooms.{vertex_rows};
 ghost use Rattle.overlay_sweep.specs.Threading.{Unthreaded};
-ghost use Rattle.overlay_maps.specs.Layers.{layersBy};
-ghost use Rattle.overlay_maps.specs.Held.{heldMaps, Held};
+ghost use Rattle.overlay_maps.specs.Layers.{layers_by};
+ghost use Rattle.overlay_maps.specs.Held.{held_maps, Held};
 ghost use Rattle.overlay_graph.specs.Collected.{CollectedOf, ThreadedOf};
 
 use limits::{MAPS, VERTEX_ROWS};
@@ -32,9 +32,9 @@ pub fn collect_maps(
     points: &mut [i64],
     room: usize,
 ) -> usize
-    requires fact_1 { Held (layersBy vertices.now edges.now corners.now origins.now carriers.now labels.now) }
-    requires fact_2 { pointWidth * room ≤ length points.old }
-    ensures { CollectedOf (heldMaps (layersBy vertices.now edges.now corners.now origins.now carriers.now labels.now)) room points.new result }
+    requires fact_1 { Held (layers_by vertices.now edges.now corners.now origins.now carriers.now labels.now) }
+    requires fact_2 { point_width * room ≤ length points.old }
+    ensures { CollectedOf (held_maps (layers_by vertices.now edges.now corners.now origins.now carriers.now labels.now)) room points.new result }
 {
     let c = vertices[MAPS];
     let n = collect(corners, c, carriers, edges, points, room);
@@ -58,10 +58,10 @@ fn sweep_maps(
     nodes: &mut [u16],
     room: usize,
 ) -> Swept
-    requires fact_1 { Held (layersBy vertices.now edges.now corners.now origins.now carriers.now labels.now) }
-    requires fact_2 { pointWidth * vertexRows ≤ length points.old }
+    requires fact_1 { Held (layers_by vertices.now edges.now corners.now origins.now carriers.now labels.now) }
+    requires fact_2 { point_width * vertex_rows ≤ length points.old }
     requires fact_3 { Unthreaded (start_of edges.now maps) room last.old nodes.old }
-    ensures { ThreadedOf (layersBy vertices.now edges.now corners.now origins.now carriers.now labels.now) room points.new result.stops last.new nodes.new result.nodes }
+    ensures { ThreadedOf (layers_by vertices.now edges.now corners.now origins.now carriers.now labels.now) room points.new result.stops last.new nodes.new result.nodes }
 {
     let c = vertices[MAPS];
     sweep(corners, c, carriers, edges, points, last, nodes, room)
@@ -81,10 +81,10 @@ pub fn vertices_by(
     nodes: &mut [u16],
     room: usize,
 ) -> Swept
-    requires fact_1 { Held (layersBy vertices.now edges.now corners.now origins.now carriers.now labels.now) }
-    requires fact_2 { pointWidth * vertexRows ≤ length points.old }
+    requires fact_1 { Held (layers_by vertices.now edges.now corners.now origins.now carriers.now labels.now) }
+    requires fact_2 { point_width * vertex_rows ≤ length points.old }
     requires fact_3 { Unthreaded (start_of edges.now maps) room last.old nodes.old }
-    ensures { ThreadedOf (layersBy vertices.now edges.now corners.now origins.now carriers.now labels.now) room points.new result.stops last.new nodes.new result.nodes }
+    ensures { ThreadedOf (layers_by vertices.now edges.now corners.now origins.now carriers.now labels.now) room points.new result.stops last.new nodes.new result.nodes }
 {
     match way {
         Way::Plain => {

@@ -1,12 +1,12 @@
 // Vertices and edges: "Vertices stand in point order", edges are "the pieces of input edges between neighbouring overlay vertices on them".
 ghost use Rattle.std.specs.Prelude.{◌+◌, ◌*◌, ◌≤◌, length};
-ghost use Rattle.graph.specs.Flat.{pointWidth};
-ghost use Rattle.graph.specs.Small.{smallVertices, smallEdges};
-ghost use Rattle.overlay_cut.specs.Rooms.{vertexRows, edgeRows};
-ghost use Rattle.overlay_cut.specs.PieceRows.{pieceWidth};
-ghost use Rattle.overlay_maps.specs.Layers.{layersBy};
-ghost use Rattle.overlay_maps.specs.Held.{heldMaps, Held};
-ghost use Rattle.overlay_graph.specs.Cut.{cutBy, CutOf};
+ghost use Rattle.graph.specs.Flat.{point_width};
+ghost use Rattle.graph.specs.Small.{small_vertices, small_edges};
+ghost use Rattle.overlay_cut.specs.Rooms.{vertex_rows, edge_rows};
+ghost use Rattle.overlay_cut.specs.PieceRows.{piece_width};
+ghost use Rattle.overlay_maps.specs.Layers.{layers_by};
+ghost use Rattle.overlay_maps.specs.Held.{held_maps, Held};
+ghost use Rattle.overlay_graph.specs.Cut.{cut_by, CutOf};
 
 use crate::collecting::{Way, collect_maps, vertices_by};
 use limits::{
@@ -39,9 +39,9 @@ pub fn cut_maps(
     points: &mut [i64],
     rows: &mut [u16],
 ) -> CutCounts
-    requires fact_1 { Held (layersBy vertices.now edges.now corners.now origins.now carriers.now labels.now) }
-    requires fact_2 { (pointWidth * vertexRows ≤ length points.old) × (pieceWidth * edgeRows ≤ length rows.old) }
-    ensures { CutOf (heldMaps (layersBy vertices.now edges.now corners.now origins.now carriers.now labels.now)) (cutBy result.vertices points.new result.edges rows.new) }
+    requires fact_1 { Held (layers_by vertices.now edges.now corners.now origins.now carriers.now labels.now) }
+    requires fact_2 { (point_width * vertex_rows ≤ length points.old) × (piece_width * edge_rows ≤ length rows.old) }
+    ensures { CutOf (held_maps (layers_by vertices.now edges.now corners.now origins.now carriers.now labels.now)) (cut_by result.vertices points.new result.edges rows.new) }
 {
     let mut last = [0u16; LAYER_EDGES];
     let swept = vertices_by(
@@ -82,9 +82,9 @@ pub fn cut_few(
     points: &mut [i64],
     rows: &mut [u16],
 ) -> CutCounts
-    requires fact_1 { Held (layersBy vertices.now edges.now corners.now origins.now carriers.now labels.now) }
-    requires fact_2 { (pointWidth * (smallVertices + 1) ≤ length points.old) × (pieceWidth * (smallEdges + 1) ≤ length rows.old) }
-    ensures { result.vertices ≤ smallVertices → result.edges ≤ smallEdges → CutOf (heldMaps (layersBy vertices.now edges.now corners.now origins.now carriers.now labels.now)) (cutBy result.vertices points.new result.edges rows.new) }
+    requires fact_1 { Held (layers_by vertices.now edges.now corners.now origins.now carriers.now labels.now) }
+    requires fact_2 { (point_width * (small_vertices + 1) ≤ length points.old) × (piece_width * (small_edges + 1) ≤ length rows.old) }
+    ensures { result.vertices ≤ small_vertices → result.edges ≤ small_edges → CutOf (held_maps (layers_by vertices.now edges.now corners.now origins.now carriers.now labels.now)) (cut_by result.vertices points.new result.edges rows.new) }
 {
     let n = collect_maps(
         vertices,

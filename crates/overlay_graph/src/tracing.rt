@@ -1,12 +1,12 @@
 // Half-edges, walks and faces.
 ghost use Rattle.std.specs.Prelude.{◌*◌, ◌≤◌, ◌<◌, length};
-ghost use Rattle.paper.specs.Limits.{overlayVertices, overlayEdges};
+ghost use Rattle.paper.specs.Limits.{overlay_vertices, overlay_edges};
 ghost use Rattle.laws_graph.specs.Plane.{Plane};
-ghost use Rattle.graph.specs.Flat.{Flat, flatGraph};
-ghost use Rattle.graph_faces.specs.Linked.{facesOf};
-ghost use Rattle.overlay_maps.specs.Layers.{layersBy};
-ghost use Rattle.overlay_maps.specs.Held.{heldMaps, Held};
-ghost use Rattle.overlay_graph.specs.Cut.{cutBy, overlayIn, DrawableCut};
+ghost use Rattle.graph.specs.Flat.{Flat, flat_graph};
+ghost use Rattle.graph_faces.specs.Linked.{faces_of};
+ghost use Rattle.overlay_maps.specs.Layers.{layers_by};
+ghost use Rattle.overlay_maps.specs.Held.{held_maps, Held};
+ghost use Rattle.overlay_graph.specs.Cut.{cut_by, overlay_in, DrawableCut};
 ghost use Rattle.overlay_graph.specs.Traced.{NetBy, FacesOver};
 
 use graph_faces::{enclose, link};
@@ -29,10 +29,10 @@ pub fn lay_net(
     ends: &mut [u16],
     lines: &mut [i16],
 )
-    requires fact_1 { Held (layersBy vertices.now edges.now corners.now origins.now carriers.now labels.now) }
-    requires fact_2 { DrawableCut (heldMaps (layersBy vertices.now edges.now corners.now origins.now carriers.now labels.now)) (cutBy n points.now e pieces.now) }
+    requires fact_1 { Held (layers_by vertices.now edges.now corners.now origins.now carriers.now labels.now) }
+    requires fact_2 { DrawableCut (held_maps (layers_by vertices.now edges.now corners.now origins.now carriers.now labels.now)) (cut_by n points.now e pieces.now) }
     requires fact_3 { (2 * e ≤ length ends.old) × (4 * e ≤ length lines.old) }
-    ensures { NetBy (overlayIn (heldMaps (layersBy vertices.now edges.now corners.now origins.now carriers.now labels.now)) (cutBy n points.now e pieces.now)) (cutBy n points.now e pieces.now) ends.new lines.new }
+    ensures { NetBy (overlay_in (held_maps (layers_by vertices.now edges.now corners.now origins.now carriers.now labels.now)) (cut_by n points.now e pieces.now)) (cut_by n points.now e pieces.now) ends.new lines.new }
 {
     lay_origins(pieces, e, ends);
     lay_carriers(pieces, e, edges, carriers, lines);
@@ -53,11 +53,11 @@ fn walk_net_in(
     holes: &mut [u16],
 ) -> usize
     requires fact_1 { Flat points.now ends.now lines.now n e }
-    requires fact_2 { (n ≤ overlayVertices) × (e ≤ overlayEdges) }
-    requires fact_3 { Plane (flatGraph points.now ends.now lines.now n e) }
+    requires fact_2 { (n ≤ overlay_vertices) × (e ≤ overlay_edges) }
+    requires fact_3 { Plane (flat_graph points.now ends.now lines.now n e) }
     requires fact_4 { (2 * e ≤ length next.old) × (2 * e ≤ length face.old) × (2 * e ≤ length outers.old) × (2 * e < length holes.old) }
     requires fact_5 { (2 * e ≤ length lead.old) × (2 * e ≤ length top.old) }
-    ensures { FacesOver (facesOf (flatGraph points.now ends.now lines.now n e)) next.old face.old outers.old holes.old next.new face.new outers.new holes.new result }
+    ensures { FacesOver (faces_of (flat_graph points.now ends.now lines.now n e)) next.old face.old outers.old holes.old next.new face.new outers.new holes.new result }
 {
     link(points, ends, lines, n, e, next, lead, top);
     enclose(points, ends, lines, n, e, lead, top, face, outers, holes)
@@ -76,10 +76,10 @@ pub fn walk_net(
     holes: &mut [u16],
 ) -> usize
     requires fact_1 { Flat points.now ends.now lines.now n e }
-    requires fact_2 { (n ≤ overlayVertices) × (e ≤ overlayEdges) }
-    requires fact_3 { Plane (flatGraph points.now ends.now lines.now n e) }
+    requires fact_2 { (n ≤ overlay_vertices) × (e ≤ overlay_edges) }
+    requires fact_3 { Plane (flat_graph points.now ends.now lines.now n e) }
     requires fact_4 { (2 * e ≤ length next.old) × (2 * e ≤ length face.old) × (2 * e ≤ length outers.old) × (2 * e < length holes.old) }
-    ensures { FacesOver (facesOf (flatGraph points.now ends.now lines.now n e)) next.old face.old outers.old holes.old next.new face.new outers.new holes.new result }
+    ensures { FacesOver (faces_of (flat_graph points.now ends.now lines.now n e)) next.old face.old outers.old holes.old next.new face.new outers.new holes.new result }
 {
     if e <= SMALL_EDGES {
         let mut lead = [0u16; SMALL_HALVES];

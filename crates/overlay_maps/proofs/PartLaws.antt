@@ -13,8 +13,8 @@ module _ {A : Type 0} (t : List A) (a : ℕ) where
   lent_is : mid_of a (length t - a) t ≡ drop a t
   lent_is = take_all (length t - a) (drop a t) (omega (arith, length-drop a t))
 
-  pub lent-long : (m : ℕ) → a + m ≤ length t → m ≤ length (mid_of a (length t - a) t)
-  lent-long m h = omega (arith, ap length lent_is, length-drop a t)
+  pub lent_long : (m : ℕ) → a + m ≤ length t → m ≤ length (mid_of a (length t - a) t)
+  lent_long m h = omega (arith, ap length lent_is, length-drop a t)
 
   pub part-stored : (ys u : List A) → a + length ys ≤ length t → u ≡ over ys (mid_of a (length t - a) t) → put_mid a (length t - a) t u ≡ sets t a ys
   unfolding over

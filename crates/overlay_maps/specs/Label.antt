@@ -3,22 +3,22 @@
 use Rattle.std.specs.Prelude.{◌≡◌, refl}
 use Rattle.seq.specs.Seq.{cond, Option, none, some, ℕ, zero, suc, ◌/◌, or_zero}
 use Rattle.paper.specs.Plane.{Pt, Vec}
-use Rattle.paper.specs.Graph.{Graph, even, twin, low, upward, eastSide, west}
+use Rattle.paper.specs.Graph.{Graph, even, twin, low, upward, east_side, west}
 use Rattle.paper.specs.Map.{Map, label}
-use Rattle.paper.specs.Faces.{labelIn}
+use Rattle.paper.specs.Faces.{label_in}
 
 -- the label of edge k at the left of half-edge h along it
-abbrev pub ownLabel : Map → ℕ → ℕ → ℕ
-ownLabel m h k = let down = eastSide m.graph k in label m (cond (even h) (twin down) down)
+abbrev pub own_label : Map → ℕ → ℕ → ℕ
+own_label m h k = let down = east_side m.graph k in label m (cond (even h) (twin down) down)
 
 -- the label of what is seen from p along d
-abbrev pub seenLabel : Map → Pt → Vec → ℕ
-seenLabel m p d = or_zero (label m) (west m.graph p d)
+abbrev pub seen_label : Map → Pt → Vec → ℕ
+seen_label m p d = or_zero (label m) (west m.graph p d)
 
 -- by a source that is stored as a number + 1 or 0
-abbrev pub labelBy : Map → ℕ → Pt → Vec → ℕ → ℕ
-labelBy m h p d zero = seenLabel m p d
-labelBy m h p d (suc k) = ownLabel m h k
+abbrev pub label_by : Map → ℕ → Pt → Vec → ℕ → ℕ
+label_by m h p d zero = seen_label m p d
+label_by m h p d (suc k) = own_label m h k
 
 -- ── the definition's ──
 
@@ -27,6 +27,6 @@ abbrev pub stored : Option ℕ → ℕ
 stored none = zero
 stored (some k) = suc k
 
-pub label-by : (m : Map) (g : Graph) (h : ℕ) (o : Option ℕ) → labelBy m h (low g (h / 2)) (upward g (h / 2)) (stored o) ≡ labelIn m g h o
-label-by m g h none = refl
-label-by m g h (some k) = refl
+pub label_by_lem : (m : Map) (g : Graph) (h : ℕ) (o : Option ℕ) → label_by m h (low g (h / 2)) (upward g (h / 2)) (stored o) ≡ label_in m g h o
+label_by_lem m g h none = refl
+label_by_lem m g h (some k) = refl

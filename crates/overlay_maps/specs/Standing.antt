@@ -4,7 +4,7 @@ use Rattle.std.proofs.Common.{arith, length-drop, length-take-le}
 use Rattle.seq.specs.Seq.{List, ℕ, ◌*◌, ◌-◌, length, take, drop, ℤ}
 use Rattle.paper.specs.Limits.{absent}
 use Rattle.paper.specs.Map.{Map}
-use Rattle.graph.specs.Flat.{Flat, flatGraph}
+use Rattle.graph.specs.Flat.{Flat, flat_graph}
 use Rattle.map_check.specs.Held.{flat_map}
 use Rattle.overlay_maps.specs.Ended.{Ended}
 
@@ -22,10 +22,10 @@ standing ps os cs ls v w a b = flat_map (cells ps (4 * v) (4 * w)) (cells os (2 
 pub record Stands (ps : List ℤ) (os : List ℕ) (cs : List ℤ) (ls : List ℕ) (v w a b : ℕ) : Type 0 where
   pub rising : v ≤ w
   pub climbing : a ≤ b
-  pub points-in : 4 * w ≤ length ps
-  pub origins-in : 2 * b ≤ length os
-  pub carriers-in : 4 * b ≤ length cs
+  pub points_in : 4 * w ≤ length ps
+  pub origins_in : 2 * b ≤ length os
+  pub carriers_in : 4 * b ≤ length cs
   pub labels_in : 2 * b ≤ length ls
   pub few : 2 * b ≤ absent
   pub flat : Flat (cells ps (4 * v) (4 * w)) (cells os (2 * a) (2 * b)) (cells cs (4 * a) (4 * b)) (w - v) (b - a)
-  pub ended : Ended (flatGraph (cells ps (4 * v) (4 * w)) (cells os (2 * a) (2 * b)) (cells cs (4 * a) (4 * b)) (w - v) (b - a))
+  pub ended : Ended (flat_graph (cells ps (4 * v) (4 * w)) (cells os (2 * a) (2 * b)) (cells cs (4 * a) (4 * b)) (w - v) (b - a))

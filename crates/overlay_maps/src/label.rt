@@ -2,12 +2,12 @@
 // west in that map from its lower end along it."
 ghost use Rattle.std.specs.Prelude.{◌≡◌, ◌+◌, ◌*◌, ◌-◌, ◌≤◌, ◌<◌, length};
 ghost use Rattle.paper.specs.Limits.{absent};
-ghost use Rattle.plane.specs.Values.{ptOf, segOf, vec_of};
+ghost use Rattle.plane.specs.Values.{pt_of, seg_of, vec_of};
 ghost use Rattle.plane.specs.Bounds.{Direction, Edge, Near};
-ghost use Rattle.graph.specs.Flat.{Flat, flatGraph};
+ghost use Rattle.graph.specs.Flat.{Flat, flat_graph};
 ghost use Rattle.map_check.specs.Held.{flat_map};
-ghost use Rattle.overlay_maps.specs.Ended.{Ended, footOf};
-ghost use Rattle.overlay_maps.specs.Label.{ownLabel};
+ghost use Rattle.overlay_maps.specs.Ended.{Ended, foot_of};
+ghost use Rattle.overlay_maps.specs.Label.{own_label};
 ghost use Rattle.overlay_maps.specs.Standing.{Stands, standing};
 ghost use Rattle.overlay_maps.specs.Place.{label_at, part_at};
 
@@ -51,8 +51,8 @@ pub fn part_of(vertices: &[usize], edges: &[usize], m: usize) -> Part
 
 // Whether a corner p is the lower end of an edge between corners, of which s is the carrier.
 fn is_foot(s: Seg, p: Point) -> bool
-    requires { Edge (segOf s) × Near (ptOf p) }
-    ensures { result ≡ footOf (segOf s) (ptOf p) }
+    requires { Edge (seg_of s) × Near (pt_of p) }
+    ensures { result ≡ foot_of (seg_of s) (pt_of p) }
 {
     if p.x == s.x { p.y == s.y } else { false }
 }
@@ -69,11 +69,11 @@ fn own_label(
     h: usize,
     k: usize,
 ) -> u16
-    requires fact_1 { Flat points.now origins.now carriers.now n e × Ended (flatGraph points.now origins.now carriers.now n e) }
+    requires fact_1 { Flat points.now origins.now carriers.now n e × Ended (flat_graph points.now origins.now carriers.now n e) }
     requires fact_2 { 2 * e ≤ absent }
     requires fact_3 { 2 * e ≤ length labels.now }
     requires fact_4 { k < e }
-    ensures { result ≡ ownLabel (flat_map points.now origins.now carriers.now labels.now n e) h k }
+    ensures { result ≡ own_label (flat_map points.now origins.now carriers.now labels.now n e) h k }
 {
     let s = carrier_at(carriers, k);
     let p = start(points, origins, 2 * k + 1);
@@ -94,11 +94,11 @@ pub fn label_in(
     e: usize,
     at: Place,
 ) -> u16
-    requires fact_1 { Flat points.now origins.now carriers.now n e × Ended (flatGraph points.now origins.now carriers.now n e) }
+    requires fact_1 { Flat points.now origins.now carriers.now n e × Ended (flat_graph points.now origins.now carriers.now n e) }
     requires fact_2 { 2 * e ≤ absent }
     requires fact_3 { 2 * e ≤ length labels.now }
     requires fact_4 { at.source ≤ e }
-    requires fact_5 { Near (ptOf at.low) × Direction (vec_of at.up) }
+    requires fact_5 { Near (pt_of at.low) × Direction (vec_of at.up) }
     ensures { result ≡ label_at (flat_map points.now origins.now carriers.now labels.now n e) at }
 {
     if at.source == 0 {
@@ -119,7 +119,7 @@ pub fn label_at(
 ) -> u16
     requires fact_1 { Stands corners.now origins.now carriers.now labels.now part.v part.w part.a part.b }
     requires fact_2 { at.source ≤ part.b - part.a }
-    requires fact_3 { Near (ptOf at.low) × Direction (vec_of at.up) }
+    requires fact_3 { Near (pt_of at.low) × Direction (vec_of at.up) }
     ensures { result ≡ label_at (standing corners.now origins.now carriers.now labels.now part.v part.w part.a part.b) at }
 {
     let from = POINT_WIDTH * part.v;
@@ -151,7 +151,7 @@ pub fn own_at(
 ) -> u16
     requires fact_1 { Stands corners.now origins.now carriers.now labels.now part.v part.w part.a part.b }
     requires fact_2 { k < part.b - part.a }
-    ensures { result ≡ ownLabel (standing corners.now origins.now carriers.now labels.now part.v part.w part.a part.b) h k }
+    ensures { result ≡ own_label (standing corners.now origins.now carriers.now labels.now part.v part.w part.a part.b) h k }
 {
     let from = POINT_WIDTH * part.v;
     let to = POINT_WIDTH * part.w;

@@ -3,14 +3,14 @@ ghost use Rattle.std.specs.Prelude.{◌≡◌, [], ◌∷◌, ◌<◌, length};
 ghost use Rattle.std.proofs.Math.Option.{none};
 ghost use Rattle.seq.specs.Seq.{over};
 ghost use Rattle.paper.specs.Limits.{maps};
-ghost use Rattle.paper.specs.Refusal.{first_of, ofMap};
-ghost use Rattle.paper.specs.Map.{vertexCount, edgesIn, fault};
-ghost use Rattle.paper.specs.Overlay.{mapFaults};
-ghost use Rattle.paper.specs.Sample.{emptyFile};
+ghost use Rattle.paper.specs.Refusal.{first_of, the_of_map};
+ghost use Rattle.paper.specs.Map.{vertex_count, edges_in, fault};
+ghost use Rattle.paper.specs.Overlay.{map_faults};
+ghost use Rattle.paper.specs.Sample.{empty_file};
 ghost use Rattle.map_file.specs.Verdict.{verdict};
 ghost use Rattle.map_check.specs.Answer.{answer_of};
-ghost use Rattle.overlay_maps.specs.Refused.{refusedIn};
-ghost use Rattle.overlay_maps.specs.Layers.{layersBy, RoomFrom, LaidFrom, starts, Stacked, Layered, StackRoom, LayerRoom};
+ghost use Rattle.overlay_maps.specs.Refused.{refused_in};
+ghost use Rattle.overlay_maps.specs.Layers.{layers_by, RoomFrom, LaidFrom, starts, Stacked, Layered, StackRoom, LayerRoom};
 
 use limits::{CARRIER_WIDTH, MAP_HEAD, POINT_WIDTH};
 use map_check::{Checked, lay_map};
@@ -21,14 +21,14 @@ pub const EMPTY: [u8; MAP_HEAD] = [90, 77, 80, 1, 0, 0, 0, 0, 0];
 
 // Its bytes are those of the empty map in the definitions.
 pub fn empty() -> [u8; MAP_HEAD]
-    ensures { result ≡ emptyFile }
+    ensures { result ≡ empty_file }
 {
     EMPTY
 }
 
 // The refusal of a check, if there is one, of a map of this number.
 fn of_map(map: u16, c: Checked) -> Check
-    ensures { verdict result ≡ ofMap map (refusedIn (answer_of c)) }
+    ensures { verdict result ≡ the_of_map map (refused_in (answer_of c)) }
 {
     match c {
         Checked::Bad(r) => Check::Bad(Refusal {
@@ -53,7 +53,7 @@ fn lay_behind(
     labels: &mut [u16],
 ) -> Check
     requires { RoomFrom file.now v e corners.old origins.old carriers.old labels.old }
-    ensures { (verdict result ≡ ofMap map (fault file.now)) × (fault file.now ≡ none → LaidFrom file.now v e corners.old origins.old carriers.old labels.old corners.new origins.new carriers.new labels.new) }
+    ensures { (verdict result ≡ the_of_map map (fault file.now)) × (fault file.now ≡ none → LaidFrom file.now v e corners.old origins.old carriers.old labels.old corners.new origins.new carriers.new labels.new) }
 {
     let at = POINT_WIDTH * v;
     let foot = CARRIER_WIDTH * e;
@@ -78,7 +78,7 @@ fn lay_pair(
     labels: &mut [u16],
 ) -> Check
     requires { StackRoom (zones.now ∷ blocks.now ∷ []) corners.old origins.old carriers.old labels.old }
-    ensures { (verdict result ≡ first_of (mapFaults (zones.now ∷ blocks.now ∷ []))) × (first_of (mapFaults (zones.now ∷ blocks.now ∷ [])) ≡ none → Stacked (zones.now ∷ blocks.now ∷ []) corners.old origins.old carriers.old labels.old corners.new origins.new carriers.new labels.new) }
+    ensures { (verdict result ≡ first_of (map_faults (zones.now ∷ blocks.now ∷ []))) × (first_of (map_faults (zones.now ∷ blocks.now ∷ [])) ≡ none → Stacked (zones.now ∷ blocks.now ∷ []) corners.old origins.old carriers.old labels.old corners.new origins.new carriers.new labels.new) }
 {
     let c = lay_behind(zones, 1, 0, 0, corners, origins, carriers, labels);
     match c {
@@ -102,7 +102,7 @@ fn lay_tables(
     labels: &mut [u16],
 ) -> Check
     requires { StackRoom (zones.now ∷ blocks.now ∷ bed.now ∷ []) corners.old origins.old carriers.old labels.old }
-    ensures { (verdict result ≡ first_of (mapFaults (zones.now ∷ blocks.now ∷ bed.now ∷ []))) × (first_of (mapFaults (zones.now ∷ blocks.now ∷ bed.now ∷ [])) ≡ none → Stacked (zones.now ∷ blocks.now ∷ bed.now ∷ []) corners.old origins.old carriers.old labels.old corners.new origins.new carriers.new labels.new) }
+    ensures { (verdict result ≡ first_of (map_faults (zones.now ∷ blocks.now ∷ bed.now ∷ []))) × (first_of (map_faults (zones.now ∷ blocks.now ∷ bed.now ∷ [])) ≡ none → Stacked (zones.now ∷ blocks.now ∷ bed.now ∷ []) corners.old origins.old carriers.old labels.old corners.new origins.new carriers.new labels.new) }
 {
     let c = lay_pair(zones, blocks, corners, origins, carriers, labels);
     match c {
@@ -118,7 +118,7 @@ fn lay_tables(
 // Where each map's vertices and edges start, and where the last ends.
 fn lay_starts(zones: &[u8], blocks: &[u8], bed: &[u8], vertices: &mut [usize], edges: &mut [usize])
     requires { (maps < length vertices.old) × (maps < length edges.old) }
-    ensures { (vertices.new ≡ over (starts vertexCount 0 (zones.now ∷ blocks.now ∷ bed.now ∷ [])) vertices.old) × (edges.new ≡ over (starts edgesIn 0 (zones.now ∷ blocks.now ∷ bed.now ∷ [])) edges.old) }
+    ensures { (vertices.new ≡ over (starts vertex_count 0 (zones.now ∷ blocks.now ∷ bed.now ∷ [])) vertices.old) × (edges.new ≡ over (starts edges_in 0 (zones.now ∷ blocks.now ∷ bed.now ∷ [])) edges.old) }
 {
     let v = vertex_count(zones) as usize;
     let w = v + vertex_count(blocks) as usize;
@@ -146,8 +146,8 @@ pub fn lay_maps(
     carriers: &mut [i16],
     labels: &mut [u16],
 ) -> Check
-    requires { LayerRoom (zones.now ∷ blocks.now ∷ bed.now ∷ []) (layersBy vertices.old edges.old corners.old origins.old carriers.old labels.old) }
-    ensures { (verdict result ≡ first_of (mapFaults (zones.now ∷ blocks.now ∷ bed.now ∷ []))) × (first_of (mapFaults (zones.now ∷ blocks.now ∷ bed.now ∷ [])) ≡ none → Layered (zones.now ∷ blocks.now ∷ bed.now ∷ []) (layersBy vertices.old edges.old corners.old origins.old carriers.old labels.old) (layersBy vertices.new edges.new corners.new origins.new carriers.new labels.new)) }
+    requires { LayerRoom (zones.now ∷ blocks.now ∷ bed.now ∷ []) (layers_by vertices.old edges.old corners.old origins.old carriers.old labels.old) }
+    ensures { (verdict result ≡ first_of (map_faults (zones.now ∷ blocks.now ∷ bed.now ∷ []))) × (first_of (map_faults (zones.now ∷ blocks.now ∷ bed.now ∷ [])) ≡ none → Layered (zones.now ∷ blocks.now ∷ bed.now ∷ []) (layers_by vertices.old edges.old corners.old origins.old carriers.old labels.old) (layers_by vertices.new edges.new corners.new origins.new carriers.new labels.new)) }
 {
     lay_starts(zones, blocks, bed, vertices, edges);
     lay_tables(zones, blocks, bed, corners, origins, carriers, labels)

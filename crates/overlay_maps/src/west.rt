@@ -4,20 +4,20 @@ ghost use Rattle.seq.specs.Seq.{cond, best};
 ghost use Rattle.paper.specs.Limits.{absent};
 ghost use Rattle.paper.specs.Graph.{nearer};
 ghost use Rattle.laws_graph.specs.West.{candidate};
-ghost use Rattle.plane.specs.Values.{ptOf, vec_of, segOf};
+ghost use Rattle.plane.specs.Values.{pt_of, vec_of, seg_of};
 ghost use Rattle.plane.specs.Bounds.{Direction, Near, Edge};
-ghost use Rattle.graph.specs.Flat.{flatGraph, Flat, Starts, Carried, carrierAt};
-ghost use Rattle.graph.specs.Look.{seenOf, candidateAt, nearerAt, seenLabel};
+ghost use Rattle.graph.specs.Flat.{flat_graph, Flat, Starts, Carried, carrier_at};
+ghost use Rattle.graph.specs.Look.{the_seen_of, candidate_at, nearer_at, seen_label};
 ghost use Rattle.graph.specs.Pick.{better};
-ghost use Rattle.overlay_maps.specs.Ended.{Ended, heightOf};
+ghost use Rattle.overlay_maps.specs.Ended.{Ended, height_of};
 
 use graph::{Seen, candidate, carrier_at, east_side, nearest};
 use plane::{Point, Seg, Vector};
 
 // "lower y ≤ y of p < upper y", of an edge between corners.
 fn at_height(s: Seg, p: Point) -> bool
-    requires { Edge (segOf s) × Near (ptOf p) }
-    ensures { result ≡ heightOf (segOf s) (ptOf p) }
+    requires { Edge (seg_of s) × Near (pt_of p) }
+    ensures { result ≡ height_of (seg_of s) (pt_of p) }
 {
     if p.y < s.y * p.d {
         false
@@ -37,9 +37,9 @@ fn take(
     p: Point,
     d: Vector,
 ) -> usize
-    requires fact_1 { (2 * k ≤ absent) × Starts points.now origins.now (2 * k) × Starts points.now origins.now (2 * k + 1) × Carried carriers.now k × (r < none → Carried carriers.now r) × (r ≤ none) × Near (ptOf p) × Direction (vec_of d) }
-    requires fact_2 { (heightOf (carrierAt carriers.now k) (ptOf p) ≡ false → candidateAt points.now origins.now carriers.now (ptOf p) (vec_of d) k ≡ false) }
-    ensures { result ≡ cond (candidateAt points.now origins.now carriers.now (ptOf p) (vec_of d) k) (better (nearerAt carriers.now (ptOf p)) none k r) r }
+    requires fact_1 { (2 * k ≤ absent) × Starts points.now origins.now (2 * k) × Starts points.now origins.now (2 * k + 1) × Carried carriers.now k × (r < none → Carried carriers.now r) × (r ≤ none) × Near (pt_of p) × Direction (vec_of d) }
+    requires fact_2 { (height_of (carrier_at carriers.now k) (pt_of p) ≡ false → candidate_at points.now origins.now carriers.now (pt_of p) (vec_of d) k ≡ false) }
+    ensures { result ≡ cond (candidate_at points.now origins.now carriers.now (pt_of p) (vec_of d) k) (better (nearer_at carriers.now (pt_of p)) none k r) r }
 {
     if at_height(carrier_at(carriers, k), p) {
         if candidate(points, origins, carriers, k, p, d) {
@@ -64,10 +64,10 @@ fn look(
 ) -> Seen
     requires fact_1 { Flat points.now origins.now carriers.now n e }
     requires fact_2 { 2 * e ≤ absent }
-    requires fact_3 { Ended (flatGraph points.now origins.now carriers.now n e) }
-    requires fact_4 { Near (ptOf p) }
+    requires fact_3 { Ended (flat_graph points.now origins.now carriers.now n e) }
+    requires fact_4 { Near (pt_of p) }
     requires fact_5 { Direction (vec_of d) }
-    ensures { seenOf result ≡ best (candidate (flatGraph points.now origins.now carriers.now n e) (ptOf p) (vec_of d)) (nearer (flatGraph points.now origins.now carriers.now n e) (ptOf p)) e }
+    ensures { the_seen_of result ≡ best (candidate (flat_graph points.now origins.now carriers.now n e) (pt_of p) (vec_of d)) (nearer (flat_graph points.now origins.now carriers.now n e) (pt_of p)) e }
 {
     let mut r = e;
     let mut k = 0;
@@ -93,12 +93,12 @@ pub fn seen_label(
     p: Point,
     d: Vector,
 ) -> u16
-    requires fact_1 { Flat points.now origins.now carriers.now n e × Ended (flatGraph points.now origins.now carriers.now n e) }
+    requires fact_1 { Flat points.now origins.now carriers.now n e × Ended (flat_graph points.now origins.now carriers.now n e) }
     requires fact_2 { 2 * e ≤ absent }
     requires fact_3 { 2 * e ≤ length labels.now }
-    requires fact_4 { Near (ptOf p) }
+    requires fact_4 { Near (pt_of p) }
     requires fact_5 { Direction (vec_of d) }
-    ensures { result ≡ seenLabel (flatGraph points.now origins.now carriers.now n e) labels.now (ptOf p) (vec_of d) }
+    ensures { result ≡ seen_label (flat_graph points.now origins.now carriers.now n e) labels.now (pt_of p) (vec_of d) }
 {
     let seen = look(points, origins, carriers, n, e, p, d);
     match seen {

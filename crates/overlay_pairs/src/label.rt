@@ -4,10 +4,10 @@ ghost use Rattle.seq.specs.Seq.{filled};
 ghost use Rattle.paper.specs.Limits.{maps};
 ghost use Rattle.plane.specs.Values.{vec_of};
 ghost use Rattle.plane.specs.Bounds.{Direction};
-ghost use Rattle.graph.specs.Flat.{carrierAt, Carried};
-ghost use Rattle.overlay_maps.specs.Layers.{layersBy};
-ghost use Rattle.overlay_maps.specs.Held.{Held, heldMap};
-ghost use Rattle.overlay_pairs.specs.Labels.{halfLabel, faceLabel, labelCell, edgesOf, Placed, PlaceIs, Labelled, Readable};
+ghost use Rattle.graph.specs.Flat.{carrier_at, Carried};
+ghost use Rattle.overlay_maps.specs.Layers.{layers_by};
+ghost use Rattle.overlay_maps.specs.Held.{Held, held_map};
+ghost use Rattle.overlay_pairs.specs.Labels.{half_label, face_label, label_cell, edges_of, Placed, PlaceIs, Labelled, Readable};
 
 use crate::along::sourced_beside;
 use graph::{carrier_at, start};
@@ -19,7 +19,7 @@ use plane::Vector;
 // The upward direction of edge k.
 fn upward(lines: &[i16], k: usize) -> Vector
     requires { Carried lines.now k }
-    ensures is { vec_of result ≡ (carrierAt lines.now k).up }
+    ensures is { vec_of result ≡ (carrier_at lines.now k).up }
     ensures near { Direction (vec_of result) }
 {
     let s = carrier_at(lines, k);
@@ -73,9 +73,9 @@ fn half_label(
     x: usize,
     m: usize,
 ) -> u16
-    requires fact_1 { Held (layersBy vstarts.now estarts.now corners.now origins.now carriers.now labels.now) }
-    requires fact_2 { Labelled points.now ends.now lines.now pieces.now m (edgesOf estarts.now m) x }
-    ensures { result ≡ halfLabel (heldMap (layersBy vstarts.now estarts.now corners.now origins.now carriers.now labels.now) m) points.now ends.now lines.now pieces.now m x }
+    requires fact_1 { Held (layers_by vstarts.now estarts.now corners.now origins.now carriers.now labels.now) }
+    requires fact_2 { Labelled points.now ends.now lines.now pieces.now m (edges_of estarts.now m) x }
+    ensures { result ≡ half_label (held_map (layers_by vstarts.now estarts.now corners.now origins.now carriers.now labels.now) m) points.now ends.now lines.now pieces.now m x }
 {
     let part = part_of(vstarts, estarts, m);
     let source = source_in(pieces, x / 2, m);
@@ -104,10 +104,10 @@ fn face_label(
     f: usize,
     m: usize,
 ) -> u16
-    requires fact_1 { Held (layersBy vstarts.now estarts.now corners.now origins.now carriers.now labels.now) }
+    requires fact_1 { Held (layers_by vstarts.now estarts.now corners.now origins.now carriers.now labels.now) }
     requires fact_2 { m < maps }
-    requires fact_3 { Readable (layersBy vstarts.now estarts.now corners.now origins.now carriers.now labels.now) points.now ends.now lines.now pieces.now next.now outers.now m f }
-    ensures { result ≡ faceLabel (heldMap (layersBy vstarts.now estarts.now corners.now origins.now carriers.now labels.now) m) points.now ends.now lines.now pieces.now m outers.now f }
+    requires fact_3 { Readable (layers_by vstarts.now estarts.now corners.now origins.now carriers.now labels.now) points.now ends.now lines.now pieces.now next.now outers.now m f }
+    ensures { result ≡ face_label (held_map (layers_by vstarts.now estarts.now corners.now origins.now carriers.now labels.now) m) points.now ends.now lines.now pieces.now m outers.now f }
 {
     if f == 0 {
         return 0;
@@ -139,10 +139,10 @@ pub fn lay_labels(
     n: usize,
     out: &mut [u16],
 )
-    requires fact_1 { Held (layersBy vstarts.now estarts.now corners.now origins.now carriers.now labels.now) }
-    requires fact_2 { ((m f : ℕ) → m < maps → f < n → Readable (layersBy vstarts.now estarts.now corners.now origins.now carriers.now labels.now) points.now ends.now lines.now pieces.now next.now outers.now m f) }
+    requires fact_1 { Held (layers_by vstarts.now estarts.now corners.now origins.now carriers.now labels.now) }
+    requires fact_2 { ((m f : ℕ) → m < maps → f < n → Readable (layers_by vstarts.now estarts.now corners.now origins.now carriers.now labels.now) points.now ends.now lines.now pieces.now next.now outers.now m f) }
     requires fact_3 { maps * n ≤ length out.old }
-    ensures { out.new ≡ filled (maps * n) (labelCell (layersBy vstarts.now estarts.now corners.now origins.now carriers.now labels.now) points.now ends.now lines.now pieces.now outers.now) out.old }
+    ensures { out.new ≡ filled (maps * n) (label_cell (layers_by vstarts.now estarts.now corners.now origins.now carriers.now labels.now) points.now ends.now lines.now pieces.now outers.now) out.old }
 {
     let cells = MAPS * n;
     let mut j = 0;

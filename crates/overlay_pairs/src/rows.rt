@@ -3,11 +3,11 @@
 ghost use Rattle.std.specs.Prelude.{◌≡◌, ◌+◌, ◌*◌, ◌≤◌, length, get_or};
 ghost use Rattle.seq.specs.Seq.{rows, filled};
 ghost use Rattle.paper.specs.Limits.{maps};
-ghost use Rattle.tables.specs.Rows.{faceBy};
-ghost use Rattle.overlay_maps.specs.Layers.{layersBy};
-ghost use Rattle.overlay_graph.specs.Cut.{cutBy};
-ghost use Rattle.overlay_pairs.specs.Labels.{outerOf};
-ghost use Rattle.overlay_pairs.specs.Pairs.{Whole, faceRows};
+ghost use Rattle.tables.specs.Rows.{face_by};
+ghost use Rattle.overlay_maps.specs.Layers.{layers_by};
+ghost use Rattle.overlay_graph.specs.Cut.{cut_by};
+ghost use Rattle.overlay_pairs.specs.Labels.{outer_of};
+ghost use Rattle.overlay_pairs.specs.Pairs.{Whole, face_rows};
 
 use crate::label::{lay_labels, outer_of};
 use limits::ABSENT;
@@ -15,7 +15,7 @@ use limits::ABSENT;
 // The least outer half-edge of face f; ABSENT of face 0.
 fn face_outer(outers: &[u16], f: usize) -> u16
     requires { f ≤ length outers.now }
-    ensures { result ≡ outerOf outers.now f }
+    ensures { result ≡ outer_of outers.now f }
 {
     if f == 0 {
         return ABSENT;
@@ -27,7 +27,7 @@ fn face_outer(outers: &[u16], f: usize) -> u16
 fn lay_outers(outers: &[u16], n: usize, out: &mut [u16])
     requires fact_1 { n ≤ length outers.now + 1 }
     requires fact_2 { n ≤ length out.old }
-    ensures { out.new ≡ filled n (outerOf outers.now) out.old }
+    ensures { out.new ≡ filled n (outer_of outers.now) out.old }
 {
     let mut f = 0;
     while f < n {
@@ -71,9 +71,9 @@ pub fn rows_in(
     outer: &mut [u16],
     counts: &mut [u16],
 )
-    requires fact_1 { Whole (layersBy vstarts.now estarts.now corners.now origins.now carriers.now labels.now) (cutBy nv points.now ne pieces.now) ends.now lines.now next.now outers.now holes.now count }
+    requires fact_1 { Whole (layers_by vstarts.now estarts.now corners.now origins.now carriers.now labels.now) (cut_by nv points.now ne pieces.now) ends.now lines.now next.now outers.now holes.now count }
     requires fact_2 { (maps * (count + 1) ≤ length triples.old) × (count + 1 ≤ length outer.old) × (count + 1 ≤ length counts.old) }
-    ensures { rows (faceBy triples.new outer.new counts.new) (count + 1) ≡ faceRows (layersBy vstarts.now estarts.now corners.now origins.now carriers.now labels.now) (cutBy nv points.now ne pieces.now) (count + 1) }
+    ensures { rows (face_by triples.new outer.new counts.new) (count + 1) ≡ face_rows (layers_by vstarts.now estarts.now corners.now origins.now carriers.now labels.now) (cut_by nv points.now ne pieces.now) (count + 1) }
 {
     let n = count + 1;
     lay_labels(

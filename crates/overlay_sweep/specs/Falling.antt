@@ -1,8 +1,8 @@
--- The values of f below n, the last first (`falling`): its members, and an element put in its place where the list is in strict order (`falling-insert`, `falling-old`). Assumes nothing.
+-- The values of f below n, the last first (`falling`): its members, and an element put in its place where the list is in strict order (`falling-insert`, `falling_old`). Assumes nothing.
 use Rattle.std.specs.Prelude.{◌≡◌, refl, ◌≤◌, ◌<◌}
 use Rattle.std.proofs.Common.{sym, ◌∙◌, ap, inl, inr, ⊎_elim, add-one, arith}
 use Rattle.std.proofs.Math.Decide.{dec_lt}
-use Rattle.seq.specs.Seq.{Bool, true, false, cond, List, [], ◌∷◌, ℕ, zero, suc, ◌+◌, ◌-◌, length, insertBy}
+use Rattle.seq.specs.Seq.{Bool, true, false, cond, List, [], ◌∷◌, ℕ, zero, suc, ◌+◌, ◌-◌, length, insert_by}
 use Rattle.seq.specs.Terms.{Among, Rising}
 
 abbrev pub falling : {A : Type 0} → (ℕ → A) → ℕ → List A
@@ -10,12 +10,12 @@ falling f zero = []
 falling f (suc n) = f n ∷ falling f n
 
 module _ {A : Type 0} where
-  falling-more : (f : ℕ → A) (n : ℕ) → falling f (n + 1) ≡ f n ∷ falling f n
-  falling-more f n = ap (falling f) (add-one n)
+  falling_more : (f : ℕ → A) (n : ℕ) → falling f (n + 1) ≡ f n ∷ falling f n
+  falling_more f n = ap (falling f) (add-one n)
 
   -- the first of them is the last value
-  pub falling-first : (f : ℕ → A) (n : ℕ) → 0 < n → falling f n ≡ f (n - 1) ∷ falling f (n - 1)
-  falling-first f n h = let e : n ≡ n - 1 + 1 = omega arith in ap (falling f) e ∙ falling-more f (n - 1)
+  pub falling_first : (f : ℕ → A) (n : ℕ) → 0 < n → falling f n ≡ f (n - 1) ∷ falling f (n - 1)
+  falling_first f n h = let e : n ≡ n - 1 + 1 = omega arith in ap (falling f) e ∙ falling_more f (n - 1)
 
   pub length-falling : (f : ℕ → A) (n : ℕ) → length (falling f n) ≡ n
   length-falling f zero = refl
@@ -54,7 +54,7 @@ module _ {A : Type 0} where
 
     module _ (asym : (x y : A) → b x y ≡ true → b y x ≡ false) (x : A) where
       abbrev inserted : List A → List A
-      inserted l = insertBy b (λ p r. r) x l
+      inserted l = insert_by b (λ p r. r) x l
 
       step : (y : A) (ys k : List A) (c e : Bool) → b x y ≡ c → b y x ≡ e → inserted ys ≡ k → inserted (y ∷ ys) ≡ cond c (x ∷ y ∷ ys) (cond e (y ∷ k) (y ∷ ys))
       step y ys k c e p q h = λ i. cond (p i) (x ∷ y ∷ ys) (cond (q i) (y ∷ h i) (y ∷ ys))
@@ -76,13 +76,13 @@ module _ {A : Type 0} where
           ]
 
       -- the one below a is like it: nothing changes
-      pub falling-old : (f : ℕ → A) (n a : ℕ) → a ≤ n → 0 < a → ((k : ℕ) → a ≤ k → k < n → b (f k) x ≡ true) → b (f (a - 1)) x ≡ false → b x (f (a - 1)) ≡ false → inserted (falling f n) ≡ falling f n
-      falling-old f zero a h l ahead p q = absurd (omega arith)
-      falling-old f (suc n) a h l ahead p q =
+      pub falling_old : (f : ℕ → A) (n a : ℕ) → a ≤ n → 0 < a → ((k : ℕ) → a ≤ k → k < n → b (f k) x ≡ true) → b (f (a - 1)) x ≡ false → b x (f (a - 1)) ≡ false → inserted (falling f n) ≡ falling f n
+      falling_old f zero a h l ahead p q = absurd (omega arith)
+      falling_old f (suc n) a h l ahead p q =
           elim (dec_lt n a) [
             | no s ↦
                 step (f n) (falling f n) (falling f n) false true (asym (f n) x (ahead n (omega arith) (omega arith))) (ahead n (omega arith) (omega arith))
-                (falling-old f n a (omega arith) l (λ k r t. ahead k r (omega arith)) p q)
+                (falling_old f n a (omega arith) l (λ k r t. ahead k r (omega arith)) p q)
             | yes s ↦
                 let m : a - 1 ≡ n = omega arith in
                 step (f n) (falling f n) (inserted (falling f n)) false false (ap (λ (k : ℕ). b x (f k)) (sym m) ∙ q) (ap (λ (k : ℕ). b (f k) x) (sym m) ∙ p) refl

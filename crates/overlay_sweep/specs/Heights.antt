@@ -8,31 +8,31 @@ use Rattle.exact.specs.Tests.{lt-sign, or_r, and_both}
 use Rattle.paper.specs.Plane.{Pt, before}
 use Rattle.plane.specs.Bounds.{Near, Coordinate, small, middling}
 use Rattle.plane.proofs.Machine.{back}
-use Rattle.plane.proofs.Fractions.{Short, same-middling, short-of, first_fits, second_fits, short-test}
+use Rattle.plane.proofs.Fractions.{Short, same_middling, short_of, first_fits, second_fits, short_test}
 use Rattle.overlay_sweep.specs.First.{first_below, first_above}
 
 -- a point's height
 abbrev pub height : (p : Pt) → Near p → Coordinate p.Y p.D
-height p N = record { positive = N.positive; n-is = N.Y-is; d-is = N.D-is }
+height p N = record { positive = N.positive; n_is = N.Y-is; d_is = N.D-is }
 
 module _ (q p : Pt) (Q : Near q) (P : Near p) (e : middling q.Y q.D ≡ true) (f : middling p.Y p.D ≡ true) where
   short : Short q.Y q.D p.Y p.D
   short =
-      short-of q.Y q.D p.Y p.D (height q Q) (height p P)
-      (or_r (small (back p.Y) (back p.D)) (and_both (same-middling q.Y q.D (height q Q) ∙ e) (same-middling p.Y p.D (height p P) ∙ f)))
+      short_of q.Y q.D p.Y p.D (height q Q) (height p P)
+      (or_r (small (back p.Y) (back p.D)) (and_both (same_middling q.Y q.D (height q Q) ∙ e) (same_middling p.Y p.D (height p P) ∙ f)))
 
-  pub first-product : SFits w64 (back q.Y *ℤ back p.D)
-  first-product = first_fits q.Y q.D p.Y p.D (height q Q) (height p P) short
+  pub first_product : SFits w64 (back q.Y *ℤ back p.D)
+  first_product = first_fits q.Y q.D p.Y p.D (height q Q) (height p P) short
 
   pub second-product : SFits w64 (back p.Y *ℤ back q.D)
   second-product = second_fits q.Y q.D p.Y p.D (height q Q) (height p P) short
 
   -- the test of the machine
   less : lt_z (back (back q.Y *ℤ back p.D)) (back (back p.Y *ℤ back q.D)) ≡ lt_z (q.Y *ℤ p.D) (p.Y *ℤ q.D)
-  less = short-test q.Y q.D p.Y p.D (height q Q) (height p P) short ∙ sym (lt-sign (q.Y *ℤ p.D) (p.Y *ℤ q.D))
+  less = short_test q.Y q.D p.Y p.D (height q Q) (height p P) short ∙ sym (lt-sign (q.Y *ℤ p.D) (p.Y *ℤ q.D))
 
-  pub lower-first : lt_z (back (back q.Y *ℤ back p.D)) (back (back p.Y *ℤ back q.D)) ≡ true → true ≡ before q p
-  lower-first h = first_below (q.X *ℤ p.D) (q.Y *ℤ p.D) (p.X *ℤ q.D) (p.Y *ℤ q.D) (sym less ∙ h)
+  pub lower_first_lem : lt_z (back (back q.Y *ℤ back p.D)) (back (back p.Y *ℤ back q.D)) ≡ true → true ≡ before q p
+  lower_first_lem h = first_below (q.X *ℤ p.D) (q.Y *ℤ p.D) (p.X *ℤ q.D) (p.Y *ℤ q.D) (sym less ∙ h)
 
 -- the other way round
 module _ (q p : Pt) (Q : Near q) (P : Near p) (e : middling q.Y q.D ≡ true) (f : middling p.Y p.D ≡ true) where

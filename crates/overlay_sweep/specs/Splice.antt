@@ -6,8 +6,8 @@ use Rattle.std.proofs.Math.Decide.{dec_lt}
 use Rattle.seq.specs.Seq.{List, ℕ, ◌+◌, ◌-◌, length, get_or, take, drop, table, ◌++◌}
 use Rattle.seq.specs.Table.{length-table, table-+, table-ext}
 use Rattle.seq.specs.Loops.Lifting.{lifted}
-use Rattle.seq.specs.Lifted.{lifted-below, lifted-in}
-use Rattle.overlay_sweep.specs.Numbers.{numbersIn}
+use Rattle.seq.specs.Lifted.{lifted_below, lifted_in}
+use Rattle.overlay_sweep.specs.Numbers.{numbers_in}
 
 -- ── moved down ──
 
@@ -26,8 +26,8 @@ pub record Lowering (a e w : ℕ) (t₀ t : List ℕ) (i : ℕ) : Type 0 where
   pub done : Lowered a i w t₀ t
   pub ahead : (k : ℕ) → i ≤ k → get_or t k 0 ≡ get_or t₀ k 0
 
-pub lower-starts : (a e w : ℕ) (t : List ℕ) → a ≤ e → w ≤ a → e ≤ length t → Lowering a e w t t a
-lower-starts a e w t h d r = record {
+pub lower_starts : (a e w : ℕ) (t : List ℕ) → a ≤ e → w ≤ a → e ≤ length t → Lowering a e w t t a
+lower_starts a e w t h d r = record {
   low = omega arith;
   within = h;
   down = d;
@@ -37,8 +37,8 @@ lower-starts a e w t h d r = record {
   ahead = λ k l. refl;
 }
 
-pub lower-turns : {a e w : ℕ} {t₀ t : List ℕ} {i : ℕ} → Lowering a e w t₀ t i → (v : ℕ) → i < e → v ≡ get_or t i 0 → Lowering a e w t₀ (set t (i - w) v) (i + 1)
-lower-turns {a} {e} {w} {t₀} {t} {i} r v l q =
+pub lower_turns : {a e w : ℕ} {t₀ t : List ℕ} {i : ℕ} → Lowering a e w t₀ t i → (v : ℕ) → i < e → v ≡ get_or t i 0 → Lowering a e w t₀ (set t (i - w) v) (i + 1)
+lower_turns {a} {e} {w} {t₀} {t} {i} r v l q =
     let low = r.low in let down = r.down in let room = r.room in let kept = r.kept in
     record {
       low = omega arith;
@@ -57,8 +57,8 @@ lower-turns {a} {e} {w} {t₀} {t} {i} r v l q =
       ahead = λ k h. get_or-set_other t (i - w) k v 0 (λ f. omega arith) ∙ r.ahead k (omega arith);
     }
 
-pub lower-ends : {a e w : ℕ} {t₀ t : List ℕ} {i : ℕ} → Lowering a e w t₀ t i → e ≤ i → Lowered a e w t₀ t
-lower-ends {a} {e} {w} {t₀} {t} {i} r l = record { below = r.done.below; moved = λ k h m. r.done.moved k h (omega arith) }
+pub lower_ends : {a e w : ℕ} {t₀ t : List ℕ} {i : ℕ} → Lowering a e w t₀ t i → e ≤ i → Lowered a e w t₀ t
+lower_ends {a} {e} {w} {t₀} {t} {i} r l = record { below = r.done.below; moved = λ k h m. r.done.moved k h (omega arith) }
 
 -- ── moved to another place ──
 
@@ -67,14 +67,14 @@ pub record Shifted (n b c : ℕ) (t₀ t : List ℕ) : Type 0 where
   pub below : (k : ℕ) → k < b → k < c → get_or t k 0 ≡ get_or t₀ k 0
   pub moved : (k : ℕ) → k < n - b → get_or t (c + k) 0 ≡ get_or t₀ (b + k) 0
 
-pub shift-up : (n b c : ℕ) (t₀ t : List ℕ) → b < c → b ≤ n → n + (c - b) ≤ length t₀ → t ≡ lifted b n (c - b) t₀ → Shifted n b c t₀ t
-shift-up n b c t₀ t h l r e = record {
-  below = λ k p q. ap (λ (u : List ℕ). get_or u k 0) e ∙ lifted-below b n (c - b) t₀ k 0 (omega arith);
-  moved = λ k p. let f : c + k ≡ b + k + (c - b) = omega arith in ap (λ (u : List ℕ). get_or u (c + k) 0) e ∙ ap (λ (j : ℕ). get_or (lifted b n (c - b) t₀) j 0) f ∙ lifted-in b n (c - b) t₀ (b + k) 0 (omega arith) (omega arith) r;
+pub shift_up : (n b c : ℕ) (t₀ t : List ℕ) → b < c → b ≤ n → n + (c - b) ≤ length t₀ → t ≡ lifted b n (c - b) t₀ → Shifted n b c t₀ t
+shift_up n b c t₀ t h l r e = record {
+  below = λ k p q. ap (λ (u : List ℕ). get_or u k 0) e ∙ lifted_below b n (c - b) t₀ k 0 (omega arith);
+  moved = λ k p. let f : c + k ≡ b + k + (c - b) = omega arith in ap (λ (u : List ℕ). get_or u (c + k) 0) e ∙ ap (λ (j : ℕ). get_or (lifted b n (c - b) t₀) j 0) f ∙ lifted_in b n (c - b) t₀ (b + k) 0 (omega arith) (omega arith) r;
 }
 
-pub shift-down : (n b c : ℕ) (t₀ t : List ℕ) → c < b → b ≤ n → Lowered b n (b - c) t₀ t → Shifted n b c t₀ t
-shift-down n b c t₀ t h l d = record {
+pub shift_down : (n b c : ℕ) (t₀ t : List ℕ) → c < b → b ≤ n → Lowered b n (b - c) t₀ t → Shifted n b c t₀ t
+shift_down n b c t₀ t h l d = record {
   below = λ k p q. d.below k (omega arith);
   moved = λ k p. let f : c + k ≡ b + k - (b - c) = omega arith in ap (λ (j : ℕ). get_or t j 0) f ∙ d.moved (b + k) (omega arith) (omega arith);
 }
@@ -87,7 +87,7 @@ shift_none n b c t e = record { below = λ k p q. refl; moved = λ k p. ap (λ (
 -- the first m of fan stand from a on
 pub record Copied (a m : ℕ) (fan t₀ t : List ℕ) : Type 0 where
   pub below : (k : ℕ) → k < a → get_or t k 0 ≡ get_or t₀ k 0
-  pub in-it : (k : ℕ) → k < m → get_or t (a + k) 0 ≡ get_or fan k 0
+  pub in_it : (k : ℕ) → k < m → get_or t (a + k) 0 ≡ get_or fan k 0
   pub past : (k : ℕ) → a + m ≤ k → get_or t k 0 ≡ get_or t₀ k 0
 
 pub record Copying (a m : ℕ) (fan t₀ t : List ℕ) (i : ℕ) : Type 0 where
@@ -96,11 +96,11 @@ pub record Copying (a m : ℕ) (fan t₀ t : List ℕ) (i : ℕ) : Type 0 where
   pub kept : length t ≡ length t₀
   pub done : Copied a i fan t₀ t
 
-pub copy-starts : (a m : ℕ) (fan t : List ℕ) → a + m ≤ length t → Copying a m fan t t 0
-copy-starts a m fan t h = record { within = omega arith; room = h; kept = refl; done = record { below = λ k l. refl; in-it = λ k l. absurd (omega arith); past = λ k l. refl } }
+pub copy_starts : (a m : ℕ) (fan t : List ℕ) → a + m ≤ length t → Copying a m fan t t 0
+copy_starts a m fan t h = record { within = omega arith; room = h; kept = refl; done = record { below = λ k l. refl; in_it = λ k l. absurd (omega arith); past = λ k l. refl } }
 
-pub copy-turns : {a m : ℕ} {fan t₀ t : List ℕ} {i : ℕ} → Copying a m fan t₀ t i → (v : ℕ) → i < m → v ≡ get_or fan i 0 → Copying a m fan t₀ (set t (a + i) v) (i + 1)
-copy-turns {a} {m} {fan} {t₀} {t} {i} r v l q =
+pub copy_turns : {a m : ℕ} {fan t₀ t : List ℕ} {i : ℕ} → Copying a m fan t₀ t i → (v : ℕ) → i < m → v ≡ get_or fan i 0 → Copying a m fan t₀ (set t (a + i) v) (i + 1)
+copy_turns {a} {m} {fan} {t₀} {t} {i} r v l q =
     let room = r.room in let kept = r.kept in
     record {
       within = omega arith;
@@ -108,8 +108,8 @@ copy-turns {a} {m} {fan} {t₀} {t} {i} r v l q =
       kept = length-set t (a + i) v ∙ kept;
       done = record {
         below = λ k h. get_or-set_other t (a + i) k v 0 (λ f. omega arith) ∙ r.done.below k h;
-        in-it = λ k h. elim (dec_lt k i) [
-          | yes s ↦ get_or-set_other t (a + i) (a + k) v 0 (λ f. omega arith) ∙ r.done.in-it k s
+        in_it = λ k h. elim (dec_lt k i) [
+          | yes s ↦ get_or-set_other t (a + i) (a + k) v 0 (λ f. omega arith) ∙ r.done.in_it k s
           | no s ↦ let f : i ≡ k = omega arith in
               ap (λ (j : ℕ). get_or (set t (a + i) v) (a + j) 0) (sym f) ∙ get_or-set_same t (a + i) v 0 (omega arith) ∙ q ∙ ap (λ (j : ℕ). get_or fan j 0) f
         ];
@@ -117,10 +117,10 @@ copy-turns {a} {m} {fan} {t₀} {t} {i} r v l q =
       };
     }
 
-pub copy-ends : {a m : ℕ} {fan t₀ t : List ℕ} {i : ℕ} → Copying a m fan t₀ t i → m ≤ i → Copied a m fan t₀ t
-copy-ends {a} {m} {fan} {t₀} {t} {i} r l =
+pub copy_ends : {a m : ℕ} {fan t₀ t : List ℕ} {i : ℕ} → Copying a m fan t₀ t i → m ≤ i → Copied a m fan t₀ t
+copy_ends {a} {m} {fan} {t₀} {t} {i} r l =
     let within = r.within in
-    record { below = r.done.below; in-it = λ k h. r.done.in-it k (omega arith); past = λ k h. r.done.past k (omega arith) }
+    record { below = r.done.below; in_it = λ k h. r.done.in_it k (omega arith); past = λ k h. r.done.past k (omega arith) }
 
 -- ── both ──
 
@@ -142,7 +142,7 @@ module _ (t₀ t₁ t₂ fan : List ℕ) (n a b m : ℕ) (ab : a ≤ b) (bn : b 
   abbrev g : ℕ → ℕ
   g i = get_or t₀ i 0
 
-  pub spliced : numbersIn t₂ (a + m + (n - b)) ≡ take a (numbersIn t₀ n) ++ (numbersIn fan m ++ drop b (numbersIn t₀ n))
+  pub spliced : numbers_in t₂ (a + m + (n - b)) ≡ take a (numbers_in t₀ n) ++ (numbers_in fan m ++ drop b (numbers_in t₀ n))
   spliced =
       let e : a + m + (n - b) ≡ a + (m + (n - b)) = omega arith in
       ap (table f) e ∙ table-+ f a (m + (n - b))
@@ -151,8 +151,8 @@ module _ (t₀ t₁ t₂ fan : List ℕ) (n a b m : ℕ) (ab : a ≤ b) (bn : b 
       front : table f a ≡ take a (table g n)
       front = table-ext f g a (λ k l. C.below k l ∙ S.below k (omega arith) (omega arith)) ∙ sym (take-table g n a (omega arith))
 
-      middle : table (λ k. f (a + k)) m ≡ numbersIn fan m
-      middle = table-ext (λ k. f (a + k)) (λ k. get_or fan k 0) m (λ k l. C.in-it k l)
+      middle : table (λ k. f (a + k)) m ≡ numbers_in fan m
+      middle = table-ext (λ k. f (a + k)) (λ k. get_or fan k 0) m (λ k l. C.in_it k l)
 
       back : table (λ k. f (a + (m + k))) (n - b) ≡ drop b (table g n)
       back =

@@ -4,11 +4,11 @@ ghost use Rattle.seq.specs.Seq.{get_or};
 ghost use Rattle.paper.specs.Limits.{maps};
 ghost use Rattle.paper.specs.Plane.{before};
 ghost use Rattle.plane.specs.Bounds.{Near, Edge};
-ghost use Rattle.plane.specs.Values.{ptOf, segOf};
+ghost use Rattle.plane.specs.Values.{pt_of, seg_of};
 ghost use Rattle.graph.specs.Flat.{Carriers, Numbers};
 ghost use Rattle.laws_sweep.specs.Sweep.{ahead};
-ghost use Rattle.overlay_sweep.specs.Ahead.{mapAt, strandAt, Queued, Room, crossAhead};
-ghost use Rattle.overlay_sweep.specs.Neighbours.{jointAt};
+ghost use Rattle.overlay_sweep.specs.Ahead.{the_map_at, strand_at, Queued, Room, cross_ahead};
+ghost use Rattle.overlay_sweep.specs.Neighbours.{joint_at};
 
 use crate::earlier::earlier;
 use crate::queue::crossing_in;
@@ -19,7 +19,7 @@ use plane::{Cross, Point, Seg, crossing_over, over};
 // The map that edge k is of: the first whose edges end after it.
 fn map_of(starts: &[usize], k: usize) -> usize
     requires { maps < length starts.now }
-    ensures { result ≡ mapAt starts.now k }
+    ensures { result ≡ the_map_at starts.now k }
 {
     let mut m = 0;
     while m < MAPS {
@@ -34,16 +34,16 @@ fn map_of(starts: &[usize], k: usize) -> usize
 // Whether the edges k and l are of one map.
 fn one_map(starts: &[usize], k: usize, l: usize) -> bool
     requires { maps < length starts.now }
-    ensures { result ≡ eqb (mapAt starts.now k) (mapAt starts.now l) }
+    ensures { result ≡ eqb (the_map_at starts.now k) (the_map_at starts.now l) }
 {
     map_of(starts, k) == map_of(starts, l)
 }
 
 // Puts q, if it comes after p, among n points. Answers how many there are then.
 fn ahead_in(p: Point, q: Point, points: &mut [i64], n: usize, guess: i64) -> usize
-    requires fact_1 { Near (ptOf p) × Near (ptOf q) }
+    requires fact_1 { Near (pt_of p) × Near (pt_of q) }
     requires fact_2 { Room points.old n }
-    ensures { Queued (cond (before (ptOf p) (ptOf q)) (ptOf q ∷ []) []) points.old n points.new result }
+    ensures { Queued (cond (before (pt_of p) (pt_of q)) (pt_of q ∷ []) []) points.old n points.new result }
 {
     if earlier(p, q) {
         crossing_in(points, n, q, guess)
@@ -54,10 +54,10 @@ fn ahead_in(p: Point, q: Point, points: &mut [i64], n: usize, guess: i64) -> usi
 
 // Puts the crossing of s and t, if there is one after p, among n points. Parallel edges have none.
 fn cross_in(s: Seg, t: Seg, p: Point, points: &mut [i64], n: usize, guess: i64) -> usize
-    requires fact_1 { Edge (segOf s) × Edge (segOf t) }
-    requires fact_2 { Near (ptOf p) }
+    requires fact_1 { Edge (seg_of s) × Edge (seg_of t) }
+    requires fact_2 { Near (pt_of p) }
     requires fact_3 { Room points.old n }
-    ensures { Queued (crossAhead (ptOf p) (segOf s) (segOf t)) points.old n points.new result }
+    ensures { Queued (cross_ahead (pt_of p) (seg_of s) (seg_of t)) points.old n points.new result }
 {
     match crossing_over(s, t, over(s, t)) {
         Cross::Nothing => n,
@@ -84,9 +84,9 @@ fn tested(
 ) -> usize
     requires fact_1 { Carriers carriers.now e × (maps < length starts.now) }
     requires fact_2 { Numbers status.now c e × (j + 1 < c) }
-    requires fact_3 { Near (ptOf p) }
+    requires fact_3 { Near (pt_of p) }
     requires fact_4 { Room points.old n }
-    ensures { Queued (ahead (ptOf p) (strandAt carriers.now starts.now (get_or status.now j 0)) (strandAt carriers.now starts.now (get_or status.now (j + 1) 0))) points.old n points.new result }
+    ensures { Queued (ahead (pt_of p) (strand_at carriers.now starts.now (get_or status.now j 0)) (strand_at carriers.now starts.now (get_or status.now (j + 1) 0))) points.old n points.new result }
 {
     let k = status[j] as usize;
     let l = status[j + 1] as usize;
@@ -118,9 +118,9 @@ pub fn joined(
 ) -> usize
     requires fact_1 { Carriers carriers.now e × (maps < length starts.now) }
     requires fact_2 { Numbers status.now c e }
-    requires fact_3 { Near (ptOf p) }
+    requires fact_3 { Near (pt_of p) }
     requires fact_4 { Room points.old n }
-    ensures { Queued (jointAt carriers.now starts.now (ptOf p) status.now from j c) points.old n points.new result }
+    ensures { Queued (joint_at carriers.now starts.now (pt_of p) status.now from j c) points.old n points.new result }
 {
     if from < j {
         if j < c {

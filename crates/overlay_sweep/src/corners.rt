@@ -1,7 +1,7 @@
 // The corners put into the queue.
 ghost use Rattle.std.specs.Prelude.{◌*◌, ◌≤◌, length};
 ghost use Rattle.graph.specs.Flat.{Points};
-ghost use Rattle.overlay_cut.specs.Rooms.{vertexRows};
+ghost use Rattle.overlay_cut.specs.Rooms.{vertex_rows};
 ghost use Rattle.overlay_cut.specs.Points.{points_of};
 ghost use Rattle.overlay_sweep.specs.Ahead.{Queued};
 
@@ -11,7 +11,7 @@ use graph::point_at;
 // The first c rows, the last first, each point once. Answers how many there are.
 pub fn corners_in(rows: &[i64], c: usize, points: &mut [i64]) -> usize
     requires fact_1 { Points rows.now c }
-    requires fact_2 { 4 * vertexRows ≤ length points.old }
+    requires fact_2 { 4 * vertex_rows ≤ length points.old }
     ensures { Queued (points_of rows.now c) points.old 0 points.new result }
 {
     let mut n = 0;

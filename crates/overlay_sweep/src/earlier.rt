@@ -2,7 +2,7 @@
 ghost use Rattle.std.specs.Prelude.{◌≡◌};
 ghost use Rattle.paper.specs.Plane.{before};
 ghost use Rattle.plane.specs.Bounds.{Near, middling};
-ghost use Rattle.plane.specs.Values.{ptOf};
+ghost use Rattle.plane.specs.Values.{pt_of};
 
 use plane::{Point, before};
 
@@ -23,8 +23,8 @@ fn middling(n: i64, d: i64) -> bool
 
 // Whether q comes before p.
 pub fn earlier(q: Point, p: Point) -> bool
-    requires { Near (ptOf q) × Near (ptOf p) }
-    ensures { result ≡ before (ptOf q) (ptOf p) }
+    requires { Near (pt_of q) × Near (pt_of p) }
+    ensures { result ≡ before (pt_of q) (pt_of p) }
 {
     if middling(q.y, q.d) {
         if middling(p.y, p.d) {

@@ -2,7 +2,7 @@
 ghost use Rattle.std.specs.Prelude.{◌≡◌};
 ghost use Rattle.paper.specs.Plane.{vec, whole, before};
 ghost use Rattle.plane.specs.Bounds.{Near, Corner};
-ghost use Rattle.plane.specs.Values.{ptOf};
+ghost use Rattle.plane.specs.Values.{pt_of};
 ghost use Rattle.overlay_sweep.specs.First.{first};
 
 use plane::Point;
@@ -23,8 +23,8 @@ pub fn first_of(x: i64, y: i64, u: i64, v: i64) -> bool
 // Whether the corner x, y comes before p.
 pub fn corner_before(x: i64, y: i64, p: Point) -> bool
     requires fact_1 { Corner (vec x y) }
-    requires fact_2 { Near (ptOf p) }
-    ensures { result ≡ before (whole (vec x y)) (ptOf p) }
+    requires fact_2 { Near (pt_of p) }
+    ensures { result ≡ before (whole (vec x y)) (pt_of p) }
 {
     first_of(x * p.d, y * p.d, p.x, p.y)
 }
@@ -32,8 +32,8 @@ pub fn corner_before(x: i64, y: i64, p: Point) -> bool
 // Whether p comes before the corner x, y.
 pub fn before_corner(p: Point, x: i64, y: i64) -> bool
     requires fact_1 { Corner (vec x y) }
-    requires fact_2 { Near (ptOf p) }
-    ensures { result ≡ before (ptOf p) (whole (vec x y)) }
+    requires fact_2 { Near (pt_of p) }
+    ensures { result ≡ before (pt_of p) (whole (vec x y)) }
 {
     first_of(p.x, p.y, x * p.d, y * p.d)
 }

@@ -4,10 +4,10 @@ ghost use Rattle.std.specs.Prelude.{◌≡◌, ◌+◌, ◌*◌, ◌≤◌, ◌<
 ghost use Rattle.seq.specs.Halves.{Lasts, Halving};
 ghost use Rattle.seq.specs.Loops.Lifting.{lifted};
 ghost use Rattle.plane.specs.Bounds.{Near};
-ghost use Rattle.plane.specs.Values.{ptOf};
+ghost use Rattle.plane.specs.Values.{pt_of};
 ghost use Rattle.graph.specs.Flat.{Points};
-ghost use Rattle.overlay_cut.specs.Rooms.{vertexRows};
-ghost use Rattle.overlay_sweep.specs.Queue.{beforeAt, Place, Stands, queueOf, queued};
+ghost use Rattle.overlay_cut.specs.Rooms.{vertex_rows};
+ghost use Rattle.overlay_sweep.specs.Queue.{the_before_at, Place, Stands, queue_of, queued};
 
 use crate::earlier::earlier;
 use graph::point_at;
@@ -18,10 +18,10 @@ use seq::store4_i64;
 // The first of n rows that comes before p, or n: by halves. It is none below `from`, and none after `to`.
 fn place_in(points: &[i64], n: usize, from: usize, to: usize, p: Point) -> usize
     requires fact_1 { Points points.now n }
-    requires fact_2 { Near (ptOf p) }
-    requires fact_3 { Lasts (beforeAt points.now (ptOf p)) n }
-    requires fact_4 { Halving (beforeAt points.now (ptOf p)) n from to }
-    ensures { Place points.now (ptOf p) n result }
+    requires fact_2 { Near (pt_of p) }
+    requires fact_3 { Lasts (the_before_at points.now (pt_of p)) n }
+    requires fact_4 { Halving (the_before_at points.now (pt_of p)) n from to }
+    ensures { Place points.now (pt_of p) n result }
 {
     let mut a = from;
     let mut b = to;
@@ -38,10 +38,10 @@ fn place_in(points: &[i64], n: usize, from: usize, to: usize, p: Point) -> usize
 
 // The same, looked for from the last row on in steps that double: most crossings are near.
 fn place_near(points: &[i64], n: usize, p: Point) -> usize
-    requires fact_1 { Points points.now n × (n < vertexRows) }
-    requires fact_2 { Near (ptOf p) }
-    requires fact_3 { Lasts (beforeAt points.now (ptOf p)) n }
-    ensures { Place points.now (ptOf p) n result }
+    requires fact_1 { Points points.now n × (n < vertex_rows) }
+    requires fact_2 { Near (pt_of p) }
+    requires fact_3 { Lasts (the_before_at points.now (pt_of p)) n }
+    ensures { Place points.now (pt_of p) n result }
 {
     let mut b = n;
     let mut s = 1;
@@ -59,8 +59,8 @@ fn place_near(points: &[i64], n: usize, p: Point) -> usize
 // Whether p stands in the row below a, its place.
 fn stands_at(points: &[i64], n: usize, a: usize, p: Point) -> bool
     requires fact_1 { Points points.now n × (a ≤ n) }
-    requires fact_2 { Near (ptOf p) }
-    ensures { Stands points.now a (ptOf p) result }
+    requires fact_2 { Near (pt_of p) }
+    ensures { Stands points.now a (pt_of p) result }
 {
     if 0 < a {
         !earlier(p, point_at(points, a - 1))
@@ -84,10 +84,10 @@ fn lift_i64(t: &mut [i64], from: usize, to: usize, by: usize)
 
 // Puts p at its place a among n rows where it is not there yet. Answers how many rows there are.
 fn put_at(points: &mut [i64], n: usize, a: usize, p: Point, guess: i64) -> usize
-    requires fact_1 { Points points.old n × (n < vertexRows) × (4 * vertexRows ≤ length points.old) }
-    requires fact_2 { Near (ptOf p) }
-    requires fact_3 { Place points.old (ptOf p) n a }
-    ensures { queueOf points.new result ≡ queued vertexRows (ptOf p) (queueOf points.old n) }
+    requires fact_1 { Points points.old n × (n < vertex_rows) × (4 * vertex_rows ≤ length points.old) }
+    requires fact_2 { Near (pt_of p) }
+    requires fact_3 { Place points.old (pt_of p) n a }
+    ensures { queue_of points.new result ≡ queued vertex_rows (pt_of p) (queue_of points.old n) }
 {
     if stands_at(points, n, a, p) {
         return n;
@@ -100,10 +100,10 @@ fn put_at(points: &mut [i64], n: usize, a: usize, p: Point, guess: i64) -> usize
 // Puts the crossing p among n rows where it is not there yet, if there is room for one more. Answers how many rows there are.
 pub fn crossing_in(points: &mut [i64], n: usize, p: Point, guess: i64) -> usize
     requires fact_1 { Points points.old n }
-    requires fact_2 { Near (ptOf p) }
-    requires fact_3 { Lasts (beforeAt points.old (ptOf p)) n }
-    requires fact_4 { 4 * vertexRows ≤ length points.old }
-    ensures { queueOf points.new result ≡ queued vertexRows (ptOf p) (queueOf points.old n) }
+    requires fact_2 { Near (pt_of p) }
+    requires fact_3 { Lasts (the_before_at points.old (pt_of p)) n }
+    requires fact_4 { 4 * vertex_rows ≤ length points.old }
+    ensures { queue_of points.new result ≡ queued vertex_rows (pt_of p) (queue_of points.old n) }
 {
     if VERTEX_ROWS <= n {
         return n;
@@ -115,10 +115,10 @@ pub fn crossing_in(points: &mut [i64], n: usize, p: Point, guess: i64) -> usize
 // The same of a corner, which may belong anywhere.
 pub fn corner_in(points: &mut [i64], n: usize, p: Point) -> usize
     requires fact_1 { Points points.old n }
-    requires fact_2 { Near (ptOf p) }
-    requires fact_3 { Lasts (beforeAt points.old (ptOf p)) n }
-    requires fact_4 { 4 * vertexRows ≤ length points.old }
-    ensures { queueOf points.new result ≡ queued vertexRows (ptOf p) (queueOf points.old n) }
+    requires fact_2 { Near (pt_of p) }
+    requires fact_3 { Lasts (the_before_at points.old (pt_of p)) n }
+    requires fact_4 { 4 * vertex_rows ≤ length points.old }
+    ensures { queue_of points.new result ≡ queued vertex_rows (pt_of p) (queue_of points.old n) }
 {
     if VERTEX_ROWS <= n {
         return n;

@@ -3,9 +3,9 @@
 ghost use Rattle.std.specs.Prelude.{◌≡◌, true, ◌≤◌, ◌<◌};
 ghost use Rattle.graph.specs.Flat.{Carriers, Numbers};
 ghost use Rattle.plane.specs.Bounds.{Near};
-ghost use Rattle.plane.specs.Values.{ptOf};
+ghost use Rattle.plane.specs.Values.{pt_of};
 ghost use Rattle.seq.specs.Search.{Steady, Stop, ScanStop};
-ghost use Rattle.overlay_sweep.specs.Sides.{rightAt, onAt};
+ghost use Rattle.overlay_sweep.specs.Sides.{right_at, on_at};
 
 use graph::carrier_at;
 use plane::{Point, left_by};
@@ -15,8 +15,8 @@ fn is_right(carriers: &[i16], e: usize, status: &[u16], n: usize, i: usize, p: P
     requires fact_1 { Carriers carriers.now e }
     requires fact_2 { Numbers status.now n e }
     requires fact_3 { i < n }
-    requires fact_4 { Near (ptOf p) }
-    ensures { result ≡ rightAt carriers.now status.now (ptOf p) i }
+    requires fact_4 { Near (pt_of p) }
+    ensures { result ≡ right_at carriers.now status.now (pt_of p) i }
 {
     let k = status[i] as usize;
     let s = carrier_at(carriers, k);
@@ -27,9 +27,9 @@ fn is_right(carriers: &[i16], e: usize, status: &[u16], n: usize, i: usize, p: P
 fn parts_at(carriers: &[i16], e: usize, status: &[u16], n: usize, p: Point, g: usize) -> bool
     requires fact_1 { Carriers carriers.now e }
     requires fact_2 { Numbers status.now n e }
-    requires fact_3 { Near (ptOf p) }
-    requires fact_4 { Steady (rightAt carriers.now status.now (ptOf p)) n }
-    ensures { result ≡ true → Stop (rightAt carriers.now status.now (ptOf p)) n g }
+    requires fact_3 { Near (pt_of p) }
+    requires fact_4 { Steady (right_at carriers.now status.now (pt_of p)) n }
+    ensures { result ≡ true → Stop (right_at carriers.now status.now (pt_of p)) n g }
 {
     if g < 1 {
         return false;
@@ -55,9 +55,9 @@ pub fn west_of(
 ) -> usize
     requires fact_1 { Carriers carriers.now e }
     requires fact_2 { Numbers status.now n e }
-    requires fact_3 { Near (ptOf p) }
-    requires fact_4 { Steady (rightAt carriers.now status.now (ptOf p)) n }
-    ensures { Stop (rightAt carriers.now status.now (ptOf p)) n result }
+    requires fact_3 { Near (pt_of p) }
+    requires fact_4 { Steady (right_at carriers.now status.now (pt_of p)) n }
+    ensures { Stop (right_at carriers.now status.now (pt_of p)) n result }
 {
     if parts_at(carriers, e, status, n, p, guess) {
         return guess;
@@ -80,8 +80,8 @@ fn is_on(carriers: &[i16], e: usize, status: &[u16], n: usize, i: usize, p: Poin
     requires fact_1 { Carriers carriers.now e }
     requires fact_2 { Numbers status.now n e }
     requires fact_3 { i < n }
-    requires fact_4 { Near (ptOf p) }
-    ensures { result ≡ onAt carriers.now status.now (ptOf p) i }
+    requires fact_4 { Near (pt_of p) }
+    ensures { result ≡ on_at carriers.now status.now (pt_of p) i }
 {
     let k = status[i] as usize;
     let s = carrier_at(carriers, k);
@@ -93,8 +93,8 @@ pub fn through_to(carriers: &[i16], e: usize, status: &[u16], n: usize, a: usize
     requires fact_1 { Carriers carriers.now e }
     requires fact_2 { Numbers status.now n e }
     requires fact_3 { a ≤ n }
-    requires fact_4 { Near (ptOf p) }
-    ensures { ScanStop (onAt carriers.now status.now (ptOf p)) n a result }
+    requires fact_4 { Near (pt_of p) }
+    ensures { ScanStop (on_at carriers.now status.now (pt_of p)) n a result }
 {
     let mut i = a;
     while i < n {

@@ -1,6 +1,6 @@
 // A part of the status exchanged for another list.
 ghost use Rattle.std.specs.Prelude.{◌≡◌, ◌++◌, ◌+◌, ◌-◌, ◌≤◌, length, take, drop};
-ghost use Rattle.overlay_sweep.specs.Numbers.{numbersIn};
+ghost use Rattle.overlay_sweep.specs.Numbers.{numbers_in};
 ghost use Rattle.overlay_sweep.specs.Splice.{Lowered, Shifted, Copied};
 
 use seq::lift_u16;
@@ -54,7 +54,7 @@ pub fn splice(t: &mut [u16], n: usize, a: usize, b: usize, fan: &[u16], m: usize
     requires fact_4 { a + m + (n - b) ≤ length t.old }
     requires fact_5 { m ≤ length fan.now }
     ensures count { result ≡ a + m + (n - b) }
-    ensures is { numbersIn t.new (a + m + (n - b)) ≡ take a (numbersIn t.old n) ++ (numbersIn fan.now m ++ drop b (numbersIn t.old n)) }
+    ensures is { numbers_in t.new (a + m + (n - b)) ≡ take a (numbers_in t.old n) ++ (numbers_in fan.now m ++ drop b (numbers_in t.old n)) }
 {
     shift(t, n, b, a + m);
     copy_in(t, a, fan, m);

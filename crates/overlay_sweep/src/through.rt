@@ -2,12 +2,12 @@
 ghost use Rattle.std.specs.Prelude.{◌≤◌};
 ghost use Rattle.seq.specs.Search.{Steady};
 ghost use Rattle.plane.specs.Bounds.{Near};
-ghost use Rattle.plane.specs.Values.{ptOf};
+ghost use Rattle.plane.specs.Values.{pt_of};
 ghost use Rattle.graph.specs.Flat.{Carriers, Numbers};
 ghost use Rattle.overlay_cut.specs.Threads.{RememberedIf};
-ghost use Rattle.overlay_sweep.specs.Sides.{rightAt};
+ghost use Rattle.overlay_sweep.specs.Sides.{right_at};
 ghost use Rattle.overlay_sweep.specs.Meets.{Meets};
-ghost use Rattle.overlay_sweep.specs.Threading.{atStop, Wound};
+ghost use Rattle.overlay_sweep.specs.Threading.{at_stop, Wound};
 
 use crate::fans::start_to;
 use crate::search::{through_to, west_of};
@@ -36,9 +36,9 @@ pub fn edges_through(
     requires fact_1 { Carriers carriers.now e }
     requires fact_2 { Numbers status.now c e }
     requires fact_3 { Numbers waits.now e e × (w ≤ e) }
-    requires fact_4 { Near (ptOf p) }
-    requires fact_5 { Steady (rightAt carriers.now status.now (ptOf p)) c }
-    ensures { Meets carriers.now e waits.now status.now (ptOf p) c w result.from result.to result.started }
+    requires fact_4 { Near (pt_of p) }
+    requires fact_5 { Steady (right_at carriers.now status.now (pt_of p)) c }
+    ensures { Meets carriers.now e waits.now status.now (pt_of p) c w result.from result.to result.started }
 {
     let from = west_of(carriers, e, status, c, p, guess);
     let to = through_to(carriers, e, status, c, from, p);
@@ -62,7 +62,7 @@ pub fn thread(
     requires fact_1 { Numbers waits.now at.started e × (w ≤ at.started) }
     requires fact_2 { Numbers status.now at.to e × (at.from ≤ at.to) }
     requires fact_3 { Wound e room last.old nodes.old t }
-    ensures { RememberedIf e room v (atStop status.now at.from at.to waits.now w at.started) last.old nodes.old t last.new nodes.new result × (result ≤ room) }
+    ensures { RememberedIf e room v (at_stop status.now at.from at.to waits.now w at.started) last.old nodes.old t last.new nodes.new result × (result ≤ room) }
 {
     let u = remember_all(status, at.from, at.to, last, e, nodes, room, t, v);
     remember_all(waits, w, at.started, last, e, nodes, room, u, v)

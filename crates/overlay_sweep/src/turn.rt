@@ -1,8 +1,8 @@
 // From one stop to the next.
 ghost use Rattle.plane.specs.Bounds.{Near};
-ghost use Rattle.plane.specs.Values.{ptOf};
+ghost use Rattle.plane.specs.Values.{pt_of};
 ghost use Rattle.seq.specs.Search.{Steady};
-ghost use Rattle.overlay_sweep.specs.Sides.{rightAt};
+ghost use Rattle.overlay_sweep.specs.Sides.{right_at};
 ghost use Rattle.overlay_sweep.specs.Ahead.{Room};
 ghost use Rattle.overlay_sweep.specs.Meets.{Meets};
 ghost use Rattle.overlay_sweep.specs.Turned.{Ready, Turned};
@@ -38,9 +38,9 @@ fn exchange(
 ) -> Exchanged
     requires fact_1 { Ready carriers.now e starts.now waits.now status.old fan.old c w }
     requires fact_2 { Room points.old n }
-    requires fact_3 { Near (ptOf p) }
-    requires fact_4 { Meets carriers.now e waits.now status.old (ptOf p) c w at.from at.to at.started }
-    ensures { Turned carriers.now e starts.now (ptOf p) waits.now status.old c w points.old n status.new result.cut at.started points.new result.known }
+    requires fact_3 { Near (pt_of p) }
+    requires fact_4 { Meets carriers.now e waits.now status.old (pt_of p) c w at.from at.to at.started }
+    ensures { Turned carriers.now e starts.now (pt_of p) waits.now status.old c w points.old n status.new result.cut at.started points.new result.known }
 {
     let a = at.from;
     let b = at.to;
@@ -85,11 +85,11 @@ pub fn turn(
 ) -> Line
     requires fact_1 { Ready carriers.now e starts.now waits.now status.old fan.old c w }
     requires fact_2 { Room points.old n }
-    requires fact_3 { Near (ptOf p) }
-    requires fact_4 { Steady (rightAt carriers.now status.old (ptOf p)) c }
+    requires fact_3 { Near (pt_of p) }
+    requires fact_4 { Steady (right_at carriers.now status.old (pt_of p)) c }
     requires fact_5 { Wound e room last.old nodes.old t }
-    ensures turned { Turned carriers.now e starts.now (ptOf p) waits.now status.old c w points.old n status.new result.cut result.started points.new result.known }
-    ensures threads { Threading carriers.now e room v waits.now status.old (ptOf p) c w result.started last.old nodes.old t last.new nodes.new result.nodes }
+    ensures turned { Turned carriers.now e starts.now (pt_of p) waits.now status.old c w points.old n status.new result.cut result.started points.new result.known }
+    ensures threads { Threading carriers.now e room v waits.now status.old (pt_of p) c w result.started last.old nodes.old t last.new nodes.new result.nodes }
 {
     let at = edges_through(carriers, e, waits, status, c, w, p, guess);
     let u = thread(waits, status, w, at, last, e, nodes, room, t, v);

@@ -8,15 +8,15 @@ use Rattle.seq.specs.Seq.{List, ℕ, zero, suc, ◌+◌, ◌*◌, ◌-◌, ◌/�
 use lib.Signed.{◌≤ℤ◌, ◌<ℤ◌}
 use Rattle.exact.specs.Order.{≡-of, is-+, pos≮0}
 use Rattle.paper.specs.Bytes.{byte_at, number, le}
-use Rattle.laws_file.specs.Bytes.{Bytes, wrapped, number-below}
+use Rattle.laws_file.specs.Bytes.{Bytes, wrapped, number_below}
 
 -- ── how many numbers there are ──
 
-pub powers-fit : (i w : ℕ) → i < w → w < 8 → 256 * 256 ^ i < 2 ^ 64
-powers-fit i w l h = omega (arith, pow-le-pow_right {n = 256} (omega arith) {i = i} {j = 6} (omega arith))
+pub powers_fit : (i w : ℕ) → i < w → w < 8 → 256 * 256 ^ i < 2 ^ 64
+powers_fit i w l h = omega (arith, pow-le-pow_right {n = 256} (omega arith) {i = i} {j = 6} (omega arith))
 
-pub powers-small : (w : ℕ) → w < 8 → 256 ^ w ≤ 256 ^ 7
-powers-small w h = pow-le-pow_right {n = 256} (omega arith) {i = w} {j = 7} (omega arith)
+pub powers_small : (w : ℕ) → w < 8 → 256 ^ w ≤ 256 ^ 7
+powers_small w h = pow-le-pow_right {n = 256} (omega arith) {i = w} {j = 7} (omega arith)
 
 -- ── reading ──
 
@@ -37,17 +37,17 @@ pub record Reading (w : ℕ) (s : List ℕ) (at i n : ℕ) : Type 0 where
   pub is : n ≡ number (w - i) s (at + i)
 
 module _ {w : ℕ} {s : List ℕ} {at : ℕ} where
-  pub read-starts : Reading w s at w 0
-  read-starts = let e : w - w ≡ 0 = omega arith in record { within = omega arith; is = rw e }
+  pub read_starts : Reading w s at w 0
+  read_starts = let e : w - w ≡ 0 = omega arith in record { within = omega arith; is = rw e }
 
-  pub read-turns : {i n : ℕ} → Reading w s at i n → (b : ℕ) → 0 < i → b ≡ byte_at s (at + (i - 1)) → Reading w s at (i - 1) (b + 256 * n)
-  read-turns {i} {n} r b l e =
+  pub read_turns : {i n : ℕ} → Reading w s at i n → (b : ℕ) → 0 < i → b ≡ byte_at s (at + (i - 1)) → Reading w s at (i - 1) (b + 256 * n)
+  read_turns {i} {n} r b l e =
       let more : w - (i - 1) ≡ suc (w - i) = omega (arith, r.within) in
       let next : suc (at + (i - 1)) ≡ at + i = omega arith in
       record { within = omega (arith, r.within); is = rw (more, next, e, r.is) }
 
-  pub read-ends : {i n : ℕ} → Reading w s at i n → i ≤ 0 → n ≡ number w s at
-  read-ends {i} {n} r l =
+  pub read_ends : {i n : ℕ} → Reading w s at i n → i ≤ 0 → n ≡ number w s at
+  read_ends {i} {n} r l =
       let e : w - i ≡ w = omega arith in
       let g : at + i ≡ at = omega arith in
       rw (e, g) at r.is
@@ -55,15 +55,15 @@ module _ {w : ℕ} {s : List ℕ} {at : ℕ} where
   -- one byte more still fits
   pub read_small : {i n : ℕ} → Reading w s at i n → Bytes s → w < 8 → 0 < i → n < 256 ^ 6
   read_small {i} {n} r h l m =
-      omega (arith, r.is, number-below (w - i) s (at + i) h, pow-le-pow_right {n = 256} (omega arith) {i = w - i} {j = 6} (omega (arith, r.within)))
+      omega (arith, r.is, number_below (w - i) s (at + i) h, pow-le-pow_right {n = 256} (omega arith) {i = w - i} {j = 6} (omega (arith, r.within)))
 
 pub number_small : (w : ℕ) (s : List ℕ) (at : ℕ) → Bytes s → w < 8 → number w s at < 256 ^ 7
-number_small w s at h l = omega (arith, number-below w s at h, powers-small w l)
+number_small w s at h l = omega (arith, number_below w s at h, powers_small w l)
 
 -- the upper half of the numbers stands for the negative ones
-pub below-zero : (n p : ℕ) → n < p → pos n -ℤ pos p ≡ negsuc (p - suc n)
-below-zero n zero l = absurd (omega arith)
-below-zero n (suc p) l = ≡-of (pos n -ℤ pos (suc p)) (negsuc (suc p - suc n)) (omega (arith, is-+ (pos n) (negsuc p)))
+pub below_zero : (n p : ℕ) → n < p → pos n -ℤ pos p ≡ negsuc (p - suc n)
+below_zero n zero l = absurd (omega arith)
+below_zero n (suc p) l = ≡-of (pos n -ℤ pos (suc p)) (negsuc (suc p - suc n)) (omega (arith, is-+ (pos n) (negsuc p)))
 
 -- ── storing ──
 
@@ -74,14 +74,14 @@ pub record Writing (d : List ℕ) (at w n : ℕ) (t : List ℕ) (rest i : ℕ) :
   pub is : sets t (at + i) (le (w - i) rest) ≡ sets d at (le w n)
 
 module _ {d : List ℕ} {at w n : ℕ} where
-  pub write-starts : Writing d at w n d n 0
-  write-starts =
+  pub write_starts : Writing d at w n d n 0
+  write_starts =
       let e : w - 0 ≡ w = omega arith in
       let g : at + 0 ≡ at = omega arith in
       record { within = omega arith; kept = refl; is = rw (e, g) }
 
-  pub write-turns : {t : List ℕ} {rest i : ℕ} → Writing d at w n t rest i → i < w → Writing d at w n (set t (at + i) (rest % 256)) (rest / 256) (i + 1)
-  write-turns {t} {rest} {i} r l =
+  pub write_turns : {t : List ℕ} {rest i : ℕ} → Writing d at w n t rest i → i < w → Writing d at w n (set t (at + i) (rest % 256)) (rest / 256) (i + 1)
+  write_turns {t} {rest} {i} r l =
       let more : w - i ≡ suc (w - (i + 1)) = omega arith in
       let next : at + (i + 1) ≡ suc (at + i) = omega arith in
       record {
@@ -90,15 +90,15 @@ module _ {d : List ℕ} {at w n : ℕ} where
         is = rw next (ap (λ (k : ℕ). sets t (at + i) (le k rest)) (sym more) ∙ r.is);
       }
 
-  pub write-ends : {t : List ℕ} {rest i : ℕ} → Writing d at w n t rest i → w ≤ i → t ≡ sets d at (le w n)
-  write-ends {t} {rest} {i} r l = let e : w - i ≡ 0 = omega arith in ap (λ (k : ℕ). sets t (at + i) (le k rest)) (sym e) ∙ r.is
+  pub write_ends : {t : List ℕ} {rest i : ℕ} → Writing d at w n t rest i → w ≤ i → t ≡ sets d at (le w n)
+  write_ends {t} {rest} {i} r l = let e : w - i ≡ 0 = omega arith in ap (λ (k : ℕ). sets t (at + i) (le k rest)) (sym e) ∙ r.is
 
 -- ── signed numbers, by their magnitude ──
 
-pub wrapped-low : (w : ℕ) (z : ℤ) → pos 0 ≤ℤ z → nat_abs z ≡ wrapped w z
-wrapped-low w (pos n) h = refl
-wrapped-low w (negsuc n) h = absurd h.le
+pub wrapped_low : (w : ℕ) (z : ℤ) → pos 0 ≤ℤ z → nat_abs z ≡ wrapped w z
+wrapped_low w (pos n) h = refl
+wrapped_low w (negsuc n) h = absurd h.le
 
-pub wrapped-high : (w : ℕ) (z : ℤ) → z <ℤ pos 0 → 256 ^ w - nat_abs z ≡ wrapped w z
-wrapped-high w (pos n) h = absurd (pos≮0 n h)
-wrapped-high w (negsuc n) h = refl
+pub wrapped_high : (w : ℕ) (z : ℤ) → z <ℤ pos 0 → 256 ^ w - nat_abs z ≡ wrapped w z
+wrapped_high w (pos n) h = absurd (pos≮0 n h)
+wrapped_high w (negsuc n) h = refl

@@ -2,7 +2,7 @@
 ghost use Rattle.std.specs.Prelude.{◌≡◌, ◌+◌, ◌*◌, ◌<◌, ◌≤◌, ◌^◌, nat_abs, length};
 ghost use Rattle.std.proofs.lemmas.List.Edits.{sets};
 ghost use Rattle.seq.specs.Seq.{gather};
-ghost use Rattle.paper.specs.Bytes.{number, signedAt, le};
+ghost use Rattle.paper.specs.Bytes.{number, signed_at, le};
 ghost use Rattle.laws_file.specs.Bytes.{wrapped};
 
 use exact::magnitude;
@@ -92,7 +92,7 @@ pub fn number_at(file: &[u8], at: usize, width: usize) -> u64
 // The signed number there, two's complement.
 pub fn signed_at(file: &[u8], at: usize, width: usize) -> i64
     requires { width < 8 }
-    ensures { result ≡ signedAt width file.now at }
+    ensures { result ≡ signed_at width file.now at }
 {
     let n = number_at(file, at, width);
     let all = numbers(width);

@@ -1,7 +1,7 @@
 // The layout of a version: how many bytes X and Y have each, and how many sources and labels are stored. What the reader and the writer do is over it.
 ghost use Rattle.std.specs.Prelude.{◌≡◌};
-ghost use Rattle.paper.specs.Ovfile.{layouts, layoutOf};
-ghost use Rattle.ovfile.specs.Values.{layoutFrom};
+ghost use Rattle.paper.specs.Ovfile.{layouts, layout_of};
+ghost use Rattle.ovfile.specs.Values.{layout_from};
 ghost use Rattle.ovfile.specs.Known.{Known};
 
 use limits::{COORDINATE_BYTES, FIRST_COORDINATE_BYTES, MAPS};
@@ -17,7 +17,7 @@ const OLDER_MAPS: usize = 2;
 
 // The layout of a version: "the reader takes all three versions" (02, Ask 13). One that is not known has no bytes, and is refused before they are asked for.
 pub fn layout_of(version: u16) -> Layout
-    ensures { (layoutFrom result ≡ layoutOf layouts version) × Known (layoutFrom result) }
+    ensures { (layout_from result ≡ layout_of layouts version) × Known (layout_from result) }
 {
     if version <= 1 {
         return Layout {

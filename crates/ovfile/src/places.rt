@@ -1,10 +1,10 @@
 // Where vertices, edges and faces stand in a file of a layout: "length 11 + 16 per vertex + 18 per edge + 10 per face" (02, Ask 13) in version 3, 16 per edge and 8 per face
 // before it, and 14 per vertex in version 1.
 ghost use Rattle.std.specs.Prelude.{◌≡◌, ◌+◌, ◌*◌, ◌<◌, ◌≤◌, ◌^◌};
-ghost use Rattle.paper.specs.Limits.{overlayHead};
-ghost use Rattle.paper.specs.Ovfile.{vertexSize, edgeSize, faceSize, edges_at, facesAt, fileLength};
-ghost use Rattle.tables.specs.Values.{countsOf};
-ghost use Rattle.ovfile.specs.Values.{layoutFrom};
+ghost use Rattle.paper.specs.Limits.{overlay_head};
+ghost use Rattle.paper.specs.Ovfile.{vertex_size, edge_size, face_size, edges_at, faces_at, file_length};
+ghost use Rattle.tables.specs.Values.{counts_of};
+ghost use Rattle.ovfile.specs.Values.{layout_from};
 ghost use Rattle.ovfile.specs.Known.{Known, largest};
 
 use crate::layout::Layout;
@@ -13,24 +13,24 @@ use tables::Counts;
 
 // The bytes of one vertex.
 pub fn vertex_size(layout: Layout) -> usize
-    requires { Known (layoutFrom layout) }
-    ensures { result ≡ vertexSize (layoutFrom layout) }
+    requires { Known (layout_from layout) }
+    ensures { result ≡ vertex_size (layout_from layout) }
 {
     2 * layout.coordinate + DENOMINATOR_BYTES
 }
 
 // The bytes of one edge.
 pub fn edge_size(layout: Layout) -> usize
-    requires { Known (layoutFrom layout) }
-    ensures { result ≡ edgeSize (layoutFrom layout) }
+    requires { Known (layout_from layout) }
+    ensures { result ≡ edge_size (layout_from layout) }
 {
     12 + 2 * layout.maps
 }
 
 // The bytes of one face.
 pub fn face_size(layout: Layout) -> usize
-    requires { Known (layoutFrom layout) }
-    ensures { result ≡ faceSize (layoutFrom layout) }
+    requires { Known (layout_from layout) }
+    ensures { result ≡ face_size (layout_from layout) }
 {
     4 + 2 * layout.maps
 }
@@ -53,31 +53,31 @@ pub fn field_at(start: usize, size: usize, n: u32, j: u32) -> usize
 
 // Where vertex v starts.
 pub fn vertex_place(layout: Layout, v: u16) -> usize
-    requires { Known (layoutFrom layout) }
-    ensures { result ≡ overlayHead + vertexSize (layoutFrom layout) * v }
+    requires { Known (layout_from layout) }
+    ensures { result ≡ overlay_head + vertex_size (layout_from layout) * v }
 {
     row_at(OVERLAY_HEAD, vertex_size(layout), v as usize)
 }
 
 // Where the edges start.
 pub fn edges_at(layout: Layout, c: Counts) -> usize
-    requires { Known (layoutFrom layout) }
-    ensures { result ≡ edges_at (layoutFrom layout) (countsOf c) }
+    requires { Known (layout_from layout) }
+    ensures { result ≡ edges_at (layout_from layout) (counts_of c) }
 {
     vertex_place(layout, c.vertices)
 }
 
 // Where the faces start.
 pub fn faces_at(layout: Layout, c: Counts) -> usize
-    requires { Known (layoutFrom layout) }
-    ensures { result ≡ facesAt (layoutFrom layout) (countsOf c) }
+    requires { Known (layout_from layout) }
+    ensures { result ≡ faces_at (layout_from layout) (counts_of c) }
 {
     row_at(edges_at(layout, c), edge_size(layout), c.edges as usize)
 }
 
 pub fn file_length(layout: Layout, c: Counts) -> usize
-    requires { Known (layoutFrom layout) }
-    ensures { result ≡ fileLength (layoutFrom layout) (countsOf c) }
+    requires { Known (layout_from layout) }
+    ensures { result ≡ file_length (layout_from layout) (counts_of c) }
 {
     row_at(faces_at(layout, c), face_size(layout), c.faces as usize)
 }

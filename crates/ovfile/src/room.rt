@@ -2,14 +2,14 @@
 ghost use Rattle.std.specs.Prelude.{◌≡◌};
 ghost use Rattle.paper.specs.Ovfile.{over};
 ghost use Rattle.paper.specs.Reader.{numbers};
-ghost use Rattle.tables.specs.Values.{countsOf};
+ghost use Rattle.tables.specs.Values.{counts_of};
 
 use limits::{OVERLAY_EDGES, OVERLAY_FACES, OVERLAY_VERTICES};
 use tables::Counts;
 
 // The numbers of 01.
 pub fn numbers() -> Counts
-    ensures { countsOf result ≡ numbers }
+    ensures { counts_of result ≡ numbers }
 {
     Counts {
         vertices: OVERLAY_VERTICES,
@@ -20,7 +20,7 @@ pub fn numbers() -> Counts
 
 // 3 "a count over its number or its table"
 pub fn over(room: Counts, c: Counts) -> bool
-    ensures { result ≡ over (countsOf room) (countsOf c) }
+    ensures { result ≡ over (counts_of room) (counts_of c) }
 {
     (room.vertices < c.vertices) | ((room.edges < c.edges) | (room.faces < c.faces))
 }

@@ -3,9 +3,9 @@
 ghost use Rattle.std.specs.Prelude.{◌≡◌, [], ◌*◌, ◌<◌, ◌≤◌, set};
 ghost use Rattle.paper.specs.Limits.{maps};
 ghost use Rattle.paper.specs.Graph.{twin};
-ghost use Rattle.paper.specs.Ovfile.{soundFollower, hasSource, soundEdge};
-ghost use Rattle.tables.specs.Values.{countsOf};
-ghost use Rattle.ovfile.specs.Values.{edgeTables};
+ghost use Rattle.paper.specs.Ovfile.{sound_follower, has_source, sound_edge};
+ghost use Rattle.tables.specs.Values.{counts_of};
+ghost use Rattle.ovfile.specs.Values.{edge_tables};
 ghost use Rattle.ovfile.specs.Firsts.{column, FirstPlaces, Followed};
 
 use crate::cells::{half_cell, source_cell, u16_at};
@@ -43,7 +43,7 @@ pub fn first_places(halves: &[u16], j: u16, n: u32, out: &mut [u16])
 // "each follower is a half-edge of the file, starts where its half-edge ends, and follows no half-edge of lower number"
 fn sound_follower(edges: u16, halves: &[u16], first: &[u16], h: u32) -> bool
     requires { (h < 2 * edges) × Followed halves.now (2 * edges) first.now }
-    ensures { result ≡ soundFollower (record { vertices = 0; edges = edges; faces = 0 }) (edgeTables halves.now []) h }
+    ensures { result ≡ sound_follower (record { vertices = 0; edges = edges; faces = 0 }) (edge_tables halves.now []) h }
 {
     let f = half_cell(halves, h, 2) as u32;
     (f < 2 * edges as u32)
@@ -53,7 +53,7 @@ fn sound_follower(edges: u16, halves: &[u16], first: &[u16], h: u32) -> bool
 
 // "a source is not 0"
 fn has_source(sources: &[u32], k: u16) -> bool
-    ensures { result ≡ hasSource maps (edgeTables [] sources.now) k }
+    ensures { result ≡ has_source maps (edge_tables [] sources.now) k }
 {
     (source_cell(sources, k, 0) != 0)
         | ((source_cell(sources, k, 1) != 0) | (source_cell(sources, k, 2) != 0))
@@ -62,7 +62,7 @@ fn has_source(sources: &[u32], k: u16) -> bool
 // Whether record k of the counted edges is sound.
 pub fn sound_edge(c: Counts, halves: &[u16], sources: &[u32], first: &[u16], k: u16) -> bool
     requires { (k < c.edges) × Followed halves.now (2 * c.edges) first.now }
-    ensures { result ≡ soundEdge maps (countsOf c) (edgeTables halves.now sources.now) k }
+    ensures { result ≡ sound_edge maps (counts_of c) (edge_tables halves.now sources.now) k }
 {
     let a = 2 * k as u32;
     let b = a + 1;

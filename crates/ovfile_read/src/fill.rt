@@ -4,13 +4,13 @@ ghost use Rattle.std.specs.Prelude.{◌≡◌, ◌*◌, ◌≤◌, pos, length};
 ghost use Rattle.std.proofs.lemmas.List.Edits.{sets};
 ghost use Rattle.seq.specs.Seq.{rows, padded, table};
 ghost use Rattle.paper.specs.Limits.{maps};
-ghost use Rattle.paper.specs.Tables.{vertexWidth, halfWidth, faceWidth};
-ghost use Rattle.paper.specs.Reader.{countsIn, storedSource, halfRead, faceRead, tablesIn};
-ghost use Rattle.ovfile.specs.Values.{layoutFrom};
+ghost use Rattle.paper.specs.Tables.{vertex_width, half_width, face_width};
+ghost use Rattle.paper.specs.Reader.{counts_in, stored_source, half_read, face_read, tables_in};
+ghost use Rattle.ovfile.specs.Values.{layout_from};
 ghost use Rattle.ovfile.specs.Known.{Known};
 ghost use Rattle.ovfile.specs.Firsts.{FirstPlaces};
 ghost use Rattle.ovfile_read.specs.Starts.{EdgesFrom};
-ghost use Rattle.ovfile_read.specs.Filled.{storedField, followersIn, vertexBy, Within, Predecessors, LeastStarts};
+ghost use Rattle.ovfile_read.specs.Filled.{stored_field, followers_in, vertex_by, Within, Predecessors, LeastStarts};
 
 use crate::stored::{
     counts, edge_field, edges_start, face, face_field, faces_start, follower, label, origin, source,
@@ -24,8 +24,8 @@ use seq::{store3_u32, store4_i64, store5_u16, wipe_from_i64, wipe_from_u16, wipe
 
 // In each cell of `out` the first of n half-edges that has its number as field j of its edge, or as the one after it. From the last half-edge down.
 fn first_stored(layout: Layout, file: &[u8], start: usize, j: u16, n: u32, out: &mut [u16])
-    requires { EdgesFrom (layoutFrom layout) file.now start × (n ≤ 65536) }
-    ensures { FirstPlaces (storedField (layoutFrom layout) file.now j) n out.old out.new }
+    requires { EdgesFrom (layout_from layout) file.now start × (n ≤ 65536) }
+    ensures { FirstPlaces (stored_field (layout_from layout) file.now j) n out.old out.new }
 {
     let mut h = n;
     while 0 < h {
@@ -40,8 +40,8 @@ fn first_stored(layout: Layout, file: &[u8], start: usize, j: u16, n: u32, out: 
 
 // The predecessor of each half-edge.
 fn predecessors(layout: Layout, file: &[u8]) -> [u16; HALVES]
-    requires { Known (layoutFrom layout) × Within (countsIn file.now) }
-    ensures { Predecessors (layoutFrom layout) file.now result }
+    requires { Known (layout_from layout) × Within (counts_in file.now) }
+    ensures { Predecessors (layout_from layout) file.now result }
 {
     let n = 2 * counts(file).edges as u32;
     let mut first = [n as u16; HALVES];
@@ -51,8 +51,8 @@ fn predecessors(layout: Layout, file: &[u8]) -> [u16; HALVES]
 }
 
 fn lay_halves(layout: Layout, file: &[u8], first: &[u16], halves: &mut [u16])
-    requires { Known (layoutFrom layout) × Within (countsIn file.now) × Predecessors (layoutFrom layout) file.now first.now × (halfWidth * (2 * (countsIn file.now).edges) ≤ length halves.old) }
-    ensures { halves.new ≡ sets halves.old 0 (rows (halfRead (layoutFrom layout) file.now (followersIn (layoutFrom layout) file.now)) (2 * (countsIn file.now).edges)) }
+    requires { Known (layout_from layout) × Within (counts_in file.now) × Predecessors (layout_from layout) file.now first.now × (half_width * (2 * (counts_in file.now).edges) ≤ length halves.old) }
+    ensures { halves.new ≡ sets halves.old 0 (rows (half_read (layout_from layout) file.now (followers_in (layout_from layout) file.now)) (2 * (counts_in file.now).edges)) }
 {
     let n = 2 * counts(file).edges as u32;
     let start = edges_start(layout, file);
@@ -73,8 +73,8 @@ fn lay_halves(layout: Layout, file: &[u8], first: &[u16], halves: &mut [u16])
 
 // The half-edge table of a file.
 pub fn fill_halves(layout: Layout, file: &[u8], halves: &mut [u16])
-    requires { Known (layoutFrom layout) × Within (countsIn file.now) × (halfWidth * (2 * (countsIn file.now).edges) ≤ length halves.old) }
-    ensures { halves.new ≡ padded 0 (length halves.old) (tablesIn maps (layoutFrom layout) file.now).halves }
+    requires { Known (layout_from layout) × Within (counts_in file.now) × (half_width * (2 * (counts_in file.now).edges) ≤ length halves.old) }
+    ensures { halves.new ≡ padded 0 (length halves.old) (tables_in maps (layout_from layout) file.now).halves }
 {
     let first = predecessors(layout, file);
     lay_halves(layout, file, &first, halves);
@@ -84,8 +84,8 @@ pub fn fill_halves(layout: Layout, file: &[u8], halves: &mut [u16])
 
 // The least outgoing half-edge of each vertex.
 fn least_starts(layout: Layout, file: &[u8]) -> [u16; VERTICES]
-    requires { Known (layoutFrom layout) × Within (countsIn file.now) }
-    ensures { LeastStarts (layoutFrom layout) file.now result }
+    requires { Known (layout_from layout) × Within (counts_in file.now) }
+    ensures { LeastStarts (layout_from layout) file.now result }
 {
     let n = 2 * counts(file).edges as u32;
     let mut least = [ABSENT; VERTICES];
@@ -95,8 +95,8 @@ fn least_starts(layout: Layout, file: &[u8]) -> [u16; VERTICES]
 }
 
 fn lay_vertices(layout: Layout, file: &[u8], least: &[u16], vertices: &mut [i64])
-    requires { Known (layoutFrom layout) × (vertexWidth * (countsIn file.now).vertices ≤ length vertices.old) }
-    ensures { vertices.new ≡ sets vertices.old 0 (rows (vertexBy (layoutFrom layout) file.now least.now) (countsIn file.now).vertices) }
+    requires { Known (layout_from layout) × (vertex_width * (counts_in file.now).vertices ≤ length vertices.old) }
+    ensures { vertices.new ≡ sets vertices.old 0 (rows (vertex_by (layout_from layout) file.now least.now) (counts_in file.now).vertices) }
 {
     let n = counts(file).vertices;
     let mut v: u16 = 0;
@@ -120,8 +120,8 @@ fn lay_vertices(layout: Layout, file: &[u8], least: &[u16], vertices: &mut [i64]
 
 // The vertex table of a file.
 pub fn fill_vertices(layout: Layout, file: &[u8], vertices: &mut [i64])
-    requires { Known (layoutFrom layout) × Within (countsIn file.now) × (vertexWidth * (countsIn file.now).vertices ≤ length vertices.old) }
-    ensures { vertices.new ≡ padded (pos 0) (length vertices.old) (tablesIn maps (layoutFrom layout) file.now).vertices }
+    requires { Known (layout_from layout) × Within (counts_in file.now) × (vertex_width * (counts_in file.now).vertices ≤ length vertices.old) }
+    ensures { vertices.new ≡ padded (pos 0) (length vertices.old) (tables_in maps (layout_from layout) file.now).vertices }
 {
     let least = least_starts(layout, file);
     lay_vertices(layout, file, &least, vertices);
@@ -130,8 +130,8 @@ pub fn fill_vertices(layout: Layout, file: &[u8], vertices: &mut [i64])
 }
 
 fn lay_sources(layout: Layout, file: &[u8], sources: &mut [u32])
-    requires { Known (layoutFrom layout) × (maps * (countsIn file.now).edges ≤ length sources.old) }
-    ensures { sources.new ≡ sets sources.old 0 (rows (λ k. table (storedSource (layoutFrom layout) file.now k) maps) (countsIn file.now).edges) }
+    requires { Known (layout_from layout) × (maps * (counts_in file.now).edges ≤ length sources.old) }
+    ensures { sources.new ≡ sets sources.old 0 (rows (λ k. table (stored_source (layout_from layout) file.now k) maps) (counts_in file.now).edges) }
 {
     let n = counts(file).edges as u32;
     let start = edges_start(layout, file);
@@ -150,8 +150,8 @@ fn lay_sources(layout: Layout, file: &[u8], sources: &mut [u32])
 
 // The source table of a file.
 pub fn fill_sources(layout: Layout, file: &[u8], sources: &mut [u32])
-    requires { Known (layoutFrom layout) × (maps * (countsIn file.now).edges ≤ length sources.old) }
-    ensures { sources.new ≡ padded 0 (length sources.old) (tablesIn maps (layoutFrom layout) file.now).sources }
+    requires { Known (layout_from layout) × (maps * (counts_in file.now).edges ≤ length sources.old) }
+    ensures { sources.new ≡ padded 0 (length sources.old) (tables_in maps (layout_from layout) file.now).sources }
 {
     lay_sources(layout, file, sources);
     let c = counts(file);
@@ -159,8 +159,8 @@ pub fn fill_sources(layout: Layout, file: &[u8], sources: &mut [u32])
 }
 
 fn lay_faces(layout: Layout, file: &[u8], faces: &mut [u16])
-    requires { Known (layoutFrom layout) × (faceWidth maps * (countsIn file.now).faces ≤ length faces.old) }
-    ensures { faces.new ≡ sets faces.old 0 (rows (faceRead maps (layoutFrom layout) file.now) (countsIn file.now).faces) }
+    requires { Known (layout_from layout) × (face_width maps * (counts_in file.now).faces ≤ length faces.old) }
+    ensures { faces.new ≡ sets faces.old 0 (rows (face_read maps (layout_from layout) file.now) (counts_in file.now).faces) }
 {
     let n = counts(file).faces as u32;
     let start = faces_start(layout, file);
@@ -181,8 +181,8 @@ fn lay_faces(layout: Layout, file: &[u8], faces: &mut [u16])
 
 // The face table of a file.
 pub fn fill_faces(layout: Layout, file: &[u8], faces: &mut [u16])
-    requires { Known (layoutFrom layout) × (faceWidth maps * (countsIn file.now).faces ≤ length faces.old) }
-    ensures { faces.new ≡ padded 0 (length faces.old) (tablesIn maps (layoutFrom layout) file.now).faces }
+    requires { Known (layout_from layout) × (face_width maps * (counts_in file.now).faces ≤ length faces.old) }
+    ensures { faces.new ≡ padded 0 (length faces.old) (tables_in maps (layout_from layout) file.now).faces }
 {
     lay_faces(layout, file, faces);
     let c = counts(file);

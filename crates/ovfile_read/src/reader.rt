@@ -4,12 +4,12 @@ ghost use Rattle.std.specs.Prelude.{◌≡◌, not, ◌∷◌, length};
 ghost use Rattle.paper.specs.Limits.{maps};
 ghost use Rattle.paper.specs.Bytes.{u16};
 ghost use Rattle.paper.specs.Refusal.{first_at, first_of};
-ghost use Rattle.paper.specs.Lent.{roomIn, roomFaults, paddedTables};
-ghost use Rattle.paper.specs.Ovfile.{layouts, soundEdge, layoutOf};
-ghost use Rattle.paper.specs.Reader.{countsIn, tablesIn, readFault, read};
+ghost use Rattle.paper.specs.Lent.{room_in, room_faults, padded_tables};
+ghost use Rattle.paper.specs.Ovfile.{layouts, sound_edge, layout_of};
+ghost use Rattle.paper.specs.Reader.{counts_in, tables_in, read_fault, read};
 ghost use Rattle.map_file.specs.Verdict.{verdict};
-ghost use Rattle.tables.specs.Values.{lengthsBy, tablesBy, outcomeOf};
-ghost use Rattle.ovfile.specs.Values.{layoutFrom};
+ghost use Rattle.tables.specs.Values.{lengths_by, tables_by, outcome_of};
+ghost use Rattle.ovfile.specs.Values.{layout_from};
 ghost use Rattle.ovfile.specs.Known.{Known};
 ghost use Rattle.ovfile_read.specs.Filled.{Within, Roomy};
 
@@ -30,8 +30,8 @@ fn body(
     sources: usize,
     faces: usize,
 ) -> Check
-    requires { Known (layoutFrom layout) × Within (countsIn file.now) }
-    ensures { verdict result ≡ first_of (first_at 21 (λ k. not (soundEdge maps (countsIn file.now) (tablesIn maps (layoutFrom layout) file.now) k)) (countsIn file.now).edges ∷ roomFaults (roomIn maps (lengthsBy vertices halves sources faces)) (countsIn file.now)) }
+    requires { Known (layout_from layout) × Within (counts_in file.now) }
+    ensures { verdict result ≡ first_of (first_at 21 (λ k. not (sound_edge maps (counts_in file.now) (tables_in maps (layout_from layout) file.now) k)) (counts_in file.now).edges ∷ room_faults (room_in maps (lengths_by vertices halves sources faces)) (counts_in file.now)) }
 {
     let c = counts(file);
     let room = room_in(vertices, halves, sources, faces);
@@ -45,7 +45,7 @@ fn body(
 
 // What the file is refused for, by tables of these lengths.
 pub fn judge(file: &[u8], vertices: usize, halves: usize, sources: usize, faces: usize) -> Check
-    ensures { verdict result ≡ readFault maps (length layouts) (layoutOf layouts (u16 file.now 3)) (lengthsBy vertices halves sources faces) file.now (tablesIn maps (layoutOf layouts (u16 file.now 3)) file.now) }
+    ensures { verdict result ≡ read_fault maps (length layouts) (layout_of layouts (u16 file.now 3)) (lengths_by vertices halves sources faces) file.now (tables_in maps (layout_of layouts (u16 file.now 3)) file.now) }
 {
     let c = head(file);
     match c {
@@ -63,8 +63,8 @@ fn fill(
     sources: &mut [u32],
     faces: &mut [u16],
 )
-    requires { Known (layoutFrom layout) × Within (countsIn file.now) × Roomy (countsIn file.now) (lengthsBy (length vertices.old) (length halves.old) (length sources.old) (length faces.old)) }
-    ensures { tablesBy vertices.new halves.new sources.new faces.new ≡ paddedTables (lengthsBy (length vertices.old) (length halves.old) (length sources.old) (length faces.old)) (tablesIn maps (layoutFrom layout) file.now) }
+    requires { Known (layout_from layout) × Within (counts_in file.now) × Roomy (counts_in file.now) (lengths_by (length vertices.old) (length halves.old) (length sources.old) (length faces.old)) }
+    ensures { tables_by vertices.new halves.new sources.new faces.new ≡ padded_tables (lengths_by (length vertices.old) (length halves.old) (length sources.old) (length faces.old)) (tables_in maps (layout_from layout) file.now) }
 {
     fill_vertices(layout, file, vertices);
     fill_halves(layout, file, halves);
@@ -80,7 +80,7 @@ pub fn read(
     sources: &mut [u32],
     faces: &mut [u16],
 ) -> Answer
-    ensures { outcomeOf result (tablesBy vertices.new halves.new sources.new faces.new) ≡ read (lengthsBy (length vertices.old) (length halves.old) (length sources.old) (length faces.old)) file.now }
+    ensures { outcome_of result (tables_by vertices.new halves.new sources.new faces.new) ≡ read (lengths_by (length vertices.old) (length halves.old) (length sources.old) (length faces.old)) file.now }
 {
     let check = judge(
         file,

@@ -2,12 +2,12 @@
 // each follower is a half-edge of the file, starts where its half-edge ends, and follows no half-edge of lower number". No table is kept but that of the half-edges that follow one so far.
 ghost use Rattle.std.specs.Prelude.{◌≡◌, not, ◌+◌, ◌*◌, ◌/◌, ◌<◌, ◌≤◌};
 ghost use Rattle.seq.specs.Seq.{least};
-ghost use Rattle.paper.specs.Limits.{maps, overlayEdges};
+ghost use Rattle.paper.specs.Limits.{maps, overlay_edges};
 ghost use Rattle.paper.specs.Graph.{twin};
-ghost use Rattle.paper.specs.Ovfile.{soundFollower, hasSource, soundEdge};
-ghost use Rattle.paper.specs.Reader.{countsIn, storedOrigin, storedFollower, tablesIn};
-ghost use Rattle.tables.specs.Values.{countsOf};
-ghost use Rattle.ovfile.specs.Values.{layoutFrom};
+ghost use Rattle.paper.specs.Ovfile.{sound_follower, has_source, sound_edge};
+ghost use Rattle.paper.specs.Reader.{counts_in, stored_origin, stored_follower, tables_in};
+ghost use Rattle.tables.specs.Values.{counts_of};
+ghost use Rattle.ovfile.specs.Values.{layout_from};
 ghost use Rattle.ovfile.specs.Known.{Known};
 ghost use Rattle.ovfile_read.specs.Starts.{EdgesFrom, Taken};
 ghost use Rattle.ovfile_read.specs.Filled.{Within};
@@ -28,8 +28,8 @@ fn sound_follower(
     end: u16,
     taken: &mut [u16],
 ) -> bool
-    requires { EdgesFrom (layoutFrom layout) file.now start × (n ≡ 2 * (countsIn file.now).edges) × (h < 2 * (countsIn file.now).edges) × (end ≡ storedOrigin (layoutFrom layout) file.now (twin h)) × Taken (storedFollower (layoutFrom layout) file.now) (2 * (countsIn file.now).edges) h taken.old }
-    ensures { (result ≡ soundFollower (countsIn file.now) (tablesIn maps (layoutFrom layout) file.now) h) × Taken (storedFollower (layoutFrom layout) file.now) (2 * (countsIn file.now).edges) (h + 1) taken.new }
+    requires { EdgesFrom (layout_from layout) file.now start × (n ≡ 2 * (counts_in file.now).edges) × (h < 2 * (counts_in file.now).edges) × (end ≡ stored_origin (layout_from layout) file.now (twin h)) × Taken (stored_follower (layout_from layout) file.now) (2 * (counts_in file.now).edges) h taken.old }
+    ensures { (result ≡ sound_follower (counts_in file.now) (tables_in maps (layout_from layout) file.now) h) × Taken (stored_follower (layout_from layout) file.now) (2 * (counts_in file.now).edges) (h + 1) taken.new }
 {
     let f = follower(layout, file, start, h);
     let fresh = u16_at(taken, f as usize) == 0;
@@ -40,8 +40,8 @@ fn sound_follower(
 
 // "a source is not 0"
 fn has_source(layout: Layout, file: &[u8], start: usize, k: u32) -> bool
-    requires { EdgesFrom (layoutFrom layout) file.now start × (k < (countsIn file.now).edges) }
-    ensures { result ≡ hasSource maps (tablesIn maps (layoutFrom layout) file.now) k }
+    requires { EdgesFrom (layout_from layout) file.now start × (k < (counts_in file.now).edges) }
+    ensures { result ≡ has_source maps (tables_in maps (layout_from layout) file.now) k }
 {
     (source(layout, file, start, k, 0) != 0)
         | ((source(layout, file, start, k, 1) != 0) | (source(layout, file, start, k, 2) != 0))
@@ -56,8 +56,8 @@ fn sound_edge(
     k: u32,
     taken: &mut [u16],
 ) -> bool
-    requires { EdgesFrom (layoutFrom layout) file.now start × (countsOf c ≡ countsIn file.now) × (k < (countsIn file.now).edges) × Taken (storedFollower (layoutFrom layout) file.now) (2 * (countsIn file.now).edges) (2 * k) taken.old }
-    ensures { (result ≡ soundEdge maps (countsIn file.now) (tablesIn maps (layoutFrom layout) file.now) k) × Taken (storedFollower (layoutFrom layout) file.now) (2 * (countsIn file.now).edges) (2 * k + 1 + 1) taken.new }
+    requires { EdgesFrom (layout_from layout) file.now start × (counts_of c ≡ counts_in file.now) × (k < (counts_in file.now).edges) × Taken (stored_follower (layout_from layout) file.now) (2 * (counts_in file.now).edges) (2 * k) taken.old }
+    ensures { (result ≡ sound_edge maps (counts_in file.now) (tables_in maps (layout_from layout) file.now) k) × Taken (stored_follower (layout_from layout) file.now) (2 * (counts_in file.now).edges) (2 * k + 1 + 1) taken.new }
 {
     let a = 2 * k;
     let b = a + 1;
@@ -76,8 +76,8 @@ fn sound_edge(
 
 // The least record that is not sound, or the number of edges.
 fn unsound_by(layout: Layout, file: &[u8], taken: &mut [u16]) -> u16
-    requires { Known (layoutFrom layout) × Taken (storedFollower (layoutFrom layout) file.now) (2 * (countsIn file.now).edges) 0 taken.old }
-    ensures { result ≡ least (λ k. not (soundEdge maps (countsIn file.now) (tablesIn maps (layoutFrom layout) file.now) k)) (countsIn file.now).edges }
+    requires { Known (layout_from layout) × Taken (stored_follower (layout_from layout) file.now) (2 * (counts_in file.now).edges) 0 taken.old }
+    ensures { result ≡ least (λ k. not (sound_edge maps (counts_in file.now) (tables_in maps (layout_from layout) file.now) k)) (counts_in file.now).edges }
 {
     let c = counts(file);
     let start = edges_start(layout, file);
@@ -94,8 +94,8 @@ fn unsound_by(layout: Layout, file: &[u8], taken: &mut [u16]) -> u16
 
 // The same of a file with few edges, by a small table.
 fn unsound_few(layout: Layout, file: &[u8]) -> u16
-    requires { Known (layoutFrom layout) × (2 * (countsIn file.now).edges ≤ 2 * (overlayEdges / 32)) }
-    ensures { result ≡ least (λ k. not (soundEdge maps (countsIn file.now) (tablesIn maps (layoutFrom layout) file.now) k)) (countsIn file.now).edges }
+    requires { Known (layout_from layout) × (2 * (counts_in file.now).edges ≤ 2 * (overlay_edges / 32)) }
+    ensures { result ≡ least (λ k. not (sound_edge maps (counts_in file.now) (tables_in maps (layout_from layout) file.now) k)) (counts_in file.now).edges }
 {
     let mut taken = [0u16; SMALL_HALVES];
     unsound_by(layout, file, &mut taken)
@@ -103,8 +103,8 @@ fn unsound_few(layout: Layout, file: &[u8]) -> u16
 
 // The same of any file, by a table of full length.
 fn unsound_many(layout: Layout, file: &[u8]) -> u16
-    requires { Known (layoutFrom layout) × Within (countsIn file.now) }
-    ensures { result ≡ least (λ k. not (soundEdge maps (countsIn file.now) (tablesIn maps (layoutFrom layout) file.now) k)) (countsIn file.now).edges }
+    requires { Known (layout_from layout) × Within (counts_in file.now) }
+    ensures { result ≡ least (λ k. not (sound_edge maps (counts_in file.now) (tables_in maps (layout_from layout) file.now) k)) (counts_in file.now).edges }
 {
     let mut taken = [0u16; HALVES];
     unsound_by(layout, file, &mut taken)
@@ -112,8 +112,8 @@ fn unsound_many(layout: Layout, file: &[u8]) -> u16
 
 // The least record that is not sound, or the number of edges: by a small table where the edges are few.
 pub fn unsound(layout: Layout, file: &[u8]) -> u16
-    requires { Known (layoutFrom layout) × Within (countsIn file.now) }
-    ensures { result ≡ least (λ k. not (soundEdge maps (countsIn file.now) (tablesIn maps (layoutFrom layout) file.now) k)) (countsIn file.now).edges }
+    requires { Known (layout_from layout) × Within (counts_in file.now) }
+    ensures { result ≡ least (λ k. not (sound_edge maps (counts_in file.now) (tables_in maps (layout_from layout) file.now) k)) (counts_in file.now).edges }
 {
     let c = counts(file);
     if c.edges as usize <= SMALL_EDGES {

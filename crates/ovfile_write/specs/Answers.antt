@@ -3,14 +3,14 @@
 use Rattle.seq.specs.Seq.{List, ℕ}
 use Rattle.paper.specs.Refusal.{Answer, done, refused}
 use Rattle.paper.specs.Writer.{Written}
-use Rattle.map_file.specs.Verdict.{refusalOf}
+use Rattle.map_file.specs.Verdict.{refusal_of}
 use Rattle.ovfile_write.specs.declared.answer.WriteAnswer.{WriteAnswer}
 use Rattle.ovfile_write.specs.declared.answer.WriteAnswer.TheVariants.{Done, Refused}
 
 -- the file's length, or a refusal
 abbrev pub answer_of : WriteAnswer → Answer ℕ
 answer_of (Done n) = done n
-answer_of (Refused r) = refused (refusalOf r)
+answer_of (Refused r) = refused (refusal_of r)
 
 -- all that comes out: the answer, and the buffer
 abbrev pub written_of : WriteAnswer → List ℕ → Written

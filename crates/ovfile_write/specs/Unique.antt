@@ -12,16 +12,16 @@ use Rattle.ovfile_write.specs.Answers.{answer_of, written_of}
 
 -- ── answers ──
 
-abbrev answerBack : Answer ℕ → WriteAnswer
-answerBack (done n) = Done n
-answerBack (refused r) = Refused (record { number = r.number; map = r.map; place = r.place; other = r.other })
+abbrev answer_back : Answer ℕ → WriteAnswer
+answer_back (done n) = Done n
+answer_back (refused r) = Refused (record { number = r.number; map = r.map; place = r.place; other = r.other })
 
-there_and_back : (a : WriteAnswer) → answerBack (answer_of a) ≡ a
+there_and_back : (a : WriteAnswer) → answer_back (answer_of a) ≡ a
 there_and_back (Done n) = refl
 there_and_back (Refused r) = refl
 
 pub answer-once : (a b : WriteAnswer) → answer_of a ≡ answer_of b → a ≡ b
-answer-once a b e = sym (there_and_back a) ∙ ap answerBack e ∙ there_and_back b
+answer-once a b e = sym (there_and_back a) ∙ ap answer_back e ∙ there_and_back b
 
 -- ── the answer and the buffer ──
 

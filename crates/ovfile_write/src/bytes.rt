@@ -2,12 +2,12 @@
 ghost use Rattle.std.specs.Prelude.{◌≡◌, [], ◌++◌, ◌+◌, ◌*◌, ◌≤◌, length};
 ghost use Rattle.std.proofs.lemmas.List.Edits.{sets};
 ghost use Rattle.seq.specs.Seq.{rows, gather};
-ghost use Rattle.paper.specs.Limits.{overlayHead, maps};
+ghost use Rattle.paper.specs.Limits.{overlay_head, maps};
 ghost use Rattle.paper.specs.Bytes.{ascii, le};
-ghost use Rattle.paper.specs.Ovfile.{vertexSize, edgeSize, faceSize, edges_at, facesAt, vertexBytes, edgeFields, faceFields};
-ghost use Rattle.tables.specs.Values.{countsOf, tablesBy};
-ghost use Rattle.ovfile.specs.Values.{edgeTables, layout};
-ghost use Rattle.ovfile_write.specs.Judged.{headFields, VertexFits, VerticesFit};
+ghost use Rattle.paper.specs.Ovfile.{vertex_size, edge_size, face_size, edges_at, faces_at, vertex_bytes, edge_fields, face_fields};
+ghost use Rattle.tables.specs.Values.{counts_of, tables_by};
+ghost use Rattle.ovfile.specs.Values.{edge_tables, layout};
+ghost use Rattle.ovfile_write.specs.Judged.{head_fields, VertexFits, VerticesFit};
 
 use crate::places::{edges_at, faces_at, vertex_place};
 use limits::{COORDINATE_BYTES, DENOMINATOR_BYTES, EDGE_SIZE, FACE_SIZE, VERSION};
@@ -26,8 +26,8 @@ fn put_mark(buffer: &mut [u8])
 
 // "mark `ZOV`, 16-bit version .., three counts": the newest
 pub fn put_head(c: Counts, buffer: &mut [u8])
-    requires { overlayHead ≤ length buffer.old }
-    ensures { buffer.new ≡ sets buffer.old 0 (ascii "ZOV" ++ gather (le 2) (headFields (countsOf c))) }
+    requires { overlay_head ≤ length buffer.old }
+    ensures { buffer.new ≡ sets buffer.old 0 (ascii "ZOV" ++ gather (le 2) (head_fields (counts_of c))) }
 {
     put_mark(buffer);
     let version = VERSION as u32;
@@ -40,8 +40,8 @@ pub fn put_head(c: Counts, buffer: &mut [u8])
 
 // X and Y in "six bytes each" (02, Ask 7), two's complement, "and D in four (unsigned)"
 fn put_vertex(vertices: &[i64], v: u16, buffer: &mut [u8], at: usize)
-    requires { VertexFits vertices.now v × (at + vertexSize layout ≤ length buffer.old) }
-    ensures { buffer.new ≡ sets buffer.old at (vertexBytes layout (tablesBy vertices.now [] [] []) v) }
+    requires { VertexFits vertices.now v × (at + vertex_size layout ≤ length buffer.old) }
+    ensures { buffer.new ≡ sets buffer.old at (vertex_bytes layout (tables_by vertices.now [] [] []) v) }
 {
     let x = twos(vertex_cell(vertices, v, 0), COORDINATE_BYTES);
     let y = twos(vertex_cell(vertices, v, 1), COORDINATE_BYTES);
@@ -52,8 +52,8 @@ fn put_vertex(vertices: &[i64], v: u16, buffer: &mut [u8], at: usize)
 }
 
 pub fn put_vertices(n: u16, vertices: &[i64], buffer: &mut [u8])
-    requires { VerticesFit vertices.now n × (overlayHead + vertexSize layout * n ≤ length buffer.old) }
-    ensures { buffer.new ≡ sets buffer.old overlayHead (rows (vertexBytes layout (tablesBy vertices.now [] [] [])) n) }
+    requires { VerticesFit vertices.now n × (overlay_head + vertex_size layout * n ≤ length buffer.old) }
+    ensures { buffer.new ≡ sets buffer.old overlay_head (rows (vertex_bytes layout (tables_by vertices.now [] [] [])) n) }
 {
     let mut v: u16 = 0;
     while v < n {
@@ -64,8 +64,8 @@ pub fn put_vertices(n: u16, vertices: &[i64], buffer: &mut [u8])
 
 // "edges as eight 16-bit numbers", and "a third source after the second" (02, Ask 13)
 fn put_edge(halves: &[u16], sources: &[u32], k: u16, buffer: &mut [u8], at: usize)
-    requires { at + edgeSize layout ≤ length buffer.old }
-    ensures { buffer.new ≡ sets buffer.old at (gather (le 2) (edgeFields maps (edgeTables halves.now sources.now) k)) }
+    requires { at + edge_size layout ≤ length buffer.old }
+    ensures { buffer.new ≡ sets buffer.old at (gather (le 2) (edge_fields maps (edge_tables halves.now sources.now) k)) }
 {
     let a = 2 * k as u32;
     let b = a + 1;
@@ -85,8 +85,8 @@ fn put_edge(halves: &[u16], sources: &[u32], k: u16, buffer: &mut [u8], at: usiz
 }
 
 pub fn put_edges(c: Counts, halves: &[u16], sources: &[u32], buffer: &mut [u8])
-    requires { facesAt layout (countsOf c) ≤ length buffer.old }
-    ensures { buffer.new ≡ sets buffer.old (edges_at layout (countsOf c)) (rows (λ k. gather (le 2) (edgeFields maps (edgeTables halves.now sources.now) k)) c.edges) }
+    requires { faces_at layout (counts_of c) ≤ length buffer.old }
+    ensures { buffer.new ≡ sets buffer.old (edges_at layout (counts_of c)) (rows (λ k. gather (le 2) (edge_fields maps (edge_tables halves.now sources.now) k)) c.edges) }
 {
     let n = c.edges;
     let start = edges_at(c);
@@ -99,8 +99,8 @@ pub fn put_edges(c: Counts, halves: &[u16], sources: &[u32], buffer: &mut [u8])
 
 // "faces as four (labels, least half-edge, holes)", and "a third label after the second" (02, Ask 13)
 fn put_face(faces: &[u16], f: u16, buffer: &mut [u8], at: usize)
-    requires { at + faceSize layout ≤ length buffer.old }
-    ensures { buffer.new ≡ sets buffer.old at (gather (le 2) (faceFields maps (tablesBy [] [] [] faces.now) f)) }
+    requires { at + face_size layout ≤ length buffer.old }
+    ensures { buffer.new ≡ sets buffer.old at (gather (le 2) (face_fields maps (tables_by [] [] [] faces.now) f)) }
 {
     let first = face_cell(faces, f, 0) as u32;
     let second = face_cell(faces, f, 1) as u32;
@@ -112,8 +112,8 @@ fn put_face(faces: &[u16], f: u16, buffer: &mut [u8], at: usize)
 }
 
 pub fn put_faces(c: Counts, faces: &[u16], buffer: &mut [u8])
-    requires { facesAt layout (countsOf c) + faceSize layout * c.faces ≤ length buffer.old }
-    ensures { buffer.new ≡ sets buffer.old (facesAt layout (countsOf c)) (rows (λ f. gather (le 2) (faceFields maps (tablesBy [] [] [] faces.now) f)) c.faces) }
+    requires { faces_at layout (counts_of c) + face_size layout * c.faces ≤ length buffer.old }
+    ensures { buffer.new ≡ sets buffer.old (faces_at layout (counts_of c)) (rows (λ f. gather (le 2) (face_fields maps (tables_by [] [] [] faces.now) f)) c.faces) }
 {
     let n = c.faces;
     let start = faces_at(c);

@@ -2,10 +2,10 @@
 // or whose predecessor is not a half-edge of the tables that has it as follower".
 ghost use Rattle.std.specs.Prelude.{◌≡◌, [], ◌*◌, ◌<◌, ◌≤◌};
 ghost use Rattle.seq.specs.Seq.{least};
-ghost use Rattle.paper.specs.Limits.{maps, overlayEdges};
-ghost use Rattle.paper.specs.Writer.{badHalf, wideSource, badEdge};
-ghost use Rattle.tables.specs.Values.{countsOf};
-ghost use Rattle.ovfile.specs.Values.{edgeTables};
+ghost use Rattle.paper.specs.Limits.{maps, overlay_edges};
+ghost use Rattle.paper.specs.Writer.{bad_half, wide_source, bad_edge};
+ghost use Rattle.tables.specs.Values.{counts_of};
+ghost use Rattle.ovfile.specs.Values.{edge_tables};
 ghost use Rattle.ovfile.specs.Firsts.{Followed};
 
 use limits::HALVES;
@@ -18,7 +18,7 @@ const TWO_BYTES: u32 = 65536;
 // "a half-edge whose twin is not the other half-edge of its edge or whose predecessor is not a half-edge of the tables that has it as follower"
 fn bad_half(edges: u16, halves: &[u16], h: u32) -> bool
     requires { h < 2 * edges }
-    ensures { result ≡ badHalf (record { vertices = 0; edges = edges; faces = 0 }) (edgeTables halves.now []) h }
+    ensures { result ≡ bad_half (record { vertices = 0; edges = edges; faces = 0 }) (edge_tables halves.now []) h }
 {
     let p = half_cell(halves, h, 3) as u32;
     let other = half_cell(halves, h, 1) as u32 == twin(h);
@@ -28,7 +28,7 @@ fn bad_half(edges: u16, halves: &[u16], h: u32) -> bool
 
 // "an edge whose source is number 65,535"
 fn wide_source(sources: &[u32], k: u16) -> bool
-    ensures { result ≡ wideSource maps (edgeTables [] sources.now) k }
+    ensures { result ≡ wide_source maps (edge_tables [] sources.now) k }
 {
     (TWO_BYTES <= source_cell(sources, k, 0))
         | ((TWO_BYTES <= source_cell(sources, k, 1)) | (TWO_BYTES <= source_cell(sources, k, 2)))
@@ -37,7 +37,7 @@ fn wide_source(sources: &[u32], k: u16) -> bool
 // Whether edge k is refused, by a table of the first half-edges with each follower.
 fn bad_edge(c: Counts, halves: &[u16], sources: &[u32], first: &[u16], k: u16) -> bool
     requires { (k < c.edges) × Followed halves.now (2 * c.edges) first.now }
-    ensures { result ≡ badEdge maps (countsOf c) (edgeTables halves.now sources.now) k }
+    ensures { result ≡ bad_edge maps (counts_of c) (edge_tables halves.now sources.now) k }
 {
     let a = 2 * k as u32;
     let b = a + 1;
@@ -49,7 +49,7 @@ fn bad_edge(c: Counts, halves: &[u16], sources: &[u32], first: &[u16], k: u16) -
 // The least edge that is refused, or the number of edges.
 fn first_bad_edge_by(c: Counts, halves: &[u16], sources: &[u32], first: &[u16]) -> u16
     requires { Followed halves.now (2 * c.edges) first.now }
-    ensures { result ≡ least (badEdge maps (countsOf c) (edgeTables halves.now sources.now)) c.edges }
+    ensures { result ≡ least (bad_edge maps (counts_of c) (edge_tables halves.now sources.now)) c.edges }
 {
     let n = c.edges;
     let mut k: u16 = 0;
@@ -63,8 +63,8 @@ fn first_bad_edge_by(c: Counts, halves: &[u16], sources: &[u32], first: &[u16]) 
 }
 
 pub fn first_bad_edge(c: Counts, halves: &[u16], sources: &[u32]) -> u16
-    requires { c.edges ≤ overlayEdges }
-    ensures { result ≡ least (badEdge maps (countsOf c) (edgeTables halves.now sources.now)) c.edges }
+    requires { c.edges ≤ overlay_edges }
+    ensures { result ≡ least (bad_edge maps (counts_of c) (edge_tables halves.now sources.now)) c.edges }
 {
     let mut first = [0u16; HALVES];
     first_places(halves, 2, 2 * c.edges as u32, &mut first);

@@ -1,12 +1,12 @@
 // Refusal 5: "a vertex's X, Y or D does not fit its bytes", or a vertex "whose outgoing entry is not the least half-edge with that origin (65,535 if none)".
 ghost use Rattle.std.specs.Prelude.{◌≡◌, [], ◌*◌, ◌<◌, ◌≤◌};
 ghost use Rattle.seq.specs.Seq.{least};
-ghost use Rattle.paper.specs.Limits.{overlayVertices, overlayEdges};
-ghost use Rattle.paper.specs.Bytes.{fitsSigned, fitsUnsigned};
-ghost use Rattle.paper.specs.Writer.{badVertex};
-ghost use Rattle.tables.specs.Values.{countsOf, tablesBy};
+ghost use Rattle.paper.specs.Limits.{overlay_vertices, overlay_edges};
+ghost use Rattle.paper.specs.Bytes.{the_fits_signed, fits_unsigned};
+ghost use Rattle.paper.specs.Writer.{bad_vertex};
+ghost use Rattle.tables.specs.Values.{counts_of, tables_by};
 ghost use Rattle.ovfile.specs.Values.{layout};
-ghost use Rattle.ovfile_write.specs.Judged.{badVertexBy, LeastStarts};
+ghost use Rattle.ovfile_write.specs.Judged.{bad_vertex_by, LeastStarts};
 
 use exact::{magnitude, of_u16};
 use limits::{ABSENT, COORDINATE_BYTES, DENOMINATOR_BYTES, VERTICES};
@@ -16,7 +16,7 @@ use tables::Counts;
 // A number fits w bytes, two's complement.
 fn fits_signed(z: i64, width: usize) -> bool
     requires { width < 8 }
-    ensures { result ≡ fitsSigned width z }
+    ensures { result ≡ the_fits_signed width z }
 {
     let half = numbers_in(width) / 2;
     if z < 0 {
@@ -29,7 +29,7 @@ fn fits_signed(z: i64, width: usize) -> bool
 // A number fits w bytes, unsigned.
 fn fits_unsigned(z: i64, width: usize) -> bool
     requires { width < 8 }
-    ensures { result ≡ fitsUnsigned width z }
+    ensures { result ≡ fits_unsigned width z }
 {
     if z < 0 {
         return false;
@@ -39,7 +39,7 @@ fn fits_unsigned(z: i64, width: usize) -> bool
 
 // Whether vertex v is refused, by a table of least outgoing half-edges.
 fn bad_vertex(vertices: &[i64], starts: &[u16], v: u16) -> bool
-    ensures { result ≡ badVertexBy vertices.now starts.now v }
+    ensures { result ≡ bad_vertex_by vertices.now starts.now v }
 {
     let x = fits_signed(vertex_cell(vertices, v, 0), COORDINATE_BYTES);
     let y = fits_signed(vertex_cell(vertices, v, 1), COORDINATE_BYTES);
@@ -51,7 +51,7 @@ fn bad_vertex(vertices: &[i64], starts: &[u16], v: u16) -> bool
 
 // The least vertex that is refused, or the number of vertices.
 fn first_bad_vertex_by(n: u16, vertices: &[i64], starts: &[u16]) -> u16
-    ensures { result ≡ least (badVertexBy vertices.now starts.now) n }
+    ensures { result ≡ least (bad_vertex_by vertices.now starts.now) n }
 {
     let mut v: u16 = 0;
     while v < n {
@@ -65,7 +65,7 @@ fn first_bad_vertex_by(n: u16, vertices: &[i64], starts: &[u16]) -> u16
 
 // The least outgoing half-edge of each vertex.
 fn least_starts(edges: u16, halves: &[u16]) -> [u16; VERTICES]
-    requires { edges ≤ overlayEdges }
+    requires { edges ≤ overlay_edges }
     ensures { LeastStarts halves.now (2 * edges) result }
 {
     let mut starts = [ABSENT; VERTICES];
@@ -74,8 +74,8 @@ fn least_starts(edges: u16, halves: &[u16]) -> [u16; VERTICES]
 }
 
 pub fn first_bad_vertex(c: Counts, vertices: &[i64], halves: &[u16]) -> u16
-    requires { (c.vertices ≤ overlayVertices) × (c.edges ≤ overlayEdges) }
-    ensures { result ≡ least (badVertex layout (countsOf c) (tablesBy vertices.now halves.now [] [])) c.vertices }
+    requires { (c.vertices ≤ overlay_vertices) × (c.edges ≤ overlay_edges) }
+    ensures { result ≡ least (bad_vertex layout (counts_of c) (tables_by vertices.now halves.now [] [])) c.vertices }
 {
     let starts = least_starts(c.edges, halves);
     first_bad_vertex_by(c.vertices, vertices, &starts)

@@ -2,13 +2,13 @@
 // length the buffer is zero". It judges first, with no buffer in sight, and then stores the file or wipes the buffer.
 ghost use Rattle.std.specs.Prelude.{◌≡◌, [], ◌∷◌, ◌≤◌, ltb, length};
 ghost use Rattle.seq.specs.Seq.{padded};
-ghost use Rattle.paper.specs.Limits.{maps, overlayVertices, overlayEdges};
+ghost use Rattle.paper.specs.Limits.{maps, overlay_vertices, overlay_edges};
 ghost use Rattle.paper.specs.Refusal.{given, first_at, first_of};
-ghost use Rattle.paper.specs.Ovfile.{layouts, fileLength, overlayFile};
-ghost use Rattle.paper.specs.Writer.{badVertex, badEdge, writeFault, write};
+ghost use Rattle.paper.specs.Ovfile.{layouts, file_length, overlay_file};
+ghost use Rattle.paper.specs.Writer.{bad_vertex, bad_edge, write_fault, write};
 ghost use Rattle.map_file.specs.Verdict.{verdict};
-ghost use Rattle.tables.specs.Values.{countsOf, lengthsBy, tablesBy};
-ghost use Rattle.ovfile.specs.Values.{edgeTables, layout};
+ghost use Rattle.tables.specs.Values.{counts_of, lengths_by, tables_by};
+ghost use Rattle.ovfile.specs.Values.{edge_tables, layout};
 ghost use Rattle.ovfile_write.specs.Judged.{VerticesFit};
 ghost use Rattle.ovfile_write.specs.Answers.{written_of};
 
@@ -24,8 +24,8 @@ use tables::{Counts, room_in};
 
 // 5, 21 and 11, of counts that are not over their numbers, into a buffer of n bytes.
 fn body(c: Counts, vertices: &[i64], halves: &[u16], sources: &[u32], n: usize) -> Check
-    requires { (c.vertices ≤ overlayVertices) × (c.edges ≤ overlayEdges) }
-    ensures { verdict result ≡ first_of (first_at 5 (badVertex layout (countsOf c) (tablesBy vertices.now halves.now [] [])) c.vertices ∷ first_at 21 (badEdge maps (countsOf c) (edgeTables halves.now sources.now)) c.edges ∷ given 11 4 (ltb n (fileLength layout (countsOf c))) ∷ []) }
+    requires { (c.vertices ≤ overlay_vertices) × (c.edges ≤ overlay_edges) }
+    ensures { verdict result ≡ first_of (first_at 5 (bad_vertex layout (counts_of c) (tables_by vertices.now halves.now [] [])) c.vertices ∷ first_at 21 (bad_edge maps (counts_of c) (edge_tables halves.now sources.now)) c.edges ∷ given 11 4 (ltb n (file_length layout (counts_of c))) ∷ []) }
 {
     let v = first_bad_vertex(c, vertices, halves);
     let k = first_bad_edge(c, halves, sources);
@@ -44,7 +44,7 @@ fn judge(
     faces: usize,
     n: usize,
 ) -> Check
-    ensures { verdict result ≡ writeFault layout n (lengthsBy (length vertices.now) (length halves.now) (length sources.now) faces) (countsOf c) (tablesBy vertices.now halves.now sources.now []) }
+    ensures { verdict result ≡ write_fault layout n (lengths_by (length vertices.now) (length halves.now) (length sources.now) faces) (counts_of c) (tables_by vertices.now halves.now sources.now []) }
 {
     let room = room_in(vertices.len(), halves.len(), sources.len(), faces);
     let check = given(3, 0, over(room, c));
@@ -63,8 +63,8 @@ fn put_file(
     faces: &[u16],
     buffer: &mut [u8],
 )
-    requires { VerticesFit vertices.now c.vertices × (fileLength layout (countsOf c) ≤ length buffer.old) }
-    ensures { buffer.new ≡ padded 0 (length buffer.old) (overlayFile (length layouts) layout (countsOf c) (tablesBy vertices.now halves.now sources.now faces.now)) }
+    requires { VerticesFit vertices.now c.vertices × (file_length layout (counts_of c) ≤ length buffer.old) }
+    ensures { buffer.new ≡ padded 0 (length buffer.old) (overlay_file (length layouts) layout (counts_of c) (tables_by vertices.now halves.now sources.now faces.now)) }
 {
     put_head(c, buffer);
     put_vertices(c.vertices, vertices, buffer);
@@ -82,7 +82,7 @@ pub fn write(
     faces: &[u16],
     buffer: &mut [u8],
 ) -> WriteAnswer
-    ensures { written_of result buffer.new ≡ write (length buffer.old) (countsOf c) (tablesBy vertices.now halves.now sources.now faces.now) }
+    ensures { written_of result buffer.new ≡ write (length buffer.old) (counts_of c) (tables_by vertices.now halves.now sources.now faces.now) }
 {
     let check = judge(c, vertices, halves, sources, faces.len(), buffer.len());
     match check {

@@ -29,8 +29,8 @@ abbrev pub u16 : List ℕ → ℕ → ℕ
 u16 s i = number 2 s i
 
 -- the signed number there, two's complement
-abbrev pub signedAt : ℕ → List ℕ → ℕ → ℤ
-signedAt w s i = let n = number w s i in cond (ltb n (256 ^ w / 2)) (pos n) (negsuc (256 ^ w - suc n))
+abbrev pub signed_at : ℕ → List ℕ → ℕ → ℤ
+signed_at w s i = let n = number w s i in cond (ltb n (256 ^ w / 2)) (pos n) (negsuc (256 ^ w - suc n))
 
 -- ── writing ──
 
@@ -40,13 +40,13 @@ le zero n = []
 le (suc w) n = n % 256 ∷ le w (n / 256)
 
 -- a signed number in w bytes, two's complement
-abbrev pub leSigned : ℕ → ℤ → List ℕ
-leSigned w (pos n) = le w n
-leSigned w (negsuc n) = le w (256 ^ w - suc n)
+abbrev pub le_signed : ℕ → ℤ → List ℕ
+le_signed w (pos n) = le w n
+le_signed w (negsuc n) = le w (256 ^ w - suc n)
 
-abbrev pub fitsSigned : ℕ → ℤ → Bool
-fitsSigned w z = ltb (mag z) (256 ^ w / 2)
+abbrev pub the_fits_signed : ℕ → ℤ → Bool
+the_fits_signed w z = ltb (mag z) (256 ^ w / 2)
 
-abbrev pub fitsUnsigned : ℕ → ℤ → Bool
-fitsUnsigned w (pos n) = ltb n (256 ^ w)
-fitsUnsigned w (negsuc n) = false
+abbrev pub fits_unsigned : ℕ → ℤ → Bool
+fits_unsigned w (pos n) = ltb n (256 ^ w)
+fits_unsigned w (negsuc n) = false

@@ -1,8 +1,8 @@
 -- The overlay of a list of maps: walks, faces and labels (01, "Overlay tables"). Assumes nothing.
 use Rattle.seq.specs.Seq.{Bool, false, cond, not, ◌&&◌, List, [], Option, none, some, ℕ, zero, suc, ◌/◌, eqb, length, get_or, count, select, table, leader, or_zero}
-use Rattle.paper.specs.Graph.{halfCount, upward, even, twin, low, followers, holeWalk, eastSide, west, holeLook, Graph}
+use Rattle.paper.specs.Graph.{the_half_count, upward, even, twin, low, followers, hole_walk, east_side, west, hole_look, Graph}
 use Rattle.paper.specs.Map.{label, Map}
-use Rattle.paper.specs.Pieces.{layer, verticesOf, edgesOf, graph_of, Piece}
+use Rattle.paper.specs.Pieces.{layer, vertices_of, edges_of, graph_of, Piece}
 
 -- ── walks ──
 
@@ -13,42 +13,42 @@ pub record Walks : Type 0 where
   pub lead : List ℕ
   pub hole : List Bool
 
-abbrev pub walksOf : Graph → Walks
-walksOf g = let nx = followers g in let n = halfCount g in
-    record { graph = g; next = nx; lead = table (λ h. leader nx h) n; hole = table (holeWalk g nx) n }
+abbrev pub walks_of : Graph → Walks
+walks_of g = let nx = followers g in let n = the_half_count g in
+    record { graph = g; next = nx; lead = table (λ h. leader nx h) n; hole = table (hole_walk g nx) n }
 
-abbrev pub leadAt : Walks → ℕ → ℕ
-leadAt w h = get_or w.lead h 0
+abbrev pub lead_at : Walks → ℕ → ℕ
+lead_at w h = get_or w.lead h 0
 
-abbrev pub holeAt : Walks → ℕ → Bool
-holeAt w h = get_or w.hole h false
+abbrev pub hole_at : Walks → ℕ → Bool
+hole_at w h = get_or w.hole h false
 
 -- h is the least half-edge of a hole walk; of an outer walk
-abbrev pub leadsHole : Walks → ℕ → Bool
-leadsHole w h = eqb (leadAt w h) h && holeAt w h
+abbrev pub leads_hole : Walks → ℕ → Bool
+leads_hole w h = eqb (lead_at w h) h && hole_at w h
 
-abbrev pub leadsOuter : Walks → ℕ → Bool
-leadsOuter w h = eqb (leadAt w h) h && not (holeAt w h)
+abbrev pub leads_outer : Walks → ℕ → Bool
+leads_outer w h = eqb (lead_at w h) h && not (hole_at w h)
 
 -- ── faces ──
 
 -- the face of half-edge h: "Each outer walk makes one face, numbered from 1 by the walk's least half-edge number"; a hole
 -- "belongs to the face of the half-edge seen, or to face 0". Each look goes to a walk with a smaller smallest vertex, so that the number of
 -- vertices bounds the looks
-abbrev pub faceIn : Walks → ℕ → ℕ → ℕ
-faceIn w zero h = 0
-faceIn w (suc n) h =
-    let r = or_zero (faceIn w n) (holeLook w.graph w.next h) in
-    let k = suc (count (leadsOuter w) (leadAt w h)) in
-    cond (holeAt w h) r k
+abbrev pub face_in : Walks → ℕ → ℕ → ℕ
+face_in w zero h = 0
+face_in w (suc n) h =
+    let r = or_zero (face_in w n) (hole_look w.graph w.next h) in
+    let k = suc (count (leads_outer w) (lead_at w h)) in
+    cond (hole_at w h) r k
 
 -- ── labels ──
 
 -- "if it lies along an edge of that map, the label of that edge on that side; otherwise the label of what is seen looking west in that map from
 -- its lower end along it": of half-edge h of g, in map m
-abbrev pub labelIn : Map → Graph → ℕ → Option ℕ → ℕ
-labelIn m g h (some k) = let down = eastSide m.graph k in label m (cond (even h) (twin down) down)
-labelIn m g h none = or_zero (label m) (west m.graph (low g (h / 2)) (upward g (h / 2)))
+abbrev pub label_in : Map → Graph → ℕ → Option ℕ → ℕ
+label_in m g h (some k) = let down = east_side m.graph k in label m (cond (even h) (twin down) down)
+label_in m g h none = or_zero (label m) (west m.graph (low g (h / 2)) (upward g (h / 2)))
 
 -- ── the overlay ──
 
@@ -59,30 +59,30 @@ pub record Overlay : Type 0 where
   pub face : List ℕ
   pub outers : List ℕ
 
-abbrev pub overlayBy : List Piece → Walks → Overlay
-overlayBy ps w = let n = halfCount w.graph in record {
+abbrev pub overlay_by : List Piece → Walks → Overlay
+overlay_by ps w = let n = the_half_count w.graph in record {
   pieces = ps;
   walks = w;
-  face = table (faceIn w (length w.graph.points)) n;
-  outers = select (leadsOuter w) n;
+  face = table (face_in w (length w.graph.points)) n;
+  outers = select (leads_outer w) n;
 }
 
-unfoldable pub overlayOf : List Map → Overlay
-overlayOf ms =
-    let vs = verticesOf ms in
-    let ps = edgesOf ms vs in
-    overlayBy ps (walksOf (graph_of ms vs ps))
+unfoldable pub overlay_of : List Map → Overlay
+overlay_of ms =
+    let vs = vertices_of ms in
+    let ps = edges_of ms vs in
+    overlay_by ps (walks_of (graph_of ms vs ps))
 
 abbrev pub net : Overlay → Graph
 net o = o.walks.graph
 
-abbrev pub sourcesOf : Overlay → ℕ → List (Option ℕ)
-sourcesOf o k = (get_or o.pieces k (record { lo = 0; hi = 0; sources = [] })).sources
+abbrev pub sources_of : Overlay → ℕ → List (Option ℕ)
+sources_of o k = (get_or o.pieces k (record { lo = 0; hi = 0; sources = [] })).sources
 
 -- "Its pair is the two labels": of half-edge h, one for each map
-abbrev pub labelsOf : List Map → Overlay → ℕ → List ℕ
-labelsOf ms o h = table (λ i. labelIn (layer ms i) (net o) h (get_or (sourcesOf o (h / 2)) i none)) (length ms)
+abbrev pub labels_of : List Map → Overlay → ℕ → List ℕ
+labels_of ms o h = table (λ i. label_in (layer ms i) (net o) h (get_or (sources_of o (h / 2)) i none)) (length ms)
 
 -- "its count of hole walks"
-abbrev pub holesOf : Overlay → ℕ → ℕ
-holesOf o f = count (λ h. leadsHole o.walks h && eqb (get_or o.face h 0) f) (halfCount (net o))
+abbrev pub holes_of : Overlay → ℕ → ℕ
+holes_of o f = count (λ h. leads_hole o.walks h && eqb (get_or o.face h 0) f) (the_half_count (net o))

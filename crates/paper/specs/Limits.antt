@@ -2,11 +2,11 @@
 use Rattle.std.specs.Prelude.{ℕ, ◌*◌}
 
 -- "V ≤ 200, E ≤ 300"; "Raise the coordinate range to −16,000 to 16,000" (02, Ask 7)
-abbrev pub mapVertices : ℕ
-mapVertices = 200
+abbrev pub map_vertices : ℕ
+map_vertices = 200
 
-abbrev pub mapEdges : ℕ
-mapEdges = 300
+abbrev pub map_edges : ℕ
+map_edges = 300
 
 abbrev pub reach : ℕ
 reach = 16000
@@ -16,31 +16,31 @@ abbrev pub denominators : ℕ
 denominators = 2 * (2 * reach * (2 * reach))
 
 -- "The overlay has at most 1,000 vertices, 2,000 edges (4,000 half-edges) and 1,334 faces"
-abbrev pub overlayVertices : ℕ
-overlayVertices = 1000
+abbrev pub overlay_vertices : ℕ
+overlay_vertices = 1000
 
-abbrev pub overlayEdges : ℕ
-overlayEdges = 2000
+abbrev pub overlay_edges : ℕ
+overlay_edges = 2000
 
-abbrev pub overlayFaces : ℕ
-overlayFaces = 1334
+abbrev pub overlay_faces : ℕ
+overlay_faces = 1334
 
 -- the bytes before the first vertex, of a map file and of an overlay file
-abbrev pub mapHead : ℕ
-mapHead = 9
+abbrev pub map_head : ℕ
+map_head = 9
 
-abbrev pub overlayHead : ℕ
-overlayHead = 11
+abbrev pub overlay_head : ℕ
+overlay_head = 11
 
 -- "X and Y in five bytes each (two's complement) and D in four (unsigned)"; "overlay files get version 2 with six bytes each" (02, Ask 7)
-abbrev pub firstCoordinateBytes : ℕ
-firstCoordinateBytes = 5
+abbrev pub first_coordinate_bytes : ℕ
+first_coordinate_bytes = 5
 
-abbrev pub coordinateBytes : ℕ
-coordinateBytes = 6
+abbrev pub coordinate_bytes : ℕ
+coordinate_bytes = 6
 
-abbrev pub denominatorBytes : ℕ
-denominatorBytes = 4
+abbrev pub denominator_bytes : ℕ
+denominator_bytes = 4
 
 -- "Two map files go in", and "Bed type comes as a third map" (02, Ask 13)
 abbrev pub maps : ℕ
@@ -51,16 +51,16 @@ abbrev pub absent : ℕ
 absent = 65535
 
 -- "whole millimetres from −20,000 to 20,000" (02, Ask 5)
-abbrev pub gaugeReach : ℕ
-gaugeReach = 20000
+abbrev pub gauge_reach : ℕ
+gauge_reach = 20000
 
 -- "more than 65,535 soundings" (02, Ask 3)
-abbrev pub listSoundings : ℕ
-listSoundings = 65535
+abbrev pub list_soundings : ℕ
+list_soundings = 65535
 
 -- "up to 400 overlay files", "more than 500 pairs" (02, Ask 14)
-abbrev pub yearFiles : ℕ
-yearFiles = 400
+abbrev pub year_files : ℕ
+year_files = 400
 
-abbrev pub yearPairs : ℕ
-yearPairs = 500
+abbrev pub year_pairs : ℕ
+year_pairs = 500

@@ -8,30 +8,30 @@
 --
 -- The line between the zones and the fence go, then the fence's ends; 4 has two edges and stays. Assumes nothing.
 use Rattle.std.specs.Prelude.{◌≡◌, refl}
-use Rattle.exact.specs.Exact.{gcdOf}
+use Rattle.exact.specs.Exact.{gcd_of}
 use Rattle.seq.specs.Seq.{List, [], ◌∷◌, Option, some, ℕ, ◌*◌, table}
 use Rattle.paper.specs.Limits.{maps}
 use Rattle.paper.specs.Refusal.{Answer}
 use Rattle.paper.specs.Map.{fault}
-use Rattle.paper.specs.Faces.{overlayOf}
-use Rattle.paper.specs.Tables.{vertexWidth, faceWidth, faceCell, tables_of, Counts}
+use Rattle.paper.specs.Faces.{overlay_of}
+use Rattle.paper.specs.Tables.{vertex_width, face_width, face_cell, tables_of, Counts}
 use Rattle.paper.specs.Lent.{Lengths, Outcome}
 use Rattle.paper.specs.Overlay.{overlay}
-use Rattle.paper.specs.Melt.{meltedOf, melt}
-use Rattle.paper.specs.Record.{edgeRecord, Source, OverlayEdge, first, second, both}
-use Rattle.paper.specs.Sample.{at, arc, mapFile, emptyFile}
-use Rattle.paper.specs.Sheets.{ample, counted, refusedWith}
+use Rattle.paper.specs.Melt.{melted_of, melt}
+use Rattle.paper.specs.Record.{edge_record, Source, OverlayEdge, first, second, both}
+use Rattle.paper.specs.Sample.{at, arc, map_file, empty_file}
+use Rattle.paper.specs.Sheets.{ample, counted, refused_with}
 
 abbrev pub zones : List ℕ
 zones =
-    mapFile (at 0 0 ∷ at 4 0 ∷ at 8 0 ∷ at 8 4 ∷ at 4 4 ∷ at 0 4 ∷ at 5 3 ∷ at 6 3 ∷ [])
+    map_file (at 0 0 ∷ at 4 0 ∷ at 8 0 ∷ at 8 4 ∷ at 4 4 ∷ at 0 4 ∷ at 5 3 ∷ at 6 3 ∷ [])
     (arc 0 1 1 0 ∷ arc 1 2 1 0 ∷ arc 2 3 1 0 ∷ arc 3 4 1 0 ∷ arc 4 5 1 0 ∷ arc 5 0 1 0 ∷ arc 1 4 1 1 ∷ arc 6 7 1 1 ∷ [])
 
 abbrev pub block : List ℕ
-block = mapFile (at 0 0 ∷ at 8 0 ∷ at 8 2 ∷ at 0 2 ∷ []) (arc 0 1 7 0 ∷ arc 1 2 7 0 ∷ arc 2 3 7 0 ∷ arc 3 0 7 0 ∷ [])
+block = map_file (at 0 0 ∷ at 8 0 ∷ at 8 2 ∷ at 0 2 ∷ []) (arc 0 1 7 0 ∷ arc 1 2 7 0 ∷ arc 2 3 7 0 ∷ arc 3 0 7 0 ∷ [])
 
 abbrev pub merged : Outcome
-merged = melt (ample maps) zones block emptyFile
+merged = melt (ample maps) zones block empty_file
 
 abbrev piece : ℕ → ℕ → Source → Option OverlayEdge
 piece a b s = some (record { lower = a; upper = b; source = s })
@@ -47,15 +47,15 @@ abbrev pub cells : List (List ℕ)
 cells = (0 ∷ 0 ∷ 0 ∷ 65535 ∷ 1 ∷ []) ∷ (1 ∷ 7 ∷ 0 ∷ 0 ∷ 0 ∷ []) ∷ (1 ∷ 0 ∷ 0 ∷ 8 ∷ 0 ∷ []) ∷ []
 
 pub melted-answered : ◌≡◌ {A = Answer Counts × Answer Counts × List (Option OverlayEdge) × List (List ℕ)}
-    ((overlay (ample maps) zones block emptyFile).answer, merged.answer, table (edgeRecord merged.tables) 10, table (λ f. table (faceCell maps merged.tables f) (faceWidth maps)) 3)
+    ((overlay (ample maps) zones block empty_file).answer, merged.answer, table (edge_record merged.tables) 10, table (λ f. table (face_cell maps merged.tables f) (face_width maps)) 3)
     (counted 11 13 5, counted 9 10 3, pieces, cells)
-unfolding gcdOf fault overlayOf meltedOf tables_of
+unfolding gcd_of fault overlay_of melted_of tables_of
 melted-answered = refl
 
 -- "11 included, which is judged on the overlay before melting": room for the 9 vertices that are left, and not for the 11 of the overlay
 abbrev nine : Lengths
-nine = let l = ample maps in record { vertices = 9 * vertexWidth; halves = l.halves; sources = l.sources; faces = l.faces }
+nine = let l = ample maps in record { vertices = 9 * vertex_width; halves = l.halves; sources = l.sources; faces = l.faces }
 
-pub melted-refused : ◌≡◌ {A = Answer Counts} (melt nine zones block emptyFile).answer (refusedWith 11 0 1)
-unfolding gcdOf fault overlayOf meltedOf tables_of
+pub melted-refused : ◌≡◌ {A = Answer Counts} (melt nine zones block empty_file).answer (refused_with 11 0 1)
+unfolding gcd_of fault overlay_of melted_of tables_of
 melted-refused = refl

@@ -7,9 +7,9 @@ use Rattle.paper.specs.Graph.{Graph, edge_count, low}
 use Rattle.paper.specs.Map.{Map}
 
 -- "the number of edges of that map whose lower y is not above the sounding's y"; a level edge has one y
-abbrev pub edgesRead : Graph → Pt → ℕ
-edgesRead g p = count (λ k. not (below p (low g k))) (edge_count g)
+abbrev pub edges_read : Graph → Pt → ℕ
+edges_read g p = count (λ k. not (below p (low g k))) (edge_count g)
 
 -- of a sounding at the corner c, in all maps
-abbrev pub readFor : List Map → Vec → ℕ
-readFor ms c = total (λ m. edgesRead m.graph (whole c)) ms
+abbrev pub read_for : List Map → Vec → ℕ
+read_for ms c = total (λ m. edges_read m.graph (whole c)) ms

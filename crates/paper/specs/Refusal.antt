@@ -32,14 +32,14 @@ first_of (none ∷ rs) = first_of rs
 first_of (some r ∷ rs) = some r
 
 -- the same refusal, of map m
-abbrev pub ofMap : ℕ → Option Refusal → Option Refusal
-ofMap m = Option·map (λ r. record { number = r.number; map = m; place = r.place; other = r.other })
+abbrev pub the_of_map : ℕ → Option Refusal → Option Refusal
+the_of_map m = Option·map (λ r. record { number = r.number; map = m; place = r.place; other = r.other })
 
 abbrev pub answer : {A : Type 0} → A → Option Refusal → Answer A
 answer a none = done a
 answer a (some r) = refused r
 
 -- what comes out: `good` where it is done, `wiped` where it is refused
-abbrev pub unlessRefused : {A : Type 0} → A → A → Option Refusal → A
-unlessRefused good wiped none = good
-unlessRefused good wiped (some r) = wiped
+abbrev pub unless_refused : {A : Type 0} → A → A → Option Refusal → A
+unless_refused good wiped none = good
+unless_refused good wiped (some r) = wiped

@@ -1,8 +1,8 @@
 -- The overlay file of S12, byte by byte: "S12's file has 427 bytes" (02, Ask 13). Assumes nothing.
 use Rattle.seq.specs.Seq.{List, [], ◌∷◌, ℕ}
 
-abbrev pub s12File : List ℕ
-s12File =
+abbrev pub s12_file : List ℕ
+s12_file =
     -- mark, version, counts
     90 ∷ 79 ∷ 86 ∷ 3 ∷ 0 ∷ 10 ∷ 0 ∷ 12 ∷ 0 ∷ 4 ∷ 0 ∷
     -- vertices: X, Y, D

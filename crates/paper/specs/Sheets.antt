@@ -1,46 +1,46 @@
 -- The worked sheets S1 to S12, listed once, and one statement over the list: each computes to what 01 says. A sheet is a question and its answer,
 -- both of one type. Assumes nothing.
 use Rattle.std.specs.Prelude.{◌≡◌, refl}
-use Rattle.exact.specs.Exact.{gcdOf}
+use Rattle.exact.specs.Exact.{gcd_of}
 use Rattle.seq.specs.Seq.{List, [], ◌∷◌, ◌++◌, map, Option, none, some, ℕ, ◌*◌, ℤ, pos, negsuc, table}
-use Rattle.paper.specs.Limits.{overlayVertices, overlayEdges, overlayFaces, maps}
+use Rattle.paper.specs.Limits.{overlay_vertices, overlay_edges, overlay_faces, maps}
 use Rattle.paper.specs.Plane.{vec, between, whole, side, crossing}
 use Rattle.paper.specs.Bytes.{ascii, le}
 use Rattle.paper.specs.Refusal.{Answer, done, refused}
 use Rattle.paper.specs.Map.{fault, check}
-use Rattle.paper.specs.Faces.{overlayOf}
-use Rattle.paper.specs.Tables.{vertexWidth, halfWidth, faceWidth, faceCell, tables_of, Counts, Tables}
+use Rattle.paper.specs.Faces.{overlay_of}
+use Rattle.paper.specs.Tables.{vertex_width, half_width, face_width, face_cell, tables_of, Counts, Tables}
 use Rattle.paper.specs.Lent.{Lengths, Outcome}
 use Rattle.paper.specs.Overlay.{overlay}
-use Rattle.paper.specs.Record.{edgeRecord, Source, OverlayEdge, first, second, both}
-use Rattle.paper.specs.Ovfile.{overlayFile}
+use Rattle.paper.specs.Record.{edge_record, Source, OverlayEdge, first, second, both}
+use Rattle.paper.specs.Ovfile.{overlay_file}
 use Rattle.paper.specs.Writer.{Written, write}
 use Rattle.paper.specs.Listing.{listing}
-use Rattle.paper.specs.SampleFile.{s12File}
-use Rattle.paper.specs.Sample.{at, emptyFile, single, square, zone}
+use Rattle.paper.specs.SampleFile.{s12_file}
+use Rattle.paper.specs.Sample.{at, empty_file, single, square, zone}
 
 -- tables with room for the largest overlay of n maps
 abbrev pub ample : ℕ → Lengths
 ample n = record {
-  vertices = vertexWidth * overlayVertices;
-  halves = 2 * halfWidth * overlayEdges;
-  sources = n * overlayEdges;
-  faces = faceWidth n * overlayFaces;
+  vertices = vertex_width * overlay_vertices;
+  halves = 2 * half_width * overlay_edges;
+  sources = n * overlay_edges;
+  faces = face_width n * overlay_faces;
 }
 
 -- "The two-map overlay is the one with an empty third map" (02, Ask 13)
 abbrev pub run : List ℕ → List ℕ → Outcome
-run a b = overlay (ample maps) a b emptyFile
+run a b = overlay (ample maps) a b empty_file
 
 abbrev pub counted : ℕ → ℕ → ℕ → Answer Counts
 counted v e f = done (record { vertices = v; edges = e; faces = f })
 
-abbrev pub refusedWith : {A : Type 0} → ℕ → ℕ → ℕ → Answer A
-refusedWith r m k = refused (record { number = r; map = m; place = k; other = 0 })
+abbrev pub refused_with : {A : Type 0} → ℕ → ℕ → ℕ → Answer A
+refused_with r m k = refused (record { number = r; map = m; place = k; other = 0 })
 
 -- the numbers of face f: labels, least half-edge, holes
-abbrev faceNumbers : Outcome → ℕ → List ℕ
-faceNumbers o f = table (faceCell maps o.tables f) (faceWidth maps)
+abbrev face_numbers : Outcome → ℕ → List ℕ
+face_numbers o f = table (face_cell maps o.tables f) (face_width maps)
 
 abbrev piece : ℕ → ℕ → Source → Option OverlayEdge
 piece a b s = some (record { lower = a; upper = b; source = s })
@@ -71,7 +71,7 @@ abbrev s3 : Outcome
 s3 = run (single (at 0 0) (at 4 0)) (single (at 2 0) (at 6 0))
 
 abbrev s6 : Outcome
-s6 = run (single (at 0 0) (at 1 1)) emptyFile
+s6 = run (single (at 0 0) (at 1 1)) empty_file
 
 abbrev s11 : Outcome
 s11 = run (zone 0 0 10 1) (zone 4 4 2 7)
@@ -87,27 +87,27 @@ sheets =
     -- S2
     sheet (crossing (between (at 0 0) (at 4 0)) (between (at 2 0) (at 2 3))) (some (record { X = pos 2; Y = pos 0; D = pos 1 })) ∷
     -- S3: three pieces, and no fourth
-    sheet (table (edgeRecord s3.tables) 4) (piece 0 1 (first 0) ∷ piece 1 2 (both 0 0) ∷ piece 2 3 (second 0) ∷ none ∷ []) ∷
+    sheet (table (edge_record s3.tables) 4) (piece 0 1 (first 0) ∷ piece 1 2 (both 0 0) ∷ piece 2 3 (second 0) ∷ none ∷ []) ∷
     -- S4
     sheet (side (between (at 0 0) (at 4 3)) (whole (at 3 2))) (negsuc 0) ∷
     -- S5
-    sheet (run emptyFile emptyFile).answer (counted 0 0 1) ∷
+    sheet (run empty_file empty_file).answer (counted 0 0 1) ∷
     -- S6: the counts, and the one face with its hole
-    sheet {A = Answer Counts × List ℕ} (s6.answer, faceNumbers s6 0) (counted 2 1 1, 0 ∷ 0 ∷ 0 ∷ 65535 ∷ 1 ∷ []) ∷
+    sheet {A = Answer Counts × List ℕ} (s6.answer, face_numbers s6 0) (counted 2 1 1, 0 ∷ 0 ∷ 0 ∷ 65535 ∷ 1 ∷ []) ∷
     -- S7
-    sheet {A = Answer (ℕ × ℕ) × Answer (ℕ × ℕ)} (check (reaching (negsuc 15999)), check (reaching (negsuc 16000))) (done (2, 1), refusedWith 5 0 0) ∷
+    sheet {A = Answer (ℕ × ℕ) × Answer (ℕ × ℕ)} (check (reaching (negsuc 15999)), check (reaching (negsuc 16000))) (done (2, 1), refused_with 5 0 0) ∷
     -- S8
-    sheet {A = Answer (ℕ × ℕ) × Answer (ℕ × ℕ)} (check (header 200), check (header 201)) (refusedWith 4 0 0, refusedWith 3 0 0) ∷
+    sheet {A = Answer (ℕ × ℕ) × Answer (ℕ × ℕ)} (check (header 200), check (header 201)) (refused_with 4 0 0, refused_with 3 0 0) ∷
     -- S9
-    sheet (run (square 0 0 4 1 1 2 1 0) emptyFile).answer (refusedWith 10 1 2) ∷
+    sheet (run (square 0 0 4 1 1 2 1 0) empty_file).answer (refused_with 10 1 2) ∷
     -- S10
-    sheet (run (square 0 0 4 1 1 1 1 5) emptyFile).answer (refusedWith 10 1 7) ∷
+    sheet (run (square 0 0 4 1 1 1 1 5) empty_file).answer (refused_with 10 1 7) ∷
     -- S11: the counts, and of each face its labels, least half-edge and holes
-    sheet {A = Answer Counts × List (List ℕ)} (s11.answer, table (faceNumbers s11) 3)
+    sheet {A = Answer Counts × List (List ℕ)} (s11.answer, table (face_numbers s11) 3)
     (counted 8 8 3, (0 ∷ 0 ∷ 0 ∷ 65535 ∷ 1 ∷ []) ∷ (1 ∷ 0 ∷ 0 ∷ 0 ∷ 1 ∷ []) ∷ (1 ∷ 7 ∷ 0 ∷ 6 ∷ 0 ∷ []) ∷ []) ∷
     -- S12: the listing, and the overlay file with its 427 bytes
     sheet {A = List ℕ × Written} (listing maps s12, written_of 427 s12.tables s12.answer)
-    (ascii "vertices 10 edges 12 faces 4\nface 0 0 0 - 1\nface 1 1 0 0 0\nface 2 1 7 6 0\nface 3 0 7 10 0\ngaps 1\n", record { answer = done 427; buffer = s12File }) ∷
+    (ascii "vertices 10 edges 12 faces 4\nface 0 0 0 - 1\nface 1 1 0 0 0\nface 2 1 7 6 0\nface 3 0 7 10 0\ngaps 1\n", record { answer = done 427; buffer = s12_file }) ∷
     []
 
 -- every sheet of a list is answered as it should be
@@ -117,5 +117,5 @@ Answered (s ∷ ss) = (s.got ≡ s.want) × Answered ss
 
 -- the statement over the list
 pub sheets-answered : Answered sheets
-unfolding gcdOf fault overlayOf tables_of overlayFile
+unfolding gcd_of fault overlay_of tables_of overlay_file
 sheets-answered = (refl, (refl, (refl, (refl, (refl, (refl, (refl, (refl, (refl, (refl, (refl, (refl, tt))))))))))))

@@ -3,23 +3,23 @@
 use Rattle.std.specs.Prelude.{◌≡◌, refl}
 use Rattle.seq.specs.Seq.{List, ◌∷◌, ◌++◌, map, ℕ, negsuc, pos, gather, []}
 use Rattle.paper.specs.Plane.{Vec, vec}
-use Rattle.paper.specs.Bytes.{leSigned}
+use Rattle.paper.specs.Bytes.{le_signed}
 use Rattle.paper.specs.Refusal.{Answer, done, refused}
-use Rattle.paper.specs.Map.{Map, mapOf, fault}
-use Rattle.paper.specs.Sample.{at, arc, mapFile, zone}
+use Rattle.paper.specs.Map.{Map, map_of, fault}
+use Rattle.paper.specs.Sample.{at, arc, map_file, zone}
 use Rattle.paper.specs.Soundings.{cell_of, Cells, CountRoom, Counted, soundings}
 
 -- zones: the left square has label 5, the right one 6
 abbrev zones : List ℕ
-zones = mapFile (at 0 0 ∷ at 2 0 ∷ at 4 0 ∷ at 4 2 ∷ at 2 2 ∷ at 0 2 ∷ [])
+zones = map_file (at 0 0 ∷ at 2 0 ∷ at 4 0 ∷ at 4 2 ∷ at 2 2 ∷ at 0 2 ∷ [])
     (arc 0 1 5 0 ∷ arc 1 2 6 0 ∷ arc 2 3 6 0 ∷ arc 3 4 6 0 ∷ arc 4 5 5 0 ∷ arc 5 0 5 0 ∷ arc 1 4 5 6 ∷ [])
 
 -- a block: the triangle (0, 0), (4, 0), (0, 4)
 abbrev blocks : List ℕ
-blocks = mapFile (at 0 0 ∷ at 4 0 ∷ at 0 4 ∷ []) (arc 0 1 7 0 ∷ arc 1 2 7 0 ∷ arc 2 0 7 0 ∷ [])
+blocks = map_file (at 0 0 ∷ at 4 0 ∷ at 0 4 ∷ []) (arc 0 1 7 0 ∷ arc 1 2 7 0 ∷ arc 2 0 7 0 ∷ [])
 
 abbrev ms : List Map
-ms = mapOf zones ∷ mapOf blocks ∷ []
+ms = map_of zones ∷ map_of blocks ∷ []
 
 -- inside; on the line between the squares, where it meets the slanting side, and below; on the right side; on the lower side and the corner there; on the upper side; on the slanting side
 placed : map (cell_of ms) (at 1 1 ∷ at 2 1 ∷ at 2 2 ∷ at 2 0 ∷ at 4 1 ∷ at 1 0 ∷ at 0 0 ∷ at 4 0 ∷ at 1 2 ∷ at 3 1 ∷ [])
@@ -28,7 +28,7 @@ placed = refl
 
 -- the list of these soundings
 abbrev list_of : List Vec → List ℕ
-list_of = gather (λ c. leSigned 2 c.x ++ leSigned 2 c.y)
+list_of = gather (λ c. le_signed 2 c.x ++ le_signed 2 c.y)
 
 -- room for three pairs
 abbrev lent : CountRoom
@@ -64,9 +64,9 @@ eleven : run (list_of (at 3 1 ∷ at 1 1 ∷ at 9 9 ∷ at 2 1 ∷ [])) ≡ empt
 unfolding soundings fault
 eleven = refl
 
-thirteen-before-eleven : run (list_of (at 3 1 ∷ at 1 1 ∷ at 9 9 ∷ at 2 1 ∷ at 1 17000 ∷ [])) ≡ empty (refusal 13 0 4)
+thirteen_before_eleven : run (list_of (at 3 1 ∷ at 1 1 ∷ at 9 9 ∷ at 2 1 ∷ at 1 17000 ∷ [])) ≡ empty (refusal 13 0 4)
 unfolding soundings fault
-thirteen-before-eleven = refl
+thirteen_before_eleven = refl
 
 -- the maps are judged before the list
 second-map : soundings lent (zones ∷ [] ∷ []) (0 ∷ []) ≡ empty (refusal 1 2 0)

@@ -5,7 +5,7 @@ use Rattle.std.specs.Prelude.{Float}
 use Rattle.std.specs.Float.{nan, inf, fin, binary64}
 use Rattle.std.specs.Float.Ieee.{up, down, le, mul, add, of_int}
 use Rattle.seq.specs.Seq.{Bool, true, false, cond, not, ◌&&◌, [], ◌∷◌, Option, ℕ, ◌+◌, ◌*◌, ◌/◌, leb, ℤ, pos, negsuc, neg_ℤ, nat_abs}
-use Rattle.paper.specs.Limits.{gaugeReach}
+use Rattle.paper.specs.Limits.{gauge_reach}
 use Rattle.paper.specs.Refusal.{given, first_of, answer, Refusal, Answer}
 
 -- "none, a ratio of one gauge, or a pair of weights for two gauges"
@@ -28,42 +28,42 @@ pub record Height : Type 0 where
 -- ── what is refused ──
 
 -- "a zone with rule none"
-abbrev pub isUnset : TideRule → Bool
-isUnset unset = true
-isUnset (ratio r) = false
-isUnset (weights a b) = false
+abbrev pub is_unset : TideRule → Bool
+is_unset unset = true
+is_unset (ratio r) = false
+is_unset (weights a b) = false
 
 -- from lo to hi, both included. Where x is not a number, both comparisons are false; -0 equals 0
 abbrev pub within : Float → Float → Float → Bool
 within lo hi x = le lo x && le x hi
 
 -- "a ratio lies from 0.25 to 4, a weight from 0 to 1": from 2 ^ -2 to 2 ^ 2, and from 0 to 2 ^ 0
-abbrev pub ratioIn : Float → Bool
-ratioIn = within (fin false 1 (negsuc 1)) (fin false 1 (pos 2))
+abbrev pub ratio_in : Float → Bool
+ratio_in = within (fin false 1 (negsuc 1)) (fin false 1 (pos 2))
 
-abbrev pub weightIn : Float → Bool
-weightIn = within (fin false 0 (pos 0)) (fin false 1 (pos 0))
+abbrev pub weight_in : Float → Bool
+weight_in = within (fin false 0 (pos 0)) (fin false 1 (pos 0))
 
 -- each ratio and weight of the rule is in its range
 abbrev pub in_range : TideRule → Bool
 in_range unset = true
-in_range (ratio r) = ratioIn r
-in_range (weights a b) = weightIn a && weightIn b
+in_range (ratio r) = ratio_in r
+in_range (weights a b) = weight_in a && weight_in b
 
 -- "whole millimetres from −20,000 to 20,000"
 abbrev pub readable : Reading → Bool
 readable missing = false
-readable (at z) = leb (nat_abs z) gaugeReach
+readable (at z) = leb (nat_abs z) gauge_reach
 
 -- "The ratio is of the first gauge; a pair of weights uses both readings, a weight of 0 too"
-abbrev pub readingsGood : TideRule → Reading → Reading → Bool
-readingsGood unset x y = true
-readingsGood (ratio r) x y = readable x
-readingsGood (weights a b) x y = readable x && readable y
+abbrev pub readings_good : TideRule → Reading → Reading → Bool
+readings_good unset x y = true
+readings_good (ratio r) x y = readable x
+readings_good (weights a b) x y = readable x && readable y
 
 -- "14 for a zone with rule none, 15 for a ratio or weight outside its range or not a number, 16 for a reading missing or out of range, in that order"
-abbrev pub tideRefusal : TideRule → Reading → Reading → Option Refusal
-tideRefusal t x y = first_of (given 14 0 (isUnset t) ∷ given 15 0 (not (in_range t)) ∷ given 16 0 (not (readingsGood t x y)) ∷ [])
+abbrev pub tide_refusal : TideRule → Reading → Reading → Option Refusal
+tide_refusal t x y = first_of (given 14 0 (is_unset t) ∷ given 15 0 (not (in_range t)) ∷ given 16 0 (not (readings_good t x y)) ∷ [])
 
 -- ── the height ──
 
@@ -74,30 +74,30 @@ gauge (at z) = of_int binary64 z
 
 -- "ratio times reading, or first weight times first reading plus second weight times second reading, each operation rounded once in that order".
 -- By rule none there is no height, and what stands here is not answered
-abbrev pub heightOf : TideRule → Reading → Reading → Float
-heightOf unset x y = fin false 0 (pos 0)
-heightOf (ratio r) x y = mul binary64 r (gauge x)
-heightOf (weights a b) x y = add binary64 (mul binary64 a (gauge x)) (mul binary64 b (gauge y))
+abbrev pub height_of : TideRule → Reading → Reading → Float
+height_of unset x y = fin false 0 (pos 0)
+height_of (ratio r) x y = mul binary64 r (gauge x)
+height_of (weights a b) x y = add binary64 (mul binary64 a (gauge x)) (mul binary64 b (gauge y))
 
 -- n with a minus sign where s is true
 abbrev pub signed : Bool → ℕ → ℤ
 signed s n = cond s (neg_ℤ (pos n)) (pos n)
 
 -- n / d to the nearest whole number, a half up
-abbrev pub halfUp : ℕ → ℕ → ℕ
-halfUp n d = (2 * n + d) / (2 * d)
+abbrev pub the_half_up : ℕ → ℕ → ℕ
+the_half_up n d = (2 * n + d) / (2 * d)
 
 -- "the nearest whole millimetre, halves away from zero, exactly for the float obtained": the magnitude m · 2 ^ e is the fraction m · up e / down e of whole
 -- numbers. There is none for a NaN or an infinity, and no height is one
-unfoldable pub nearestWhole : Float → ℤ
-nearestWhole nan = pos 0
-nearestWhole (inf s) = pos 0
-nearestWhole (fin s m e) = signed s (halfUp (m * up e) (down e))
+unfoldable pub nearest_whole : Float → ℤ
+nearest_whole nan = pos 0
+nearest_whole (inf s) = pos 0
+nearest_whole (fin s m e) = signed s (the_half_up (m * up e) (down e))
 
 -- what is answered where nothing is refused
-abbrev pub tideOf : TideRule → Reading → Reading → Height
-tideOf t x y = let h = heightOf t x y in record { height = h; millimetres = nearestWhole h; rule = t }
+abbrev pub tide_of : TideRule → Reading → Reading → Height
+tide_of t x y = let h = height_of t x y in record { height = h; millimetres = nearest_whole h; rule = t }
 
 -- "The operation is handed a zone's rule and both readings"
 unfoldable pub tide : TideRule → Reading → Reading → Answer Height
-tide t x y = answer (tideOf t x y) (tideRefusal t x y)
+tide t x y = answer (tide_of t x y) (tide_refusal t x y)

@@ -7,12 +7,12 @@ use native.Mathlib.Omega.{arith}
 use lib.IntN.{ℤ, pos, negsuc, neg_ℤ, nat_abs, ◌+ℤ◌, ◌-ℤ◌, ◌*ℤ◌}
 use lib.Signed.{◌≤ℤ◌}
 use Rattle.exact.specs.Solve.{ring, reify}
-use Rattle.exact.specs.Parts.{pp, np, is-+, is-neg, ≤-to}
+use Rattle.exact.specs.Parts.{pp, np, is-+, is_neg_lem, ≤-to}
 use Rattle.exact.specs.Mach.{bd-+, bd-*}
 
 -- |d - n| + |n| = |d|
 parts : (n d : ℤ) → pos 0 ≤ℤ n → n ≤ℤ d → nat_abs (d -ℤ n) + nat_abs n ≡ nat_abs d
-parts (pos a) (pos b) h l = of (pos b -ℤ pos a) (omega (arith, is-+ (pos b) (neg_ℤ (pos a)), is-neg (pos a), ≤-to (pos a) (pos b) l))
+parts (pos a) (pos b) h l = of (pos b -ℤ pos a) (omega (arith, is-+ (pos b) (neg_ℤ (pos a)), is_neg_lem (pos a), ≤-to (pos a) (pos b) l))
   where
     of : (z : ℤ) → pp z + a ≡ np z + b → nat_abs z + a ≡ b
     of (pos n) e = omega arith
@@ -30,5 +30,5 @@ module _ (x u n d : ℤ) (B : ℕ) where
       rw (between_ends, ← parts n d h l, mul-add) sum
 
   -- and so within B times any bound of d
-  pub weighed-below : (K : ℕ) → nat_abs d ≤ K → nat_abs x ≤ B → nat_abs (x +ℤ u) ≤ B → pos 0 ≤ℤ n → n ≤ℤ d → nat_abs (x *ℤ d +ℤ n *ℤ u) ≤ B * K
-  weighed-below K k f g h l = le_trans (weighed f g h l) (mul-le-mul (le_refl B) k)
+  pub weighed_below : (K : ℕ) → nat_abs d ≤ K → nat_abs x ≤ B → nat_abs (x +ℤ u) ≤ B → pos 0 ≤ℤ n → n ≤ℤ d → nat_abs (x *ℤ d +ℤ n *ℤ u) ≤ B * K
+  weighed_below K k f g h l = le_trans (weighed f g h l) (mul-le-mul (le_refl B) k)

@@ -6,7 +6,7 @@ use lib.IntN.{ℤ, nat_abs, ◌+ℤ◌, ◌-ℤ◌}
 use Rattle.exact.specs.Solve.{ring, reify}
 use Rattle.exact.specs.Mach.{tru, atmost}
 use Rattle.paper.specs.Plane.{Vec}
-use Rattle.plane.specs.Values.{fromTo}
+use Rattle.plane.specs.Values.{from_to}
 use Rattle.plane.specs.Bounds.{Corner, Edge}
 
 -- from a by b - a is b
@@ -15,10 +15,10 @@ arrives a b B h =
     let e : a +ℤ (b -ℤ a) ≡ b = ring (a ∷ b ∷ []) (search reify depth 20) tt in
     subst (λ (z : ℤ). nat_abs z ≤ B) (sym e) h
 
-pub edge-from-to : (a b : Vec) → Corner a → Corner b → Edge (fromTo a b)
-edge-from-to a b h l =
+pub edge_from_to : (a b : Vec) → Corner a → Corner b → Edge (from_to a b)
+edge_from_to a b h l =
     record {
-      foot-is = h;
-      head-is = record { x-is = arrives a.x b.x _ l.x-is; y-is = arrives a.y b.y _ l.y-is };
-      up_is = record { x-is = atmost (search tru depth 20) tt; y-is = atmost (search tru depth 20) tt };
+      foot_is = h;
+      head_is = record { x_is = arrives a.x b.x _ l.x_is; y_is = arrives a.y b.y _ l.y_is };
+      up_is = record { x_is = atmost (search tru depth 20) tt; y_is = atmost (search tru depth 20) tt };
     }

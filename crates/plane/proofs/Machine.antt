@@ -17,27 +17,27 @@ back z = to_z w64 (of_z w64 z)
 
 -- a number of a crossing's parameter, and what it is turned
 module _ (n : ℤ) (h : nat_abs n ≤ denominators) where
-  pub number-back : back n ≡ n
-  number-back = plain (search tr depth 20) tt
+  pub number_back : back n ≡ n
+  number_back = plain (search tr depth 20) tt
 
-  pub turned-back : back (pos 0 -ℤ back n) ≡ neg_ℤ n
-  turned-back = plain (search tr depth 20) tt ∙ +ℤ_idl (neg_ℤ n)
+  pub turned_back : back (pos 0 -ℤ back n) ≡ neg_ℤ n
+  turned_back = plain (search tr depth 20) tt ∙ +ℤ_idl (neg_ℤ n)
 
-pub vec-back : (x y : ℤ) → Direction (vec x y) → vec (back x) (back y) ≡ vec x y
-vec-back x y h =
+pub vec_back : (x y : ℤ) → Direction (vec x y) → vec (back x) (back y) ≡ vec x y
+vec_back x y h =
     let ex : back x ≡ x = plain (search tr depth 20) tt in
     let ey : back y ≡ y = plain (search tr depth 20) tt in
     λ i. vec (ex i) (ey i)
 
-pub pt-back : (x y d : ℤ) → Near (pt x y d) → pt (back x) (back y) (back d) ≡ pt x y d
-pt-back x y d n =
+pub pt_back : (x y d : ℤ) → Near (pt x y d) → pt (back x) (back y) (back d) ≡ pt x y d
+pt_back x y d n =
     let ex : back x ≡ x = plain (search tr depth 20) tt in
     let ey : back y ≡ y = plain (search tr depth 20) tt in
     let ed : back d ≡ d = plain (search tr depth 20) tt in
     λ i. pt (ex i) (ey i) (ed i)
 
-pub seg-back : (x y u v : ℤ) → Edge (seg x y u v) → seg (back x) (back y) (back u) (back v) ≡ seg x y u v
-seg-back x y u v e =
+pub seg_back : (x y u v : ℤ) → Edge (seg x y u v) → seg (back x) (back y) (back u) (back v) ≡ seg x y u v
+seg_back x y u v e =
     let ex : back x ≡ x = plain (search tr depth 20) tt in
     let ey : back y ≡ y = plain (search tr depth 20) tt in
     let eu : back u ≡ u = plain (search tr depth 20) tt in

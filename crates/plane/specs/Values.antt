@@ -3,7 +3,7 @@
 use Rattle.std.specs.Prelude.{ℤ}
 use Rattle.exact.specs.Lowest.{pt}
 use Rattle.exact.specs.declared.terms.Point.{Point}
-use Rattle.paper.specs.Plane.{Pt, Vec, vec, minusV}
+use Rattle.paper.specs.Plane.{Pt, Vec, vec, minus_v}
 use Rattle.paper.specs.Plane as Plane
 use Rattle.plane.specs.declared.point.Vector.{Vector}
 use Rattle.plane.specs.declared.point.Seg.{Seg}
@@ -20,24 +20,24 @@ abbrev pub seg : ℤ → ℤ → ℤ → ℤ → Plane.Seg
 seg x y u v = record { foot = vec x y; up = vec u v }
 
 -- the edge from a to b
-abbrev pub fromTo : Vec → Vec → Plane.Seg
-fromTo a b = record { foot = a; up = minusV b a }
+abbrev pub from_to : Vec → Vec → Plane.Seg
+from_to a b = record { foot = a; up = minus_v b a }
 
-abbrev pub ptOf : Point → Pt
-ptOf p = pt p.x p.y p.d
+abbrev pub pt_of : Point → Pt
+pt_of p = pt p.x p.y p.d
 
 abbrev pub vec_of : Vector → Vec
 vec_of u = vec u.x u.y
 
-abbrev pub segOf : Seg → Plane.Seg
-segOf s = seg s.x s.y s.u s.v
+abbrev pub seg_of : Seg → Plane.Seg
+seg_of s = seg s.x s.y s.u s.v
 
 abbrev pub cross_of : Cross → Option Pt
 cross_of Nothing = none
-cross_of (At p) = some (ptOf p)
+cross_of (At p) = some (pt_of p)
 
-abbrev pub meetingOf : Meeting → Meetings.Meeting
-meetingOf Apart = apart
-meetingOf (Touching p) = touching (ptOf p)
-meetingOf (Crossing p) = crossing (ptOf p)
-meetingOf Sharing = sharing
+abbrev pub meeting_of : Meeting → Meetings.Meeting
+meeting_of Apart = apart
+meeting_of (Touching p) = touching (pt_of p)
+meeting_of (Crossing p) = crossing (pt_of p)
+meeting_of Sharing = sharing

@@ -1,7 +1,7 @@
 // "Angles .. run from 0 (east) counter-clockwise to just under 360 degrees".
 ghost use Rattle.std.specs.Prelude.{◌≡◌, ◌≤◌, nat_abs};
 ghost use Rattle.paper.specs.Limits.{denominators};
-ghost use Rattle.paper.specs.Plane.{vec, cross, rises, lessAngle};
+ghost use Rattle.paper.specs.Plane.{vec, cross, rises, less_angle};
 ghost use Rattle.plane.specs.Values.{vec_of};
 ghost use Rattle.plane.specs.Bounds.{Direction};
 
@@ -35,7 +35,7 @@ pub fn rises(u: Vector) -> bool
 // Whether the angle of u is less than that of v.
 pub fn less_angle(u: Vector, v: Vector) -> bool
     requires { Direction (vec_of u) × Direction (vec_of v) }
-    ensures { result ≡ lessAngle (vec_of u) (vec_of v) }
+    ensures { result ≡ less_angle (vec_of u) (vec_of v) }
 {
     if rises(u) {
         if rises(v) { 0 < cross(u, v) } else { true }

@@ -1,7 +1,7 @@
 // Edges whose boxes are apart, by height or by width: they have no point in common.
 ghost use Rattle.std.specs.Prelude.{◌≡◌, ◌||◌};
-ghost use Rattle.laws_plane.specs.Boxes.{lesser, under, west, boxesApart};
-ghost use Rattle.plane.specs.Values.{segOf};
+ghost use Rattle.laws_plane.specs.Boxes.{lesser, under, west, boxes_apart};
+ghost use Rattle.plane.specs.Values.{seg_of};
 ghost use Rattle.plane.specs.Bounds.{Edge};
 
 use super::point::Seg;
@@ -23,8 +23,8 @@ fn both_less(a: i64, b: i64, c: i64, d: i64) -> bool
 
 // Whether one of s and t lies wholly below the other.
 fn heights_apart(s: Seg, t: Seg) -> bool
-    requires { Edge (segOf s) × Edge (segOf t) }
-    ensures { result ≡ (under (segOf s) (segOf t) || under (segOf t) (segOf s)) }
+    requires { Edge (seg_of s) × Edge (seg_of t) }
+    ensures { result ≡ (under (seg_of s) (seg_of t) || under (seg_of t) (seg_of s)) }
 {
     let top = s.y + s.v;
     let end = t.y + t.v;
@@ -37,8 +37,8 @@ fn heights_apart(s: Seg, t: Seg) -> bool
 
 // Whether one of s and t lies wholly west of the other.
 fn widths_apart(s: Seg, t: Seg) -> bool
-    requires { Edge (segOf s) × Edge (segOf t) }
-    ensures { result ≡ (west (segOf s) (segOf t) || west (segOf t) (segOf s)) }
+    requires { Edge (seg_of s) × Edge (seg_of t) }
+    ensures { result ≡ (west (seg_of s) (seg_of t) || west (seg_of t) (seg_of s)) }
 {
     let top = s.x + s.u;
     let end = t.x + t.u;
@@ -51,8 +51,8 @@ fn widths_apart(s: Seg, t: Seg) -> bool
 
 // Whether one of s and t lies wholly below or wholly west of the other.
 pub fn boxes_apart(s: Seg, t: Seg) -> bool
-    requires { Edge (segOf s) × Edge (segOf t) }
-    ensures { result ≡ boxesApart (segOf s) (segOf t) }
+    requires { Edge (seg_of s) × Edge (seg_of t) }
+    ensures { result ≡ boxes_apart (seg_of s) (seg_of t) }
 {
     if heights_apart(s, t) {
         true

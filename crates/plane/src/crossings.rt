@@ -1,10 +1,10 @@
 // "An edge p to p+u meets an edge p' to p'+v in one point, if u1·v2 − u2·v1 is not 0, exactly when both parameters lie from 0 to 1, ends included."
 ghost use Rattle.std.specs.Prelude.{true, ◌≡◌, ◌≤◌, nat_abs};
 ghost use Rattle.paper.specs.Limits.{denominators};
-ghost use Rattle.paper.specs.Plane.{within, crossAt, crossBy, crossing};
-ghost use Rattle.plane.specs.Values.{ptOf, segOf, cross_of};
+ghost use Rattle.paper.specs.Plane.{within, cross_at, cross_by, crossing};
+ghost use Rattle.plane.specs.Values.{pt_of, seg_of, cross_of};
 ghost use Rattle.plane.specs.Bounds.{Near, Edge, Over, NearIf};
-ghost use Rattle.plane.specs.Parameters.{firstOver, secondOver, numberOver, pointAlong};
+ghost use Rattle.plane.specs.Parameters.{first_over, second_over, number_over, point_along};
 
 use super::angle::cross_of;
 use super::point::{Point, Seg};
@@ -18,8 +18,8 @@ pub enum Cross {
 
 // The denominator of both parameters.
 pub fn over(s: Seg, t: Seg) -> i64
-    requires { Edge (segOf s) × Edge (segOf t) }
-    ensures both { (result ≡ firstOver (segOf s) (segOf t)) × (result ≡ secondOver (segOf s) (segOf t)) }
+    requires { Edge (seg_of s) × Edge (seg_of t) }
+    ensures both { (result ≡ first_over (seg_of s) (seg_of t)) × (result ≡ second_over (seg_of s) (seg_of t)) }
     ensures bound { nat_abs result ≤ denominators }
 {
     cross_of(s.u, s.v, t.u, t.v)
@@ -27,8 +27,8 @@ pub fn over(s: Seg, t: Seg) -> i64
 
 // Where s and t meet, in lowest terms; d is the denominator of both parameters.
 pub fn crossing_over(s: Seg, t: Seg, d: i64) -> Cross
-    requires { Edge (segOf s) × Edge (segOf t) × (d ≡ firstOver (segOf s) (segOf t)) × (nat_abs d ≤ denominators) }
-    ensures is { cross_of result ≡ crossing (segOf s) (segOf t) }
+    requires { Edge (seg_of s) × Edge (seg_of t) × (d ≡ first_over (seg_of s) (seg_of t)) × (nat_abs d ≤ denominators) }
+    ensures is { cross_of result ≡ crossing (seg_of s) (seg_of t) }
     ensures near { NearIf (cross_of result) }
 {
     let n = number_over(s, t, t);
@@ -38,8 +38,8 @@ pub fn crossing_over(s: Seg, t: Seg, d: i64) -> Cross
 
 // What stands over it: with e for t, of the point along s; with e for s, of the point along t.
 fn number_over(s: Seg, t: Seg, e: Seg) -> i64
-    requires { Edge (segOf s) × Edge (segOf t) × Edge (segOf e) }
-    ensures is { result ≡ numberOver (segOf s) (segOf t) (segOf e) }
+    requires { Edge (seg_of s) × Edge (seg_of t) × Edge (seg_of e) }
+    ensures is { result ≡ number_over (seg_of s) (seg_of t) (seg_of e) }
     ensures bound { nat_abs result ≤ denominators }
 {
     cross_of(t.x - s.x, t.y - s.y, e.u, e.v)
@@ -47,8 +47,8 @@ fn number_over(s: Seg, t: Seg, e: Seg) -> i64
 
 // The point at the parameters n/d and m/d, turned so that d is positive.
 fn cross_by(s: Seg, n: i64, m: i64, d: i64) -> Cross
-    requires { Edge (segOf s) × (nat_abs n ≤ denominators) × (nat_abs m ≤ denominators) × (nat_abs d ≤ denominators) }
-    ensures is { cross_of result ≡ crossBy (segOf s) n m d }
+    requires { Edge (seg_of s) × (nat_abs n ≤ denominators) × (nat_abs m ≤ denominators) × (nat_abs d ≤ denominators) }
+    ensures is { cross_of result ≡ cross_by (seg_of s) n m d }
     ensures near { NearIf (cross_of result) }
 {
     if d < 0 {
@@ -62,8 +62,8 @@ fn cross_by(s: Seg, n: i64, m: i64, d: i64) -> Cross
 
 // The point at the parameters n/d and m/d, where both lie from 0 to 1.
 fn cross_at(s: Seg, n: i64, m: i64, d: i64) -> Cross
-    requires { Edge (segOf s) × Over n d × Over m d }
-    ensures is { cross_of result ≡ crossAt (segOf s) n m d }
+    requires { Edge (seg_of s) × Over n d × Over m d }
+    ensures is { cross_of result ≡ cross_at (seg_of s) n m d }
     ensures near { NearIf (cross_of result) }
 {
     if within(n, d) {
@@ -88,9 +88,9 @@ fn within(n: i64, d: i64) -> bool
 
 // The point of s at n/d, over d.
 fn along(s: Seg, n: i64, d: i64) -> Point
-    requires { Edge (segOf s) × Over n d × (within n d ≡ true) }
-    ensures is { ptOf result ≡ pointAlong (segOf s) n d }
-    ensures near { Near (ptOf result) }
+    requires { Edge (seg_of s) × Over n d × (within n d ≡ true) }
+    ensures is { pt_of result ≡ point_along (seg_of s) n d }
+    ensures near { Near (pt_of result) }
 {
     Point {
         x: s.x * d + n * s.u,

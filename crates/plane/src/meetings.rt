@@ -4,10 +4,10 @@ ghost use Rattle.std.proofs.Math.Option.{some};
 ghost use Rattle.paper.specs.Limits.{denominators};
 ghost use Rattle.paper.specs.Plane.{lower, upper};
 ghost use Rattle.paper.specs.Plane.{crossing as common};
-ghost use Rattle.paper.specs.Meeting.{meetingAt, inLine, meeting, point_of, isEnd, clashBy};
-ghost use Rattle.plane.specs.Values.{ptOf, segOf, meetingOf};
+ghost use Rattle.paper.specs.Meeting.{meeting_at, in_line, meeting, point_of, is_end, clash_by};
+ghost use Rattle.plane.specs.Values.{pt_of, seg_of, meeting_of};
 ghost use Rattle.plane.specs.Bounds.{Near, Edge, NearIf};
-ghost use Rattle.plane.specs.Parameters.{firstOver};
+ghost use Rattle.plane.specs.Parameters.{first_over};
 
 use super::crossings::{Cross, crossing_over, over};
 use super::edge::{foot, head};
@@ -19,9 +19,9 @@ use super::side::left_by;
 
 // How s and t meet; both go up.
 pub fn meeting(s: Seg, t: Seg) -> Meeting
-    requires { Edge (segOf s) × Edge (segOf t) }
-    ensures is { meetingOf result ≡ meeting (segOf s) (segOf t) }
-    ensures near { NearIf (point_of (meetingOf result)) }
+    requires { Edge (seg_of s) × Edge (seg_of t) }
+    ensures is { meeting_of result ≡ meeting (seg_of s) (seg_of t) }
+    ensures near { NearIf (point_of (meeting_of result)) }
 {
     let d = over(s, t);
     if d == 0 {
@@ -37,9 +37,9 @@ pub fn meeting(s: Seg, t: Seg) -> Meeting
 
 // Edges in one line: the common part runs from the greater of the lower ends to the lesser of the upper ends.
 fn in_line(s: Seg, t: Seg) -> Meeting
-    requires { Edge (segOf s) × Edge (segOf t) }
-    ensures is { meetingOf result ≡ inLine (segOf s) (segOf t) }
-    ensures near { NearIf (point_of (meetingOf result)) }
+    requires { Edge (seg_of s) × Edge (seg_of t) }
+    ensures is { meeting_of result ≡ in_line (seg_of s) (seg_of t) }
+    ensures near { NearIf (point_of (meeting_of result)) }
 {
     let lo = upper(foot(s), foot(t));
     let hi = lower(head(s), head(t));
@@ -52,27 +52,27 @@ fn in_line(s: Seg, t: Seg) -> Meeting
 
 // The lesser of p and q.
 fn lower(p: Point, q: Point) -> Point
-    requires { Near (ptOf p) × Near (ptOf q) }
-    ensures is { ptOf result ≡ lower (ptOf p) (ptOf q) }
-    ensures near { Near (ptOf result) }
+    requires { Near (pt_of p) × Near (pt_of q) }
+    ensures is { pt_of result ≡ lower (pt_of p) (pt_of q) }
+    ensures near { Near (pt_of result) }
 {
     if before(q, p) { q } else { p }
 }
 
 // The greater of p and q.
 fn upper(p: Point, q: Point) -> Point
-    requires { Near (ptOf p) × Near (ptOf q) }
-    ensures is { ptOf result ≡ upper (ptOf p) (ptOf q) }
-    ensures near { Near (ptOf result) }
+    requires { Near (pt_of p) × Near (pt_of q) }
+    ensures is { pt_of result ≡ upper (pt_of p) (pt_of q) }
+    ensures near { Near (pt_of result) }
 {
     if before(q, p) { p } else { q }
 }
 
 // Edges that are not parallel, d the denominator of where they meet: by the point on both.
 fn meeting_over(s: Seg, t: Seg, d: i64) -> Meeting
-    requires { Edge (segOf s) × Edge (segOf t) × (d ≡ firstOver (segOf s) (segOf t)) × (nat_abs d ≤ denominators) }
-    ensures is { meetingOf result ≡ meetingAt (segOf s) (segOf t) (common (segOf s) (segOf t)) }
-    ensures near { NearIf (point_of (meetingOf result)) }
+    requires { Edge (seg_of s) × Edge (seg_of t) × (d ≡ first_over (seg_of s) (seg_of t)) × (nat_abs d ≤ denominators) }
+    ensures is { meeting_of result ≡ meeting_at (seg_of s) (seg_of t) (common (seg_of s) (seg_of t)) }
+    ensures near { NearIf (point_of (meeting_of result)) }
 {
     match crossing_over(s, t, d) {
         Cross::Nothing => Meeting::Apart,
@@ -82,9 +82,9 @@ fn meeting_over(s: Seg, t: Seg, d: i64) -> Meeting
 
 // By the point p on both: inside both, or an end of one.
 fn at_point(s: Seg, t: Seg, p: Point) -> Meeting
-    requires { Edge (segOf s) × Edge (segOf t) × Near (ptOf p) }
-    ensures is { meetingOf result ≡ meetingAt (segOf s) (segOf t) (some (ptOf p)) }
-    ensures near { NearIf (point_of (meetingOf result)) }
+    requires { Edge (seg_of s) × Edge (seg_of t) × Near (pt_of p) }
+    ensures is { meeting_of result ≡ meeting_at (seg_of s) (seg_of t) (some (pt_of p)) }
+    ensures near { NearIf (point_of (meeting_of result)) }
 {
     if inside(s, p) {
         if inside(t, p) {
@@ -99,8 +99,8 @@ fn at_point(s: Seg, t: Seg, p: Point) -> Meeting
 
 // Whether p is an end of s.
 fn is_end(s: Seg, p: Point) -> bool
-    requires { Edge (segOf s) × Near (ptOf p) }
-    ensures { result ≡ isEnd (segOf s) (ptOf p) }
+    requires { Edge (seg_of s) × Near (pt_of p) }
+    ensures { result ≡ is_end (seg_of s) (pt_of p) }
 {
     if same(foot(s), p) {
         true
@@ -111,16 +111,16 @@ fn is_end(s: Seg, p: Point) -> bool
 
 // Whether p is not an end of both.
 fn no_corner(s: Seg, t: Seg, p: Point) -> bool
-    requires { Edge (segOf s) × Edge (segOf t) × Near (ptOf p) }
-    ensures { result ≡ not (isEnd (segOf s) (ptOf p) && isEnd (segOf t) (ptOf p)) }
+    requires { Edge (seg_of s) × Edge (seg_of t) × Near (pt_of p) }
+    ensures { result ≡ not (is_end (seg_of s) (pt_of p) && is_end (seg_of t) (pt_of p)) }
 {
     if is_end(s, p) { !is_end(t, p) } else { true }
 }
 
 // Whether s and t share "any point that is not an end of both, a stretch or the whole edge included"; both go up.
 pub fn clash_by(s: Seg, t: Seg) -> bool
-    requires { Edge (segOf s) × Edge (segOf t) }
-    ensures { result ≡ clashBy (segOf s) (segOf t) (meeting (segOf s) (segOf t)) }
+    requires { Edge (seg_of s) × Edge (seg_of t) }
+    ensures { result ≡ clash_by (seg_of s) (seg_of t) (meeting (seg_of s) (seg_of t)) }
 {
     match meeting(s, t) {
         Meeting::Apart => false,

@@ -1,7 +1,7 @@
 // Whether a point lies on an edge.
 ghost use Rattle.std.specs.Prelude.{◌≡◌};
-ghost use Rattle.paper.specs.Plane.{inside, onSeg};
-ghost use Rattle.plane.specs.Values.{ptOf, segOf};
+ghost use Rattle.paper.specs.Plane.{inside, on_seg};
+ghost use Rattle.plane.specs.Values.{pt_of, seg_of};
 ghost use Rattle.plane.specs.Bounds.{Near, Edge};
 
 use super::edge::{foot, head};
@@ -11,8 +11,8 @@ use super::side::left_by;
 
 // Whether p lies inside s, its ends not included; s goes up.
 pub fn inside(s: Seg, p: Point) -> bool
-    requires { Edge (segOf s) × Near (ptOf p) }
-    ensures { result ≡ inside (segOf s) (ptOf p) }
+    requires { Edge (seg_of s) × Near (pt_of p) }
+    ensures { result ≡ inside (seg_of s) (pt_of p) }
 {
     if left_by(s, p) == 0 {
         if before(foot(s), p) {
@@ -27,8 +27,8 @@ pub fn inside(s: Seg, p: Point) -> bool
 
 // Whether p lies on s, its ends included; s goes up.
 pub fn on_seg(s: Seg, p: Point) -> bool
-    requires { Edge (segOf s) × Near (ptOf p) }
-    ensures { result ≡ onSeg (segOf s) (ptOf p) }
+    requires { Edge (seg_of s) × Near (pt_of p) }
+    ensures { result ≡ on_seg (seg_of s) (pt_of p) }
 {
     if left_by(s, p) == 0 {
         if before(p, foot(s)) {

@@ -1,11 +1,11 @@
 // "Order: smaller y first, then smaller x".
 ghost use Rattle.std.specs.Prelude.{◌≡◌, ◌-ℤ◌, ◌*ℤ◌};
 ghost use Rattle.exact.specs.Compare.{sign_of};
-ghost use Rattle.exact.specs.Exact.{sgn, isNeg, isZer};
+ghost use Rattle.exact.specs.Exact.{sgn, is_neg, is_zer};
 ghost use Rattle.exact.specs.Lowest.{pt};
 ghost use Rattle.paper.specs.Plane.{order, before, same, below};
-ghost use Rattle.plane.specs.Values.{ptOf};
-ghost use Rattle.plane.specs.Bounds.{Near, Coordinate, small, middling, shortWay, level};
+ghost use Rattle.plane.specs.Values.{pt_of};
+ghost use Rattle.plane.specs.Bounds.{Near, Coordinate, small, middling, short_way, level};
 
 use super::point::Point;
 pub use exact::Ordering;
@@ -43,7 +43,7 @@ fn middling(n: i64, d: i64) -> bool
 // Whether n·e and m·d fit 64 bits, so that n/d and m/e are compared by them.
 fn short_way(n: i64, d: i64, m: i64, e: i64) -> bool
     requires { Coordinate n d × Coordinate m e }
-    ensures { result ≡ shortWay n d m e }
+    ensures { result ≡ short_way n d m e }
 {
     if small(m, e) {
         return true;
@@ -81,7 +81,7 @@ fn fractions(n: i64, d: i64, m: i64, e: i64) -> Ordering
 
 // Whether the answer is that the first is the lesser.
 fn is_less(o: Ordering) -> bool
-    ensures { result ≡ isNeg (sign_of o) }
+    ensures { result ≡ is_neg (sign_of o) }
 {
     match o {
         Ordering::Less => true,
@@ -93,7 +93,7 @@ fn is_less(o: Ordering) -> bool
 // Whether n/d is less than m/e, by the same two ways. Looks ask this most of all, of a corner as the second.
 fn lesser(n: i64, d: i64, m: i64, e: i64) -> bool
     requires { Coordinate n d × Coordinate m e }
-    ensures { result ≡ isNeg (sgn (n *ℤ e -ℤ m *ℤ d)) }
+    ensures { result ≡ is_neg (sgn (n *ℤ e -ℤ m *ℤ d)) }
 {
     if short_way(n, d, m, e) {
         n * e < m * d
@@ -116,32 +116,32 @@ pub fn order_of(px: i64, py: i64, pd: i64, qx: i64, qy: i64, qd: i64) -> Orderin
 
 // Which of p and q comes first; equal where they are one point.
 pub fn order(p: Point, q: Point) -> Ordering
-    requires { Near (ptOf p) × Near (ptOf q) }
-    ensures { sign_of result ≡ order (ptOf p) (ptOf q) }
+    requires { Near (pt_of p) × Near (pt_of q) }
+    ensures { sign_of result ≡ order (pt_of p) (pt_of q) }
 {
     order_of(p.x, p.y, p.d, q.x, q.y, q.d)
 }
 
 // Whether p comes first, of two points with one denominator, as corners have: by their numbers.
 fn level_before(p: Point, q: Point) -> bool
-    requires { Near (ptOf p) × Near (ptOf q) }
-    ensures { result ≡ isNeg (level (ptOf p) (ptOf q)) }
+    requires { Near (pt_of p) × Near (pt_of q) }
+    ensures { result ≡ is_neg (level (pt_of p) (pt_of q)) }
 {
     if p.y == q.y { p.x < q.x } else { p.y < q.y }
 }
 
 // Whether these are one point.
 fn level_same(p: Point, q: Point) -> bool
-    requires { Near (ptOf p) × Near (ptOf q) }
-    ensures { result ≡ isZer (level (ptOf p) (ptOf q)) }
+    requires { Near (pt_of p) × Near (pt_of q) }
+    ensures { result ≡ is_zer (level (pt_of p) (pt_of q)) }
 {
     if p.y == q.y { p.x == q.x } else { false }
 }
 
 // Whether p comes first.
 pub fn before(p: Point, q: Point) -> bool
-    requires { Near (ptOf p) × Near (ptOf q) }
-    ensures { result ≡ before (ptOf p) (ptOf q) }
+    requires { Near (pt_of p) × Near (pt_of q) }
+    ensures { result ≡ before (pt_of p) (pt_of q) }
 {
     if p.d == q.d {
         level_before(p, q)
@@ -152,8 +152,8 @@ pub fn before(p: Point, q: Point) -> bool
 
 // Whether p and q are one point.
 pub fn same(p: Point, q: Point) -> bool
-    requires { Near (ptOf p) × Near (ptOf q) }
-    ensures { result ≡ same (ptOf p) (ptOf q) }
+    requires { Near (pt_of p) × Near (pt_of q) }
+    ensures { result ≡ same (pt_of p) (pt_of q) }
 {
     if p.d == q.d {
         return level_same(p, q);
@@ -175,8 +175,8 @@ pub fn below_of(px: i64, py: i64, pd: i64, qx: i64, qy: i64, qd: i64) -> bool
 
 // Whether p has the smaller y.
 pub fn below(p: Point, q: Point) -> bool
-    requires { Near (ptOf p) × Near (ptOf q) }
-    ensures { result ≡ below (ptOf p) (ptOf q) }
+    requires { Near (pt_of p) × Near (pt_of q) }
+    ensures { result ≡ below (pt_of p) (pt_of q) }
 {
     below_of(p.x, p.y, p.d, q.x, q.y, q.d)
 }

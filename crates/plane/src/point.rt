@@ -1,7 +1,7 @@
 // Points, directions and edges by value.
 ghost use Rattle.std.specs.Prelude.{◌≡◌};
 ghost use Rattle.paper.specs.Plane.{whole};
-ghost use Rattle.plane.specs.Values.{ptOf, vec_of};
+ghost use Rattle.plane.specs.Values.{pt_of, vec_of};
 ghost use Rattle.plane.specs.Bounds.{Corner, Near};
 
 pub use exact::Point;
@@ -25,8 +25,8 @@ pub struct Seg {
 // "a corner (x, y) is the vertex (x, y, 1)"
 pub fn whole(a: Vector) -> Point
     requires { Corner (vec_of a) }
-    ensures is { ptOf result ≡ whole (vec_of a) }
-    ensures near { Near (ptOf result) }
+    ensures is { pt_of result ≡ whole (vec_of a) }
+    ensures near { Near (pt_of result) }
 {
     Point {
         x: a.x,

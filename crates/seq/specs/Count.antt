@@ -10,8 +10,8 @@ use Rattle.seq.specs.Tests.{clash, never}
 module _ (p : ℕ → Bool) where
   -- ── what a loop asks ──
 
-  pub count-more : (n : ℕ) → p n ≡ true → count p (n + 1) ≡ count p n + 1
-  count-more n e = rw (add-one n, e, add-one (count p n))
+  pub count_more : (n : ℕ) → p n ≡ true → count p (n + 1) ≡ count p n + 1
+  count_more n e = rw (add-one n, e, add-one (count p n))
 
   pub count-skip : (n : ℕ) → p n ≡ false → count p (n + 1) ≡ count p n
   count-skip n e = rw (add-one n, e)
@@ -30,9 +30,9 @@ module _ (p : ℕ → Bool) where
   count_none zero h = refl
   count_none (suc n) h = rw (h n (omega arith), count_none n (λ k l. h k (omega arith)))
 
-  pub count-all : (n : ℕ) → ((k : ℕ) → k < n → p k ≡ true) → count p n ≡ n
-  count-all zero h = refl
-  count-all (suc n) h = rw (h n (omega arith), count-all n (λ k l. h k (omega arith)))
+  pub count_all : (n : ℕ) → ((k : ℕ) → k < n → p k ≡ true) → count p n ≡ n
+  count_all zero h = refl
+  count_all (suc n) h = rw (h n (omega arith), count_all n (λ k l. h k (omega arith)))
 
   split_step : (a b : ℕ) (c : Bool) → cond c (suc (a + b)) (a + b) ≡ a + cond c (suc b) b
   split_step a b true = sym (add-suc a b)
@@ -58,19 +58,19 @@ module _ (p : ℕ → Bool) where
       ]
 
   -- the lesser count is of the lesser bound
-  pub count-before : (m n : ℕ) → count p m < count p n → m < n
-  count-before m n h = elim (dec_lt m n) [ yes q ↦ q | no q ↦ absurd (omega (arith, count-rises n m (omega arith))) ]
+  pub count_before : (m n : ℕ) → count p m < count p n → m < n
+  count_before m n h = elim (dec_lt m n) [ yes q ↦ q | no q ↦ absurd (omega (arith, count-rises n m (omega arith))) ]
 
   -- the rank of a number that is counted is below the count
-  pub count-below : (n k : ℕ) → k < n → p k ≡ true → count p k < count p n
-  count-below n k h e = omega (arith, count-more k e, count-rises (k + 1) n (omega arith))
+  pub count_below : (n k : ℕ) → k < n → p k ≡ true → count p k < count p n
+  count_below n k h e = omega (arith, count_more k e, count-rises (k + 1) n (omega arith))
 
   -- and is its own
   pub count-once : (j k : ℕ) → p j ≡ true → p k ≡ true → count p j ≡ count p k → j ≡ k
   count-once j k e f q =
       elim (dec_lt j k) [
-        | yes s ↦ absurd (omega (arith, count-below k j s e))
-        | no s ↦ elim (dec_lt k j) [ yes t ↦ absurd (omega (arith, count-below j k t f)) | no t ↦ omega arith ]
+        | yes s ↦ absurd (omega (arith, count_below k j s e))
+        | no s ↦ elim (dec_lt k j) [ yes t ↦ absurd (omega (arith, count_below j k t f)) | no t ↦ omega arith ]
       ]
 
   onto-step : (n r : ℕ) (c : Bool) → p n ≡ c → (r < count p n → (k : ℕ) × (k < n) × (p k ≡ true) × (count p k ≡ r)) → r < cond c (suc (count p n)) (count p n)
@@ -131,10 +131,10 @@ one_of_three false true c e = inr (inl refl)
 one_of_three false false true e = inr (inr refl)
 one_of_three false false false e = never e
 
-pub one-not-two : (a b c : Bool) → one_of a b c ≡ true → a ≡ true → b ≡ true → ⊥
-one-not-two true true c e f h = never e
-one-not-two true false c e f h = never h
-one-not-two false b c e f h = never f
+pub one_not_two : (a b c : Bool) → one_of a b c ≡ true → a ≡ true → b ≡ true → ⊥
+one_not_two true true c e f h = never e
+one_not_two true false c e f h = never h
+one_not_two false b c e f h = never f
 
 pub third-alone : (a b c : Bool) → one_of a b c ≡ true → c ≡ true → (a ≡ true) ⊎ (b ≡ true) → ⊥
 third-alone true true c e f h = never e
@@ -145,15 +145,15 @@ third-alone false true false e f h = never f
 third-alone false false c e f (inl h) = never h
 third-alone false false c e f (inr h) = never h
 
-one-step : (x y z : ℕ) (a b c : Bool) → one_of a b c ≡ true → cond a (suc x) x + cond b (suc y) y + cond c (suc z) z ≡ suc (x + y + z)
-one-step x y z true true c e = never e
-one-step x y z true false true e = never e
-one-step x y z true false false e = omega arith
-one-step x y z false true true e = never e
-one-step x y z false true false e = omega arith
-one-step x y z false false true e = omega arith
-one-step x y z false false false e = never e
+one_step : (x y z : ℕ) (a b c : Bool) → one_of a b c ≡ true → cond a (suc x) x + cond b (suc y) y + cond c (suc z) z ≡ suc (x + y + z)
+one_step x y z true true c e = never e
+one_step x y z true false true e = never e
+one_step x y z true false false e = omega arith
+one_step x y z false true true e = never e
+one_step x y z false true false e = omega arith
+one_step x y z false false true e = omega arith
+one_step x y z false false false e = never e
 
-pub count-three : (p q r : ℕ → Bool) (n : ℕ) → ((k : ℕ) → k < n → one_of (p k) (q k) (r k) ≡ true) → count p n + count q n + count r n ≡ n
-count-three p q r zero h = refl
-count-three p q r (suc n) h = one-step (count p n) (count q n) (count r n) (p n) (q n) (r n) (h n (omega arith)) ∙ ap suc (count-three p q r n (λ k l. h k (omega arith)))
+pub count_three : (p q r : ℕ → Bool) (n : ℕ) → ((k : ℕ) → k < n → one_of (p k) (q k) (r k) ≡ true) → count p n + count q n + count r n ≡ n
+count_three p q r zero h = refl
+count_three p q r (suc n) h = one_step (count p n) (count q n) (count r n) (p n) (q n) (r n) (h n (omega arith)) ∙ ap suc (count_three p q r n (λ k l. h k (omega arith)))

@@ -6,9 +6,9 @@ use Rattle.std.proofs.Common.{sym, ◌∙◌, ap, subst, inl, inr, ⊎_elim, ari
 use Rattle.std.proofs.Math.Decide.{ℕ_discrete}
 use Rattle.std.proofs.lemmas.Bool.{eqb-false}
 use Rattle.seq.specs.Seq.{Bool, true, false, not, Option, none, some, Option·getD, ℕ, eqb, best}
-use Rattle.seq.specs.Terms.{Has, Order, Best, BestIs, marked, Ranked, others, soonerBy, previous}
+use Rattle.seq.specs.Terms.{Has, Order, Best, BestIs, marked, Ranked, others, sooner_by, previous}
 use Rattle.seq.specs.Tests.{clash, never, way, not-true, and_both, and_parts, was-false}
-use Rattle.seq.specs.Best.{best-is}
+use Rattle.seq.specs.Best.{best_is}
 
 module _ (o : ℕ → ℕ) (less : ℕ → ℕ → Bool) (n : ℕ) where
   module _ (R : Ranked o less n) where
@@ -25,28 +25,28 @@ module _ (o : ℕ → ℕ) (less : ℕ → ℕ → Bool) (n : ℕ) where
       pub has_other : {k : ℕ} → k < n → o k ≡ o t → (k ≡ t → ⊥) → Has (others o less n t) n k
       has_other {k} l e d = record { below = l; has = and_both (eq-eqb (o k) (o t) e) (ap not (ne_eqb k t d)) }
 
-      -- ── `soonerBy o less n t` is a strict total order of t's group without t ──
+      -- ── `sooner_by o less n t` is a strict total order of t's group without t ──
 
-      trans-by : (x y z : ℕ) → Has (others o less n t) n x → Has (others o less n t) n y → Has (others o less n t) n z →
+      trans_by : (x y z : ℕ) → Has (others o less n t) n x → Has (others o less n t) n y → Has (others o less n t) n z →
           (a b c : Bool) → marked a b (less y x) ≡ true → marked b c (less z y) ≡ true → marked a c (less z x) ≡ true
-      trans-by x y z hx hy hz true true true p q = R.trans z y x hz.below hy.below hx.below (group hz ∙ sym (group hy)) (group hy ∙ sym (group hx)) q p
-      trans-by x y z hx hy hz true true false p q = refl
-      trans-by x y z hx hy hz true false true p q = never q
-      trans-by x y z hx hy hz true false false p q = refl
-      trans-by x y z hx hy hz false true c p q = never p
-      trans-by x y z hx hy hz false false true p q = never q
-      trans-by x y z hx hy hz false false false p q = R.trans z y x hz.below hy.below hx.below (group hz ∙ sym (group hy)) (group hy ∙ sym (group hx)) q p
+      trans_by x y z hx hy hz true true true p q = R.trans z y x hz.below hy.below hx.below (group hz ∙ sym (group hy)) (group hy ∙ sym (group hx)) q p
+      trans_by x y z hx hy hz true true false p q = refl
+      trans_by x y z hx hy hz true false true p q = never q
+      trans_by x y z hx hy hz true false false p q = refl
+      trans_by x y z hx hy hz false true c p q = never p
+      trans_by x y z hx hy hz false false true p q = never q
+      trans_by x y z hx hy hz false false false p q = R.trans z y x hz.below hy.below hx.below (group hz ∙ sym (group hy)) (group hy ∙ sym (group hx)) q p
 
-      total-by : (x y : ℕ) → Has (others o less n t) n x → Has (others o less n t) n y → (x ≡ y → ⊥) → (a b : Bool) → marked a b (less y x) ≡ false → marked b a (less x y) ≡ true
-      total-by x y hx hy d true true e = R.total y x hy.below hx.below (group hy ∙ sym (group hx)) (λ q. d (sym q)) e
-      total-by x y hx hy d true false e = never (sym e)
-      total-by x y hx hy d false true e = refl
-      total-by x y hx hy d false false e = R.total y x hy.below hx.below (group hy ∙ sym (group hx)) (λ q. d (sym q)) e
+      total_by : (x y : ℕ) → Has (others o less n t) n x → Has (others o less n t) n y → (x ≡ y → ⊥) → (a b : Bool) → marked a b (less y x) ≡ false → marked b a (less x y) ≡ true
+      total_by x y hx hy d true true e = R.total y x hy.below hx.below (group hy ∙ sym (group hx)) (λ q. d (sym q)) e
+      total_by x y hx hy d true false e = never (sym e)
+      total_by x y hx hy d false true e = refl
+      total_by x y hx hy d false false e = R.total y x hy.below hx.below (group hy ∙ sym (group hx)) (λ q. d (sym q)) e
 
-      pub sooner-order : Order (others o less n t) (soonerBy o less n t) n
+      pub sooner-order : Order (others o less n t) (sooner_by o less n t) n
       sooner-order = record {
-        trans = λ x y z hx hy hz. trans-by x y z hx hy hz (less x t) (less y t) (less z t);
-        total = λ x y hx hy d. total-by x y hx hy d (less x t) (less y t);
+        trans = λ x y z hx hy hz. trans_by x y z hx hy hz (less x t) (less y t) (less z t);
+        total = λ x y hx hy d. total_by x y hx hy d (less x t) (less y t);
       }
 
     -- ── what is before t ──
@@ -54,28 +54,28 @@ module _ (o : ℕ → ℕ) (less : ℕ → ℕ → Bool) (n : ℕ) where
     -- r is alone with itself, or is the first of the others o less n
     pub data Prev (t r : ℕ) : Type 0 where
       alone : r ≡ t → ((k : ℕ) → k < n → o k ≡ o t → k ≡ t) → Prev t r
-      other : Best (others o less n t) (soonerBy o less n t) n r → Prev t r
+      other : Best (others o less n t) (sooner_by o less n t) n r → Prev t r
 
-    prev-by : (t : ℕ) (a : Option ℕ) → BestIs (others o less n t) (soonerBy o less n t) n a → Prev t (Option·getD a t)
-    prev-by t none h = alone refl (λ k l e. elim (ℕ_discrete k t) [ yes q ↦ q | no q ↦ absurd (h k (has_other t l e q)) ])
-    prev-by t (some r) h = other h
+    prev_by : (t : ℕ) (a : Option ℕ) → BestIs (others o less n t) (sooner_by o less n t) n a → Prev t (Option·getD a t)
+    prev_by t none h = alone refl (λ k l e. elim (ℕ_discrete k t) [ yes q ↦ q | no q ↦ absurd (h k (has_other t l e q)) ])
+    prev_by t (some r) h = other h
 
-    pub prev-is : (t : ℕ) → Prev t (previous o less n t)
-    prev-is t = prev-by t (best (others o less n t) (soonerBy o less n t) n) (best-is (others o less n t) (soonerBy o less n t) n (sooner-order t))
+    pub prev_is : (t : ℕ) → Prev t (previous o less n t)
+    prev_is t = prev_by t (best (others o less n t) (sooner_by o less n t) n) (best_is (others o less n t) (sooner_by o less n t) n (sooner-order t))
 
-    group-by : (t r : ℕ) → Prev t r → o r ≡ o t
-    group-by t r (alone e h) = ap o e
-    group-by t r (other h) = group t h.is
+    group_by : (t r : ℕ) → Prev t r → o r ≡ o t
+    group_by t r (alone e h) = ap o e
+    group_by t r (other h) = group t h.is
 
     below_by : (t r : ℕ) → t < n → Prev t r → r < n
     below_by t r l (alone e h) = omega arith
     below_by t r l (other h) = h.is.below
 
     pub prev-group : (t : ℕ) → o (previous o less n t) ≡ o t
-    prev-group t = group-by t (previous o less n t) (prev-is t)
+    prev-group t = group_by t (previous o less n t) (prev_is t)
 
-    pub prev-below : (t : ℕ) → t < n → previous o less n t < n
-    prev-below t l = below_by t (previous o less n t) l (prev-is t)
+    pub prev_below : (t : ℕ) → t < n → previous o less n t < n
+    prev_below t l = below_by t (previous o less n t) l (prev_is t)
 
     -- ── no two numbers have the same one before them ──
 
@@ -86,13 +86,13 @@ module _ (o : ℕ → ℕ) (less : ℕ → ℕ → Bool) (n : ℕ) where
     from_low false false s e f = inr e
 
     -- going down from s, r comes before t, which is less than s: r is less than s, and greater than t
-    from-high : (a b s : Bool) → marked a b s ≡ true → b ≡ true → (a ≡ true) × (s ≡ true)
-    from-high true true s e f = (refl, e)
-    from-high true false s e f = absurd (clash f refl)
-    from-high false true s e f = never e
-    from-high false false s e f = absurd (clash f refl)
+    from_high : (a b s : Bool) → marked a b s ≡ true → b ≡ true → (a ≡ true) × (s ≡ true)
+    from_high true true s e f = (refl, e)
+    from_high true false s e f = absurd (clash f refl)
+    from_high false true s e f = never e
+    from_high false false s e f = absurd (clash f refl)
 
-    crowded : (t s r : ℕ) → t < n → s < n → less t s ≡ true → o t ≡ o s → Best (others o less n t) (soonerBy o less n t) n r → Best (others o less n s) (soonerBy o less n s) n r → ⊥
+    crowded : (t s r : ℕ) → t < n → s < n → less t s ≡ true → o t ≡ o s → Best (others o less n t) (sooner_by o less n t) n r → Best (others o less n s) (sooner_by o less n s) n r → ⊥
     crowded t s r lt ls e g h k = go (from_low (less r t) (less s t) (less s r) (h.beats s (has_other t ls (sym g) ts) (λ q. differs s k.is (sym q))) notless)
       where
         ts : s ≡ t → ⊥
@@ -102,7 +102,7 @@ module _ (o : ℕ → ℕ) (less : ℕ → ℕ → Bool) (n : ℕ) where
         notless = not-true (less s t) (asym t s lt ls g e)
 
         high : (less r s ≡ true) × (less t r ≡ true)
-        high = from-high (less r s) (less t s) (less t r) (k.beats t (has_other s lt g (λ q. ts (sym q))) (λ q. differs t h.is (sym q))) e
+        high = from_high (less r s) (less t s) (less t r) (k.beats t (has_other s lt g (λ q. ts (sym q))) (λ q. differs t h.is (sym q))) e
 
         go : (less r t ≡ true) ⊎ (less s r ≡ true) → ⊥
         go (inl p) = asym r t h.is.below lt (group t h.is) p high.1
@@ -118,5 +118,5 @@ module _ (o : ℕ → ℕ) (less : ℕ → ℕ → Bool) (n : ℕ) where
     prev-inj t s lt ls e =
         elim (ℕ_discrete t s) [
           | yes q ↦ q
-          | no q ↦ absurd (apart t s (previous o less n t) lt ls (sym (prev-group t) ∙ ap o e ∙ prev-group s) q (prev-is t) (subst (λ (r : ℕ). Prev s r) (sym e) (prev-is s)))
+          | no q ↦ absurd (apart t s (previous o less n t) lt ls (sym (prev-group t) ∙ ap o e ∙ prev-group s) q (prev_is t) (subst (λ (r : ℕ). Prev s r) (sym e) (prev_is s)))
         ]

@@ -1,5 +1,5 @@
 -- The best of n candidates, taken in an order f and only up to the first place at which a test says stop: where no candidate comes from there on, it is the best of all (`early-best`). For a comparison in which
--- any two candidates differ, so that the order does not matter; in the order of their numbers any comparison will do (`prefix-best`). Assumes nothing.
+-- any two candidates differ, so that the order does not matter; in the order of their numbers any comparison will do (`prefix_best`). Assumes nothing.
 use Rattle.std.specs.Prelude.{◌≡◌, ◌≤◌, ◌<◌}
 use Rattle.std.proofs.Common.{sym, ◌∙◌, ap, subst, add-zero, add-suc, add-one, arith}
 use Rattle.std.proofs.Math.Decide.{dec_lt}
@@ -8,7 +8,7 @@ use Rattle.seq.specs.Terms.{Has, Order, BestIs, Injects}
 use Rattle.seq.specs.Tests.{clash}
 use Rattle.seq.specs.Perm.{onto}
 use Rattle.seq.specs.Least.{least-le, least-holds}
-use Rattle.seq.specs.Best.{best-is, best-some, best_none}
+use Rattle.seq.specs.Best.{best_is, best_some, best_none}
 use Rattle.seq.specs.BestLoop.{best-skip}
 
 -- ── in the order of their numbers ──
@@ -18,8 +18,8 @@ module _ (A : ℕ → Bool) (B : ℕ → ℕ → Bool) where
   longer r zero rest = ap (best A B) (add-zero r)
   longer r (suc m) rest = ap (best A B) (add-suc r m ∙ sym (add-one (r + m))) ∙ best-skip A B (r + m) (rest (r + m) (omega arith) (omega arith)) ∙ longer r m (λ j l h. rest j l (omega arith))
 
-  pub prefix-best : (r n : ℕ) → r ≤ n → ((j : ℕ) → r ≤ j → j < n → A j ≡ false) → best A B r ≡ best A B n
-  prefix-best r n l rest = let e : r + (n - r) ≡ n = omega arith in sym (longer r (n - r) (λ j a b. rest j a (omega arith))) ∙ ap (best A B) e
+  pub prefix_best : (r n : ℕ) → r ≤ n → ((j : ℕ) → r ≤ j → j < n → A j ≡ false) → best A B r ≡ best A B n
+  prefix_best r n l rest = let e : r + (n - r) ≡ n = omega arith in sym (longer r (n - r) (λ j a b. rest j a (omega arith))) ∙ ap (best A B) e
 
 -- ── in any order ──
 
@@ -51,16 +51,16 @@ module _ (A : ℕ → Bool) (B : ℕ → ℕ → Bool) (n : ℕ) (O : Order A B 
     found : (o : Option ℕ) → BestIs A' B' r o → Option·map f o ≡ best A B n
     found none h = sym (best_none A B n (λ k c. let (i, a, e) = read k c in h i a))
     found (some i) h =
-        sym (best-some A B n (f i) O asym record {
+        sym (best_some A B n (f i) O asym record {
           is = in_all h.is;
           beats = λ k c d. let (j, a, e) = read k c in subst (λ (x : ℕ). B (f i) x ≡ true) e (h.beats j a (λ q. d (sym e ∙ ap f q)));
         })
 
-    pub some-best : Option·map f (best (λ i. A (f i)) (λ i j. B (f i) (f j)) r) ≡ best A B n
-    some-best = found (best A' B' r) (best-is A' B' r order')
+    pub some_best : Option·map f (best (λ i. A (f i)) (λ i j. B (f i) (f j)) r) ≡ best A B n
+    some_best = found (best A' B' r) (best_is A' B' r order')
 
   -- up to the first place that says stop
   pub early-best : (stop : ℕ → Bool) → ((i j : ℕ) → i ≤ j → j < n → stop i ≡ true → A (f j) ≡ false) →
       Option·map f (best (λ i. A (f i)) (λ i j. B (f i) (f j)) (least stop n)) ≡ best A B n
   early-best stop none_after =
-      some-best (least stop n) (least-le stop n) (λ j l h. none_after (least stop n) j l h (least-holds stop n (omega arith)))
+      some_best (least stop n) (least-le stop n) (λ j l h. none_after (least stop n) j l h (least-holds stop n (omega arith)))

@@ -39,13 +39,13 @@ module _ {A : Type 0} where
   as_many l m h k f g = omega (arith, fewer l m h f, fewer m l k g)
 
   -- in strict order, or told apart by a test
-  pub rising-each : (b : A → A → Bool) → Asymmetric b → (l : List A) → Rising b l → Each l
-  rising-each b asym [] r = tt
-  rising-each b asym (x ∷ xs) r = (λ i. let e : b x x ≡ true = r.0 x i in asym x x e e, rising-each b asym xs r.1)
+  pub rising_each : (b : A → A → Bool) → Asymmetric b → (l : List A) → Rising b l → Each l
+  rising_each b asym [] r = tt
+  rising_each b asym (x ∷ xs) r = (λ i. let e : b x x ≡ true = r.0 x i in asym x x e e, rising_each b asym xs r.1)
 
-  pub distinct-each : (same : A → A → Bool) → ((x : A) → same x x ≡ true) → (l : List A) → Distinct same l → Each l
-  distinct-each same self [] d = tt
-  distinct-each same self (x ∷ xs) d = (λ i. clash (self x) (d.0 x i), distinct-each same self xs d.1)
+  pub distinct_each : (same : A → A → Bool) → ((x : A) → same x x ≡ true) → (l : List A) → Distinct same l → Each l
+  distinct_each same self [] d = tt
+  distinct_each same self (x ∷ xs) d = (λ i. clash (self x) (d.0 x i), distinct_each same self xs d.1)
 
 -- by a function that takes no two of them to one
 module _ {A : Type 0} {B : Type 0} (f : A → B) where
@@ -56,6 +56,6 @@ module _ {A : Type 0} {B : Type 0} (f : A → B) where
     each_map xs h.1 (λ y z i j. once y z (inr i) (inr j)),
   )
 
-  pub fewer-by : (l : List A) (m : List B) → Each l → ((x y : A) → Among x l → Among y l → f x ≡ f y → x ≡ y) → ((x : A) → Among x l → Among (f x) m) → length l ≤ length m
-  fewer-by l m h once into =
+  pub fewer_by : (l : List A) (m : List B) → Each l → ((x y : A) → Among x l → Among y l → f x ≡ f y → x ≡ y) → ((x : A) → Among x l → Among (f x) m) → length l ≤ length m
+  fewer_by l m h once into =
       omega (arith, length-map f l, fewer (map f l) m (each_map l h once) (λ z i. let (x, j, e) = map-among f z l i in subst (λ (w : B). Among w m) e (into x j)))

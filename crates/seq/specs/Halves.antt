@@ -6,16 +6,16 @@ use Rattle.std.proofs.Math.Decide.{dec_lt}
 use Rattle.seq.specs.Seq.{Bool, true, false, not, ℕ, ◌+◌, ◌-◌, ◌/◌, least, count, table}
 use Rattle.seq.specs.Terms.{Rising, Transitive, Asymmetric}
 use Rattle.seq.specs.Tests.{clash, not-true, was-false}
-use Rattle.seq.specs.Least.{least-le, least-holds, least-min, least_by, least-is}
-use Rattle.seq.specs.Count.{count-all, count_none, count-+}
+use Rattle.seq.specs.Least.{least-le, least-holds, least_min, least_by, least_is}
+use Rattle.seq.specs.Count.{count_all, count_none, count-+}
 use Rattle.seq.specs.SameRows.{RisesBelow, pairs-rises, rises-pairs}
 
 -- the middle
 abbrev pub middle : ℕ → ℕ → ℕ
 middle lo hi = lo + (hi - lo) / 2
 
-pub middle-within : (lo hi : ℕ) → lo < hi → (lo ≤ middle lo hi) × (middle lo hi < hi)
-middle-within lo hi h = omega arith
+pub middle_within : (lo hi : ℕ) → lo < hi → (lo ≤ middle lo hi) × (middle lo hi < hi)
+middle_within lo hi h = omega arith
 
 -- ── a test that holds from some number on ──
 
@@ -31,8 +31,8 @@ module _ (p : ℕ → Bool) where
     pub fails : (k : ℕ) → k < lo → p k ≡ false
     pub holds : hi < n → p hi ≡ true
 
-  pub halve-starts : (n : ℕ) → Halving n 0 n
-  halve-starts n = record { ordered = omega arith; within = omega arith; fails = λ k h. absurd (not-suc-le-zero h); holds = λ h. absurd (omega arith) }
+  pub halve_starts : (n : ℕ) → Halving n 0 n
+  halve_starts n = record { ordered = omega arith; within = omega arith; fails = λ k h. absurd (not-suc-le-zero h); holds = λ h. absurd (omega arith) }
 
   -- it may start at any lo whose predecessor fails, and any hi that has the test
   pub halve-inside : (n lo hi : ℕ) → Lasts n → lo ≤ hi → hi ≤ n → (0 < lo → p (lo - 1) ≡ false) → (hi < n → p hi ≡ true) → Halving n lo hi
@@ -47,8 +47,8 @@ module _ (p : ℕ → Bool) where
 
   module _ {n lo hi : ℕ} (r : Halving n lo hi) (mid : ℕ) (h : mid < hi) (l : lo ≤ mid) where
     -- the middle fails: on in the upper half
-    pub halve-up : Lasts n → p mid ≡ false → Halving n (mid + 1) hi
-    halve-up up e = record { ordered = omega arith; within = r.within; fails = below; holds = r.holds }
+    pub halve_up : Lasts n → p mid ≡ false → Halving n (mid + 1) hi
+    halve_up up e = record { ordered = omega arith; within = r.within; fails = below; holds = r.holds }
       where
         below : (k : ℕ) → k < mid + 1 → p k ≡ false
         below k q =
@@ -58,12 +58,12 @@ module _ (p : ℕ → Bool) where
             ]
 
     -- it holds: on in the lower half
-    pub halve-down : p mid ≡ true → Halving n lo mid
-    halve-down e = record { ordered = l; within = omega (arith, r.within); fails = r.fails; holds = λ q. e }
+    pub halve_down : p mid ≡ true → Halving n lo mid
+    halve_down e = record { ordered = l; within = omega (arith, r.within); fails = r.fails; holds = λ q. e }
 
   -- nothing is left: it is the least
-  pub halve-ends : {n lo hi : ℕ} → Halving n lo hi → hi ≤ lo → lo ≡ least p n
-  halve-ends {n} {lo} {hi} r h =
+  pub halve_ends : {n lo hi : ℕ} → Halving n lo hi → hi ≤ lo → lo ≡ least p n
+  halve_ends {n} {lo} {hi} r h =
       let e : hi ≡ lo = omega (arith, r.ordered) in
       sym (least_by p n lo (omega (arith, r.within)) r.fails (λ q. ap p (sym e) ∙ r.holds (omega arith)))
 
@@ -71,8 +71,8 @@ module _ (p : ℕ → Bool) where
 
 module _ (p : ℕ → Bool) (n : ℕ) (up : Lasts p n) where
   -- it holds from there on
-  pub from-least : (j : ℕ) → least p n ≤ j → j < n → p j ≡ true
-  from-least j l h =
+  pub from_least : (j : ℕ) → least p n ≤ j → j < n → p j ≡ true
+  from_least j l h =
       elim (dec_lt (least p n) j) [
         | yes s ↦ up (least p n) j s h (least-holds p n (omega arith))
         | no s ↦ let e : least p n ≡ j = omega arith in ap p (sym e) ∙ least-holds p n (omega arith)
@@ -85,7 +85,7 @@ module _ (p : ℕ → Bool) (n : ℕ) (up : Lasts p n) where
       let m = n - r in
       let e : r + m ≡ n = omega (arith, least-le p n) in
       sym (ap (count (λ i. not (p i))) (sym e) ∙ count-+ (λ i. not (p i)) r m
-      ∙ (λ t. count-all (λ i. not (p i)) r (λ k l. ap not (least-min p n k l)) t + count_none (λ i. not (p (r + i))) m (λ k l. ap not (from-least (r + k) (omega arith) (omega arith))) t) ∙ add-zero r)
+      ∙ (λ t. count_all (λ i. not (p i)) r (λ k l. ap not (least_min p n k l)) t + count_none (λ i. not (p (r + i))) m (λ k l. ap not (from_least (r + k) (omega arith) (omega arith))) t) ∙ add-zero r)
 
 -- ── rows in strict order ──
 
@@ -114,5 +114,5 @@ module _ {A : Type 0} (b : A → A → Bool) where
     -- an element that stands in row k is found there
     pub place_found : Asymmetric b → (k : ℕ) → k < n → f k ≡ q → least (reached f q) n ≡ k
     place_found asym k l e =
-        least-is (reached f q) n k l (λ j s. ap not (subst (λ (x : A). b (f j) x ≡ true) e (R j k s l)))
+        least_is (reached f q) n k l (λ j s. ap not (subst (λ (x : A). b (f j) x ≡ true) e (R j k s l)))
         (ap not (not-true (b (f k) q) (λ g. let h : b q q ≡ true = subst (λ (x : A). b x q ≡ true) e g in asym q q h h)))

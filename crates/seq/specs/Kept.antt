@@ -4,7 +4,7 @@ use Rattle.std.specs.Prelude.{◌≡◌, refl, ◌≤◌}
 use Rattle.std.proofs.Common.{sym, ◌∙◌, ap, inl, inr, le_refl, arith}
 use Rattle.seq.specs.Seq.{Bool, true, false, cond, ◌||◌, List, [], ◌∷◌, ◌++◌, ℕ, suc, length}
 use Rattle.seq.specs.Terms.{Among}
-use Rattle.seq.specs.Tests.{clash, or-false, or_l, or_r}
+use Rattle.seq.specs.Tests.{clash, or_false, or_l, or_r}
 
 module _ {A : Type 0} (p : A → Bool) where
   -- those that have p
@@ -13,9 +13,9 @@ module _ {A : Type 0} (p : A → Bool) where
   kept (x ∷ xs) = let r = kept xs in cond (p x) (x ∷ r) r
 
   -- one of them has p
-  abbrev pub someOf : List A → Bool
-  someOf [] = false
-  someOf (x ∷ xs) = p x || someOf xs
+  abbrev pub the_some_of : List A → Bool
+  the_some_of [] = false
+  the_some_of (x ∷ xs) = p x || the_some_of xs
 
   -- ── what a loop asks ──
 
@@ -25,13 +25,13 @@ module _ {A : Type 0} (p : A → Bool) where
   end_step false x y r true = refl
   end_step false x y r false = refl
 
-  one-step : (y : A) (d : Bool) → cond d (y ∷ []) [] ≡ cond d ([] ++ (y ∷ [])) []
-  one-step y true = refl
-  one-step y false = refl
+  one_step : (y : A) (d : Bool) → cond d (y ∷ []) [] ≡ cond d ([] ++ (y ∷ [])) []
+  one_step y true = refl
+  one_step y false = refl
 
   -- one more at the end
   pub kept-end : (l : List A) (y : A) → kept (l ++ (y ∷ [])) ≡ cond (p y) (kept l ++ (y ∷ [])) (kept l)
-  kept-end [] y = one-step y (p y)
+  kept-end [] y = one_step y (p y)
   kept-end (x ∷ xs) y = ap (λ (r : List A). cond (p x) (x ∷ r) r) (kept-end xs y) ∙ end_step (p x) x y (kept xs) (p y)
 
   pub kept_more : (l : List A) (y : A) → p y ≡ true → kept (l ++ (y ∷ [])) ≡ kept l ++ (y ∷ [])
@@ -53,29 +53,29 @@ module _ {A : Type 0} (p : A → Bool) where
   or_assoc true b c = refl
   or_assoc false b c = refl
 
-  or-none : (b : Bool) → (b || false) ≡ b
-  or-none true = refl
-  or-none false = refl
+  or_none : (b : Bool) → (b || false) ≡ b
+  or_none true = refl
+  or_none false = refl
 
-  pub some_end : (l : List A) (y : A) → someOf (l ++ (y ∷ [])) ≡ (someOf l || p y)
-  some_end [] y = or-none (p y)
-  some_end (x ∷ xs) y = ap (λ (c : Bool). p x || c) (some_end xs y) ∙ or_assoc (p x) (someOf xs) (p y)
+  pub some_end : (l : List A) (y : A) → the_some_of (l ++ (y ∷ [])) ≡ (the_some_of l || p y)
+  some_end [] y = or_none (p y)
+  some_end (x ∷ xs) y = ap (λ (c : Bool). p x || c) (some_end xs y) ∙ or_assoc (p x) (the_some_of xs) (p y)
 
   -- ── members ──
 
-  has-step : (z x : A) (r : List A) (c : Bool) → p x ≡ c → p z ≡ true → z ≡ x → Among z (cond c (x ∷ r) r)
-  has-step z x r true e h q = inl q
-  has-step z x r false e h q = absurd (clash (sym (ap p q) ∙ h) e)
+  has_step : (z x : A) (r : List A) (c : Bool) → p x ≡ c → p z ≡ true → z ≡ x → Among z (cond c (x ∷ r) r)
+  has_step z x r true e h q = inl q
+  has_step z x r false e h q = absurd (clash (sym (ap p q) ∙ h) e)
 
   on_step : (z x : A) (r : List A) (c : Bool) → Among z r → Among z (cond c (x ∷ r) r)
   on_step z x r true i = inr i
   on_step z x r false i = i
 
   -- what has p stays
-  pub kept-has : (z : A) (l : List A) → Among z l → p z ≡ true → Among z (kept l)
-  kept-has z [] i h = absurd i
-  kept-has z (x ∷ xs) (inl e) h = has-step z x (kept xs) (p x) refl h e
-  kept-has z (x ∷ xs) (inr i) h = on_step z x (kept xs) (p x) (kept-has z xs i h)
+  pub kept_has : (z : A) (l : List A) → Among z l → p z ≡ true → Among z (kept l)
+  kept_has z [] i h = absurd i
+  kept_has z (x ∷ xs) (inl e) h = has_step z x (kept xs) (p x) refl h e
+  kept_has z (x ∷ xs) (inr i) h = on_step z x (kept xs) (p x) (kept_has z xs i h)
 
   from_step : (z x : A) (xs r : List A) (c : Bool) → p x ≡ c → (Among z r → Among z xs × (p z ≡ true)) → Among z (cond c (x ∷ r) r) → Among z (x ∷ xs) × (p z ≡ true)
   from_step z x xs r true e ih (inl q) = (inl q, ap p q ∙ e)
@@ -88,22 +88,22 @@ module _ {A : Type 0} (p : A → Bool) where
   kept_from z (x ∷ xs) i = from_step z x xs (kept xs) (p x) refl (kept_from z xs) i
 
   -- none has p
-  pub none_of : (l : List A) → someOf l ≡ false → (z : A) → Among z l → p z ≡ false
+  pub none_of : (l : List A) → the_some_of l ≡ false → (z : A) → Among z l → p z ≡ false
   none_of [] e z i = absurd i
-  none_of (x ∷ xs) e z (inl q) = ap p q ∙ (or-false (p x) (someOf xs) e).0
-  none_of (x ∷ xs) e z (inr i) = none_of xs (or-false (p x) (someOf xs) e).1 z i
+  none_of (x ∷ xs) e z (inl q) = ap p q ∙ (or_false (p x) (the_some_of xs) e).0
+  none_of (x ∷ xs) e z (inr i) = none_of xs (or_false (p x) (the_some_of xs) e).1 z i
 
   -- one has it
-  pub some_of : (l : List A) (z : A) → Among z l → p z ≡ true → someOf l ≡ true
+  pub some_of : (l : List A) (z : A) → Among z l → p z ≡ true → the_some_of l ≡ true
   some_of [] z i e = absurd i
-  some_of (x ∷ xs) z (inl q) e = or_l {a = p x} (someOf xs) (sym (ap p q) ∙ e)
+  some_of (x ∷ xs) z (inl q) e = or_l {a = p x} (the_some_of xs) (sym (ap p q) ∙ e)
   some_of (x ∷ xs) z (inr i) e = or_r (p x) (some_of xs z i e)
 
-  from_some : (x : A) (xs : List A) (c : Bool) → p x ≡ c → (someOf xs ≡ true → (z : A) × Among z xs × (p z ≡ true)) → (c || someOf xs) ≡ true → (z : A) × Among z (x ∷ xs) × (p z ≡ true)
+  from_some : (x : A) (xs : List A) (c : Bool) → p x ≡ c → (the_some_of xs ≡ true → (z : A) × Among z xs × (p z ≡ true)) → (c || the_some_of xs) ≡ true → (z : A) × Among z (x ∷ xs) × (p z ≡ true)
   from_some x xs true e ih h = (x, inl refl, e)
   from_some x xs false e ih h = let (z, i, q) = ih h in (z, inr i, q)
 
   -- and the one that has it
-  pub some-from : (l : List A) → someOf l ≡ true → (z : A) × Among z l × (p z ≡ true)
-  some-from [] e = absurd (clash e refl)
-  some-from (x ∷ xs) e = from_some x xs (p x) refl (some-from xs) e
+  pub some_from : (l : List A) → the_some_of l ≡ true → (z : A) × Among z l × (p z ≡ true)
+  some_from [] e = absurd (clash e refl)
+  some_from (x ∷ xs) e = from_some x xs (p x) refl (some_from xs) e

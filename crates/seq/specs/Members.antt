@@ -23,15 +23,15 @@ module _ {A : Type 0} where
   among_one z x (inr i) = absurd i
 
   -- what stands at a position is a member, and a member stands at one
-  pub at-among : (l : List A) (i : ℕ) (d : A) → i < length l → Among (get_or l i d) l
-  at-among [] i d h = absurd (not-suc-le-zero h)
-  at-among (x ∷ xs) zero d h = inl refl
-  at-among (x ∷ xs) (suc i) d h = inr (at-among xs i d (le_of_suc-le-suc h))
+  pub at_among : (l : List A) (i : ℕ) (d : A) → i < length l → Among (get_or l i d) l
+  at_among [] i d h = absurd (not-suc-le-zero h)
+  at_among (x ∷ xs) zero d h = inl refl
+  at_among (x ∷ xs) (suc i) d h = inr (at_among xs i d (le_of_suc-le-suc h))
 
-  pub among-at : (z : A) (l : List A) (d : A) → Among z l → (i : ℕ) × (i < length l) × (get_or l i d ≡ z)
-  among-at z [] d i = absurd i
-  among-at z (x ∷ xs) d (inl e) = (0, omega arith, sym e)
-  among-at z (x ∷ xs) d (inr i) = let r = among-at z xs d i in (suc r.0, suc-le-suc r.1, r.2)
+  pub among_at : (z : A) (l : List A) (d : A) → Among z l → (i : ℕ) × (i < length l) × (get_or l i d ≡ z)
+  among_at z [] d i = absurd i
+  among_at z (x ∷ xs) d (inl e) = (0, omega arith, sym e)
+  among_at z (x ∷ xs) d (inr i) = let r = among_at z xs d i in (suc r.0, suc-le-suc r.1, r.2)
 
   -- a member of the start of a list
   pub take-among : (x : A) (k : ℕ) (l : List A) → Among x (take k l) → Among x l
@@ -47,9 +47,9 @@ module _ {A : Type 0} where
   every_in P (y ∷ ys) h x (inl e) = subst P (sym e) h.0
   every_in P (y ∷ ys) h x (inr i) = every_in P ys h.1 x i
 
-  pub in-every : (P : A → Type 0) (l : List A) → ((x : A) → Among x l → P x) → Every P l
-  in-every P [] h = tt
-  in-every P (y ∷ ys) h = (h y (inl refl), in-every P ys (λ x i. h x (inr i)))
+  pub in_every : (P : A → Type 0) (l : List A) → ((x : A) → Among x l → P x) → Every P l
+  in_every P [] h = tt
+  in_every P (y ∷ ys) h = (h y (inl refl), in_every P ys (λ x i. h x (inr i)))
 
 module _ {A : Type 0} {B : Type 0} where
   -- ── of a mapped list ──

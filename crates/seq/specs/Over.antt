@@ -22,34 +22,34 @@ module _ {A : Type 0} where
   length_over xs d h = rw (length-append, length-drop) (omega arith)
 
   -- a store at the end of xs: one more cell
-  pub over-more : (xs d : List A) (v : A) → length xs < length d → set (over xs d) (length xs) v ≡ over (xs ++ (v ∷ [])) d
+  pub over_more : (xs d : List A) (v : A) → length xs < length d → set (over xs d) (length xs) v ≡ over (xs ++ (v ∷ [])) d
   unfolding over
-  over-more xs d v h =
+  over_more xs d v h =
       ap (λ (l : List A). set (xs ++ l) (length xs) v) (drop-cons d (length xs) v h)
       ∙ set_at xs (get_or d (length xs) v) (drop (suc (length xs)) d) v (length xs) refl
       ∙ sym (append_assoc xs (v ∷ []) (drop (suc (length xs)) d))
       ∙ rw (length-append xs (v ∷ []), add-one (length xs))
 
   -- all of it
-  pub over-all : (xs d : List A) → length d ≤ length xs → over xs d ≡ xs
+  pub over_all : (xs d : List A) → length d ≤ length xs → over xs d ≡ xs
   unfolding over
-  over-all xs d h = ap (λ (l : List A). xs ++ l) (drop_of_length-le d h) ∙ append-nil xs
+  over_all xs d h = ap (λ (l : List A). xs ++ l) (drop_of_length-le d h) ∙ append-nil xs
 
   -- what is laid over it is its start
-  pub take-over : (xs d : List A) → take (length xs) (over xs d) ≡ xs
+  pub take_over : (xs d : List A) → take (length xs) (over xs d) ≡ xs
   unfolding over
-  take-over xs d = take-append_seam xs (drop (length xs) d)
+  take_over xs d = take-append_seam xs (drop (length xs) d)
 
   -- ── cells ──
 
-  pub over-at : (xs d : List A) (i : ℕ) (z : A) → i < length xs → get_or (over xs d) i z ≡ get_or xs i z
+  pub over_at : (xs d : List A) (i : ℕ) (z : A) → i < length xs → get_or (over xs d) i z ≡ get_or xs i z
   unfolding over
-  over-at xs d i z h = get_or-append xs (drop (length xs) d) z i h
+  over_at xs d i z h = get_or-append xs (drop (length xs) d) z i h
 
   -- past xs they are as they were
-  pub over-past : (xs d : List A) (i : ℕ) (z : A) → length xs ≤ i → get_or (over xs d) i z ≡ get_or d i z
+  pub over_past : (xs d : List A) (i : ℕ) (z : A) → length xs ≤ i → get_or (over xs d) i z ≡ get_or d i z
   unfolding over
-  over-past xs d i z h =
+  over_past xs d i z h =
       let e : length xs + (i - length xs) ≡ i = omega arith in
       ap (λ (k : ℕ). get_or (xs ++ drop (length xs) d) k z) (sym e) ∙ get_or-append-add xs (drop (length xs) d) (i - length xs) z
       ∙ get_or-drop (length xs) d (i - length xs) z ∙ ap (λ (k : ℕ). get_or d k z) e
@@ -64,6 +64,6 @@ module _ {A : Type 0} where
       ∙ stored-behind (set d at x) (suc at) xs ys
 
   -- stored from the start on it is laid over
-  pub stored-first : (d xs : List A) → length xs ≤ length d → sets d 0 xs ≡ over xs d
+  pub stored_first : (d xs : List A) → length xs ≤ length d → sets d 0 xs ≡ over xs d
   unfolding over
-  stored-first d xs h = sets-eq xs d 0 (omega arith) ∙ ap (λ (k : ℕ). xs ++ drop k d) (zero-add (length xs))
+  stored_first d xs h = sets-eq xs d 0 (omega arith) ∙ ap (λ (k : ℕ). xs ++ drop k d) (zero-add (length xs))

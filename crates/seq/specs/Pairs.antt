@@ -6,8 +6,8 @@ use Rattle.std.proofs.Math.Decide.{dec_lt}
 use Rattle.seq.specs.Seq.{Bool, true, false, List, [], ◌∷◌, ◌++◌, Option, none, some, ℕ, zero, suc, length, get_or, map}
 use Rattle.seq.specs.Terms.{Among, Pairs, Chain, Rising}
 use Rattle.seq.specs.Tests.{clash}
-use Rattle.seq.specs.Options.{none-some}
-use Rattle.seq.specs.Members.{among-++, ++-among, among_one, at-among, among-at, map-among}
+use Rattle.seq.specs.Options.{none_some}
+use Rattle.seq.specs.Members.{among-++, ++-among, among_one, at_among, among_at, map-among}
 
 abbrev pub first : {A : Type 0} → List A → Option A
 first [] = none
@@ -28,41 +28,41 @@ module _ {A : Type 0} (R : A → A → Type 0) where
 -- ── by cells ──
 
 module _ {A : Type 0} (R : A → A → Type 0) where
-  pub pairs-at : (l : List A) (d : A) → Pairs R l → (i j : ℕ) → i < j → j < length l → R (get_or l i d) (get_or l j d)
-  pairs-at [] d p i j h l = absurd (not-suc-le-zero l)
-  pairs-at (x ∷ xs) d p i zero h l = absurd (not-suc-le-zero h)
-  pairs-at (x ∷ xs) d p zero (suc j) h l = p.0 (get_or xs j d) (at-among xs j d (le_of_suc-le-suc l))
-  pairs-at (x ∷ xs) d p (suc i) (suc j) h l = pairs-at xs d p.1 i j (le_of_suc-le-suc h) (le_of_suc-le-suc l)
+  pub pairs_at : (l : List A) (d : A) → Pairs R l → (i j : ℕ) → i < j → j < length l → R (get_or l i d) (get_or l j d)
+  pairs_at [] d p i j h l = absurd (not-suc-le-zero l)
+  pairs_at (x ∷ xs) d p i zero h l = absurd (not-suc-le-zero h)
+  pairs_at (x ∷ xs) d p zero (suc j) h l = p.0 (get_or xs j d) (at_among xs j d (le_of_suc-le-suc l))
+  pairs_at (x ∷ xs) d p (suc i) (suc j) h l = pairs_at xs d p.1 i j (le_of_suc-le-suc h) (le_of_suc-le-suc l)
 
-  pub at-pairs : (l : List A) (d : A) → ((i j : ℕ) → i < j → j < length l → R (get_or l i d) (get_or l j d)) → Pairs R l
-  at-pairs [] d h = tt
-  at-pairs (x ∷ xs) d h = (
-    λ z i. let q = among-at z xs d i in subst (R x) q.2 (h 0 (suc q.0) (suc-le-suc zero-le) (suc-le-suc q.1)),
-    at-pairs xs d (λ i j l m. h (suc i) (suc j) (suc-le-suc l) (suc-le-suc m)),
+  pub at_pairs : (l : List A) (d : A) → ((i j : ℕ) → i < j → j < length l → R (get_or l i d) (get_or l j d)) → Pairs R l
+  at_pairs [] d h = tt
+  at_pairs (x ∷ xs) d h = (
+    λ z i. let q = among_at z xs d i in subst (R x) q.2 (h 0 (suc q.0) (suc-le-suc zero-le) (suc-le-suc q.1)),
+    at_pairs xs d (λ i j l m. h (suc i) (suc j) (suc-le-suc l) (suc-le-suc m)),
   )
 
 module _ {A : Type 0} (b : A → A → Bool) where
   -- what stands first in a list in strict order is before what stands later
-  pub rising-at : (l : List A) (d : A) → Rising b l → (i j : ℕ) → i < j → j < length l → b (get_or l i d) (get_or l j d) ≡ true
-  rising-at l d r = pairs-at (λ x y. b x y ≡ true) l d r
+  pub rising_at : (l : List A) (d : A) → Rising b l → (i j : ℕ) → i < j → j < length l → b (get_or l i d) (get_or l j d) ≡ true
+  rising_at l d r = pairs_at (λ x y. b x y ≡ true) l d r
 
   -- and a list in which that is so is in strict order
-  pub at-rising : (l : List A) (d : A) → ((i j : ℕ) → i < j → j < length l → b (get_or l i d) (get_or l j d) ≡ true) → Rising b l
-  at-rising l d h = at-pairs (λ x y. b x y ≡ true) l d h
+  pub at_rising : (l : List A) (d : A) → ((i j : ℕ) → i < j → j < length l → b (get_or l i d) (get_or l j d) ≡ true) → Rising b l
+  at_rising l d h = at_pairs (λ x y. b x y ≡ true) l d h
 
   -- of two cells one is before the other, or they are one cell
   pub rising-number : (l : List A) (d : A) → Rising b l → (i j : ℕ) → i < length l → j < length l → b (get_or l i d) (get_or l j d) ≡ false → b (get_or l j d) (get_or l i d) ≡ false → i ≡ j
   rising-number l d r i j li lj e f =
       elim (dec_lt i j) [
-        | yes s ↦ absurd (clash (rising-at l d r i j s lj) e)
-        | no s ↦ elim (dec_lt j i) [ yes t ↦ absurd (clash (rising-at l d r j i t li) f) | no t ↦ omega arith ]
+        | yes s ↦ absurd (clash (rising_at l d r i j s lj) e)
+        | no s ↦ elim (dec_lt j i) [ yes t ↦ absurd (clash (rising_at l d r j i t li) f) | no t ↦ omega arith ]
       ]
 
   -- and so of two members
   pub rising-once : (l : List A) → Rising b l → (x y : A) → Among x l → Among y l → b x y ≡ false → b y x ≡ false → x ≡ y
   rising-once l r x y i j e f =
-      let (n, ln, p) = among-at x l x i in
-      let (k, lk, q) = among-at y l x j in
+      let (n, ln, p) = among_at x l x i in
+      let (k, lk, q) = among_at y l x j in
       let s : n ≡ k = rising-number l x r n k ln lk (subst (λ (z : A). b z (get_or l k x) ≡ false) (sym p) (subst (λ (z : A). b x z ≡ false) (sym q) e))
       (subst (λ (z : A). b z (get_or l n x) ≡ false) (sym q) (subst (λ (z : A). b y z ≡ false) (sym p) f)) in
       sym p ∙ ap (λ (a : ℕ). get_or l a x) s ∙ q
@@ -127,14 +127,14 @@ map-pairs f R S (x ∷ l) h p = (
 -- ── members ──
 
 module _ {A : Type 0} where
-  pub first-in : (l : List A) (x : A) → first l ≡ some x → Among x l
-  first-in [] x e = absurd (none-some e)
-  first-in (y ∷ l) x e = inl (cc)
+  pub first_in : (l : List A) (x : A) → first l ≡ some x → Among x l
+  first_in [] x e = absurd (none_some e)
+  first_in (y ∷ l) x e = inl (cc)
 
-  pub last-in : (l : List A) (x : A) → last l ≡ some x → Among x l
-  last-in [] x e = absurd (none-some e)
-  last-in (y ∷ []) x e = inl (cc)
-  last-in (y ∷ z ∷ l) x e = inr (last-in (z ∷ l) x e)
+  pub last_in : (l : List A) (x : A) → last l ≡ some x → Among x l
+  last_in [] x e = absurd (none_some e)
+  last_in (y ∷ []) x e = inl (cc)
+  last_in (y ∷ z ∷ l) x e = inr (last_in (z ∷ l) x e)
 
   -- where a member stands
   pub split : (l : List A) (x : A) → Among x l → (a : List A) × (b : List A) × (l ≡ a ++ (x ∷ b))

@@ -7,7 +7,7 @@ use Rattle.std.proofs.lemmas.Bool.{eqb-false}
 use Rattle.seq.specs.Seq.{Bool, true, false, cond, List, [], ◌∷◌, ◌++◌, ℕ, zero, suc, ◌+◌, ◌-◌, eqb, length}
 use Rattle.seq.specs.Terms.{Among, iter, orbit, steps, Reach, Injects}
 use Rattle.seq.specs.Tests.{clash}
-use Rattle.seq.specs.Least.{least-min, least-holds}
+use Rattle.seq.specs.Least.{least_min, least-holds}
 
 -- ── no injection into fewer ──
 
@@ -23,43 +23,43 @@ module _ (n : ℕ) (f : ℕ → ℕ) (b : (i : ℕ) → i < suc (suc n) → f i 
       away q = omega (arith, inj i (suc n) (omega arith) (omega arith) (eqb-true (f i) n e ∙ sym q))
   below_by i l false e = omega (arith, b i (omega arith), eqb-false (f i) n e)
 
-  inj-by : (i j : ℕ) → i < suc n → j < suc n → (c d : Bool) → eqb (f i) n ≡ c → eqb (f j) n ≡ d → cond c (f (suc n)) (f i) ≡ cond d (f (suc n)) (f j) → i ≡ j
-  inj-by i j l m true true e g q = inj i j (omega arith) (omega arith) (eqb-true (f i) n e ∙ sym (eqb-true (f j) n g))
-  inj-by i j l m true false e g q = omega (arith, inj (suc n) j (omega arith) (omega arith) q)
-  inj-by i j l m false true e g q = omega (arith, inj i (suc n) (omega arith) (omega arith) q)
-  inj-by i j l m false false e g q = inj i j (omega arith) (omega arith) q
+  inj_by : (i j : ℕ) → i < suc n → j < suc n → (c d : Bool) → eqb (f i) n ≡ c → eqb (f j) n ≡ d → cond c (f (suc n)) (f i) ≡ cond d (f (suc n)) (f j) → i ≡ j
+  inj_by i j l m true true e g q = inj i j (omega arith) (omega arith) (eqb-true (f i) n e ∙ sym (eqb-true (f j) n g))
+  inj_by i j l m true false e g q = omega (arith, inj (suc n) j (omega arith) (omega arith) q)
+  inj_by i j l m false true e g q = omega (arith, inj i (suc n) (omega arith) (omega arith) q)
+  inj_by i j l m false false e g q = inj i j (omega arith) (omega arith) q
 
 pub pigeon : (n : ℕ) (f : ℕ → ℕ) → ((i : ℕ) → i < suc n → f i < n) → ((i j : ℕ) → i < suc n → j < suc n → f i ≡ f j → i ≡ j) → ⊥
 pigeon zero f b inj = not-suc-le-zero (b 0 (omega arith))
 pigeon (suc n) f b inj =
     pigeon n (swap f n) (λ i l. below_by n f b inj i l (eqb (f i) n) refl)
-    (λ i j l m. inj-by n f b inj i j l m (eqb (f i) n) (eqb (f j) n) refl refl)
+    (λ i j l m. inj_by n f b inj i j l m (eqb (f i) n) (eqb (f j) n) refl refl)
 
 -- ── steps ──
 
 module _ (f : ℕ → ℕ) where
-  pub iter-in : (k x : ℕ) → iter f k (f x) ≡ f (iter f k x)
-  iter-in zero x = refl
-  iter-in (suc k) x = ap f (iter-in k x)
+  pub iter_in : (k x : ℕ) → iter f k (f x) ≡ f (iter f k x)
+  iter_in zero x = refl
+  iter_in (suc k) x = ap f (iter_in k x)
 
   pub iter-+ : (j k x : ℕ) → iter f (j + k) x ≡ iter f j (iter f k x)
   iter-+ zero k x = ap (λ (m : ℕ). iter f m x) (zero-add k)
   iter-+ (suc j) k x = ap (λ (m : ℕ). iter f m x) (suc-add j k) ∙ ap f (iter-+ j k x)
 
-  pub orbit-has : (k j x : ℕ) → j < k → Among (iter f j x) (orbit f k x)
-  orbit-has zero j x l = absurd (not-suc-le-zero l)
-  orbit-has (suc k) zero x l = inl refl
-  orbit-has (suc k) (suc j) x l = inr (subst (λ (y : ℕ). Among y (orbit f k (f x))) (iter-in j x) (orbit-has k j (f x) (le_of_suc-le-suc l)))
+  pub orbit_has : (k j x : ℕ) → j < k → Among (iter f j x) (orbit f k x)
+  orbit_has zero j x l = absurd (not-suc-le-zero l)
+  orbit_has (suc k) zero x l = inl refl
+  orbit_has (suc k) (suc j) x l = inr (subst (λ (y : ℕ). Among y (orbit f k (f x))) (iter_in j x) (orbit_has k j (f x) (le_of_suc-le-suc l)))
 
-  pub orbit-from : (k x y : ℕ) → Among y (orbit f k x) → (j : ℕ) × (j < k) × (iter f j x ≡ y)
-  orbit-from zero x y i = absurd i
-  orbit-from (suc k) x y (inl e) = (0, omega arith, sym e)
-  orbit-from (suc k) x y (inr i) = let r = orbit-from k (f x) y i in (suc r.0, suc-le-suc r.1, sym (iter-in r.0 x) ∙ r.2)
+  pub orbit_from : (k x y : ℕ) → Among y (orbit f k x) → (j : ℕ) × (j < k) × (iter f j x ≡ y)
+  orbit_from zero x y i = absurd i
+  orbit_from (suc k) x y (inl e) = (0, omega arith, sym e)
+  orbit_from (suc k) x y (inr i) = let r = orbit_from k (f x) y i in (suc r.0, suc-le-suc r.1, sym (iter_in r.0 x) ∙ r.2)
 
   -- one step more at the end
-  pub orbit-more : (k x : ℕ) → orbit f (suc k) x ≡ orbit f k x ++ (iter f k x ∷ [])
-  orbit-more zero x = refl
-  orbit-more (suc k) x = ap (λ (l : List ℕ). x ∷ l) (orbit-more k (f x) ∙ ap (λ (y : ℕ). orbit f k (f x) ++ (y ∷ [])) (iter-in k x))
+  pub orbit_more : (k x : ℕ) → orbit f (suc k) x ≡ orbit f k x ++ (iter f k x ∷ [])
+  orbit_more zero x = refl
+  orbit_more (suc k) x = ap (λ (l : List ℕ). x ∷ l) (orbit_more k (f x) ∙ ap (λ (y : ℕ). orbit f k (f x) ++ (y ∷ [])) (iter_in k x))
 
   pub length-orbit : (k x : ℕ) → length (orbit f k x) ≡ k
   length-orbit zero x = refl
@@ -97,23 +97,23 @@ module _ (f : ℕ → ℕ) where
             | no s ↦ elim (dec_lt j i) [ yes t ↦ absurd (rises w j i p t (sym e)) | no t ↦ omega arith ]
           ]
 
-      pub steps-below : steps f n h < n
-      steps-below =
+      pub steps_below : steps f n h < n
+      steps_below =
           elim (dec_lt (steps f n h) n) [
             | yes q ↦ q
             | no q ↦ absurd (pigeon n (λ i. iter f i h) (λ i m. iter-into i h l)
-                (differ (λ k m e. clash (eq-eqb (f (iter f k h)) h e) (least-min (λ k. eqb (f (iter f k h)) h) n k (omega arith)))))
+                (differ (λ k m e. clash (eq-eqb (f (iter f k h)) h e) (least_min (λ k. eqb (f (iter f k h)) h) n k (omega arith)))))
           ]
 
       pub comes_back : f (iter f (steps f n h) h) ≡ h
-      comes_back = eqb-true _ _ (least-holds (λ k. eqb (f (iter f k h)) h) n steps-below)
+      comes_back = eqb-true _ _ (least-holds (λ k. eqb (f (iter f k h)) h) n steps_below)
 
-      pub not-before : (k : ℕ) → k < steps f n h → f (iter f k h) ≡ h → ⊥
-      not-before k m e = clash (eq-eqb (f (iter f k h)) h e) (least-min (λ k. eqb (f (iter f k h)) h) n k m)
+      pub not_before : (k : ℕ) → k < steps f n h → f (iter f k h) ≡ h → ⊥
+      not_before k m e = clash (eq-eqb (f (iter f k h)) h e) (least_min (λ k. eqb (f (iter f k h)) h) n k m)
 
       -- f h reaches h: f can be gone back
-      pub reach-back : Reach f (f h) h
-      reach-back = (steps f n h, iter-in (steps f n h) h ∙ comes_back)
+      pub reach_back : Reach f (f h) h
+      reach_back = (steps f n h, iter_in (steps f n h) h ∙ comes_back)
 
       -- every number met from h is in the orbit
       inside : (k : ℕ) → (j : ℕ) × (j < suc (steps f n h)) × (iter f j h ≡ iter f k h)
@@ -128,11 +128,11 @@ module _ (f : ℕ → ℕ) where
               ]
 
       pub all_in : (y : ℕ) → Reach f h y → Among y (orbit f (suc (steps f n h)) h)
-      all_in y (k, e) = let r = inside k in subst (λ (z : ℕ). Among z (orbit f (suc (steps f n h)) h)) (r.2 ∙ e) (orbit-has (suc (steps f n h)) r.0 h r.1)
+      all_in y (k, e) = let r = inside k in subst (λ (z : ℕ). Among z (orbit f (suc (steps f n h)) h)) (r.2 ∙ e) (orbit_has (suc (steps f n h)) r.0 h r.1)
 
-    pub reach-sym : (k h : ℕ) → h < n → Reach f (iter f k h) h
-    reach-sym zero h l = (0, refl)
-    reach-sym (suc k) h l = reach-trans (reach-back (iter f k h) (iter-into k h l)) (reach-sym k h l)
+    pub reach_sym : (k h : ℕ) → h < n → Reach f (iter f k h) h
+    reach_sym zero h l = (0, refl)
+    reach_sym (suc k) h l = reach-trans (reach_back (iter f k h) (iter-into k h l)) (reach_sym k h l)
 
     -- every number is taken, once
     pub onto : (h : ℕ) → h < n → (k : ℕ) × (k < n) × (f k ≡ h)

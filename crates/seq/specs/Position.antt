@@ -4,10 +4,10 @@ use Rattle.std.specs.Prelude.{◌≡◌, refl, ◌<◌, ◌≤◌}
 use Rattle.std.proofs.Common.{sym, ◌∙◌, inl, inr, suc-le-suc, zero-le, not-suc-le-zero, le_of_suc-le-suc, ltb-true, lt-ltb, eqb-true, eq-eqb, ne_eqb}
 use Rattle.std.proofs.lemmas.Bool.{eqb-false}
 use Rattle.seq.specs.Seq.{Bool, true, false, cond, List, [], ◌∷◌, Option, none, some, ℕ, zero, suc, eqb, length, get_or, position, elem, among, least}
-use Rattle.seq.specs.Terms.{Among, standsAt}
+use Rattle.seq.specs.Terms.{Among, the_stands_at}
 use Rattle.seq.specs.Tests.{clash}
-use Rattle.seq.specs.Members.{at-among}
-use Rattle.seq.specs.Least.{least_by, least-is}
+use Rattle.seq.specs.Members.{at_among}
+use Rattle.seq.specs.Least.{least_by, least_is}
 
 -- ── a search over the cells ──
 
@@ -20,15 +20,15 @@ module _ (x : ℕ) where
   position-le [] = zero-le
   position-le (y ∷ ys) = le_step (eqb x y) (position x ys) (length ys) (position-le ys)
 
-  at-step : (y d : ℕ) (ys : List ℕ) (c : Bool) → eqb x y ≡ c → (position x ys < length ys → get_or ys (position x ys) d ≡ x) → cond c 0 (suc (position x ys)) < suc (length ys)
+  at_step : (y d : ℕ) (ys : List ℕ) (c : Bool) → eqb x y ≡ c → (position x ys < length ys → get_or ys (position x ys) d ≡ x) → cond c 0 (suc (position x ys)) < suc (length ys)
       → get_or (y ∷ ys) (cond c 0 (suc (position x ys))) d ≡ x
-  at-step y d ys true e ih h = sym (eqb-true x y e)
-  at-step y d ys false e ih h = ih (le_of_suc-le-suc h)
+  at_step y d ys true e ih h = sym (eqb-true x y e)
+  at_step y d ys false e ih h = ih (le_of_suc-le-suc h)
 
   -- it stands there
   pub position_at : (ys : List ℕ) (d : ℕ) → position x ys < length ys → get_or ys (position x ys) d ≡ x
   position_at [] d h = absurd (not-suc-le-zero h)
-  position_at (y ∷ ys) d h = at-step y d ys (eqb x y) refl (position_at ys d) h
+  position_at (y ∷ ys) d h = at_step y d ys (eqb x y) refl (position_at ys d) h
 
   first_step : (y d : ℕ) (ys : List ℕ) (c : Bool) → eqb x y ≡ c → ((k : ℕ) → k < position x ys → get_or ys k d ≡ x → ⊥) → (k : ℕ) → k < cond c 0 (suc (position x ys)) → get_or (y ∷ ys) k d ≡ x → ⊥
   first_step y d ys true e ih k h q = not-suc-le-zero h
@@ -41,22 +41,22 @@ module _ (x : ℕ) where
   position_first (y ∷ ys) d k h q = first_step y d ys (eqb x y) refl (λ j. position_first ys d j) k h q
 
   -- so it is what a search finds
-  pub position-least : (ys : List ℕ) → least (standsAt x ys) (length ys) ≡ position x ys
+  pub position-least : (ys : List ℕ) → least (the_stands_at x ys) (length ys) ≡ position x ys
   position-least ys =
-      least_by (standsAt x ys) (length ys) (position x ys) (position-le ys)
+      least_by (the_stands_at x ys) (length ys) (position x ys) (position-le ys)
       (λ k h. ne_eqb x (get_or ys k 0) (λ e. position_first ys 0 k h (sym e)))
       (λ h. eq-eqb x (get_or ys (position x ys) 0) (sym (position_at ys 0 h)))
 
   -- x stands at k and nowhere before
-  pub position-is : (ys : List ℕ) (k : ℕ) → k < length ys → get_or ys k 0 ≡ x → ((j : ℕ) → j < k → get_or ys j 0 ≡ x → ⊥) → position x ys ≡ k
-  position-is ys k h e nowhere =
+  pub position_is : (ys : List ℕ) (k : ℕ) → k < length ys → get_or ys k 0 ≡ x → ((j : ℕ) → j < k → get_or ys j 0 ≡ x → ⊥) → position x ys ≡ k
+  position_is ys k h e nowhere =
       sym (position-least ys)
-      ∙ least-is (standsAt x ys) (length ys) k h (λ j l. ne_eqb x (get_or ys j 0) (λ q. nowhere j l (sym q))) (eq-eqb x (get_or ys k 0) (sym e))
+      ∙ least_is (the_stands_at x ys) (length ys) k h (λ j l. ne_eqb x (get_or ys j 0) (λ q. nowhere j l (sym q))) (eq-eqb x (get_or ys k 0) (sym e))
 
   -- ── members ──
 
   pub elem-among : (ys : List ℕ) → elem x ys ≡ true → Among x ys
-  elem-among ys e = let h : position x ys < length ys = ltb-true (position x ys) (length ys) e in rw (position_at ys 0 h) at (at-among ys (position x ys) 0 h)
+  elem-among ys e = let h : position x ys < length ys = ltb-true (position x ys) (length ys) e in rw (position_at ys 0 h) at (at_among ys (position x ys) 0 h)
 
   below_step : (y : ℕ) (ys : List ℕ) (c : Bool) → eqb x y ≡ c → (Among x ys → position x ys < length ys) → Among x (y ∷ ys) → cond c 0 (suc (position x ys)) < suc (length ys)
   below_step y ys true e ih i = suc-le-suc zero-le
@@ -70,10 +70,10 @@ module _ (x : ℕ) where
   pub among-elem : (ys : List ℕ) → Among x ys → elem x ys ≡ true
   among-elem ys i = lt-ltb (position x ys) (length ys) (among-position ys i)
 
-  pub not-elem : (ys : List ℕ) → elem x ys ≡ false → Among x ys → ⊥
-  not-elem ys e i = clash (among-elem ys i) e
+  pub not_elem : (ys : List ℕ) → elem x ys ≡ false → Among x ys → ⊥
+  not_elem ys e i = clash (among-elem ys i) e
 
 -- what is found is one of the list
-pub among-some : (o : Option ℕ) (ys : List ℕ) → among o ys ≡ true → (x : ℕ) × (o ≡ some x) × Among x ys
-among-some none ys e = absurd (clash e refl)
-among-some (some x) ys e = (x, refl, elem-among x ys e)
+pub among_some : (o : Option ℕ) (ys : List ℕ) → among o ys ≡ true → (x : ℕ) × (o ≡ some x) × Among x ys
+among_some none ys e = absurd (clash e refl)
+among_some (some x) ys e = (x, refl, elem-among x ys e)

@@ -21,11 +21,11 @@ module _ {A : Type 0} where
 
   -- ── cells ──
 
-  pub put-before : (a : ℕ) (x : A) (l : List A) (d : A) (i : ℕ) → i < a → get_or (put a x l) i d ≡ get_or l i d
-  put-before zero x l d i h = absurd (not-suc-le-zero h)
-  put-before (suc a) x [] d i h = refl
-  put-before (suc a) x (y ∷ l) d zero h = refl
-  put-before (suc a) x (y ∷ l) d (suc i) h = put-before a x l d i (le_of_suc-le-suc h)
+  pub put_before : (a : ℕ) (x : A) (l : List A) (d : A) (i : ℕ) → i < a → get_or (put a x l) i d ≡ get_or l i d
+  put_before zero x l d i h = absurd (not-suc-le-zero h)
+  put_before (suc a) x [] d i h = refl
+  put_before (suc a) x (y ∷ l) d zero h = refl
+  put_before (suc a) x (y ∷ l) d (suc i) h = put_before a x l d i (le_of_suc-le-suc h)
 
   pub put-own : (a : ℕ) (x : A) (l : List A) (d : A) → a ≤ length l → get_or (put a x l) a d ≡ x
   put-own zero x l d h = refl
@@ -38,11 +38,11 @@ module _ {A : Type 0} where
   put-default (suc a) [] d = refl
   put-default (suc a) (y ∷ l) d = put-default a l d
 
-  pub put-past : (a : ℕ) (x : A) (l : List A) (d : A) (i : ℕ) → a ≤ i → get_or (put a x l) (suc i) d ≡ get_or l i d
-  put-past zero x l d i h = refl
-  put-past (suc a) x [] d i h = refl
-  put-past (suc a) x (y ∷ l) d zero h = absurd (not-suc-le-zero h)
-  put-past (suc a) x (y ∷ l) d (suc i) h = put-past a x l d i (le_of_suc-le-suc h)
+  pub put_past : (a : ℕ) (x : A) (l : List A) (d : A) (i : ℕ) → a ≤ i → get_or (put a x l) (suc i) d ≡ get_or l i d
+  put_past zero x l d i h = refl
+  put_past (suc a) x [] d i h = refl
+  put_past (suc a) x (y ∷ l) d zero h = absurd (not-suc-le-zero h)
+  put_past (suc a) x (y ∷ l) d (suc i) h = put_past a x l d i (le_of_suc-le-suc h)
 
   -- ── made of other lists ──
 
@@ -68,12 +68,12 @@ module _ {A : Type 0} where
       where
         later : (i : ℕ) → i < suc n → (i < a → ⊥) → (i ≡ a → ⊥) → get_or (put a (f' a) (table f n)) i (f' a) ≡ f' i
         later zero l q r = absurd (omega arith)
-        later (suc i) l q r = put-past a (f' a) (table f n) (f' a) i (omega arith) ∙ table_at f n i (f' a) (omega arith) ∙ sym (past i (omega arith))
+        later (suc i) l q r = put_past a (f' a) (table f n) (f' a) i (omega arith) ∙ table_at f n i (f' a) (omega arith) ∙ sym (past i (omega arith))
 
         at : (i : ℕ) → i < suc n → get_or (put a (f' a) (table f n)) i (f' a) ≡ f' i
         at i l =
             elim (dec_lt i a) [
-              | yes q ↦ put-before a (f' a) (table f n) (f' a) i q ∙ table_at f n i (f' a) (omega arith) ∙ sym (below i q)
+              | yes q ↦ put_before a (f' a) (table f n) (f' a) i q ∙ table_at f n i (f' a) (omega arith) ∙ sym (below i q)
               | no q ↦ elim (ℕ_discrete i a) [
                 | yes r ↦ ap (λ (j : ℕ). get_or (put a (f' a) (table f n)) j (f' a)) r ∙ put-own a (f' a) (table f n) (f' a) (omega (arith, length-table f n)) ∙ ap f' (sym r)
                 | no r ↦ later i l q r

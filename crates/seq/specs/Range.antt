@@ -5,9 +5,9 @@ use Rattle.std.proofs.Math.Decide.{ℕ_discrete}
 use Rattle.seq.specs.Seq.{Bool, false, cond, List, [], ◌∷◌, ◌++◌, ℕ, zero, suc, ◌+◌, ◌-◌, select}
 
 -- those of the m numbers from a on that have p, rising: for i in 0..m { if p(a + i) { out[c] = a + i; c += 1 } }
-abbrev pub selectFrom : (ℕ → Bool) → ℕ → ℕ → List ℕ
-selectFrom p a zero = []
-selectFrom p a (suc m) = let r = selectFrom p a m in cond (p (a + m)) (r ++ ((a + m) ∷ [])) r
+abbrev pub select_from : (ℕ → Bool) → ℕ → ℕ → List ℕ
+select_from p a zero = []
+select_from p a (suc m) = let r = select_from p a m in cond (p (a + m)) (r ++ ((a + m) ∷ [])) r
 
 module _ (p : ℕ → Bool) where
   -- none from m on
@@ -20,22 +20,22 @@ module _ (p : ℕ → Bool) where
       ]
 
   -- none below a
-  pub select-none : (a : ℕ) → ((v : ℕ) → v < a → p v ≡ false) → select p a ≡ []
-  select-none a none = select-upto 0 a (omega arith) (λ v l k. none v k)
+  pub select_none : (a : ℕ) → ((v : ℕ) → v < a → p v ≡ false) → select p a ≡ []
+  select_none a none = select-upto 0 a (omega arith) (λ v l k. none v k)
 
-  pub select-past : (a m : ℕ) → ((v : ℕ) → v < a → p v ≡ false) → select p (a + m) ≡ selectFrom p a m
-  select-past a zero none = ap (select p) (add-zero a) ∙ select-none a none
-  select-past a (suc m) none = ap (select p) (add-suc a m) ∙ ap (λ (r : List ℕ). cond (p (a + m)) (r ++ ((a + m) ∷ [])) r) (select-past a m none)
+  pub select_past : (a m : ℕ) → ((v : ℕ) → v < a → p v ≡ false) → select p (a + m) ≡ select_from p a m
+  select_past a zero none = ap (select p) (add-zero a) ∙ select_none a none
+  select_past a (suc m) none = ap (select p) (add-suc a m) ∙ ap (λ (r : List ℕ). cond (p (a + m)) (r ++ ((a + m) ∷ [])) r) (select_past a m none)
 
   -- none outside the range
-  pub select-range : (a e n : ℕ) → a ≤ e → e ≤ n → ((v : ℕ) → v < a → p v ≡ false) → ((v : ℕ) → e ≤ v → v < n → p v ≡ false) → select p n ≡ selectFrom p a (e - a)
+  pub select-range : (a e n : ℕ) → a ≤ e → e ≤ n → ((v : ℕ) → v < a → p v ≡ false) → ((v : ℕ) → e ≤ v → v < n → p v ≡ false) → select p n ≡ select_from p a (e - a)
   select-range a e n h l below past =
-      select-upto e n l past ∙ ap (select p) (split a e h) ∙ select-past a (e - a) below
+      select-upto e n l past ∙ ap (select p) (split a e h) ∙ select_past a (e - a) below
     where
       split : (a e : ℕ) → a ≤ e → e ≡ a + (e - a)
       split a e h = omega arith
 
 -- tests that agree in the range
-pub selectFrom-ext : (p q : ℕ → Bool) (a m : ℕ) → ((v : ℕ) → a ≤ v → v < a + m → p v ≡ q v) → selectFrom p a m ≡ selectFrom q a m
-selectFrom-ext p q a zero h = refl
-selectFrom-ext p q a (suc m) h = rw (selectFrom-ext p q a m (λ v l k. h v l (omega arith)), h (a + m) (omega arith) (omega arith))
+pub select_from-ext : (p q : ℕ → Bool) (a m : ℕ) → ((v : ℕ) → a ≤ v → v < a + m → p v ≡ q v) → select_from p a m ≡ select_from q a m
+select_from-ext p q a zero h = refl
+select_from-ext p q a (suc m) h = rw (select_from-ext p q a m (λ v l k. h v l (omega arith)), h (a + m) (omega arith) (omega arith))

@@ -41,9 +41,9 @@ module _ {A : Type 0} where
   rows_none (suc n) = ap (λ (r : List A). r ++ []) (rows_none n)
 
   -- rows of one cell are a table
-  pub rows-one : (f : ℕ → A) (n : ℕ) → rows (λ i. f i ∷ []) n ≡ table f n
-  rows-one f zero = refl
-  rows-one f (suc n) = rw (rows-one f n)
+  pub rows_one : (f : ℕ → A) (n : ℕ) → rows (λ i. f i ∷ []) n ≡ table f n
+  rows_one f zero = refl
+  rows_one f (suc n) = rw (rows_one f n)
 
   -- ── rows of w cells ──
 

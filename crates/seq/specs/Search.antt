@@ -1,13 +1,13 @@
 -- Where a test stops that, once it fails, fails on (`Steady`): by halves (`halve-stops`) and one cell after the other (`Scan`). Then what stands there: the start and the rest of a list
--- (`lead`, `trail`, `lead-at`), an element put in its slot (`slotted-at`) or in its place in a list in strict order (`insert-at`, `insert-old`); and which tests fail on: those on a list in
+-- (`lead`, `trail`, `lead_at_lem`), an element put in its slot (`slotted_at`) or in its place in a list in strict order (`insert_at`, `insert_old`); and which tests fail on: those on a list in
 -- order (`steady_by`). Assumes nothing.
 use Rattle.std.specs.Prelude.{◌≡◌, refl, ◌≤◌, ◌<◌}
 use Rattle.std.proofs.Common.{◌∙◌, ap, subst, inl, inr, suc-le-suc, not-suc-le-zero, le_of_suc-le-suc, arith}
 use Rattle.std.proofs.Math.Decide.{dec_lt}
-use Rattle.seq.specs.Seq.{Bool, true, false, cond, not, List, [], ◌∷◌, ◌++◌, ℕ, zero, suc, ◌+◌, length, get_or, take, drop, insertBy}
+use Rattle.seq.specs.Seq.{Bool, true, false, cond, not, List, [], ◌∷◌, ◌++◌, ℕ, zero, suc, ◌+◌, length, get_or, take, drop, insert_by}
 use Rattle.seq.specs.Terms.{Among, Pairs}
 use Rattle.seq.specs.Tests.{clash, was-false, was-true}
-use Rattle.seq.specs.Pairs.{pairs-at}
+use Rattle.seq.specs.Pairs.{pairs_at}
 use Rattle.seq.specs.Halves.{Lasts, Halving}
 use Rattle.seq.specs.Slotted.{slotted}
 
@@ -47,11 +47,11 @@ pub record ScanStop (t : ℕ → Bool) (n a i : ℕ) : Type 0 where
   pub stops : i < n → t i ≡ false
 
 module _ (t : ℕ → Bool) (n a : ℕ) where
-  pub scan-starts : a ≤ n → Scan t n a a
-  scan-starts h = record { low = omega arith; within = h; passed = λ j l r. absurd (omega arith) }
+  pub scan_starts : a ≤ n → Scan t n a a
+  scan_starts h = record { low = omega arith; within = h; passed = λ j l r. absurd (omega arith) }
 
-  pub scan-turns : {i : ℕ} → Scan t n a i → i < n → t i ≡ true → Scan t n a (i + 1)
-  scan-turns {i} s h e = record {
+  pub scan_turns : {i : ℕ} → Scan t n a i → i < n → t i ≡ true → Scan t n a (i + 1)
+  scan_turns {i} s h e = record {
     low = omega (arith, s.low);
     within = omega arith;
     passed = λ j l r. elim (dec_lt j i) [ yes q ↦ s.passed j l q | no q ↦ let f : i ≡ j = omega arith in subst (λ (k : ℕ). t k ≡ true) f e ];
@@ -60,8 +60,8 @@ module _ (t : ℕ → Bool) (n a : ℕ) where
   pub scan-stops : {i : ℕ} → Scan t n a i → t i ≡ false → ScanStop t n a i
   scan-stops s e = record { scan = s; stops = λ h. e }
 
-  pub scan-ends : {i : ℕ} → Scan t n a i → n ≤ i → ScanStop t n a n
-  scan-ends {i} s h = let e : i ≡ n = omega (arith, s.within) in record { scan = subst (Scan t n a) e s; stops = λ l. absurd (omega arith) }
+  pub scan_ends : {i : ℕ} → Scan t n a i → n ≤ i → ScanStop t n a n
+  scan_ends {i} s h = let e : i ≡ n = omega (arith, s.within) in record { scan = subst (Scan t n a) e s; stops = λ l. absurd (omega arith) }
 
 -- of the cells after the first
 stop-rest : (t : ℕ → Bool) (n a : ℕ) → Stop t (suc n) (suc a) → Stop (λ i. t (suc i)) n a
@@ -87,14 +87,14 @@ module _ {A : Type 0} (t : A → Bool) where
   lead-trail [] = refl
   lead-trail (x ∷ l) = lead-step x l (t x) (lead-trail l)
 
-  lead-has-step : (x : A) (l : List A) (z : A) (b : Bool) → t x ≡ b → (Among z (lead t l) → t z ≡ true) → Among z (cond b (x ∷ lead t l) []) → t z ≡ true
-  lead-has-step x l z true e ih (inl f) = ap t f ∙ e
-  lead-has-step x l z true e ih (inr j) = ih j
-  lead-has-step x l z false e ih j = absurd j
+  lead_has-step : (x : A) (l : List A) (z : A) (b : Bool) → t x ≡ b → (Among z (lead t l) → t z ≡ true) → Among z (cond b (x ∷ lead t l) []) → t z ≡ true
+  lead_has-step x l z true e ih (inl f) = ap t f ∙ e
+  lead_has-step x l z true e ih (inr j) = ih j
+  lead_has-step x l z false e ih j = absurd j
 
-  pub lead-has : (l : List A) (z : A) → Among z (lead t l) → t z ≡ true
-  lead-has [] z i = absurd i
-  lead-has (x ∷ l) z i = lead-has-step x l z (t x) refl (lead-has l z) i
+  pub lead_has : (l : List A) (z : A) → Among z (lead t l) → t z ≡ true
+  lead_has [] z i = absurd i
+  lead_has (x ∷ l) z i = lead_has-step x l z (t x) refl (lead_has l z) i
 
   trail-step : (x : A) (l : List A) (z : A) (b : Bool) → t x ≡ b → (Among z (trail t l) → t z ≡ false) → ((y : A) → Among y l → t x ≡ false → t y ≡ false) → Among z (cond b (trail t l) (x ∷ l)) → t z ≡ false
   trail-step x l z true e ih h j = ih j
@@ -102,27 +102,27 @@ module _ {A : Type 0} (t : A → Bool) where
   trail-step x l z false e ih h (inr j) = h z j e
 
   -- where after one that has not t none has it, the rest has it not
-  pub trail-has : (l : List A) → Pairs (λ x y. t x ≡ false → t y ≡ false) l → (z : A) → Among z (trail t l) → t z ≡ false
-  trail-has [] h z i = absurd i
-  trail-has (x ∷ l) h z i = trail-step x l z (t x) refl (trail-has l h.1 z) h.0 i
+  pub trail_has : (l : List A) → Pairs (λ x y. t x ≡ false → t y ≡ false) l → (z : A) → Among z (trail t l) → t z ≡ false
+  trail_has [] h z i = absurd i
+  trail_has (x ∷ l) h z i = trail-step x l z (t x) refl (trail_has l h.1 z) h.0 i
 
 module _ {A : Type 0} (d : A) where
   module _ (t : A → Bool) where
-    lead-true : (x : A) (xs : List A) (k : ℕ) (b : Bool) → b ≡ true → (lead t xs ≡ take k xs) × (trail t xs ≡ drop k xs) →
+    lead_true : (x : A) (xs : List A) (k : ℕ) (b : Bool) → b ≡ true → (lead t xs ≡ take k xs) × (trail t xs ≡ drop k xs) →
         (cond b (x ∷ lead t xs) [] ≡ x ∷ take k xs) × (cond b (trail t xs) (x ∷ xs) ≡ drop k xs)
-    lead-true x xs k true e h = (ap (λ (l : List A). x ∷ l) h.0, h.1)
-    lead-true x xs k false e h = absurd (clash e refl)
+    lead_true x xs k true e h = (ap (λ (l : List A). x ∷ l) h.0, h.1)
+    lead_true x xs k false e h = absurd (clash e refl)
 
-    lead-false : (x : A) (xs : List A) (b : Bool) → b ≡ false → (cond b (x ∷ lead t xs) [] ≡ []) × (cond b (trail t xs) (x ∷ xs) ≡ x ∷ xs)
-    lead-false x xs true e = absurd (clash refl e)
-    lead-false x xs false e = (refl, refl)
+    lead_false : (x : A) (xs : List A) (b : Bool) → b ≡ false → (cond b (x ∷ lead t xs) [] ≡ []) × (cond b (trail t xs) (x ∷ xs) ≡ x ∷ xs)
+    lead_false x xs true e = absurd (clash refl e)
+    lead_false x xs false e = (refl, refl)
 
     -- a is where t stops: the start is the first a cells
-    pub lead-at : (l : List A) (a : ℕ) → Stop (λ i. t (get_or l i d)) (length l) a → (lead t l ≡ take a l) × (trail t l ≡ drop a l)
-    lead-at [] zero s = (refl, refl)
-    lead-at [] (suc a) s = absurd (not-suc-le-zero s.within)
-    lead-at (x ∷ xs) zero s = lead-false x xs (t x) (s.stops (omega arith))
-    lead-at (x ∷ xs) (suc a) s = lead-true x xs a (t x) (s.passed 0 (omega arith)) (lead-at xs a (stop-rest (λ i. t (get_or (x ∷ xs) i d)) (length xs) a s))
+    pub lead_at_lem : (l : List A) (a : ℕ) → Stop (λ i. t (get_or l i d)) (length l) a → (lead t l ≡ take a l) × (trail t l ≡ drop a l)
+    lead_at_lem [] zero s = (refl, refl)
+    lead_at_lem [] (suc a) s = absurd (not-suc-le-zero s.within)
+    lead_at_lem (x ∷ xs) zero s = lead_false x xs (t x) (s.stops (omega arith))
+    lead_at_lem (x ∷ xs) (suc a) s = lead_true x xs a (t x) (s.passed 0 (omega arith)) (lead_at_lem xs a (stop-rest (λ i. t (get_or (x ∷ xs) i d)) (length xs) a s))
 
   -- ── an element in its slot ──
 
@@ -131,38 +131,38 @@ module _ {A : Type 0} (d : A) where
     slot_step y ys k b c e h = λ i. cond (e i) (x ∷ y ∷ ys) (y ∷ h i)
 
     -- a is the first that x is to stand before
-    pub slotted-at : (l : List A) (a : ℕ) → Stop (λ i. not (t x (get_or l i d))) (length l) a → slotted t x l ≡ take a l ++ (x ∷ drop a l)
-    slotted-at [] zero s = refl
-    slotted-at [] (suc a) s = absurd (not-suc-le-zero s.within)
-    slotted-at (y ∷ ys) zero s = slot_step y ys (slotted t x ys) (t x y) true (was-true (t x y) (s.stops (omega arith))) refl
-    slotted-at (y ∷ ys) (suc a) s =
-        slot_step y ys (take a ys ++ (x ∷ drop a ys)) (t x y) false (was-false (t x y) (s.passed 0 (omega arith))) (slotted-at ys a (stop-rest (λ i. not (t x (get_or (y ∷ ys) i d))) (length ys) a s))
+    pub slotted_at : (l : List A) (a : ℕ) → Stop (λ i. not (t x (get_or l i d))) (length l) a → slotted t x l ≡ take a l ++ (x ∷ drop a l)
+    slotted_at [] zero s = refl
+    slotted_at [] (suc a) s = absurd (not-suc-le-zero s.within)
+    slotted_at (y ∷ ys) zero s = slot_step y ys (slotted t x ys) (t x y) true (was-true (t x y) (s.stops (omega arith))) refl
+    slotted_at (y ∷ ys) (suc a) s =
+        slot_step y ys (take a ys ++ (x ∷ drop a ys)) (t x y) false (was-false (t x y) (s.passed 0 (omega arith))) (slotted_at ys a (stop-rest (λ i. not (t x (get_or (y ∷ ys) i d))) (length ys) a s))
 
   -- ── an element in its place ──
 
   module _ (b : A → A → Bool) (asym : (x y : A) → b x y ≡ true → b y x ≡ false) (x : A) where
     abbrev inserted : List A → List A
-    inserted l = insertBy b (λ p r. r) x l
+    inserted l = insert_by b (λ p r. r) x l
 
     insert-step : (y : A) (ys k : List A) (c e : Bool) → b x y ≡ c → b y x ≡ e → inserted ys ≡ k → inserted (y ∷ ys) ≡ cond c (x ∷ y ∷ ys) (cond e (y ∷ k) (y ∷ ys))
     insert-step y ys k c e p q h = λ i. cond (p i) (x ∷ y ∷ ys) (cond (q i) (y ∷ h i) (y ∷ ys))
 
     -- it is to stand at a, and is not there yet
-    pub insert-at : (l : List A) (a : ℕ) → Stop (λ i. b (get_or l i d) x) (length l) a → (a < length l → b x (get_or l a d) ≡ true) → inserted l ≡ take a l ++ (x ∷ drop a l)
-    insert-at [] zero s n = refl
-    insert-at [] (suc a) s n = absurd (not-suc-le-zero s.within)
-    insert-at (y ∷ ys) zero s n = insert-step y ys (inserted ys) true (b y x) (n (omega arith)) refl refl
-    insert-at (y ∷ ys) (suc a) s n =
+    pub insert_at : (l : List A) (a : ℕ) → Stop (λ i. b (get_or l i d) x) (length l) a → (a < length l → b x (get_or l a d) ≡ true) → inserted l ≡ take a l ++ (x ∷ drop a l)
+    insert_at [] zero s n = refl
+    insert_at [] (suc a) s n = absurd (not-suc-le-zero s.within)
+    insert_at (y ∷ ys) zero s n = insert-step y ys (inserted ys) true (b y x) (n (omega arith)) refl refl
+    insert_at (y ∷ ys) (suc a) s n =
         insert-step y ys (take a ys ++ (x ∷ drop a ys)) false true (asym y x (s.passed 0 (omega arith))) (s.passed 0 (omega arith))
-        (insert-at ys a (stop-rest (λ i. b (get_or (y ∷ ys) i d) x) (length ys) a s) (λ h. n (suc-le-suc h)))
+        (insert_at ys a (stop-rest (λ i. b (get_or (y ∷ ys) i d) x) (length ys) a s) (λ h. n (suc-le-suc h)))
 
     -- one like it stands there
-    pub insert-old : (l : List A) (a : ℕ) → Stop (λ i. b (get_or l i d) x) (length l) a → a < length l → b x (get_or l a d) ≡ false → inserted l ≡ l
-    insert-old [] a s h n = absurd (not-suc-le-zero h)
-    insert-old (y ∷ ys) zero s h n = insert-step y ys (inserted ys) false false n (s.stops h) refl
-    insert-old (y ∷ ys) (suc a) s h n =
+    pub insert_old : (l : List A) (a : ℕ) → Stop (λ i. b (get_or l i d) x) (length l) a → a < length l → b x (get_or l a d) ≡ false → inserted l ≡ l
+    insert_old [] a s h n = absurd (not-suc-le-zero h)
+    insert_old (y ∷ ys) zero s h n = insert-step y ys (inserted ys) false false n (s.stops h) refl
+    insert_old (y ∷ ys) (suc a) s h n =
         insert-step y ys ys false true (asym y x (s.passed 0 (omega arith))) (s.passed 0 (omega arith))
-        (insert-old ys a (stop-rest (λ i. b (get_or (y ∷ ys) i d) x) (length ys) a s) (le_of_suc-le-suc h) n)
+        (insert_old ys a (stop-rest (λ i. b (get_or (y ∷ ys) i d) x) (length ys) a s) (le_of_suc-le-suc h) n)
 
   -- ── which tests fail on ──
 
@@ -170,6 +170,6 @@ module _ {A : Type 0} (d : A) where
   pub steady_by : (t : A → Bool) (l : List A) → Pairs (λ x y. t x ≡ false → t y ≡ false) l → Steady (λ i. t (get_or l i d)) (length l)
   steady_by t l p i j h k e =
       elim (dec_lt i j) [
-        | yes q ↦ pairs-at (λ x y. t x ≡ false → t y ≡ false) l d p i j q k e
+        | yes q ↦ pairs_at (λ x y. t x ≡ false → t y ≡ false) l d p i j q k e
         | no q ↦ let f : i ≡ j = omega arith in subst (λ (m : ℕ). t (get_or l m d) ≡ false) f e
       ]

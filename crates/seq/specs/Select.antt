@@ -1,5 +1,5 @@
 -- `select p n`: its members are exactly the numbers below n that have p, they rise, there are `count p n` of them, and a number that has p stands at
--- its rank (`select-at`, `position-count`). Where all have it; tests that agree; and rows appended for those that have it (`rows-select`). Assumes nothing.
+-- its rank (`select_at`, `position-count`). Where all have it; tests that agree; and rows appended for those that have it (`rows-select`). Assumes nothing.
 use Rattle.std.specs.Prelude.{◌≡◌, refl, ◌<◌}
 use Rattle.std.proofs.Common.{sym, ◌∙◌, ap, append-nil, inl, inr, ⊎_elim, not-suc-le-zero, add-one, arith, length-append}
 use Rattle.std.proofs.Math.Decide.{dec_lt}
@@ -10,15 +10,15 @@ use Rattle.seq.specs.Terms.{Among, Asc}
 use Rattle.seq.specs.Tests.{clash}
 use Rattle.seq.specs.Members.{among-++, ++-among}
 use Rattle.seq.specs.Pairs.{pairs-snoc}
-use Rattle.seq.specs.Count.{count-all, count-below, count-onto}
+use Rattle.seq.specs.Count.{count_all, count_below, count-onto}
 use Rattle.seq.specs.Rows.{rows_ext}
 use Rattle.seq.specs.Position.{among-position, position_at}
 
 module _ (p : ℕ → Bool) where
   -- ── what a loop asks ──
 
-  pub select-more : (n : ℕ) → p n ≡ true → select p (n + 1) ≡ select p n ++ (n ∷ [])
-  select-more n e = rw (add-one n, e)
+  pub select_more : (n : ℕ) → p n ≡ true → select p (n + 1) ≡ select p n ++ (n ∷ [])
+  select_more n e = rw (add-one n, e)
 
   pub select-skip : (n : ℕ) → p n ≡ false → select p (n + 1) ≡ select p n
   select-skip n e = rw (add-one n, e)
@@ -31,29 +31,29 @@ module _ (p : ℕ → Bool) where
       ⊎_elim (λ j. let r = ih j in (omega arith, r.1)) (λ j. ⊎_elim (λ q. (omega arith, ap p q ∙ e)) (λ w. absurd w) j) (among-++ z l (n ∷ []) i)
 
   -- each is below n and has p
-  pub select-from : (n z : ℕ) → Among z (select p n) → (z < n) × (p z ≡ true)
-  select-from zero z i = absurd i
-  select-from (suc n) z i = from_step n z (select p n) (p n) refl (select-from n z) i
+  pub select_from_lem : (n z : ℕ) → Among z (select p n) → (z < n) × (p z ≡ true)
+  select_from_lem zero z i = absurd i
+  select_from_lem (suc n) z i = from_step n z (select p n) (p n) refl (select_from_lem n z) i
 
   last : (z n : ℕ) → z < suc n → (z < n → ⊥) → z ≡ n
   last z n h s = omega arith
 
-  has-step : (n z : ℕ) (l : List ℕ) (c : Bool) → p n ≡ c → (z < n → Among z l) → z < suc n → p z ≡ true → Among z (cond c (l ++ (n ∷ [])) l)
-  has-step n z l false e ih h q = ih (elim (dec_lt z n) [ yes s ↦ s | no s ↦ absurd (clash (ap p (sym (last z n h s)) ∙ q) e) ])
-  has-step n z l true e ih h q = ++-among z l (n ∷ []) (elim (dec_lt z n) [ yes s ↦ inl (ih s) | no s ↦ inr (inl (last z n h s)) ])
+  has_step : (n z : ℕ) (l : List ℕ) (c : Bool) → p n ≡ c → (z < n → Among z l) → z < suc n → p z ≡ true → Among z (cond c (l ++ (n ∷ [])) l)
+  has_step n z l false e ih h q = ih (elim (dec_lt z n) [ yes s ↦ s | no s ↦ absurd (clash (ap p (sym (last z n h s)) ∙ q) e) ])
+  has_step n z l true e ih h q = ++-among z l (n ∷ []) (elim (dec_lt z n) [ yes s ↦ inl (ih s) | no s ↦ inr (inl (last z n h s)) ])
 
   -- and each that is below n and has p is there
   pub select_has : (n z : ℕ) → z < n → p z ≡ true → Among z (select p n)
   select_has zero z h q = absurd (not-suc-le-zero h)
-  select_has (suc n) z h q = has-step n z (select p n) (p n) refl (λ s. select_has n z s q) h q
+  select_has (suc n) z h q = has_step n z (select p n) (p n) refl (λ s. select_has n z s q) h q
 
-  asc-step : (n : ℕ) (l : List ℕ) (c : Bool) → Asc l → ((z : ℕ) → Among z l → z < n) → Asc (cond c (l ++ (n ∷ [])) l)
-  asc-step n l true a h = pairs-snoc ◌<◌ l n a h
-  asc-step n l false a h = a
+  asc_step : (n : ℕ) (l : List ℕ) (c : Bool) → Asc l → ((z : ℕ) → Among z l → z < n) → Asc (cond c (l ++ (n ∷ [])) l)
+  asc_step n l true a h = pairs-snoc ◌<◌ l n a h
+  asc_step n l false a h = a
 
-  pub select-asc : (n : ℕ) → Asc (select p n)
-  select-asc zero = tt
-  select-asc (suc n) = asc-step n (select p n) (p n) (select-asc n) (λ z i. (select-from n z i).0)
+  pub select_asc : (n : ℕ) → Asc (select p n)
+  select_asc zero = tt
+  select_asc (suc n) = asc_step n (select p n) (p n) (select_asc n) (λ z i. (select_from_lem n z i).0)
 
   -- ── positions ──
 
@@ -65,25 +65,25 @@ module _ (p : ℕ → Bool) where
   length-select zero = refl
   length-select (suc n) = length-step n (select p n) (p n) ∙ ap (λ (r : ℕ). cond (p n) (suc r) r) (length-select n)
 
-  at-step : (n k d : ℕ) (c : Bool) → p n ≡ c → (k < n → get_or (select p n) (count p k) d ≡ k) → k < suc n → p k ≡ true → get_or (cond c (select p n ++ (n ∷ [])) (select p n)) (count p k) d ≡ k
-  at-step n k d false e ih h q = ih (elim (dec_lt k n) [ yes s ↦ s | no s ↦ absurd (clash (ap p (sym (last k n h s)) ∙ q) e) ])
-  at-step n k d true e ih h q =
+  at_step : (n k d : ℕ) (c : Bool) → p n ≡ c → (k < n → get_or (select p n) (count p k) d ≡ k) → k < suc n → p k ≡ true → get_or (cond c (select p n ++ (n ∷ [])) (select p n)) (count p k) d ≡ k
+  at_step n k d false e ih h q = ih (elim (dec_lt k n) [ yes s ↦ s | no s ↦ absurd (clash (ap p (sym (last k n h s)) ∙ q) e) ])
+  at_step n k d true e ih h q =
       elim (dec_lt k n) [
-        | yes s ↦ get_or-append (select p n) (n ∷ []) d (count p k) (omega (arith, length-select n, count-below p n k s q)) ∙ ih s
+        | yes s ↦ get_or-append (select p n) (n ∷ []) d (count p k) (omega (arith, length-select n, count_below p n k s q)) ∙ ih s
         | no s ↦ let t : k ≡ n = last k n h s in rw t (get_or_at (select p n) n [] d (count p n) (length-select n))
       ]
 
   -- a number that has p stands at its rank
-  pub select-at : (n k d : ℕ) → k < n → p k ≡ true → get_or (select p n) (count p k) d ≡ k
-  select-at zero k d h q = absurd (not-suc-le-zero h)
-  select-at (suc n) k d h q = at-step n k d (p n) refl (λ s. select-at n k d s q) h q
+  pub select_at : (n k d : ℕ) → k < n → p k ≡ true → get_or (select p n) (count p k) d ≡ k
+  select_at zero k d h q = absurd (not-suc-le-zero h)
+  select_at (suc n) k d h q = at_step n k d (p n) refl (λ s. select_at n k d s q) h q
 
   -- and what stands at i is below n, has p, and has the rank i
   pub select-nth : (n i d : ℕ) → i < count p n → (get_or (select p n) i d < n) × (p (get_or (select p n) i d) ≡ true) × (count p (get_or (select p n) i d) ≡ i)
   select-nth n i d h =
       let r = count-onto p n i h in
       let k : ℕ = r.0 in
-      let e : get_or (select p n) i d ≡ k = ap (λ (j : ℕ). get_or (select p n) j d) (sym r.3) ∙ select-at n k d r.1 r.2 in
+      let e : get_or (select p n) i d ≡ k = ap (λ (j : ℕ). get_or (select p n) j d) (sym r.3) ∙ select_at n k d r.1 r.2 in
       rw e (r.1, r.2, r.3)
 
   -- its place is how many are selected before it: what a running count gives
@@ -96,11 +96,11 @@ module _ (p : ℕ → Bool) where
 
   -- ── all of them ──
 
-  pub select-all : (n i : ℕ) → ((k : ℕ) → k < n → p k ≡ true) → i < n → get_or (select p n) i 0 ≡ i
-  select-all n i h l = ap (λ (j : ℕ). get_or (select p n) j 0) (sym (count-all p i (λ k b. h k (omega arith)))) ∙ select-at n i 0 l (h i l)
+  pub select_all : (n i : ℕ) → ((k : ℕ) → k < n → p k ≡ true) → i < n → get_or (select p n) i 0 ≡ i
+  select_all n i h l = ap (λ (j : ℕ). get_or (select p n) j 0) (sym (count_all p i (λ k b. h k (omega arith)))) ∙ select_at n i 0 l (h i l)
 
-  pub length-all : (n : ℕ) → ((k : ℕ) → k < n → p k ≡ true) → length (select p n) ≡ n
-  length-all n h = length-select n ∙ count-all p n h
+  pub length_all : (n : ℕ) → ((k : ℕ) → k < n → p k ≡ true) → length (select p n) ≡ n
+  length_all n h = length-select n ∙ count_all p n h
 
 -- tests that agree below the bound
 pub select-ext : (p q : ℕ → Bool) (n : ℕ) → ((k : ℕ) → k < n → p k ≡ q k) → select p n ≡ select q n

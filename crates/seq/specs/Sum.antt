@@ -12,7 +12,7 @@ use Rattle.exact.specs.Solve.{ring, reify}
 use Rattle.exact.specs.Order.{pos-once}
 use Rattle.seq.specs.Seq.{Bool, true, false, cond, List, [], ◌∷◌, ◌++◌, ℕ, zero, suc, ◌+◌, ◌*◌, eqb, count, ℤ, pos, ◌+ℤ◌, ◌-ℤ◌, ◌*ℤ◌}
 use Rattle.seq.specs.Terms.{Among, Injects, sum, upto, ind}
-use Rattle.seq.specs.Tests.{eqb-iff}
+use Rattle.seq.specs.Tests.{eqb_iff}
 use Rattle.seq.specs.Perm.{onto}
 
 pub upto-< : {i : ℕ} (n : ℕ) → Among i (upto n) → i < n
@@ -37,8 +37,8 @@ module _ {A : Type 0} where
   sum-zero [] = refl
   sum-zero (x ∷ xs) = ap (λ (t : ℤ). pos 0 +ℤ t) (sum-zero xs)
 
-  pub sum-none : (xs : List A) {f : A → ℤ} → ((x : A) → Among x xs → f x ≡ pos 0) → sum xs f ≡ pos 0
-  sum-none xs h = sum-ext xs h ∙ sum-zero xs
+  pub sum_none : (xs : List A) {f : A → ℤ} → ((x : A) → Among x xs → f x ≡ pos 0) → sum xs f ≡ pos 0
+  sum_none xs h = sum-ext xs h ∙ sum-zero xs
 
   pub sum-+ : (xs : List A) (f g : A → ℤ) → sum xs (λ x. f x +ℤ g x) ≡ sum xs f +ℤ sum xs g
   unfolding sum
@@ -71,8 +71,8 @@ exchange (x ∷ xs) ys f = ap (λ (t : ℤ). sum ys (λ y. f x y) +ℤ t) (excha
 
 -- ── a sum in which one index counts ──
 
-delta-none : (n k : ℕ) (g : ℕ → ℤ) → n ≤ k → sum (upto n) (λ i. ind (eqb i k) *ℤ g i) ≡ pos 0
-delta-none n k g h = sum-ext (upto n) (λ i m. ap (λ (b : Bool). ind b *ℤ g i) (ne_eqb i k (below i (upto-< n m))) ∙ zero-*ℤ (g i)) ∙ sum-zero (upto n)
+delta_none : (n k : ℕ) (g : ℕ → ℤ) → n ≤ k → sum (upto n) (λ i. ind (eqb i k) *ℤ g i) ≡ pos 0
+delta_none n k g h = sum-ext (upto n) (λ i m. ap (λ (b : Bool). ind b *ℤ g i) (ne_eqb i k (below i (upto-< n m))) ∙ zero-*ℤ (g i)) ∙ sum-zero (upto n)
   where
     below : (i : ℕ) → i < n → i ≡ k → ⊥
     below i l e = omega arith
@@ -85,7 +85,7 @@ pub delta : (n k : ℕ) (g : ℕ → ℤ) → k < n → sum (upto n) (λ i. ind 
 unfolding sum upto
 delta zero k g h = absurd (not-suc-le-zero h)
 delta (suc n) k g h =
-    delta-step n k g (sum (upto n) (λ i. ind (eqb i k) *ℤ g i)) (eqb n k) refl (λ q. delta-none n k g (omega arith)) (λ q. delta n k g (omega arith))
+    delta-step n k g (sum (upto n) (λ i. ind (eqb i k) *ℤ g i)) (eqb n k) refl (λ q. delta_none n k g (omega arith)) (λ q. delta n k g (omega arith))
 
 -- ── a count, and a sum in another order ──
 
@@ -102,7 +102,7 @@ sum-count p (suc n) = ap (λ (t : ℤ). ind (p n) +ℤ t) (sum-count p n) ∙ co
 module _ (f : ℕ → ℕ) (n : ℕ) (I : Injects f n) (g : ℕ → ℤ) where
   -- f takes j at k alone
   taken : (j k : ℕ) → k < n → f k ≡ j → (i : ℕ) → i < n → eqb j (f i) ≡ eqb i k
-  taken j k h e i l = eqb-iff j (f i) i k (λ q. I.once i k l h (sym q ∙ sym e)) (λ q. sym e ∙ ap f (sym q))
+  taken j k h e i l = eqb_iff j (f i) i k (λ q. I.once i k l h (sym q ∙ sym e)) (λ q. sym e ∙ ap f (sym q))
 
   one_of : (j : ℕ) → j < n → sum (upto n) (λ i. ind (eqb j (f i)) *ℤ g j) ≡ g j
   one_of j l =
@@ -111,15 +111,15 @@ module _ (f : ℕ → ℕ) (n : ℕ) (I : Injects f n) (g : ℕ → ℤ) where
       ∙ delta n r.0 (λ i. g j) r.1
 
   -- a sum over the numbers below n does not change where they are permuted
-  pub sum-perm : sum (upto n) (λ i. g (f i)) ≡ sum (upto n) g
-  sum-perm =
+  pub sum_perm : sum (upto n) (λ i. g (f i)) ≡ sum (upto n) g
+  sum_perm =
       sum-ext (upto n) {f = λ i. g (f i)} {g = λ i. sum (upto n) (λ j. ind (eqb j (f i)) *ℤ g j)} (λ i m. sym (delta n (f i) g (I.into i (upto-< n m))))
       ∙ exchange (upto n) (upto n) (λ i j. ind (eqb j (f i)) *ℤ g j)
       ∙ sum-ext (upto n) {f = λ j. sum (upto n) (λ i. ind (eqb j (f i)) *ℤ g j)} {g = g} (λ j m. one_of j (upto-< n m))
 
 -- so a count does not depend on the order
-pub count-perm : (f : ℕ → ℕ) (n : ℕ) → Injects f n → (p : ℕ → Bool) → count (λ i. p (f i)) n ≡ count p n
-count-perm f n I p = pos-once (count (λ i. p (f i)) n) (count p n) (sym (sum-count (λ i. p (f i)) n) ∙ sum-perm f n I (λ k. ind (p k)) ∙ sum-count p n)
+pub count_perm : (f : ℕ → ℕ) (n : ℕ) → Injects f n → (p : ℕ → Bool) → count (λ i. p (f i)) n ≡ count p n
+count_perm f n I p = pos-once (count (λ i. p (f i)) n) (count p n) (sym (sum-count (λ i. p (f i)) n) ∙ sum_perm f n I (λ k. ind (p k)) ∙ sum-count p n)
 
 -- ── by pairs ──
 

@@ -5,7 +5,7 @@ use Rattle.std.proofs.lemmas.List.{map-append, replicate-append-replicate, get_o
 use Rattle.std.proofs.Math.ListN.{get_or-append}
 use Rattle.seq.specs.Seq.{List, [], ◌∷◌, ◌++◌, map, ℕ, zero, suc, ◌+◌, length, get_or, replicate, table}
 use Rattle.seq.specs.Terms.{Among}
-use Rattle.seq.specs.Members.{at-among, among-at}
+use Rattle.seq.specs.Members.{at_among, among_at}
 
 module _ {A : Type 0} where
   module _ (f : ℕ → A) where
@@ -31,11 +31,11 @@ module _ {A : Type 0} where
     -- ── members ──
 
     pub among-table : (n i : ℕ) → i < n → Among (f i) (table f n)
-    among-table n i h = rw (table_at n i (f i) h) at (at-among (table f n) i (f i) (rw (length-table n) h))
+    among-table n i h = rw (table_at n i (f i) h) at (at_among (table f n) i (f i) (rw (length-table n) h))
 
     pub table-among : (n : ℕ) (z : A) → Among z (table f n) → (i : ℕ) × (i < n) × (f i ≡ z)
     table-among n z i =
-        let r = among-at z (table f n) z i in
+        let r = among_at z (table f n) z i in
         let l : r.0 < n = omega (arith, r.1, length-table n) in
         (r.0, l, sym (table_at n r.0 z l) ∙ r.2)
 
@@ -44,9 +44,9 @@ module _ {A : Type 0} where
   table-ext f g zero h = refl
   table-ext f g (suc n) h = rw (table-ext f g n (λ k l. h k (omega arith)), h n (omega arith))
 
-  pub table-const : (a : A) (n : ℕ) → table (λ i. a) n ≡ replicate n a
-  table-const a zero = refl
-  table-const a (suc n) = rw (table-const a n, replicate-append-replicate n 1 a, add-one)
+  pub table_const : (a : A) (n : ℕ) → table (λ i. a) n ≡ replicate n a
+  table_const a zero = refl
+  table_const a (suc n) = rw (table_const a n, replicate-append-replicate n 1 a, add-one)
 
   -- a list is the table of its cells
   pub table_of : (l : List A) (d : A) → table (λ i. get_or l i d) (length l) ≡ l

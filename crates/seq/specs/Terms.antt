@@ -35,8 +35,8 @@ Chain R [] = Unit {0}
 Chain R (x ∷ xs) = Next R x xs × Chain R xs
 
 -- whether x stands in cell k
-abbrev pub standsAt : ℕ → List ℕ → ℕ → Bool
-standsAt x ys k = eqb x (get_or ys k 0)
+abbrev pub the_stands_at : ℕ → List ℕ → ℕ → Bool
+the_stands_at x ys k = eqb x (get_or ys k 0)
 
 -- ── lists in strict order by the test b ──
 
@@ -75,7 +75,7 @@ module _ {A : Type 0} (b : A → A → Bool) where
   -- q stands in a list, and neither is before the other
   pub record Like (p : A) (l : List A) (q : A) : Type 0 where
     pub stands : Among q l
-    pub not-before : b p q ≡ false
+    pub not_before : b p q ≡ false
     pub not_after : b q p ≡ false
 
   -- x is joined from p and one of a list
@@ -123,7 +123,7 @@ module _ (p : ℕ → Bool) where
     -- r is a candidate and none is better
     pub record Top (n r : ℕ) : Type 0 where
       pub is : Has n r
-      pub none-better : (k : ℕ) → Has n k → b k r ≡ false
+      pub none_better : (k : ℕ) → Has n k → b k r ≡ false
 
     abbrev pub TopIs : ℕ → Option ℕ → Type 0
     TopIs n none = (k : ℕ) → Has n k → ⊥
@@ -148,12 +148,12 @@ module _ (o : ℕ → ℕ) (less : ℕ → ℕ → Bool) (n : ℕ) where
   others t h = eqb (o h) (o t) && not (eqb h t)
 
   -- going down from t and on from the top, h comes before r
-  abbrev pub soonerBy : ℕ → ℕ → ℕ → Bool
-  soonerBy t h r = marked (less h t) (less r t) (less r h)
+  abbrev pub sooner_by : ℕ → ℕ → ℕ → Bool
+  sooner_by t h r = marked (less h t) (less r t) (less r h)
 
   -- the one before t in its group's cycle; t where it is alone
   abbrev pub previous : ℕ → ℕ
-  previous t = Option·getD (best (others t) (soonerBy t) n) t
+  previous t = Option·getD (best (others t) (sooner_by t) n) t
 
 -- ── a function step by step ──
 

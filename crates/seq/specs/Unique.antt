@@ -8,9 +8,9 @@ module _ {A : Type 0} {B : Type 0} (f : A → B) where
   determined x r s e g = e ∙ sym g
 
   -- from equal inputs too
-  pub determined-by : (x y : A) (r s : B) → x ≡ y → r ≡ f x → s ≡ f y → r ≡ s
-  determined-by x y r s q e g = e ∙ ap f q ∙ sym g
+  pub determined_by : (x y : A) (r s : B) → x ≡ y → r ≡ f x → s ≡ f y → r ≡ s
+  determined_by x y r s q e g = e ∙ ap f q ∙ sym g
 
   -- whatever is known of the definition's value is known of the outcome
-  pub outcome-has : (P : B → Type 0) (x : A) (r : B) → r ≡ f x → P (f x) → P r
-  outcome-has P x r e h = rw e h
+  pub outcome_has : (P : B → Type 0) (x : A) (r : B) → r ≡ f x → P (f x) → P r
+  outcome_has P x r e h = rw e h

@@ -2,88 +2,88 @@
 -- its least number is the same along it and different on different walks; `predecessor` is the inverse of following. Assumes nothing.
 use Rattle.std.specs.Prelude.{◌≡◌, refl, ◌≤◌, ◌<◌}
 use Rattle.std.proofs.Common.{sym, ◌∙◌, ap, subst, inl, inr, suc-le-suc, not-suc-le-zero, le_antisymm, le_of_suc-le-suc, arith, eq-eqb, ne_eqb}
-use Rattle.seq.specs.Seq.{List, [], ◌∷◌, ℕ, zero, suc, eqb, length, get_or, walkFrom, walk, leader, predecessor}
+use Rattle.seq.specs.Seq.{List, [], ◌∷◌, ℕ, zero, suc, eqb, length, get_or, walk_from, walk, leader, predecessor}
 use Rattle.seq.specs.Terms.{Among, iter, orbit, Reach, Injects, step, turns}
-use Rattle.seq.specs.Least.{least-is}
-use Rattle.seq.specs.BestOf.{least-of-in, least-of-le}
-use Rattle.seq.specs.Perm.{iter-in, orbit-from, reach-trans, iter-into, steps-below, comes_back, not-before, reach-back, all_in, reach-sym}
+use Rattle.seq.specs.Least.{least_is}
+use Rattle.seq.specs.BestOf.{least_of_in, least_of-le}
+use Rattle.seq.specs.Perm.{iter_in, orbit_from, reach-trans, iter-into, steps_below, comes_back, not_before, reach_back, all_in, reach_sym}
 
 module _ (nx : List ℕ) where
-  pub walk-orbit : (h n k x : ℕ) → k < n → iter (step nx) k x ≡ h → ((j : ℕ) → j < k → iter (step nx) j x ≡ h → ⊥) → walkFrom nx h n x ≡ orbit (step nx) k x
+  pub walk-orbit : (h n k x : ℕ) → k < n → iter (step nx) k x ≡ h → ((j : ℕ) → j < k → iter (step nx) j x ≡ h → ⊥) → walk_from nx h n x ≡ orbit (step nx) k x
   walk-orbit h zero k x l e w = absurd (not-suc-le-zero l)
   walk-orbit h (suc n) zero x l e w = rw (eq-eqb x h e)
   walk-orbit h (suc n) (suc k) x l e w =
       rw (ne_eqb x h (w 0 (omega arith)))
-      (ap (λ (r : List ℕ). x ∷ r) (walk-orbit h n k (step nx x) (le_of_suc-le-suc l) (iter-in (step nx) k x ∙ e) (λ j m q. w (suc j) (suc-le-suc m) (sym (iter-in (step nx) j x) ∙ q))))
+      (ap (λ (r : List ℕ). x ∷ r) (walk-orbit h n k (step nx x) (le_of_suc-le-suc l) (iter_in (step nx) k x ∙ e) (λ j m q. w (suc j) (suc-le-suc m) (sym (iter_in (step nx) j x) ∙ q))))
 
   -- a step of a loop along the walk: back at h, and not yet
-  pub walk-done : (h n x : ℕ) → x ≡ h → walkFrom nx h n x ≡ []
+  pub walk-done : (h n x : ℕ) → x ≡ h → walk_from nx h n x ≡ []
   walk-done h zero x e = refl
   walk-done h (suc n) x e = rw (eq-eqb x h e)
 
-  pub walk-next : (h n x : ℕ) → (x ≡ h → ⊥) → walkFrom nx h (suc n) x ≡ x ∷ walkFrom nx h n (step nx x)
-  walk-next h n x e = rw (ne_eqb x h e)
+  pub walk_next : (h n x : ℕ) → (x ≡ h → ⊥) → walk_from nx h (suc n) x ≡ x ∷ walk_from nx h n (step nx x)
+  walk_next h n x e = rw (ne_eqb x h e)
 
   module _ (I : Injects (step nx) (length nx)) where
     module _ (h : ℕ) (l : h < length nx) where
-      rest : walkFrom nx h (length nx) (step nx h) ≡ orbit (step nx) (turns nx h) (step nx h)
+      rest : walk_from nx h (length nx) (step nx h) ≡ orbit (step nx) (turns nx h) (step nx h)
       rest =
-          walk-orbit h (length nx) (turns nx h) (step nx h) (steps-below (step nx) (length nx) I h l)
-          (iter-in (step nx) (turns nx h) h ∙ comes_back (step nx) (length nx) I h l)
-          (λ j m q. not-before (step nx) (length nx) I h l j m (sym (iter-in (step nx) j h) ∙ q))
+          walk-orbit h (length nx) (turns nx h) (step nx h) (steps_below (step nx) (length nx) I h l)
+          (iter_in (step nx) (turns nx h) h ∙ comes_back (step nx) (length nx) I h l)
+          (λ j m q. not_before (step nx) (length nx) I h l j m (sym (iter_in (step nx) j h) ∙ q))
 
       -- a walk ends by return: it is h and its followers up to the one whose follower is h
       pub walk_is : walk nx h ≡ orbit (step nx) (suc (turns nx h)) h
       walk_is = ap (λ (r : List ℕ). h ∷ r) rest
 
       -- exactly what is met from h is on its walk
-      pub on-walk : (y : ℕ) → Reach (step nx) h y → Among y (walk nx h)
-      on-walk y r = subst (Among y) (sym walk_is) (all_in (step nx) (length nx) I h l y r)
+      pub on_walk : (y : ℕ) → Reach (step nx) h y → Among y (walk nx h)
+      on_walk y r = subst (Among y) (sym walk_is) (all_in (step nx) (length nx) I h l y r)
 
-      pub walk-on : (y : ℕ) → Among y (walk nx h) → Reach (step nx) h y
-      walk-on y i = let r = orbit-from (step nx) (suc (turns nx h)) h y (subst (Among y) walk_is i) in (r.0, r.2)
+      pub walk_on : (y : ℕ) → Among y (walk nx h) → Reach (step nx) h y
+      walk_on y i = let r = orbit_from (step nx) (suc (turns nx h)) h y (subst (Among y) walk_is i) in (r.0, r.2)
 
-      leader-by : Among (leader nx h) (h ∷ walk nx h) → Reach (step nx) h (leader nx h)
-      leader-by (inl e) = (0, sym e)
-      leader-by (inr i) = walk-on (leader nx h) i
+      leader_by : Among (leader nx h) (h ∷ walk nx h) → Reach (step nx) h (leader nx h)
+      leader_by (inl e) = (0, sym e)
+      leader_by (inr i) = walk_on (leader nx h) i
 
       -- the leader is on the walk, and is its least number
       pub leader-reach : Reach (step nx) h (leader nx h)
-      leader-reach = leader-by (least-of-in h (walk nx h))
+      leader-reach = leader_by (least_of_in h (walk nx h))
 
       pub leader-le : (y : ℕ) → Reach (step nx) h y → leader nx h ≤ y
-      leader-le y r = least-of-le h (walk nx h) y (inr (on-walk y r))
+      leader-le y r = least_of-le h (walk nx h) y (inr (on_walk y r))
 
-      pub leader-below : leader nx h < length nx
-      leader-below = let r = leader-reach in subst (λ (m : ℕ). m < length nx) r.1 (iter-into (step nx) (length nx) I r.0 h l)
+      pub leader_below : leader nx h < length nx
+      leader_below = let r = leader-reach in subst (λ (m : ℕ). m < length nx) r.1 (iter-into (step nx) (length nx) I r.0 h l)
 
     -- the leader is the same along the walk
     pub leader-step : (h : ℕ) → h < length nx → leader nx (step nx h) ≡ leader nx h
     leader-step h l =
         let m = I.into h l in
-        le_antisymm (leader-le (step nx h) m (leader nx h) (reach-trans (step nx) (reach-back (step nx) (length nx) I h l) (leader-reach h l)))
+        le_antisymm (leader-le (step nx h) m (leader nx h) (reach-trans (step nx) (reach_back (step nx) (length nx) I h l) (leader-reach h l)))
         (leader-le h l (leader nx (step nx h)) (reach-trans (step nx) (1, refl) (leader-reach (step nx h) m)))
 
-    pub leader-same : (k h : ℕ) → h < length nx → leader nx (iter (step nx) k h) ≡ leader nx h
-    leader-same zero h l = refl
-    leader-same (suc k) h l = leader-step (iter (step nx) k h) (iter-into (step nx) (length nx) I k h l) ∙ leader-same k h l
+    pub leader_same : (k h : ℕ) → h < length nx → leader nx (iter (step nx) k h) ≡ leader nx h
+    leader_same zero h l = refl
+    leader_same (suc k) h l = leader-step (iter (step nx) k h) (iter-into (step nx) (length nx) I k h l) ∙ leader_same k h l
 
     -- and two with the same leader are on one walk
-    pub leader-one : (x y : ℕ) → x < length nx → y < length nx → leader nx x ≡ leader nx y → Reach (step nx) x y
-    leader-one x y lx ly e =
+    pub leader_one : (x y : ℕ) → x < length nx → y < length nx → leader nx x ≡ leader nx y → Reach (step nx) x y
+    leader_one x y lx ly e =
         let r = leader-reach y ly in
-        reach-trans (step nx) (leader-reach x lx) (subst (λ (m : ℕ). Reach (step nx) m y) (r.1 ∙ sym e) (reach-sym (step nx) (length nx) I r.0 y ly))
+        reach-trans (step nx) (leader-reach x lx) (subst (λ (m : ℕ). Reach (step nx) m y) (r.1 ∙ sym e) (reach_sym (step nx) (length nx) I r.0 y ly))
 
     -- ── the inverse ──
 
-    pub prev-next : (k : ℕ) → k < length nx → predecessor nx (step nx k) ≡ k
-    prev-next k l =
-        least-is (λ j. eqb (get_or nx j 0) (step nx k)) (length nx) k l
+    pub prev_next : (k : ℕ) → k < length nx → predecessor nx (step nx k) ≡ k
+    prev_next k l =
+        least_is (λ j. eqb (get_or nx j 0) (step nx k)) (length nx) k l
         (λ j m. ne_eqb (step nx j) (step nx k) (λ e. omega (arith, I.once j k (omega arith) l e)))
         (eq-eqb (step nx k) (step nx k) refl)
 
-    pub next-prev : (h : ℕ) → h < length nx → step nx (predecessor nx h) ≡ h
-    next-prev h l =
+    pub next_prev : (h : ℕ) → h < length nx → step nx (predecessor nx h) ≡ h
+    next_prev h l =
         let k = iter (step nx) (turns nx h) h in
         let e = comes_back (step nx) (length nx) I h l in
-        ap (step nx) (ap (predecessor nx) (sym e) ∙ prev-next k (iter-into (step nx) (length nx) I (turns nx h) h l)) ∙ e
+        ap (step nx) (ap (predecessor nx) (sym e) ∙ prev_next k (iter-into (step nx) (length nx) I (turns nx h) h l)) ∙ e

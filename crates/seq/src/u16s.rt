@@ -1,6 +1,6 @@
 // Tables of u16: wiped from a cell on or whole, cells moved up, and rows stored in them. Row r of a table of rows of w cells is the cells from w * r on.
 ghost use Rattle.std.specs.Prelude.{◌≡◌, [], ◌∷◌, ◌+◌, ◌*◌, ◌≤◌, length, replicate};
-ghost use Rattle.seq.specs.Seq.{rowStored, wiped};
+ghost use Rattle.seq.specs.Seq.{row_stored, wiped};
 ghost use Rattle.seq.specs.Loops.Lifting.{lifted};
 
 // Sets every cell from cell n on to 0.
@@ -38,7 +38,7 @@ pub fn lift_u16(t: &mut [u16], from: usize, to: usize, by: usize)
 // Stores a row of two.
 pub fn store2_u16(t: &mut [u16], r: usize, a: u16, b: u16)
     requires { 2 * r + 2 ≤ length t.old }
-    ensures { t.new ≡ rowStored 2 t.old r (a ∷ b ∷ []) }
+    ensures { t.new ≡ row_stored 2 t.old r (a ∷ b ∷ []) }
 {
     let at = 2 * r;
     t[at] = a;
@@ -48,7 +48,7 @@ pub fn store2_u16(t: &mut [u16], r: usize, a: u16, b: u16)
 // Stores a row of five.
 pub fn store5_u16(t: &mut [u16], r: usize, a: u16, b: u16, c: u16, d: u16, e: u16)
     requires { 5 * r + 5 ≤ length t.old }
-    ensures { t.new ≡ rowStored 5 t.old r (a ∷ b ∷ c ∷ d ∷ e ∷ []) }
+    ensures { t.new ≡ row_stored 5 t.old r (a ∷ b ∷ c ∷ d ∷ e ∷ []) }
 {
     let at = 5 * r;
     t[at] = a;

@@ -1,6 +1,6 @@
 // Tables of u32: wiped from a cell on or whole, cells moved up, and rows stored in them. Row r of a table of rows of w cells is the cells from w * r on.
 ghost use Rattle.std.specs.Prelude.{◌≡◌, [], ◌∷◌, ◌+◌, ◌*◌, ◌≤◌, length, replicate};
-ghost use Rattle.seq.specs.Seq.{rowStored, wiped};
+ghost use Rattle.seq.specs.Seq.{row_stored, wiped};
 ghost use Rattle.seq.specs.Loops.Lifting.{lifted};
 
 // Sets every cell from cell n on to 0.
@@ -38,7 +38,7 @@ pub fn lift_u32(t: &mut [u32], from: usize, to: usize, by: usize)
 // Stores a row of three.
 pub fn store3_u32(t: &mut [u32], r: usize, a: u32, b: u32, c: u32)
     requires { 3 * r + 3 ≤ length t.old }
-    ensures { t.new ≡ rowStored 3 t.old r (a ∷ b ∷ c ∷ []) }
+    ensures { t.new ≡ row_stored 3 t.old r (a ∷ b ∷ c ∷ []) }
 {
     let at = 3 * r;
     t[at] = a;
@@ -49,7 +49,7 @@ pub fn store3_u32(t: &mut [u32], r: usize, a: u32, b: u32, c: u32)
 // Stores a row of five.
 pub fn store5_u32(t: &mut [u32], r: usize, a: u32, b: u32, c: u32, d: u32, e: u32)
     requires { 5 * r + 5 ≤ length t.old }
-    ensures { t.new ≡ rowStored 5 t.old r (a ∷ b ∷ c ∷ d ∷ e ∷ []) }
+    ensures { t.new ≡ row_stored 5 t.old r (a ∷ b ∷ c ∷ d ∷ e ∷ []) }
 {
     let at = 5 * r;
     t[at] = a;

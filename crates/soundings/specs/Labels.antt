@@ -1,10 +1,10 @@
 -- The labels of a sounding by value, and the two maps that it is looked up in. Assumes nothing.
 use Rattle.seq.specs.Seq.{List, [], ◌∷◌, ℕ}
-use Rattle.paper.specs.Map.{Map, mapOf}
+use Rattle.paper.specs.Map.{Map, map_of}
 use Rattle.soundings.specs.declared.sounding.Labels.{Labels}
 
-abbrev pub labelsOf : Labels → List ℕ
-labelsOf c = c.first ∷ c.second ∷ []
+abbrev pub labels_of : Labels → List ℕ
+labels_of c = c.first ∷ c.second ∷ []
 
-abbrev pub bothMaps : List ℕ → List ℕ → List Map
-bothMaps a b = mapOf a ∷ mapOf b ∷ []
+abbrev pub both_maps : List ℕ → List ℕ → List Map
+both_maps a b = map_of a ∷ map_of b ∷ []

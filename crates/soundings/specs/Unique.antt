@@ -7,12 +7,12 @@ use Rattle.seq.specs.Unique.{determined}
 use Rattle.paper.specs.Refusal.{Answer, done, refused, Refusal}
 use Rattle.paper.specs.Soundings as paper
 use Rattle.paper.specs.Soundings.{CountRoom, soundings}
-use Rattle.map_file.specs.Verdict.{refusalOf}
-use Rattle.laws_soundings.specs.Run.{Run, cellsBy, next, closed}
-use Rattle.laws_soundings.specs.RunAfter.{endToEnd, nextAll, next-on}
-use Rattle.laws_soundings.specs.RunClosed.{started, all-answer}
-use Rattle.soundings_count.specs.Entries.{pairWidth}
-use Rattle.soundings.specs.Answer.{countedOf}
+use Rattle.map_file.specs.Verdict.{refusal_of}
+use Rattle.laws_soundings.specs.Run.{Run, cells_by, next, closed}
+use Rattle.laws_soundings.specs.RunAfter.{the_end_to_end, next_all, next_on}
+use Rattle.laws_soundings.specs.RunClosed.{started, all_answer}
+use Rattle.soundings_count.specs.Entries.{pair_width}
+use Rattle.soundings.specs.Answer.{counted_of}
 use Rattle.soundings.specs.State.{run_of}
 use Rattle.soundings.specs.declared.state.Count.{Count}
 use Rattle.soundings.specs.declared.answer.Counted.{Counted}
@@ -24,77 +24,77 @@ abbrev kind : Answer paper.Cells → ℕ
 kind (done n) = 0
 kind (refused r) = 1
 
-abbrev cellsOr : paper.Cells → Answer paper.Cells → paper.Cells
-cellsOr d (done n) = n
-cellsOr d (refused r) = d
+abbrev cells_or : paper.Cells → Answer paper.Cells → paper.Cells
+cells_or d (done n) = n
+cells_or d (refused r) = d
 
-abbrev refusalOr : Refusal → Answer paper.Cells → Refusal
-refusalOr d (done n) = d
-refusalOr d (refused r) = r
+abbrev refusal_or : Refusal → Answer paper.Cells → Refusal
+refusal_or d (done n) = d
+refusal_or d (refused r) = r
 
 abbrev answer_of : Counted → Answer paper.Cells
-answer_of (Done c) = done (cellsBy c.entries c.soundings c.read)
-answer_of (Refused r) = refused (refusalOf r)
+answer_of (Done c) = done (cells_by c.entries c.soundings c.read)
+answer_of (Refused r) = refused (refusal_of r)
 
 differ : (a b : Answer paper.Cells) → a ≡ b → (kind a ≡ kind b → ⊥) → ⊥
 differ a b e f = f (ap kind e)
 
 answer-once : (a b : Counted) → answer_of a ≡ answer_of b → a ≡ b
 answer-once (Done a) (Done b) e =
-    let d : cellsBy a.entries a.soundings a.read ≡ cellsBy b.entries b.soundings b.read = ap (cellsOr (cellsBy a.entries a.soundings a.read)) e in
+    let d : cells_by a.entries a.soundings a.read ≡ cells_by b.entries b.soundings b.read = ap (cells_or (cells_by a.entries a.soundings a.read)) e in
     λ i. Done (record { entries = (d i).entries; soundings = (d i).soundings; read = (d i).read })
 answer-once (Done a) (Refused b) e = absurd (differ (answer_of (Done a)) (answer_of (Refused b)) e (λ z. omega arith))
 answer-once (Refused a) (Done b) e = absurd (differ (answer_of (Refused a)) (answer_of (Done b)) e (λ z. omega arith))
 answer-once (Refused a) (Refused b) e =
-    let d : refusalOf a ≡ refusalOf b = ap (refusalOr (refusalOf a)) e in
+    let d : refusal_of a ≡ refusal_of b = ap (refusal_or (refusal_of a)) e in
     λ i. Refused (record { number = (d i).number; map = (d i).map; place = (d i).place; other = (d i).other })
 
-answer-in : (a : Counted) (ls cs : List ℕ) → (countedOf a ls cs).answer ≡ answer_of a
-answer-in (Done c) ls cs = refl
-answer-in (Refused r) ls cs = refl
+answer_in : (a : Counted) (ls cs : List ℕ) → (counted_of a ls cs).answer ≡ answer_of a
+answer_in (Done c) ls cs = refl
+answer_in (Refused r) ls cs = refl
 
-labels_in : (a : Counted) (ls cs : List ℕ) → (countedOf a ls cs).labels ≡ ls
+labels_in : (a : Counted) (ls cs : List ℕ) → (counted_of a ls cs).labels ≡ ls
 labels_in (Done c) ls cs = refl
 labels_in (Refused r) ls cs = refl
 
-counts-in : (a : Counted) (ls cs : List ℕ) → (countedOf a ls cs).counts ≡ cs
-counts-in (Done c) ls cs = refl
-counts-in (Refused r) ls cs = refl
+counts_in_lem : (a : Counted) (ls cs : List ℕ) → (counted_of a ls cs).counts ≡ cs
+counts_in_lem (Done c) ls cs = refl
+counts_in_lem (Refused r) ls cs = refl
 
-pub soundings-unique : (l : CountRoom) (files : List (List ℕ)) (s : List ℕ) (a b : Counted) (ls cs us vs : List ℕ) → countedOf a ls cs ≡ soundings l files s → countedOf b us vs ≡ soundings l files s → (a ≡ b) × (ls ≡ us) × (cs ≡ vs)
+pub soundings-unique : (l : CountRoom) (files : List (List ℕ)) (s : List ℕ) (a b : Counted) (ls cs us vs : List ℕ) → counted_of a ls cs ≡ soundings l files s → counted_of b us vs ≡ soundings l files s → (a ≡ b) × (ls ≡ us) × (cs ≡ vs)
 soundings-unique l files s a b ls cs us vs e g =
-    let d = determined (soundings l files) s (countedOf a ls cs) (countedOf b us vs) e g in (
-      answer-once a b (sym (answer-in a ls cs) ∙ ap (λ (o : paper.Counted). o.answer) d ∙ answer-in b us vs),
+    let d = determined (soundings l files) s (counted_of a ls cs) (counted_of b us vs) e g in (
+      answer-once a b (sym (answer_in a ls cs) ∙ ap (λ (o : paper.Counted). o.answer) d ∙ answer_in b us vs),
       sym (labels_in a ls cs) ∙ ap (λ (o : paper.Counted). o.labels) d ∙ labels_in b us vs,
-      sym (counts-in a ls cs) ∙ ap (λ (o : paper.Counted). o.counts) d ∙ counts-in b us vs,
+      sym (counts_in_lem a ls cs) ∙ ap (λ (o : paper.Counted). o.counts) d ∙ counts_in_lem b us vs,
     )
 
 -- ── in batches ──
 
 -- c is what `begin`, and `add` for each of the batches in turn, give
 abbrev pub After : List (List ℕ) → List (List ℕ) → Count → Type 0
-After files bs c = run_of c ≡ nextAll (started files) bs
+After files bs c = run_of c ≡ next_all (started files) bs
 
-pub begin-after : (files : List (List ℕ)) (c : Count) → run_of c ≡ started files → After files [] c
-begin-after files c e = e
+pub begin_after : (files : List (List ℕ)) (c : Count) → run_of c ≡ started files → After files [] c
+begin_after files c e = e
 
-all_snoc : (r : Run) (bs : List (List ℕ)) (b : List ℕ) → nextAll r (bs ++ (b ∷ [])) ≡ next (nextAll r bs) b
+all_snoc : (r : Run) (bs : List (List ℕ)) (b : List ℕ) → next_all r (bs ++ (b ∷ [])) ≡ next (next_all r bs) b
 all_snoc r [] b = refl
 all_snoc r (x ∷ bs) b = all_snoc (next r x) bs b
 
-pub add-after : (files : List (List ℕ)) (bs : List (List ℕ)) (c d : Count) (b : List ℕ) → After files bs c → run_of d ≡ next (run_of c) b → After files (bs ++ (b ∷ [])) d
-add-after files bs c d b h e = e ∙ ap (λ (r : Run). next r b) h ∙ sym (all_snoc (started files) bs b)
+pub add_after : (files : List (List ℕ)) (bs : List (List ℕ)) (c d : Count) (b : List ℕ) → After files bs c → run_of d ≡ next (run_of c) b → After files (bs ++ (b ∷ [])) d
+add_after files bs c d b h e = e ∙ ap (λ (r : Run). next r b) h ∙ sym (all_snoc (started files) bs b)
 
 -- and `close`: the definition's answer, with the lent tables, of the batches end to end
-pub run-answer : (l : CountRoom) (x y : List ℕ) (bs : List (List ℕ)) (c : Count) (a : Counted) (ls cs : List ℕ) → After (x ∷ y ∷ []) bs c → countedOf a ls cs ≡ closed pairWidth l (run_of c)
-    → countedOf a ls cs ≡ soundings l (x ∷ y ∷ []) (endToEnd bs)
-run-answer l x y bs c a ls cs h e = e ∙ ap (closed pairWidth l) h ∙ all-answer l (x ∷ y ∷ []) bs
+pub run-answer : (l : CountRoom) (x y : List ℕ) (bs : List (List ℕ)) (c : Count) (a : Counted) (ls cs : List ℕ) → After (x ∷ y ∷ []) bs c → counted_of a ls cs ≡ closed pair_width l (run_of c)
+    → counted_of a ls cs ≡ soundings l (x ∷ y ∷ []) (the_end_to_end bs)
+run-answer l x y bs c a ls cs h e = e ∙ ap (closed pair_width l) h ∙ all_answer l (x ∷ y ∷ []) bs
 
 -- no second outcome, whatever the cuts of the list
-pub one_answer : (l : CountRoom) (x y : List ℕ) (bs ds : List (List ℕ)) (c d : Count) (a b : Counted) (ls cs us vs : List ℕ) → endToEnd bs ≡ endToEnd ds → After (x ∷ y ∷ []) bs c → After (x ∷ y ∷ []) ds d
-    → countedOf a ls cs ≡ closed pairWidth l (run_of c) → countedOf b us vs ≡ closed pairWidth l (run_of d) → (a ≡ b) × (ls ≡ us) × (cs ≡ vs)
+pub one_answer : (l : CountRoom) (x y : List ℕ) (bs ds : List (List ℕ)) (c d : Count) (a b : Counted) (ls cs us vs : List ℕ) → the_end_to_end bs ≡ the_end_to_end ds → After (x ∷ y ∷ []) bs c → After (x ∷ y ∷ []) ds d
+    → counted_of a ls cs ≡ closed pair_width l (run_of c) → counted_of b us vs ≡ closed pair_width l (run_of d) → (a ≡ b) × (ls ≡ us) × (cs ≡ vs)
 one_answer l x y bs ds c d a b ls cs us vs q h k e f =
-    soundings-unique l (x ∷ y ∷ []) (endToEnd bs) a b ls cs us vs (run-answer l x y bs c a ls cs h e) (run-answer l x y ds d b us vs k f ∙ ap (soundings l (x ∷ y ∷ [])) (sym q))
+    soundings-unique l (x ∷ y ∷ []) (the_end_to_end bs) a b ls cs us vs (run-answer l x y bs c a ls cs h e) (run-answer l x y ds d b us vs k f ∙ ap (soundings l (x ∷ y ∷ [])) (sym q))
 
 -- ── read from a file, batch by batch ──
 
@@ -110,10 +110,10 @@ pub read_one : (c d : Count) (b : List ℕ) → run_of d ≡ next (run_of c) b �
 read_one c d b e = record { bytes = b; went = e }
 
 pub read_more : {c d e : Count} → Read c d → Read d e → Read c e
-read_more {c} {d} {e} r s = record { bytes = r.bytes ++ s.bytes; went = s.went ∙ ap (λ (x : Run). next x s.bytes) r.went ∙ next-on (run_of c) r.bytes s.bytes }
+read_more {c} {d} {e} r s = record { bytes = r.bytes ++ s.bytes; went = s.went ∙ ap (λ (x : Run). next x s.bytes) r.went ∙ next_on (run_of c) r.bytes s.bytes }
 
 -- from the start: the answer is that of the whole list; which bytes were read is the operating system's to say
-pub read_answer : (l : CountRoom) (x y : List ℕ) (c d : Count) → run_of c ≡ started (x ∷ y ∷ []) → (r : Read c d) → closed pairWidth l (run_of d) ≡ soundings l (x ∷ y ∷ []) r.bytes
+pub read_answer : (l : CountRoom) (x y : List ℕ) (c d : Count) → run_of c ≡ started (x ∷ y ∷ []) → (r : Read c d) → closed pair_width l (run_of d) ≡ soundings l (x ∷ y ∷ []) r.bytes
 read_answer l x y c d e r =
-    ap (closed pairWidth l) (r.went ∙ ap (λ (z : Run). next z r.bytes) e)
-    ∙ all-answer l (x ∷ y ∷ []) (r.bytes ∷ []) ∙ ap (soundings l (x ∷ y ∷ [])) (append-nil r.bytes)
+    ap (closed pair_width l) (r.went ∙ ap (λ (z : Run). next z r.bytes) e)
+    ∙ all_answer l (x ∷ y ∷ []) (r.bytes ∷ []) ∙ ap (soundings l (x ∷ y ∷ [])) (append-nil r.bytes)

@@ -1,12 +1,12 @@
 // What is answered: how many pairs and soundings there are and how many edges were read, or a refusal; and the lent tables afterwards.
 ghost use Rattle.std.specs.Prelude.{◌≡◌, ◌*◌, ◌≤◌, min, length};
 ghost use Rattle.seq.specs.Seq.{none};
-ghost use Rattle.paper.specs.Limits.{overlayFaces, listSoundings};
-ghost use Rattle.paper.specs.Soundings.{entryRoom, counted};
-ghost use Rattle.map_file.specs.Verdict.{refusalOf};
-ghost use Rattle.soundings_count.specs.Entries.{pairWidth, entriesIn};
-ghost use Rattle.laws_soundings.specs.Run.{cellsBy};
-ghost use Rattle.soundings.specs.Answer.{roomBy, countedOf, refusedWith};
+ghost use Rattle.paper.specs.Limits.{overlay_faces, list_soundings};
+ghost use Rattle.paper.specs.Soundings.{entry_room, counted};
+ghost use Rattle.map_file.specs.Verdict.{refusal_of};
+ghost use Rattle.soundings_count.specs.Entries.{pair_width, entries_in};
+ghost use Rattle.laws_soundings.specs.Run.{cells_by};
+ghost use Rattle.soundings.specs.Answer.{room_by, counted_of, refused_with};
 
 use limits::{FACES, PAIR_WIDTH};
 use map_file::Refusal;
@@ -35,14 +35,14 @@ fn smaller(a: usize, b: usize) -> usize
 
 // The pairs for which both lent tables have rows, at most 1,334.
 pub fn entry_room(labels: usize, counts: usize) -> usize
-    ensures { result ≡ entryRoom pairWidth (roomBy labels counts) }
+    ensures { result ≡ entry_room pair_width (room_by labels counts) }
 {
     smaller(FACES, smaller(labels / PAIR_WIDTH, counts))
 }
 
 // "Refused: all lent tables are zero."
 pub fn refuse(r: Refusal, labels: &mut [u16], counts: &mut [u32]) -> Counted
-    ensures { countedOf result labels.new counts.new ≡ refusedWith (roomBy (length labels.old) (length counts.old)) (refusalOf r) }
+    ensures { counted_of result labels.new counts.new ≡ refused_with (room_by (length labels.old) (length counts.old)) (refusal_of r) }
 {
     wipe_u16(labels);
     wipe_u32(counts);
@@ -57,11 +57,11 @@ pub fn finish(
     soundings: usize,
     read: u32,
 ) -> Counted
-    requires fact_1 { pairWidth * n ≤ length labels.old }
+    requires fact_1 { pair_width * n ≤ length labels.old }
     requires fact_2 { n ≤ length counts.old }
-    requires fact_3 { n ≤ overlayFaces }
-    requires fact_4 { soundings ≤ listSoundings }
-    ensures { countedOf result labels.new counts.new ≡ counted (roomBy (length labels.old) (length counts.old)) (cellsBy n soundings read) (entriesIn labels.old counts.old n) none }
+    requires fact_3 { n ≤ overlay_faces }
+    requires fact_4 { soundings ≤ list_soundings }
+    ensures { counted_of result labels.new counts.new ≡ counted (room_by (length labels.old) (length counts.old)) (cells_by n soundings read) (entries_in labels.old counts.old n) none }
 {
     wipe_from_u16(labels, PAIR_WIDTH * n);
     wipe_from_u32(counts, n);

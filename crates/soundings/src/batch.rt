@@ -1,7 +1,7 @@
 // One batch more.
 ghost use Rattle.std.specs.Prelude.{◌≡◌, length};
 ghost use Rattle.laws_soundings.specs.Run.{next};
-ghost use Rattle.soundings.specs.State.{runIn, run_of};
+ghost use Rattle.soundings.specs.State.{run_in, run_of};
 ghost use Rattle.soundings.specs.Laid.{RailRoom};
 ghost use Rattle.soundings.specs.Sound.{TableRoom};
 
@@ -27,7 +27,7 @@ fn add_tested(
     requires fact_2 { RailRoom rails2.now easts2.now }
     requires fact_3 { length bytes.old ≡ 4 }
     requires fact_4 { TableRoom labels.old counts.old }
-    ensures { runIn rails.now easts.now e rails2.now easts2.now f bytes.new labels.new counts.new result ≡ next (runIn rails.now easts.now e rails2.now easts2.now f bytes.old labels.old counts.old p) batch.now }
+    ensures { run_in rails.now easts.now e rails2.now easts2.now f bytes.new labels.new counts.new result ≡ next (run_in rails.now easts.now e rails2.now easts2.now f bytes.old labels.old counts.old p) batch.now }
 {
     if p.bad != 0 {
         return p;

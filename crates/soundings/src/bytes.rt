@@ -2,10 +2,10 @@
 ghost use Rattle.std.specs.Prelude.{◌≡◌, length};
 ghost use Rattle.plane.specs.Values.{vec_of};
 ghost use Rattle.plane.specs.Bounds.{Corner};
-ghost use Rattle.laws_soundings.specs.Run.{withSounding, withByte, next};
+ghost use Rattle.laws_soundings.specs.Run.{with_sounding, with_byte, next};
 ghost use Rattle.laws_soundings.specs.RunFit.{FitRun};
-ghost use Rattle.soundings.specs.Rows.{Rows, lookBy, mostRead};
-ghost use Rattle.soundings.specs.State.{talliedBy, run_by};
+ghost use Rattle.soundings.specs.Rows.{Rows, look_by, most_read};
+ghost use Rattle.soundings.specs.State.{tallied_by, run_by};
 ghost use Rattle.soundings.specs.Sound.{TableRoom};
 ghost use Rattle.soundings.specs.Step.{Roomy, Stepped, Countable};
 
@@ -40,7 +40,7 @@ fn count_one(
     requires fact_2 { Rows rails2.now easts2.now f }
     requires fact_3 { Corner (vec_of c) }
     requires fact_4 { Roomy labels.old counts.old m }
-    ensures { Stepped (lookBy rails.now easts.now e rails2.now easts2.now f) (vec_of c) labels.old counts.old m labels.new counts.new result }
+    ensures { Stepped (look_by rails.now easts.now e rails2.now easts2.now f) (vec_of c) labels.old counts.old m labels.new counts.new result }
 {
     if FACES < m {
         return Step {
@@ -72,7 +72,7 @@ fn add_sounding(
     requires fact_1 { Rows rails.now easts.now e }
     requires fact_2 { Rows rails2.now easts2.now f }
     requires fact_3 { Countable labels.old counts.old p }
-    ensures { run_by (lookBy rails.now easts.now e rails2.now easts2.now f) bytes.now labels.new counts.new result ≡ withSounding (lookBy rails.now easts.now e rails2.now easts2.now f) p.soundings p.far (talliedBy labels.old counts.old p.entries p.read) bytes.now }
+    ensures { run_by (look_by rails.now easts.now e rails2.now easts2.now f) bytes.now labels.new counts.new result ≡ with_sounding (look_by rails.now easts.now e rails2.now easts2.now f) p.soundings p.far (tallied_by labels.old counts.old p.entries p.read) bytes.now }
 {
     if LIST_SOUNDINGS <= p.soundings {
         return halted(Refusal {
@@ -119,8 +119,8 @@ fn add_byte(
     requires fact_2 { Rows rails2.now easts2.now f }
     requires fact_3 { length bytes.old ≡ 4 }
     requires fact_4 { TableRoom labels.old counts.old }
-    requires fact_5 { FitRun mostRead (run_by (lookBy rails.now easts.now e rails2.now easts2.now f) bytes.old labels.old counts.old p) }
-    ensures { run_by (lookBy rails.now easts.now e rails2.now easts2.now f) bytes.new labels.new counts.new result ≡ withByte (run_by (lookBy rails.now easts.now e rails2.now easts2.now f) bytes.old labels.old counts.old p) b }
+    requires fact_5 { FitRun most_read (run_by (look_by rails.now easts.now e rails2.now easts2.now f) bytes.old labels.old counts.old p) }
+    ensures { run_by (look_by rails.now easts.now e rails2.now easts2.now f) bytes.new labels.new counts.new result ≡ with_byte (run_by (look_by rails.now easts.now e rails2.now easts2.now f) bytes.old labels.old counts.old p) b }
 {
     if p.bad != 0 {
         return p;
@@ -151,8 +151,8 @@ pub fn add_bytes(
     requires fact_2 { Rows rails2.now easts2.now f }
     requires fact_3 { length bytes.old ≡ 4 }
     requires fact_4 { TableRoom labels.old counts.old }
-    requires fact_5 { FitRun mostRead (run_by (lookBy rails.now easts.now e rails2.now easts2.now f) bytes.old labels.old counts.old p) }
-    ensures { run_by (lookBy rails.now easts.now e rails2.now easts2.now f) bytes.new labels.new counts.new result ≡ next (run_by (lookBy rails.now easts.now e rails2.now easts2.now f) bytes.old labels.old counts.old p) batch.now }
+    requires fact_5 { FitRun most_read (run_by (look_by rails.now easts.now e rails2.now easts2.now f) bytes.old labels.old counts.old p) }
+    ensures { run_by (look_by rails.now easts.now e rails2.now easts2.now f) bytes.new labels.new counts.new result ≡ next (run_by (look_by rails.now easts.now e rails2.now easts2.now f) bytes.old labels.old counts.old p) batch.now }
 {
     let mut q = p;
     let mut i = 0;

@@ -1,15 +1,15 @@
 // What is answered after the last batch: 12, 13 and 11, place 6, in this order, or the pairs and their counts in the lent tables.
 ghost use Rattle.std.specs.Prelude.{◌≡◌, true, ◌*◌, ◌≤◌, length, get_or};
 ghost use Rattle.seq.specs.Seq.{none, filled};
-ghost use Rattle.paper.specs.Limits.{overlayFaces, listSoundings};
+ghost use Rattle.paper.specs.Limits.{overlay_faces, list_soundings};
 ghost use Rattle.paper.specs.Soundings.{counted};
 ghost use Rattle.map_file.specs.Verdict.{verdict};
-ghost use Rattle.laws_soundings.specs.Run.{cellsBy, closed};
-ghost use Rattle.soundings_count.specs.Entries.{pairWidth, entriesIn};
-ghost use Rattle.soundings.specs.Answer.{roomBy, countedOf};
+ghost use Rattle.laws_soundings.specs.Run.{cells_by, closed};
+ghost use Rattle.soundings_count.specs.Entries.{pair_width, entries_in};
+ghost use Rattle.soundings.specs.Answer.{room_by, counted_of};
 ghost use Rattle.soundings.specs.State.{run_of};
 ghost use Rattle.soundings.specs.Sound.{TableRoom};
-ghost use Rattle.soundings.specs.Closing.{closeFault};
+ghost use Rattle.soundings.specs.Closing.{close_fault};
 
 use crate::answer::{Counted, entry_room, finish, refuse};
 use crate::sound::sound;
@@ -19,8 +19,8 @@ use map_file::{Check, Refusal, given};
 
 // What the count is refused for, where there is room for so many pairs. One that cannot go on is refused with 12: it is no list's.
 fn fault(p: Progress, fit: bool, room: usize) -> Check
-    requires { fit ≡ true → p.soundings ≤ listSoundings }
-    ensures { verdict result ≡ closeFault room fit p }
+    requires { fit ≡ true → p.soundings ≤ list_soundings }
+    ensures { verdict result ≡ close_fault room fit p }
 {
     if p.bad != 0 {
         return Check::Bad(Refusal {
@@ -76,11 +76,11 @@ fn lay_pairs(
     counts: &mut [u32],
 ) -> Counted
     requires fact_1 { TableRoom own.now times.now }
-    requires fact_2 { pairWidth * p.entries ≤ length labels.old }
+    requires fact_2 { pair_width * p.entries ≤ length labels.old }
     requires fact_3 { p.entries ≤ length counts.old }
-    requires fact_4 { p.entries ≤ overlayFaces }
-    requires fact_5 { p.soundings ≤ listSoundings }
-    ensures { countedOf result labels.new counts.new ≡ counted (roomBy (length labels.old) (length counts.old)) (cellsBy p.entries p.soundings p.read) (entriesIn own.now times.now p.entries) none }
+    requires fact_4 { p.entries ≤ overlay_faces }
+    requires fact_5 { p.soundings ≤ list_soundings }
+    ensures { counted_of result labels.new counts.new ≡ counted (room_by (length labels.old) (length counts.old)) (cells_by p.entries p.soundings p.read) (entries_in own.now times.now p.entries) none }
 {
     let n = p.entries;
     lay_labels(own, PAIR_WIDTH * n, labels);
@@ -98,8 +98,8 @@ fn answer(
     counts: &mut [u32],
 ) -> Counted
     requires fact_1 { TableRoom own.now times.now }
-    requires fact_2 { (verdict c ≡ none → (pairWidth * p.entries ≤ length labels.old) × (p.entries ≤ length counts.old) × (p.entries ≤ overlayFaces) × (p.soundings ≤ listSoundings)) }
-    ensures { countedOf result labels.new counts.new ≡ counted (roomBy (length labels.old) (length counts.old)) (cellsBy p.entries p.soundings p.read) (entriesIn own.now times.now p.entries) (verdict c) }
+    requires fact_2 { (verdict c ≡ none → (pair_width * p.entries ≤ length labels.old) × (p.entries ≤ length counts.old) × (p.entries ≤ overlay_faces) × (p.soundings ≤ list_soundings)) }
+    ensures { counted_of result labels.new counts.new ≡ counted (room_by (length labels.old) (length counts.old)) (cells_by p.entries p.soundings p.read) (entries_in own.now times.now p.entries) (verdict c) }
 {
     match c {
         Check::Bad(r) => refuse(r, labels, counts),
@@ -109,7 +109,7 @@ fn answer(
 
 // What is answered after the last batch.
 pub fn close(count: Count, labels: &mut [u16], counts: &mut [u32]) -> Counted
-    ensures { countedOf result labels.new counts.new ≡ closed pairWidth (roomBy (length labels.old) (length counts.old)) (run_of count) }
+    ensures { counted_of result labels.new counts.new ≡ closed pair_width (room_by (length labels.old) (length counts.old)) (run_of count) }
 {
     let rails = count.rails;
     let rails2 = count.rails2;

@@ -1,12 +1,12 @@
 // The two maps checked, each laid for looks where it passes: its edges in the order of their lower ends.
 ghost use Rattle.std.specs.Prelude.{◌≡◌, ◌∷◌, []};
 ghost use Rattle.seq.specs.Seq.{none};
-ghost use Rattle.paper.specs.Refusal.{first_of, ofMap};
+ghost use Rattle.paper.specs.Refusal.{first_of, the_of_map};
 ghost use Rattle.paper.specs.Map.{fault};
-ghost use Rattle.paper.specs.Overlay.{mapFaults};
+ghost use Rattle.paper.specs.Overlay.{map_faults};
 ghost use Rattle.map_file.specs.Verdict.{verdict};
 ghost use Rattle.map_check.specs.Answer.{answer_of};
-ghost use Rattle.soundings.specs.Laid.{RailRoom, Laid, Ready, refusedIn};
+ghost use Rattle.soundings.specs.Laid.{RailRoom, Laid, Ready, refused_in};
 
 use limits::{MAP_CARRIER_CELLS, MAP_EDGES, MAP_HALVES, MAP_POINT_CELLS};
 use looks::{lay_order, lay_rails};
@@ -15,7 +15,7 @@ use map_file::{Check, Refusal, edge_count, first};
 
 // The refusal of a check, if there is one, of a map of this number.
 fn of_map(map: u16, c: Checked) -> Check
-    ensures { verdict result ≡ ofMap map (refusedIn (answer_of c)) }
+    ensures { verdict result ≡ the_of_map map (refused_in (answer_of c)) }
 {
     match c {
         Checked::Bad(r) => Check::Bad(Refusal {
@@ -57,7 +57,7 @@ fn put_in_order(
 // The map of a file of any bytes, which is the map of this number.
 fn lay_one(file: &[u8], map: u16, rails: &mut [i16], easts: &mut [u16]) -> Check
     requires { RailRoom rails.old easts.old }
-    ensures { (verdict result ≡ ofMap map (fault file.now)) × (fault file.now ≡ none → Ready file.now rails.new easts.new) }
+    ensures { (verdict result ≡ the_of_map map (fault file.now)) × (fault file.now ≡ none → Ready file.now rails.new easts.new) }
 {
     let mut corners = [0i64; MAP_POINT_CELLS];
     let mut origins = [0u16; MAP_HALVES];
@@ -80,7 +80,7 @@ pub fn lay_both(
 ) -> Check
     requires fact_1 { RailRoom rails.old easts.old }
     requires fact_2 { RailRoom rails2.old easts2.old }
-    ensures { (verdict result ≡ first_of (mapFaults (zones.now ∷ blocks.now ∷ []))) × (verdict result ≡ none → Ready zones.now rails.new easts.new) × (verdict result ≡ none → Ready blocks.now rails2.new easts2.new) }
+    ensures { (verdict result ≡ first_of (map_faults (zones.now ∷ blocks.now ∷ []))) × (verdict result ≡ none → Ready zones.now rails.new easts.new) × (verdict result ≡ none → Ready blocks.now rails2.new easts2.new) }
 {
     let c = lay_one(zones, 1, rails, easts);
     let d = lay_one(blocks, 2, rails2, easts2);

@@ -11,7 +11,7 @@ mod closing; // the answer after the last batch
 
 ghost use Rattle.std.specs.Prelude.{◌≡◌, [], ◌∷◌, length};
 ghost use Rattle.paper.specs.Soundings.{soundings};
-ghost use Rattle.soundings.specs.Answer.{roomBy, countedOf};
+ghost use Rattle.soundings.specs.Answer.{room_by, counted_of};
 
 pub use answer::{Cells, Counted};
 pub use batch::add;
@@ -27,7 +27,7 @@ pub fn soundings(
     labels: &mut [u16],
     counts: &mut [u32],
 ) -> Counted
-    ensures { countedOf result labels.new counts.new ≡ soundings (roomBy (length labels.old) (length counts.old)) (zones.now ∷ blocks.now ∷ []) list.now }
+    ensures { counted_of result labels.new counts.new ≡ soundings (room_by (length labels.old) (length counts.old)) (zones.now ∷ blocks.now ∷ []) list.now }
 {
     let start = begin(zones, blocks);
     let count = add(start, list);

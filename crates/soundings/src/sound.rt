@@ -1,7 +1,7 @@
 // Whether a count that was handed in can go on: no list of soundings leads to one that cannot.
 ghost use Rattle.std.specs.Prelude.{◌≡◌, ◌*◌, ◌≤◌, length};
-ghost use Rattle.paper.specs.Limits.{mapEdges, overlayFaces, listSoundings};
-ghost use Rattle.soundings.specs.Sound.{numbersSound, rowsSound, tableSound, sound, TableRoom};
+ghost use Rattle.paper.specs.Limits.{map_edges, overlay_faces, list_soundings};
+ghost use Rattle.soundings.specs.Sound.{numbers_sound, rows_sound, table_sound, sound, TableRoom};
 
 use crate::state::Progress;
 use limits::{FACES, LIST_SOUNDINGS, MAP_EDGES, PAIR_WIDTH, SOUNDING_SIZE};
@@ -13,7 +13,7 @@ const MOST_READ: u64 = PAIR_WIDTH as u64 * MAP_EDGES as u64;
 
 // Whether its numbers are within their bounds.
 fn numbers_sound(p: Progress) -> bool
-    ensures { result ≡ numbersSound p }
+    ensures { result ≡ numbers_sound p }
 {
     if LIST_SOUNDINGS < p.soundings {
         return false;
@@ -26,8 +26,8 @@ fn numbers_sound(p: Progress) -> bool
 
 // Whether the e rows of a map are edges between corners.
 fn rows_sound(rails: &[i16], e: usize) -> bool
-    requires { 4 * mapEdges ≤ length rails.now }
-    ensures { result ≡ rowsSound rails.now e }
+    requires { 4 * map_edges ≤ length rails.now }
+    ensures { result ≡ rows_sound rails.now e }
 {
     if (MAP_EDGES as usize) < e {
         return false;
@@ -38,9 +38,9 @@ fn rows_sound(rails: &[i16], e: usize) -> bool
 // Whether the pairs stand in strict order, their counts add up to no more than the soundings, and no more edges were read than there are for so many.
 fn table_sound(labels: &[u16], counts: &[u32], p: Progress) -> bool
     requires fact_1 { TableRoom labels.now counts.now }
-    requires fact_2 { p.entries ≤ overlayFaces }
-    requires fact_3 { p.soundings ≤ listSoundings }
-    ensures { result ≡ tableSound labels.now counts.now p }
+    requires fact_2 { p.entries ≤ overlay_faces }
+    requires fact_3 { p.soundings ≤ list_soundings }
+    ensures { result ≡ table_sound labels.now counts.now p }
 {
     let n = p.entries;
     if falls(labels, n) {
@@ -63,8 +63,8 @@ pub fn sound(
     counts: &[u32],
     p: Progress,
 ) -> bool
-    requires fact_1 { 4 * mapEdges ≤ length rails.now }
-    requires fact_2 { 4 * mapEdges ≤ length rails2.now }
+    requires fact_1 { 4 * map_edges ≤ length rails.now }
+    requires fact_2 { 4 * map_edges ≤ length rails2.now }
     requires fact_3 { TableRoom labels.now counts.now }
     ensures { result ≡ sound rails.now e rails2.now f labels.now counts.now p }
 {

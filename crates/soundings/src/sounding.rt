@@ -1,10 +1,10 @@
 // A sounding, "x and y as signed 16-bit, low byte first", and its labels in two maps whose edges are laid for looks.
 ghost use Rattle.std.specs.Prelude.{◌≡◌};
-ghost use Rattle.paper.specs.Soundings.{soundingAt, far};
+ghost use Rattle.paper.specs.Soundings.{sounding_at, far};
 ghost use Rattle.plane.specs.Values.{vec_of};
 ghost use Rattle.plane.specs.Bounds.{Corner};
-ghost use Rattle.soundings.specs.Rows.{Rows, lookBy};
-ghost use Rattle.soundings.specs.Labels.{labelsOf};
+ghost use Rattle.soundings.specs.Rows.{Rows, look_by};
+ghost use Rattle.soundings.specs.Labels.{labels_of};
 
 use exact::magnitude;
 use limits::REACH;
@@ -22,7 +22,7 @@ pub struct Labels {
 
 // The sounding of four bytes.
 pub fn sounding_in(bytes: &[u8]) -> Vector
-    ensures { vec_of result ≡ soundingAt bytes.now 0 }
+    ensures { vec_of result ≡ sounding_at bytes.now 0 }
 {
     Vector {
         x: i16_at(bytes, 0),
@@ -53,8 +53,8 @@ pub fn cell(
     requires fact_1 { Rows rails.now easts.now e }
     requires fact_2 { Rows rails2.now easts2.now f }
     requires fact_3 { Corner (vec_of c) }
-    ensures labels { labelsOf result ≡ (lookBy rails.now easts.now e rails2.now easts2.now f).cell (vec_of c) }
-    ensures read { result.read ≡ (lookBy rails.now easts.now e rails2.now easts2.now f).read (vec_of c) }
+    ensures labels { labels_of result ≡ (look_by rails.now easts.now e rails2.now easts2.now f).cell (vec_of c) }
+    ensures read { result.read ≡ (look_by rails.now easts.now e rails2.now easts2.now f).read (vec_of c) }
 {
     let a = label_read(rails, easts, e, c);
     let b = label_read(rails2, easts2, f, c);

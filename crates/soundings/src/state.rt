@@ -1,8 +1,8 @@
 // Where a count of soundings stands, which goes in and comes back by value; and its start: the maps are checked and laid for looks once.
 ghost use Rattle.std.specs.Prelude.{◌≡◌, [], ◌∷◌};
-ghost use Rattle.map_file.specs.Verdict.{verdict, refusalOf};
+ghost use Rattle.map_file.specs.Verdict.{verdict, refusal_of};
 ghost use Rattle.laws_soundings.specs.RunClosed.{started};
-ghost use Rattle.soundings.specs.State.{goingAt, haltedAt, start_at, run_of};
+ghost use Rattle.soundings.specs.State.{going_at, halted_at, start_at, run_of};
 
 use crate::lay::lay_both;
 use limits::{FACES, MAP_CARRIER_CELLS, MAP_EDGES, PAIR_CELLS, SOUNDING_SIZE};
@@ -43,7 +43,7 @@ pub struct Count {
 
 // A count that is not refused.
 pub fn going(soundings: usize, far: usize, entries: usize, rest: usize, read: u32) -> Progress
-    ensures { result ≡ goingAt soundings far entries rest read }
+    ensures { result ≡ going_at soundings far entries rest read }
 {
     Progress {
         soundings,
@@ -61,7 +61,7 @@ pub fn going(soundings: usize, far: usize, entries: usize, rest: usize, read: u3
 
 // One that is.
 pub fn halted(r: Refusal) -> Progress
-    ensures { result ≡ haltedAt (refusalOf r) }
+    ensures { result ≡ halted_at (refusal_of r) }
 {
     Progress {
         soundings: 0,

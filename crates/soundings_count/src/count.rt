@@ -1,20 +1,20 @@
 // A pair of labels counted into the table of pairs: rows of two labels in one table, how often they occur in the other.
 ghost use Rattle.std.specs.Prelude.{◌≡◌, ◌&&◌, ◌∷◌, [], ◌+◌, ◌*◌, ◌≤◌, ◌<◌, eqb, ltb, length, set};
-ghost use Rattle.seq.specs.Seq.{insertBy, cell, rowStored};
-ghost use Rattle.paper.specs.Soundings.{lessList, lesser, added, once};
+ghost use Rattle.seq.specs.Seq.{insert_by, cell, row_stored};
+ghost use Rattle.paper.specs.Soundings.{less_list, lesser, added, once};
 ghost use Rattle.laws_soundings.specs.Tally.{total};
 ghost use Rattle.seq.specs.Terms.{Ordered};
-ghost use Rattle.seq.specs.Placed.{placeBy};
+ghost use Rattle.seq.specs.Placed.{place_by};
 ghost use Rattle.seq.specs.Lifted.{lifted};
-ghost use Rattle.soundings_count.specs.Entries.{pairWidth, labelsAt, entriesIn, mostTimes, Grown, Rows};
+ghost use Rattle.soundings_count.specs.Entries.{pair_width, the_labels_at, entries_in, most_times, Grown, Rows};
 
 use limits::PAIR_WIDTH;
 use seq::{lift_u16, lift_u32, store2_u16};
 
 // Whether the pair in row r is less than a, b.
 pub fn less(labels: &[u16], r: usize, a: u16, b: u16) -> bool
-    requires { pairWidth * r + pairWidth ≤ length labels.now }
-    ensures { result ≡ lessList (labelsAt labels.now r) (a ∷ b ∷ []) }
+    requires { pair_width * r + pair_width ≤ length labels.now }
+    ensures { result ≡ less_list (the_labels_at labels.now r) (a ∷ b ∷ []) }
 {
     let at = PAIR_WIDTH * r;
     let first = labels[at];
@@ -27,9 +27,9 @@ pub fn less(labels: &[u16], r: usize, a: u16, b: u16) -> bool
 
 // The first of n rows whose pair is not less than a, b, or n: by halves, as the rows stand in order.
 fn place(labels: &[u16], n: usize, a: u16, b: u16) -> usize
-    requires fact_1 { pairWidth * n ≤ length labels.now }
+    requires fact_1 { pair_width * n ≤ length labels.now }
     requires fact_2 { Rows labels.now n }
-    ensures { result ≡ placeBy lessList (a ∷ b ∷ []) (labelsAt labels.now) n }
+    ensures { result ≡ place_by less_list (a ∷ b ∷ []) (the_labels_at labels.now) n }
 {
     let mut low = 0;
     let mut high = n;
@@ -46,8 +46,8 @@ fn place(labels: &[u16], n: usize, a: u16, b: u16) -> usize
 
 // Whether row r of n holds the pair a, b.
 fn stands(labels: &[u16], n: usize, r: usize, a: u16, b: u16) -> bool
-    requires { pairWidth * n ≤ length labels.now }
-    ensures { result ≡ (ltb r n && (eqb (cell 0 pairWidth labels.now r 0) a && eqb (cell 0 pairWidth labels.now r 1) b)) }
+    requires { pair_width * n ≤ length labels.now }
+    ensures { result ≡ (ltb r n && (eqb (cell 0 pair_width labels.now r 0) a && eqb (cell 0 pair_width labels.now r 1) b)) }
 {
     if n <= r {
         return false;
@@ -63,8 +63,8 @@ fn stands(labels: &[u16], n: usize, r: usize, a: u16, b: u16) -> bool
 // Puts the pair a, b in at row r of n.
 fn open_labels(labels: &mut [u16], n: usize, r: usize, a: u16, b: u16)
     requires fact_1 { r ≤ n }
-    requires fact_2 { pairWidth * n + pairWidth ≤ length labels.old }
-    ensures { labels.new ≡ rowStored pairWidth (lifted (pairWidth * r) (pairWidth * n) pairWidth labels.old) r (a ∷ b ∷ []) }
+    requires fact_2 { pair_width * n + pair_width ≤ length labels.old }
+    ensures { labels.new ≡ row_stored pair_width (lifted (pair_width * r) (pair_width * n) pair_width labels.old) r (a ∷ b ∷ []) }
 {
     lift_u16(labels, PAIR_WIDTH * r, PAIR_WIDTH * n, PAIR_WIDTH);
     store2_u16(labels, r, a, b);
@@ -90,11 +90,11 @@ pub fn put_cell(
     b: u16,
 ) -> usize
     requires fact_1 { n ≤ room }
-    requires fact_2 { pairWidth * room ≤ length labels.old }
+    requires fact_2 { pair_width * room ≤ length labels.old }
     requires fact_3 { room ≤ length counts.old }
-    requires fact_4 { total (entriesIn labels.old counts.old n) < mostTimes }
-    requires fact_5 { Ordered lesser (entriesIn labels.old counts.old n) }
-    ensures { Grown room (insertBy lesser added (once (a ∷ b ∷ [])) (entriesIn labels.old counts.old n)) labels.new counts.new result }
+    requires fact_4 { total (entries_in labels.old counts.old n) < most_times }
+    requires fact_5 { Ordered lesser (entries_in labels.old counts.old n) }
+    ensures { Grown room (insert_by lesser added (once (a ∷ b ∷ [])) (entries_in labels.old counts.old n)) labels.new counts.new result }
 {
     let r = place(labels, n, a, b);
     if stands(labels, n, r, a, b) {

@@ -8,40 +8,40 @@ use Rattle.tables.specs.declared.edge_record.OverlayEdge.{OverlayEdge}
 use Rattle.tables.specs.declared.edge_record.Found.{Found}
 use Rattle.tables.specs.declared.edge_record.Found.TheVariants.{Edge, Absent}
 
-abbrev pub sourceFrom : Source → paper.Source
-sourceFrom (First j) = paper.first j
-sourceFrom (Second k) = paper.second k
-sourceFrom (Both j k) = paper.both j k
-sourceFrom (Third l) = paper.third l
-sourceFrom (FirstThird j l) = paper.firstThird j l
-sourceFrom (SecondThird k l) = paper.secondThird k l
-sourceFrom (All j k l) = paper.all j k l
+abbrev pub source_from : Source → paper.Source
+source_from (First j) = paper.first j
+source_from (Second k) = paper.second k
+source_from (Both j k) = paper.both j k
+source_from (Third l) = paper.third l
+source_from (FirstThird j l) = paper.first_third j l
+source_from (SecondThird k l) = paper.second_third k l
+source_from (All j k l) = paper.all j k l
 
-abbrev pub edgeFrom : OverlayEdge → paper.OverlayEdge
-edgeFrom e = record { lower = e.lower; upper = e.upper; source = sourceFrom e.source }
+abbrev pub edge_from : OverlayEdge → paper.OverlayEdge
+edge_from e = record { lower = e.lower; upper = e.upper; source = source_from e.source }
 
 -- the record, or "absent"
-abbrev pub foundOf : Found → Option paper.OverlayEdge
-foundOf (Edge e) = some (edgeFrom e)
-foundOf Absent = none
+abbrev pub found_of : Found → Option paper.OverlayEdge
+found_of (Edge e) = some (edge_from e)
+found_of Absent = none
 
 -- ── from three stored sources, each an edge number + 1 or 0 ──
 
 -- each of them is a number of 16 bits + 1, or 0
-abbrev pub allNumbers : ℕ → ℕ → ℕ → Bool
-allNumbers a b c = all_below (λ i. leb (get_or (a ∷ b ∷ c ∷ []) i 0) (256 ^ 2)) maps
+abbrev pub all_numbers : ℕ → ℕ → ℕ → Bool
+all_numbers a b c = all_below (λ i. leb (get_or (a ∷ b ∷ c ∷ []) i 0) (256 ^ 2)) maps
 
-abbrev pub oneIf : ℕ → ℕ
-oneIf zero = 0
-oneIf (suc n) = 1
+abbrev pub one_if : ℕ → ℕ
+one_if zero = 0
+one_if (suc n) = 1
 
 -- which of them are there: 1 for the first, 2 for the second, 4 for the third, added up
-abbrev pub whichOf : ℕ → ℕ → ℕ → ℕ
-whichOf a b c = oneIf a + 2 * oneIf b + 4 * oneIf c
+abbrev pub which_of : ℕ → ℕ → ℕ → ℕ
+which_of a b c = one_if a + 2 * one_if b + 4 * one_if c
 
-abbrev pub edgeWith : ℕ → ℕ → paper.Source → paper.OverlayEdge
-edgeWith lower upper s = record { lower = lower; upper = upper; source = s }
+abbrev pub edge_with : ℕ → ℕ → paper.Source → paper.OverlayEdge
+edge_with lower upper s = record { lower = lower; upper = upper; source = s }
 
 -- of an edge between lower and upper with the stored sources a, b and c
-abbrev pub recordBy : ℕ → ℕ → ℕ → ℕ → ℕ → Option paper.OverlayEdge
-recordBy lower upper a b c = cond (allNumbers a b c) (Option·map (edgeWith lower upper) (paper.sourceBy a b c)) none
+abbrev pub record_by : ℕ → ℕ → ℕ → ℕ → ℕ → Option paper.OverlayEdge
+record_by lower upper a b c = cond (all_numbers a b c) (Option·map (edge_with lower upper) (paper.source_by a b c)) none

@@ -13,34 +13,34 @@ use Rattle.tables.specs.declared.edge_record.Source.{Source}
 use Rattle.tables.specs.declared.edge_record.Source.TheVariants.{First, Second, Both, Third, FirstThird, SecondThird, All}
 use Rattle.tables.specs.declared.edge_record.Found.{Found}
 use Rattle.tables.specs.declared.edge_record.Found.TheVariants.{Edge, Absent}
-use Rattle.tables.specs.Values.{answer_of, tablesBy}
-use Rattle.tables.specs.Found.{sourceFrom, foundOf}
+use Rattle.tables.specs.Values.{answer_of, tables_by}
+use Rattle.tables.specs.Found.{source_from, found_of}
 
 -- ── answers ──
 
-abbrev answerBack : refusal.Answer paper.Counts → Answer
-answerBack (refusal.done c) = Done (record { vertices = c.vertices; edges = c.edges; faces = c.faces })
-answerBack (refusal.refused r) = Refused (record { number = r.number; map = r.map; place = r.place; other = r.other })
+abbrev answer_back : refusal.Answer paper.Counts → Answer
+answer_back (refusal.done c) = Done (record { vertices = c.vertices; edges = c.edges; faces = c.faces })
+answer_back (refusal.refused r) = Refused (record { number = r.number; map = r.map; place = r.place; other = r.other })
 
-there_and_back : (a : Answer) → answerBack (answer_of a) ≡ a
+there_and_back : (a : Answer) → answer_back (answer_of a) ≡ a
 there_and_back (Done c) = refl
 there_and_back (Refused r) = refl
 
 pub answer-once : (a b : Answer) → answer_of a ≡ answer_of b → a ≡ b
-answer-once a b e = sym (there_and_back a) ∙ ap answerBack e ∙ there_and_back b
+answer-once a b e = sym (there_and_back a) ∙ ap answer_back e ∙ there_and_back b
 
 -- ── the overlay edge record ──
 
-abbrev sourceBack : lent.Source → Source
-sourceBack (lent.first j) = First j
-sourceBack (lent.second k) = Second k
-sourceBack (lent.both j k) = Both j k
-sourceBack (lent.third l) = Third l
-sourceBack (lent.firstThird j l) = FirstThird j l
-sourceBack (lent.secondThird k l) = SecondThird k l
-sourceBack (lent.all j k l) = All j k l
+abbrev source_back : lent.Source → Source
+source_back (lent.first j) = First j
+source_back (lent.second k) = Second k
+source_back (lent.both j k) = Both j k
+source_back (lent.third l) = Third l
+source_back (lent.first_third j l) = FirstThird j l
+source_back (lent.second_third k l) = SecondThird k l
+source_back (lent.all j k l) = All j k l
 
-source-there : (s : Source) → sourceBack (sourceFrom s) ≡ s
+source-there : (s : Source) → source_back (source_from s) ≡ s
 source-there (First j) = refl
 source-there (Second k) = refl
 source-there (Both j k) = refl
@@ -49,15 +49,15 @@ source-there (FirstThird j l) = refl
 source-there (SecondThird k l) = refl
 source-there (All j k l) = refl
 
-abbrev foundBack : Option lent.OverlayEdge → Found
-foundBack none = Absent
-foundBack (some e) = Edge (record { lower = e.lower; upper = e.upper; source = sourceBack e.source })
+abbrev found_back : Option lent.OverlayEdge → Found
+found_back none = Absent
+found_back (some e) = Edge (record { lower = e.lower; upper = e.upper; source = source_back e.source })
 
-found-there : (f : Found) → foundBack (foundOf f) ≡ f
+found-there : (f : Found) → found_back (found_of f) ≡ f
 found-there (Edge e) = ap (λ (s : Source). Edge (record { lower = e.lower; upper = e.upper; source = s })) (source-there e.source)
 found-there Absent = refl
 
 -- no second record satisfies the promise of `edge`
-pub edge-unique : (hs ss : List ℕ) (k : ℕ) (r s : Found) → foundOf r ≡ lent.edgeRecord (tablesBy [] hs ss []) k → foundOf s ≡ lent.edgeRecord (tablesBy [] hs ss []) k → r ≡ s
+pub edge-unique : (hs ss : List ℕ) (k : ℕ) (r s : Found) → found_of r ≡ lent.edge_record (tables_by [] hs ss []) k → found_of s ≡ lent.edge_record (tables_by [] hs ss []) k → r ≡ s
 edge-unique hs ss k r s e g =
-    sym (found-there r) ∙ ap foundBack (determined (lent.edgeRecord (tablesBy [] hs ss [])) k (foundOf r) (foundOf s) e g) ∙ found-there s
+    sym (found-there r) ∙ ap found_back (determined (lent.edge_record (tables_by [] hs ss [])) k (found_of r) (found_of s) e g) ∙ found-there s

@@ -1,9 +1,9 @@
 // The overlay edge record: "it is handed out by edge number, and a number with no edge is answered as absent".
 ghost use Rattle.std.specs.Prelude.{◌≡◌, [], ◌-◌, ◌^◌, ◌≤◌};
 ghost use Rattle.std.proofs.Math.Option.{some};
-ghost use Rattle.paper.specs.Record.{edgeRecord};
-ghost use Rattle.tables.specs.Values.{tablesBy};
-ghost use Rattle.tables.specs.Found.{sourceFrom, foundOf, edgeWith, allNumbers, oneIf, whichOf, recordBy};
+ghost use Rattle.paper.specs.Record.{edge_record};
+ghost use Rattle.tables.specs.Values.{tables_by};
+ghost use Rattle.tables.specs.Found.{source_from, found_of, edge_with, all_numbers, one_if, which_of, record_by};
 
 use crate::room::edge_room;
 use limits::{HALF_WIDTH, SOURCE_WIDTH};
@@ -38,7 +38,7 @@ pub enum Found {
 
 // Whether three stored sources are each an edge number of 16 bits + 1, or 0.
 fn numbered(a: u32, b: u32, c: u32) -> bool
-    ensures { result ≡ allNumbers a b c }
+    ensures { result ≡ all_numbers a b c }
 {
     if NUMBERS < a {
         return false;
@@ -51,14 +51,14 @@ fn numbered(a: u32, b: u32, c: u32) -> bool
 
 // 1 for a source that is there, 0 for one that is not.
 fn one_if(stored: u32) -> usize
-    ensures { result ≡ oneIf stored }
+    ensures { result ≡ one_if stored }
 {
     if stored == 0 { 0 } else { 1 }
 }
 
 // Which sources are there: 1 for the first, 2 for the second, 4 for the third, added up.
 fn which(a: u32, b: u32, c: u32) -> usize
-    ensures { result ≡ whichOf a b c }
+    ensures { result ≡ which_of a b c }
 {
     one_if(a) + 2 * one_if(b) + 4 * one_if(c)
 }
@@ -72,7 +72,7 @@ fn number(stored: u32) -> u16
 }
 
 fn between(lower: u16, upper: u16, source: Source) -> Found
-    ensures { foundOf result ≡ some (edgeWith lower upper (sourceFrom source)) }
+    ensures { found_of result ≡ some (edge_with lower upper (source_from source)) }
 {
     Found::Edge(OverlayEdge {
         lower,
@@ -83,7 +83,7 @@ fn between(lower: u16, upper: u16, source: Source) -> Found
 
 // The record of an edge between two vertices with three stored sources.
 fn record_by(lower: u16, upper: u16, a: u32, b: u32, c: u32) -> Found
-    ensures { foundOf result ≡ recordBy lower upper a b c }
+    ensures { found_of result ≡ record_by lower upper a b c }
 {
     if !numbered(a, b, c) {
         return Found::Absent;
@@ -105,7 +105,7 @@ fn record_by(lower: u16, upper: u16, a: u32, b: u32, c: u32) -> Found
 
 // Edge k of the half-edge table and the source table, for tables of any contents.
 pub fn edge(halves: &[u16], sources: &[u32], k: usize) -> Found
-    ensures { foundOf result ≡ edgeRecord (tablesBy [] halves.now sources.now []) k }
+    ensures { found_of result ≡ edge_record (tables_by [] halves.now sources.now []) k }
 {
     if edge_room(halves.len(), sources.len()) <= k {
         return Found::Absent;

@@ -3,16 +3,16 @@
 ghost use Rattle.std.specs.Prelude.{◌≡◌, ◌*◌, ◌≤◌, length};
 ghost use Rattle.seq.specs.Seq.{rows, padded, laid};
 ghost use Rattle.paper.specs.Limits.{maps};
-ghost use Rattle.paper.specs.Tables.{faceWidth};
-ghost use Rattle.tables.specs.Rows.{faceBy};
+ghost use Rattle.paper.specs.Tables.{face_width};
+ghost use Rattle.tables.specs.Rows.{face_by};
 
 use limits::{FACE_WIDTH, MAPS};
 use seq::{store5_u16, wipe_from_u16};
 
 // Stores a row for each face: of the labels, rows of one for each map, of its least outer half-edge, and of its count of hole walks.
 fn lay(faces: &mut [u16], count: u16, labels: &[u16], outer: &[u16], holes: &[u16])
-    requires { (faceWidth maps * count ≤ length faces.old) × (maps * count ≤ length labels.now) × (count ≤ length outer.now) × (count ≤ length holes.now) }
-    ensures { faces.new ≡ laid count (faceBy labels.now outer.now holes.now) faces.old }
+    requires { (face_width maps * count ≤ length faces.old) × (maps * count ≤ length labels.now) × (count ≤ length outer.now) × (count ≤ length holes.now) }
+    ensures { faces.new ≡ laid count (face_by labels.now outer.now holes.now) faces.old }
 {
     let n = count as usize;
     let mut f: usize = 0;
@@ -33,8 +33,8 @@ fn lay(faces: &mut [u16], count: u16, labels: &[u16], outer: &[u16], holes: &[u1
 
 // The face table, zero past the count.
 pub fn store_faces(faces: &mut [u16], count: u16, labels: &[u16], outer: &[u16], holes: &[u16])
-    requires { (faceWidth maps * count ≤ length faces.old) × (maps * count ≤ length labels.now) × (count ≤ length outer.now) × (count ≤ length holes.now) }
-    ensures { faces.new ≡ padded 0 (length faces.old) (rows (faceBy labels.now outer.now holes.now) count) }
+    requires { (face_width maps * count ≤ length faces.old) × (maps * count ≤ length labels.now) × (count ≤ length outer.now) × (count ≤ length holes.now) }
+    ensures { faces.new ≡ padded 0 (length faces.old) (rows (face_by labels.now outer.now holes.now) count) }
 {
     lay(faces, count, labels, outer, holes);
     let n = count as usize;

@@ -1,8 +1,8 @@
 // The half-edge table: "A half-edge holds origin, twin, follower, predecessor, face".
 ghost use Rattle.std.specs.Prelude.{◌≡◌, ◌*◌, ◌≤◌, length};
 ghost use Rattle.seq.specs.Seq.{rows, padded, laid};
-ghost use Rattle.paper.specs.Limits.{overlayEdges};
-ghost use Rattle.paper.specs.Tables.{halfWidth};
+ghost use Rattle.paper.specs.Limits.{overlay_edges};
+ghost use Rattle.paper.specs.Tables.{half_width};
 ghost use Rattle.tables.specs.Rows.{half_of};
 
 use graph::twin;
@@ -11,7 +11,7 @@ use seq::{store5_u16, wipe_from_u16};
 
 // Stores a row for each half-edge.
 fn lay(halves: &mut [u16], edges: u16, origins: &[u16], next: &[u16], prev: &[u16], face: &[u16])
-    requires { (edges ≤ overlayEdges) × (halfWidth * (2 * edges) ≤ length halves.old) × (2 * edges ≤ length origins.now) × (2 * edges ≤ length next.now) × (2 * edges ≤ length prev.now) × (2 * edges ≤ length face.now) }
+    requires { (edges ≤ overlay_edges) × (half_width * (2 * edges) ≤ length halves.old) × (2 * edges ≤ length origins.now) × (2 * edges ≤ length next.now) × (2 * edges ≤ length prev.now) × (2 * edges ≤ length face.now) }
     ensures { halves.new ≡ laid (2 * edges) (half_of origins.now next.now prev.now face.now) halves.old }
 {
     let m = 2 * edges as usize;
@@ -32,7 +32,7 @@ pub fn store_halves(
     prev: &[u16],
     face: &[u16],
 )
-    requires { (edges ≤ overlayEdges) × (halfWidth * (2 * edges) ≤ length halves.old) × (2 * edges ≤ length origins.now) × (2 * edges ≤ length next.now) × (2 * edges ≤ length prev.now) × (2 * edges ≤ length face.now) }
+    requires { (edges ≤ overlay_edges) × (half_width * (2 * edges) ≤ length halves.old) × (2 * edges ≤ length origins.now) × (2 * edges ≤ length next.now) × (2 * edges ≤ length prev.now) × (2 * edges ≤ length face.now) }
     ensures { halves.new ≡ padded 0 (length halves.old) (rows (half_of origins.now next.now prev.now face.now) (2 * edges)) }
 {
     lay(halves, edges, origins, next, prev, face);

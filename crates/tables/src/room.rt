@@ -2,8 +2,8 @@
 // edges, rounded down, and where several lent tables hold one kind the least room counts".
 ghost use Rattle.std.specs.Prelude.{◌≡◌, min};
 ghost use Rattle.paper.specs.Limits.{maps};
-ghost use Rattle.paper.specs.Lent.{roomIn, edgeRoom};
-ghost use Rattle.tables.specs.Values.{countsOf, lengthsBy};
+ghost use Rattle.paper.specs.Lent.{room_in, edge_room};
+ghost use Rattle.tables.specs.Values.{counts_of, lengths_by};
 
 use limits::{
     FACE_WIDTH, HALF_WIDTH, OVERLAY_EDGES, OVERLAY_FACES, OVERLAY_VERTICES, SOURCE_WIDTH,
@@ -30,7 +30,7 @@ fn smaller(number: u16, room: usize) -> u16
 
 // The edges for which both tables have whole rows.
 pub fn edge_room(halves: usize, sources: usize) -> usize
-    ensures { result ≡ edgeRoom maps (lengthsBy 0 halves sources 0) }
+    ensures { result ≡ edge_room maps (lengths_by 0 halves sources 0) }
 {
     let a = halves / HALF_WIDTH / 2;
     let b = sources / SOURCE_WIDTH;
@@ -39,7 +39,7 @@ pub fn edge_room(halves: usize, sources: usize) -> usize
 
 // The room in tables of these lengths.
 pub fn room_in(vertices: usize, halves: usize, sources: usize, faces: usize) -> Counts
-    ensures { countsOf result ≡ roomIn maps (lengthsBy vertices halves sources faces) }
+    ensures { counts_of result ≡ room_in maps (lengths_by vertices halves sources faces) }
 {
     Counts {
         vertices: smaller(OVERLAY_VERTICES, vertices / VERTEX_WIDTH),

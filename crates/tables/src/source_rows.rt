@@ -2,7 +2,7 @@
 ghost use Rattle.std.specs.Prelude.{◌≡◌, ◌*◌, ◌≤◌, length};
 ghost use Rattle.seq.specs.Seq.{rows, padded, laid};
 ghost use Rattle.paper.specs.Limits.{maps};
-ghost use Rattle.tables.specs.Rows.{pieceCells, source_of};
+ghost use Rattle.tables.specs.Rows.{piece_cells, source_of};
 
 use limits::{PIECE_SOURCES, PIECE_WIDTH, SOURCE_WIDTH};
 use seq::{store3_u32, wipe_from_u32};
@@ -16,7 +16,7 @@ const THIRD: usize = PIECE_SOURCES + 2;
 
 // Stores a row for each edge: of the pieces, rows of lower, upper, and for each map the source + 1 or 0.
 fn lay(sources: &mut [u32], edges: u16, pieces: &[u16])
-    requires { (maps * edges ≤ length sources.old) × (pieceCells * edges ≤ length pieces.now) }
+    requires { (maps * edges ≤ length sources.old) × (piece_cells * edges ≤ length pieces.now) }
     ensures { sources.new ≡ laid edges (source_of pieces.now) sources.old }
 {
     let n = edges as usize;
@@ -33,7 +33,7 @@ fn lay(sources: &mut [u32], edges: u16, pieces: &[u16])
 
 // The source table, zero past the count.
 pub fn store_sources(sources: &mut [u32], edges: u16, pieces: &[u16])
-    requires { (maps * edges ≤ length sources.old) × (pieceCells * edges ≤ length pieces.now) }
+    requires { (maps * edges ≤ length sources.old) × (piece_cells * edges ≤ length pieces.now) }
     ensures { sources.new ≡ padded 0 (length sources.old) (rows (source_of pieces.now) edges) }
 {
     lay(sources, edges, pieces);

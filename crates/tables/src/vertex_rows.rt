@@ -1,8 +1,8 @@
 // The vertex table: "Vertices stand in point order, numbered from 0, each with its least outgoing half-edge".
 ghost use Rattle.std.specs.Prelude.{◌≡◌, ◌*◌, ◌≤◌, pos, length};
 ghost use Rattle.seq.specs.Seq.{rows, padded, laid};
-ghost use Rattle.paper.specs.Tables.{vertexWidth};
-ghost use Rattle.tables.specs.Rows.{vertexOf};
+ghost use Rattle.paper.specs.Tables.{vertex_width};
+ghost use Rattle.tables.specs.Rows.{vertex_of};
 
 use exact::of_u16;
 use limits::{POINT_WIDTH, VERTEX_WIDTH};
@@ -10,8 +10,8 @@ use seq::{store4_i64, wipe_from_i64};
 
 // Stores a row for each vertex: of the points, rows of X, Y, D and a spare cell, and of each vertex's least outgoing half-edge.
 fn lay(vertices: &mut [i64], count: u16, points: &[i64], least: &[u16])
-    requires { (vertexWidth * count ≤ length vertices.old) × (vertexWidth * count ≤ length points.now) × (count ≤ length least.now) }
-    ensures { vertices.new ≡ laid count (vertexOf points.now least.now) vertices.old }
+    requires { (vertex_width * count ≤ length vertices.old) × (vertex_width * count ≤ length points.now) × (count ≤ length least.now) }
+    ensures { vertices.new ≡ laid count (vertex_of points.now least.now) vertices.old }
 {
     let n = count as usize;
     let mut v: usize = 0;
@@ -28,8 +28,8 @@ fn lay(vertices: &mut [i64], count: u16, points: &[i64], least: &[u16])
 
 // The vertex table, zero past the count.
 pub fn store_vertices(vertices: &mut [i64], count: u16, points: &[i64], least: &[u16])
-    requires { (vertexWidth * count ≤ length vertices.old) × (vertexWidth * count ≤ length points.now) × (count ≤ length least.now) }
-    ensures { vertices.new ≡ padded (pos 0) (length vertices.old) (rows (vertexOf points.now least.now) count) }
+    requires { (vertex_width * count ≤ length vertices.old) × (vertex_width * count ≤ length points.now) × (count ≤ length least.now) }
+    ensures { vertices.new ≡ padded (pos 0) (length vertices.old) (rows (vertex_of points.now least.now) count) }
 {
     lay(vertices, count, points, least);
     let n = count as usize;

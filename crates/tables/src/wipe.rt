@@ -1,13 +1,13 @@
 // "Refused: all lent tables are zero."
 ghost use Rattle.std.specs.Prelude.{◌≡◌};
 ghost use Rattle.paper.specs.Tables.{Tables};
-ghost use Rattle.paper.specs.Lent.{lengthsOf, zeroTables};
-ghost use Rattle.tables.specs.Values.{tablesBy};
+ghost use Rattle.paper.specs.Lent.{lengths_of, zero_tables};
+ghost use Rattle.tables.specs.Values.{tables_by};
 
 use seq::{wipe_i64, wipe_u16, wipe_u32};
 
 pub fn wipe_all(vertices: &mut [i64], halves: &mut [u16], sources: &mut [u32], faces: &mut [u16])
-    ensures { tablesBy vertices.new halves.new sources.new faces.new ≡ zeroTables (lengthsOf (tablesBy vertices.old halves.old sources.old faces.old)) }
+    ensures { tables_by vertices.new halves.new sources.new faces.new ≡ zero_tables (lengths_of (tables_by vertices.old halves.old sources.old faces.old)) }
 {
     wipe_i64(vertices);
     wipe_u16(halves);

@@ -12,10 +12,10 @@ use Rattle.seq.specs.Over.{stored-behind}
 use Rattle.seq.specs.Rows.{rows_more}
 use Rattle.paper.specs.Bytes.{ascii}
 use Rattle.paper.specs.Limits.{maps}
-use Rattle.paper.specs.Tables.{Counts, faceWidth}
-use Rattle.paper.specs.Listing.{decimal, countsLine}
+use Rattle.paper.specs.Tables.{Counts, face_width}
+use Rattle.paper.specs.Listing.{decimal, counts_line}
 use Rattle.text.specs.Line.{Put}
-use Rattle.text.specs.Lines.{Line, leastText, labelsText, faceText, gapsIn, gapsText, listingText}
+use Rattle.text.specs.Lines.{Line, least_text, labels_text, face_text, gaps_in, gaps_text, listing_text}
 
 -- ── text behind text ──
 
@@ -46,46 +46,46 @@ put-line {text} {d} {t} {m} {most} {r} p h l =
 
 -- ── "least outer half-edge (`-` for face 0)" ──
 
-pub least-none : (f h : ℕ) → f ≡ 0 → ascii " -" ≡ leastText f h
-least-none f h e = sym (ap (λ (b : Bool). ascii " " ++ cond b (ascii "-") (decimal h)) (eq-eqb f 0 e))
+pub least_none : (f h : ℕ) → f ≡ 0 → ascii " -" ≡ least_text f h
+least_none f h e = sym (ap (λ (b : Bool). ascii " " ++ cond b (ascii "-") (decimal h)) (eq-eqb f 0 e))
 
-pub least-some : (f h : ℕ) → (f ≡ 0 → ⊥) → ascii " " ++ decimal h ≡ leastText f h
-least-some f h e = sym (ap (λ (b : Bool). ascii " " ++ cond b (ascii "-") (decimal h)) (ne_eqb f 0 e))
+pub least_some : (f h : ℕ) → (f ≡ 0 → ⊥) → ascii " " ++ decimal h ≡ least_text f h
+least_some f h e = sym (ap (λ (b : Bool). ascii " " ++ cond b (ascii "-") (decimal h)) (ne_eqb f 0 e))
 
 -- ── a face's line ──
 
-abbrev faceFields : ℕ → ℕ → ℕ → ℕ → ℕ → List ℕ
-faceFields f a b h o = labelsText f a b ++ ascii " " ++ cond (eqb f 0) (ascii "-") (decimal h) ++ ascii " " ++ decimal o ++ ascii "\n"
+abbrev face_fields : ℕ → ℕ → ℕ → ℕ → ℕ → List ℕ
+face_fields f a b h o = labels_text f a b ++ ascii " " ++ cond (eqb f 0) (ascii "-") (decimal h) ++ ascii " " ++ decimal o ++ ascii "\n"
 
 pub face-fields : (fs : List ℕ) (f : ℕ) {a b h o : ℕ}
-    → a ≡ get_or fs (faceWidth maps * f + 0) 0 → b ≡ get_or fs (faceWidth maps * f + 1) 0 → h ≡ get_or fs (faceWidth maps * f + maps) 0 → o ≡ get_or fs (faceWidth maps * f + (maps + 1)) 0
-    → faceFields f a b h o ≡ faceText fs f
+    → a ≡ get_or fs (face_width maps * f + 0) 0 → b ≡ get_or fs (face_width maps * f + 1) 0 → h ≡ get_or fs (face_width maps * f + maps) 0 → o ≡ get_or fs (face_width maps * f + (maps + 1)) 0
+    → face_fields f a b h o ≡ face_text fs f
 face-fields fs f {a} {b} {h} {o} ea eb eh eo =
-    let at : ℕ → ℕ = λ j. get_or fs (faceWidth maps * f + j) 0 in
-    ap (λ (x : ℕ). faceFields f x b h o) ea ∙ ap (λ (x : ℕ). faceFields f (at 0) x h o) eb
-    ∙ ap (λ (x : ℕ). faceFields f (at 0) (at 1) x o) eh ∙ ap (faceFields f (at 0) (at 1) (at maps)) eo
+    let at : ℕ → ℕ = λ j. get_or fs (face_width maps * f + j) 0 in
+    ap (λ (x : ℕ). face_fields f x b h o) ea ∙ ap (λ (x : ℕ). face_fields f (at 0) x h o) eb
+    ∙ ap (λ (x : ℕ). face_fields f (at 0) (at 1) x o) eh ∙ ap (face_fields f (at 0) (at 1) (at maps)) eo
 
 -- ── lines one behind the other ──
 
-pub put-none : (d : List ℕ) (at : ℕ) → Put [] 0 d at d at
-put-none d at = record { is = refl; end = omega arith; kept = refl; within = omega arith }
+pub put_none : (d : List ℕ) (at : ℕ) → Put [] 0 d at d at
+put_none d at = record { is = refl; end = omega arith; kept = refl; within = omega arith }
 
 -- a line of at most 64 bytes, put somewhere
 pub put-lined : {text blank line d t : List ℕ} {n at r : ℕ} → Line 64 text blank line n → Put (take n line) (length (take n line)) d at t r → Put text 64 d at t r
 put-lined l p = put_as p l.is (omega (arith, l.within, l.counts.1))
 
 -- one face's line more
-pub put-face-more : (fs : List ℕ) (f : ℕ) {d t u : List ℕ} {at k r : ℕ}
-    → Put (rows (faceText fs) f) (64 * f) d at t k → Put (faceText fs f) 64 t k u r → Put (rows (faceText fs) (f + 1)) (64 * (f + 1)) d at u r
-put-face-more fs f p q = put_as (put-behind p q) (sym (rows_more (faceText fs) f)) (omega arith)
+pub put-face_more : (fs : List ℕ) (f : ℕ) {d t u : List ℕ} {at k r : ℕ}
+    → Put (rows (face_text fs) f) (64 * f) d at t k → Put (face_text fs f) 64 t k u r → Put (rows (face_text fs) (f + 1)) (64 * (f + 1)) d at u r
+put-face_more fs f p q = put_as (put-behind p q) (sym (rows_more (face_text fs) f)) (omega arith)
 
-pub put-faces-all : (fs : List ℕ) {f n : ℕ} {d t : List ℕ} {at k : ℕ}
-    → Put (rows (faceText fs) f) (64 * f) d at t k → f ≤ n → n ≤ f → Put (rows (faceText fs) n) (64 * n) d at t k
-put-faces-all fs {f} {n} p l h = let e : f ≡ n = omega arith in put_as p (ap (rows (faceText fs)) e) (omega arith)
+pub put-faces_all : (fs : List ℕ) {f n : ℕ} {d t : List ℕ} {at k : ℕ}
+    → Put (rows (face_text fs) f) (64 * f) d at t k → f ≤ n → n ≤ f → Put (rows (face_text fs) n) (64 * n) d at t k
+put-faces_all fs {f} {n} p l h = let e : f ≡ n = omega arith in put_as p (ap (rows (face_text fs)) e) (omega arith)
 
 -- the counts, the faces and the gaps are the listing
-pub listing-parts : (c : Counts) (fs : List ℕ) → countsLine c ++ rows (faceText fs) c.faces ++ gapsText (gapsIn fs c.faces) ≡ listingText c fs
+pub listing-parts : (c : Counts) (fs : List ℕ) → counts_line c ++ rows (face_text fs) c.faces ++ gaps_text (gaps_in fs c.faces) ≡ listing_text c fs
 listing-parts c fs =
-    let head = countsLine c ++ rows (faceText fs) c.faces in
-    let number = decimal (gapsIn fs c.faces) in
+    let head = counts_line c ++ rows (face_text fs) c.faces in
+    let number = decimal (gaps_in fs c.faces) in
     sym (append_assoc head (ascii "gaps " ++ number) (ascii "\n")) ∙ ap (λ (s : List ℕ). s ++ ascii "\n") (sym (append_assoc head (ascii "gaps ") number))

@@ -1,16 +1,16 @@
 // The face table: its cells, and the gaps in it.
 ghost use Rattle.std.specs.Prelude.{◌≡◌, cond, ◌+◌, ◌*◌, ◌<◌, get_or};
 ghost use Rattle.paper.specs.Limits.{maps};
-ghost use Rattle.paper.specs.Tables.{faceWidth};
-ghost use Rattle.paper.specs.Listing.{isGap};
-ghost use Rattle.text.specs.Lines.{gapsIn};
+ghost use Rattle.paper.specs.Tables.{face_width};
+ghost use Rattle.paper.specs.Listing.{is_gap};
+ghost use Rattle.text.specs.Lines.{gaps_in};
 
 use limits::FACE_WIDTH;
 
 // The cell j of a face's row; 0 past the table's end.
 pub fn cell(faces: &[u16], face: u16, j: usize) -> u16
-    requires { j < faceWidth maps }
-    ensures { result ≡ get_or faces.now (faceWidth maps * face + j) 0 }
+    requires { j < face_width maps }
+    ensures { result ≡ get_or faces.now (face_width maps * face + j) 0 }
 {
     let at = FACE_WIDTH * face as usize + j;
     if faces.len() <= at {
@@ -21,7 +21,7 @@ pub fn cell(faces: &[u16], face: u16, j: usize) -> u16
 
 // Whether a face with these labels is a gap.
 fn is_gap(zone: u16, block: u16) -> bool
-    ensures { result ≡ isGap zone block }
+    ensures { result ≡ is_gap zone block }
 {
     if zone == 0 { block != 0 } else { false }
 }
@@ -36,7 +36,7 @@ fn counted(found: u16, gap: bool) -> u16
 
 // "A gap is a face other than 0 whose zone label is 0 and whose block label is not 0"
 pub fn gaps(faces: &[u16], count: u16) -> u16
-    ensures { result ≡ gapsIn faces.now count }
+    ensures { result ≡ gaps_in faces.now count }
 {
     let mut found: u16 = 0;
     let mut f: u16 = 1;

@@ -2,9 +2,9 @@
 ghost use Rattle.std.specs.Prelude.{◌+◌, ◌≤◌, length, ◌++◌};
 ghost use Rattle.paper.specs.Record.{all};
 ghost use Rattle.paper.specs.Listing.{decimal};
-ghost use Rattle.tables.specs.Found.{edgeFrom, sourceFrom};
+ghost use Rattle.tables.specs.Found.{edge_from, source_from};
 ghost use Rattle.text.specs.Line.{Put};
-ghost use Rattle.text.specs.Lines.{Line, endsText, sourceText, edgeText};
+ghost use Rattle.text.specs.Lines.{Line, ends_text, source_text, edge_text};
 
 use crate::line::{field, words};
 use limits::LINE;
@@ -13,7 +13,7 @@ use tables::{OverlayEdge, Source};
 // An edge's number and its two vertices.
 fn ends_field(line: &mut [u8], k: u16, lower: u16, upper: u16) -> usize
     requires { 22 ≤ length line.old }
-    ensures { Put (endsText k lower upper) 22 line.old 0 line.new result }
+    ensures { Put (ends_text k lower upper) 22 line.old 0 line.new result }
 {
     let at = field(line, 0, b"edge ", k);
     let at = field(line, at, b" ", lower);
@@ -32,7 +32,7 @@ fn two_field(line: &mut [u8], at: usize, one: &[u8], j: u16, other: &[u8], k: u1
 // An edge's number in each of the three maps.
 fn all_field(line: &mut [u8], at: usize, j: u16, k: u16, l: u16) -> usize
     requires { at + 25 ≤ length line.old }
-    ensures { Put (sourceText (all j k l)) 25 line.old at line.new result }
+    ensures { Put (source_text (all j k l)) 25 line.old at line.new result }
 {
     let at = field(line, at, b" all ", j);
     let at = field(line, at, b" ", k);
@@ -42,7 +42,7 @@ fn all_field(line: &mut [u8], at: usize, j: u16, k: u16, l: u16) -> usize
 // The edge's maps, and its number in each.
 fn source_field(line: &mut [u8], at: usize, source: Source) -> usize
     requires { at + 25 ≤ length line.old }
-    ensures { Put (sourceText (sourceFrom source)) 25 line.old at line.new result }
+    ensures { Put (source_text (source_from source)) 25 line.old at line.new result }
 {
     match source {
         Source::First(j) => field(line, at, b" first ", j),
@@ -57,7 +57,7 @@ fn source_field(line: &mut [u8], at: usize, source: Source) -> usize
 
 // The line of edge k, put at the start of a lent line; what is answered is its length.
 pub fn edge_line(k: u16, edge: OverlayEdge, line: &mut [u8; LINE]) -> usize
-    ensures { Line 64 (edgeText k (edgeFrom edge)) line.old line.new result }
+    ensures { Line 64 (edge_text k (edge_from edge)) line.old line.new result }
 {
     let at = ends_field(line, k, edge.lower, edge.upper);
     let source = edge.source;

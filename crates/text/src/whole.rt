@@ -2,10 +2,10 @@
 // faces and the gaps. What is answered is its length.
 ghost use Rattle.std.specs.Prelude.{◌+◌, ◌*◌, ◌≤◌, length};
 ghost use Rattle.seq.specs.Seq.{rows};
-ghost use Rattle.paper.specs.Limits.{overlayFaces};
-ghost use Rattle.paper.specs.Listing.{countsLine, refusedLine};
+ghost use Rattle.paper.specs.Limits.{overlay_faces};
+ghost use Rattle.paper.specs.Listing.{counts_line, refused_line};
 ghost use Rattle.text.specs.Line.{Put};
-ghost use Rattle.text.specs.Lines.{Line, faceText, gapsIn, gapsText, listingText};
+ghost use Rattle.text.specs.Lines.{Line, face_text, gaps_in, gaps_text, listing_text};
 
 use crate::cells::gaps;
 use crate::line::words;
@@ -15,7 +15,7 @@ use limits::{LINE, LISTING};
 // "The first line gives the counts"
 fn put_counts(vertices: u16, edges: u16, faces: u16, out: &mut [u8]) -> usize
     requires { 64 ≤ length out.old }
-    ensures { Put (countsLine (record { vertices = vertices; edges = edges; faces = faces })) 64 out.old 0 out.new result }
+    ensures { Put (counts_line (record { vertices = vertices; edges = edges; faces = faces })) 64 out.old 0 out.new result }
 {
     let mut line = [0u8; LINE];
     let n = counts_line(vertices, edges, faces, &mut line);
@@ -24,7 +24,7 @@ fn put_counts(vertices: u16, edges: u16, faces: u16, out: &mut [u8]) -> usize
 
 fn put_face(out: &mut [u8], at: usize, face: u16, faces: &[u16]) -> usize
     requires { at + 64 ≤ length out.old }
-    ensures { Put (faceText faces.now face) 64 out.old at out.new result }
+    ensures { Put (face_text faces.now face) 64 out.old at out.new result }
 {
     let mut line = [0u8; LINE];
     let n = face_line(face, faces, &mut line);
@@ -34,7 +34,7 @@ fn put_face(out: &mut [u8], at: usize, face: u16, faces: &[u16]) -> usize
 // "then comes a line for each face in order"
 fn put_faces(out: &mut [u8], at: usize, count: u16, faces: &[u16]) -> usize
     requires { at + 64 * count ≤ length out.old }
-    ensures { Put (rows (faceText faces.now) count) (64 * count) out.old at out.new result }
+    ensures { Put (rows (face_text faces.now) count) (64 * count) out.old at out.new result }
 {
     let mut end = at;
     let mut f: u16 = 0;
@@ -48,7 +48,7 @@ fn put_faces(out: &mut [u8], at: usize, count: u16, faces: &[u16]) -> usize
 // "and the last line gives the number of gaps"
 fn put_gaps(out: &mut [u8], at: usize, count: u16, faces: &[u16]) -> usize
     requires { at + 64 ≤ length out.old }
-    ensures { Put (gapsText (gapsIn faces.now count)) 64 out.old at out.new result }
+    ensures { Put (gaps_text (gaps_in faces.now count)) 64 out.old at out.new result }
 {
     let mut line = [0u8; LINE];
     let n = gaps_line(gaps(faces, count), &mut line);
@@ -63,8 +63,8 @@ pub fn listing(
     faces: &[u16],
     out: &mut [u8; LISTING],
 ) -> usize
-    requires { count ≤ overlayFaces }
-    ensures { Line 85504 (listingText (record { vertices = vertices; edges = edges; faces = count }) faces.now) out.old out.new result }
+    requires { count ≤ overlay_faces }
+    ensures { Line 85504 (listing_text (record { vertices = vertices; edges = edges; faces = count }) faces.now) out.old out.new result }
 {
     let at = put_counts(vertices, edges, count, out);
     let at = put_faces(out, at, count, faces);
@@ -73,7 +73,7 @@ pub fn listing(
 
 // "On refusal the only line is `refused N map M place P`"
 pub fn refused_listing(number: u16, map: u16, place: u16, out: &mut [u8; LISTING]) -> usize
-    ensures { Line 85504 (refusedLine (record { number = number; map = map; place = place; other = 0 })) out.old out.new result }
+    ensures { Line 85504 (refused_line (record { number = number; map = map; place = place; other = 0 })) out.old out.new result }
 {
     let mut line = [0u8; LINE];
     let n = refused_line(number, map, place, &mut line);

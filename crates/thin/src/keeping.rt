@@ -2,10 +2,10 @@
 ghost use Rattle.std.specs.Prelude.{◌≡◌, ◌+◌, ◌*◌, ◌≤◌, length, set};
 ghost use Rattle.seq.specs.Seq.{count, filled};
 ghost use Rattle.seq.specs.Filled.{Holds};
-ghost use Rattle.paper.specs.Limits.{maps, overlayVertices};
-ghost use Rattle.paper.specs.Melt.{isEnd};
+ghost use Rattle.paper.specs.Limits.{maps, overlay_vertices};
+ghost use Rattle.paper.specs.Melt.{is_end};
 ghost use Rattle.overlay_cut.specs.PieceRows.{piece_at};
-ghost use Rattle.thin.specs.Thinned.{differIn, separatesIn, keptIn, flag, marked, Sides, Ends, EdgesIn};
+ghost use Rattle.thin.specs.Thinned.{differ_in, separates_in, kept_in, flag, marked, Sides, Ends, EdgesIn};
 
 use limits::{MAPS, PIECE_WIDTH};
 
@@ -13,7 +13,7 @@ use limits::{MAPS, PIECE_WIDTH};
 fn differ(triples: &[u16], f: usize, g: usize) -> bool
     requires fact_1 { maps * f + maps ≤ length triples.now }
     requires fact_2 { maps * g + maps ≤ length triples.now }
-    ensures { result ≡ differIn triples.now f g }
+    ensures { result ≡ differ_in triples.now f g }
 {
     let mut i = 0;
     while i < MAPS {
@@ -30,7 +30,7 @@ fn differ(triples: &[u16], f: usize, g: usize) -> bool
 // Whether edge k stays: it has not "the same pair on both sides".
 pub fn stays(face: &[u16], triples: &[u16], k: usize) -> bool
     requires { Sides face.now triples.now k }
-    ensures { result ≡ separatesIn face.now triples.now k }
+    ensures { result ≡ separates_in face.now triples.now k }
 {
     let left = face[2 * k] as usize;
     let right = face[2 * k + 1] as usize;
@@ -60,7 +60,7 @@ pub fn mark_ends(
 )
     requires fact_1 { EdgesIn pieces.now face.now triples.now n e }
     requires fact_2 { Holds (λ v. 0) marks.old n }
-    ensures { Holds (λ v. flag (isEnd (keptIn pieces.now face.now triples.now e) v)) marks.new n }
+    ensures { Holds (λ v. flag (is_end (kept_in pieces.now face.now triples.now e) v)) marks.new n }
 {
     let mut k = 0;
     while k < e {
@@ -73,7 +73,7 @@ pub fn mark_ends(
 
 // "numbered afresh": at each of n vertices how many that are marked come before it.
 pub fn number(n: usize, marks: &[u16], numbers: &mut [u16])
-    requires fact_1 { n ≤ overlayVertices }
+    requires fact_1 { n ≤ overlay_vertices }
     requires fact_2 { n ≤ length marks.now }
     requires fact_3 { n ≤ length numbers.old }
     ensures { numbers.new ≡ filled n (count (marked marks.now)) numbers.old }

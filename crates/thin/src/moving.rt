@@ -1,10 +1,10 @@
 // The rows of what stays, moved down in their order.
 ghost use Rattle.std.specs.Prelude.{◌≡◌, map, ◌+◌, ◌*◌, ◌≤◌, length};
-ghost use Rattle.seq.specs.Seq.{count, select, rowStored};
-ghost use Rattle.graph.specs.Flat.{pointAt};
-ghost use Rattle.overlay_cut.specs.Points.{points_of, pointRow};
-ghost use Rattle.overlay_cut.specs.PieceRows.{pieceWidth, piecesIn};
-ghost use Rattle.thin.specs.Thinned.{separatesIn, marked, moved_row, movedPiece, Ends, EdgesIn};
+ghost use Rattle.seq.specs.Seq.{count, select, row_stored};
+ghost use Rattle.graph.specs.Flat.{the_point_at};
+ghost use Rattle.overlay_cut.specs.Points.{points_of, point_row};
+ghost use Rattle.overlay_cut.specs.PieceRows.{piece_width, pieces_in};
+ghost use Rattle.thin.specs.Thinned.{separates_in, marked, moved_row, moved_piece, Ends, EdgesIn};
 
 use crate::keeping::stays;
 use limits::{PIECE_WIDTH, POINT_WIDTH};
@@ -15,7 +15,7 @@ use seq::{store4_i64, store5_u16};
 fn move_point(points: &[i64], v: usize, out: &mut [i64], c: usize)
     requires fact_1 { 4 * v + 4 ≤ length points.now }
     requires fact_2 { 4 * c + 4 ≤ length out.old }
-    ensures { out.new ≡ rowStored 4 out.old c (pointRow (pointAt points.now v)) }
+    ensures { out.new ≡ row_stored 4 out.old c (point_row (the_point_at points.now v)) }
 {
     let at = POINT_WIDTH * v;
     let x = points[at];
@@ -30,7 +30,7 @@ pub fn move_points(n: usize, points: &[i64], marks: &[u16], out: &mut [i64]) -> 
     requires fact_2 { 4 * n ≤ length points.now }
     requires fact_3 { 4 * n ≤ length out.old }
     ensures is { result ≡ count (marked marks.now) n }
-    ensures rows { points_of out.new result ≡ map (pointAt points.now) (select (marked marks.now) n) }
+    ensures rows { points_of out.new result ≡ map (the_point_at points.now) (select (marked marks.now) n) }
 {
     let mut c = 0;
     let mut v = 0;
@@ -47,8 +47,8 @@ pub fn move_points(n: usize, points: &[i64], marks: &[u16], out: &mut [i64]) -> 
 // Stores the piece in row k as row c, between the new numbers of its ends.
 fn move_piece(pieces: &[u16], k: usize, numbers: &[u16], out: &mut [u16], c: usize)
     requires fact_1 { Ends pieces.now (length numbers.now) k }
-    requires fact_2 { pieceWidth * c + pieceWidth ≤ length out.old }
-    ensures { out.new ≡ rowStored pieceWidth out.old c (moved_row pieces.now numbers.now k) }
+    requires fact_2 { piece_width * c + piece_width ≤ length out.old }
+    ensures { out.new ≡ row_stored piece_width out.old c (moved_row pieces.now numbers.now k) }
 {
     let at = PIECE_WIDTH * k;
     let lower = numbers[pieces[at] as usize];
@@ -69,9 +69,9 @@ pub fn move_pieces(
     out: &mut [u16],
 ) -> usize
     requires fact_1 { EdgesIn pieces.now face.now triples.now (length numbers.now) e }
-    requires fact_2 { pieceWidth * e ≤ length out.old }
-    ensures is { result ≡ count (separatesIn face.now triples.now) e }
-    ensures rows { piecesIn out.new result ≡ map (movedPiece pieces.now numbers.now) (select (separatesIn face.now triples.now) e) }
+    requires fact_2 { piece_width * e ≤ length out.old }
+    ensures is { result ≡ count (separates_in face.now triples.now) e }
+    ensures rows { pieces_in out.new result ≡ map (moved_piece pieces.now numbers.now) (select (separates_in face.now triples.now) e) }
 {
     let mut c = 0;
     let mut k = 0;

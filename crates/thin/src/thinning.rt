@@ -1,7 +1,7 @@
 // The overlay's vertices and edges without those that go.
 ghost use Rattle.std.specs.Prelude.{◌*◌, ◌≤◌, length};
-ghost use Rattle.overlay_cut.specs.PieceRows.{pieceWidth};
-ghost use Rattle.overlay_graph.specs.Cut.{cutBy};
+ghost use Rattle.overlay_cut.specs.PieceRows.{piece_width};
+ghost use Rattle.overlay_graph.specs.Cut.{cut_by};
 ghost use Rattle.thin.specs.Thinned.{Thinnable, Thinned};
 
 use crate::keeping::{mark_ends, number};
@@ -22,9 +22,9 @@ pub fn thin(
     newpoints: &mut [i64],
     newpieces: &mut [u16],
 ) -> CutCounts
-    requires fact_1 { Thinnable (cutBy n points.now e pieces.now) face.now triples.now }
-    requires fact_2 { (4 * n ≤ length newpoints.old) × (pieceWidth * e ≤ length newpieces.old) }
-    ensures { Thinned (cutBy n points.now e pieces.now) face.now triples.now (cutBy result.vertices newpoints.new result.edges newpieces.new) }
+    requires fact_1 { Thinnable (cut_by n points.now e pieces.now) face.now triples.now }
+    requires fact_2 { (4 * n ≤ length newpoints.old) × (piece_width * e ≤ length newpieces.old) }
+    ensures { Thinned (cut_by n points.now e pieces.now) face.now triples.now (cut_by result.vertices newpoints.new result.edges newpieces.new) }
 {
     let mut marks = [0u16; VERTICES];
     let mut numbers = [0u16; VERTICES];

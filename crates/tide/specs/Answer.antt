@@ -3,7 +3,7 @@
 use Rattle.paper.specs.Refusal.{Answer, done, refused}
 use Rattle.paper.specs.Tide as paper
 use Rattle.paper.specs.Tide.{unset, ratio, weights, missing, at}
-use Rattle.map_file.specs.Verdict.{refusalOf}
+use Rattle.map_file.specs.Verdict.{refusal_of}
 use Rattle.tide.specs.declared.rule.TideRule.{TideRule}
 use Rattle.tide.specs.declared.rule.TideRule.TheVariants.{Unset, Ratio, Weights}
 use Rattle.tide.specs.declared.rule.Reading.{Reading}
@@ -12,19 +12,19 @@ use Rattle.tide.specs.declared.rule.Height.{Height}
 use Rattle.tide.specs.declared.rule.TideAnswer.{TideAnswer}
 use Rattle.tide.specs.declared.rule.TideAnswer.TheVariants.{Done, Refused}
 
-abbrev pub ruleOf : TideRule → paper.TideRule
-ruleOf Unset = unset
-ruleOf (Ratio r) = ratio r
-ruleOf (Weights a b) = weights a b
+abbrev pub rule_of : TideRule → paper.TideRule
+rule_of Unset = unset
+rule_of (Ratio r) = ratio r
+rule_of (Weights a b) = weights a b
 
 abbrev pub reading_of : Reading → paper.Reading
 reading_of Missing = missing
 reading_of (At z) = at z
 
-abbrev pub heightFrom : Height → paper.Height
-heightFrom t = record { height = t.height; millimetres = t.millimetres; rule = ruleOf t.rule }
+abbrev pub height_from : Height → paper.Height
+height_from t = record { height = t.height; millimetres = t.millimetres; rule = rule_of t.rule }
 
 -- the height, or the refusal with its number, map and place
 abbrev pub answer_of : TideAnswer → Answer paper.Height
-answer_of (Done t) = done (heightFrom t)
-answer_of (Refused r) = refused (refusalOf r)
+answer_of (Done t) = done (height_from t)
+answer_of (Refused r) = refused (refusal_of r)

@@ -6,13 +6,13 @@ use Rattle.seq.specs.Unique.{determined}
 use Rattle.paper.specs.Refusal.{Answer, done, refused, Refusal}
 use Rattle.paper.specs.Tide as paper
 use Rattle.paper.specs.Tide.{unset, ratio, weights, tide}
-use Rattle.map_file.specs.Verdict.{refusalOf}
+use Rattle.map_file.specs.Verdict.{refusal_of}
 use Rattle.tide.specs.declared.rule.TideRule.{TideRule}
 use Rattle.tide.specs.declared.rule.TideRule.TheVariants.{Unset, Ratio, Weights}
 use Rattle.tide.specs.declared.rule.Reading.{Reading}
 use Rattle.tide.specs.declared.rule.TideAnswer.{TideAnswer}
 use Rattle.tide.specs.declared.rule.TideAnswer.TheVariants.{Done, Refused}
-use Rattle.tide.specs.Answer.{ruleOf, reading_of, heightFrom, answer_of}
+use Rattle.tide.specs.Answer.{rule_of, reading_of, height_from, answer_of}
 
 -- ── the parts of a rule ──
 
@@ -34,7 +34,7 @@ second d (weights a b) = b
 other : {A : Type 0} (a b : paper.TideRule) → a ≡ b → (kind a ≡ kind b → ⊥) → A
 other a b e f = absurd (f (ap kind e))
 
-pub rule-only : (a b : TideRule) → ruleOf a ≡ ruleOf b → a ≡ b
+pub rule-only : (a b : TideRule) → rule_of a ≡ rule_of b → a ≡ b
 rule-only Unset Unset e = refl
 rule-only Unset (Ratio r) e = other unset (ratio r) e (λ z. omega arith)
 rule-only Unset (Weights a b) e = other unset (weights a b) e (λ z. omega arith)
@@ -65,15 +65,15 @@ differ a b e f = absurd (f (ap case e))
 -- an answer is that of one outcome
 pub answer-only : (a b : TideAnswer) → answer_of a ≡ answer_of b → a ≡ b
 answer-only (Done a) (Done b) e =
-    let d : heightFrom a ≡ heightFrom b = ap (given (heightFrom a)) e in
+    let d : height_from a ≡ height_from b = ap (given (height_from a)) e in
     let r : a.rule ≡ b.rule = rule-only a.rule b.rule (ap (λ (t : paper.Height). t.rule) d) in
     λ i. Done (record { height = (d i).height; millimetres = (d i).millimetres; rule = r i })
 answer-only (Done a) (Refused b) e = differ (answer_of (Done a)) (answer_of (Refused b)) e (λ z. omega arith)
 answer-only (Refused a) (Done b) e = differ (answer_of (Refused a)) (answer_of (Done b)) e (λ z. omega arith)
 answer-only (Refused a) (Refused b) e =
-    let d : refusalOf a ≡ refusalOf b = ap (refusal (refusalOf a)) e in
+    let d : refusal_of a ≡ refusal_of b = ap (refusal (refusal_of a)) e in
     λ i. Refused (record { number = (d i).number; map = (d i).map; place = (d i).place; other = (d i).other })
 
-pub height-unique : (t : TideRule) (x y : Reading) (a b : TideAnswer) → answer_of a ≡ tide (ruleOf t) (reading_of x) (reading_of y)
-    → answer_of b ≡ tide (ruleOf t) (reading_of x) (reading_of y) → a ≡ b
-height-unique t x y a b p q = answer-only a b (determined (tide (ruleOf t) (reading_of x)) (reading_of y) (answer_of a) (answer_of b) p q)
+pub height-unique : (t : TideRule) (x y : Reading) (a b : TideAnswer) → answer_of a ≡ tide (rule_of t) (reading_of x) (reading_of y)
+    → answer_of b ≡ tide (rule_of t) (reading_of x) (reading_of y) → a ≡ b
+height-unique t x y a b p q = answer-only a b (determined (tide (rule_of t) (reading_of x)) (reading_of y) (answer_of a) (answer_of b) p q)

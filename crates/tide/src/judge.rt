@@ -1,6 +1,6 @@
 // The ranges of ratios, weights and readings, and a reading as a float.
 ghost use Rattle.std.specs.Prelude.{◌≡◌, ◌&&◌};
-ghost use Rattle.paper.specs.Tide.{ratioIn, weightIn, readable, gauge};
+ghost use Rattle.paper.specs.Tide.{ratio_in, weight_in, readable, gauge};
 ghost use Rattle.tide.specs.Answer.{reading_of};
 
 use crate::rule::Reading;
@@ -11,19 +11,19 @@ const LOWEST: i32 = -GAUGE_REACH;
 
 // "a ratio lies from 0.25 to 4, a weight from 0 to 1". With a NaN both comparisons are false.
 pub fn ratio_in(x: f64) -> bool
-    ensures { result ≡ ratioIn x }
+    ensures { result ≡ ratio_in x }
 {
     0.25 <= x && x <= 4.0
 }
 
 fn weight_in(x: f64) -> bool
-    ensures { result ≡ weightIn x }
+    ensures { result ≡ weight_in x }
 {
     0.0 <= x && x <= 1.0
 }
 
 pub fn weights_in(a: f64, b: f64) -> bool
-    ensures { result ≡ (weightIn a && weightIn b) }
+    ensures { result ≡ (weight_in a && weight_in b) }
 {
     weight_in(a) && weight_in(b)
 }

@@ -7,10 +7,10 @@ mod bits; // a float and its bits, for every pattern and every float
 ghost use Rattle.std.specs.Prelude.{◌≡◌, [], ◌∷◌, not};
 ghost use Rattle.seq.specs.Seq.{none};
 ghost use Rattle.paper.specs.Refusal.{given, first_of, answer};
-ghost use Rattle.paper.specs.Tide.{nearestWhole, tide};
+ghost use Rattle.paper.specs.Tide.{nearest_whole, tide};
 ghost use Rattle.map_file.specs.Verdict.{verdict};
 ghost use Rattle.laws_tide.specs.AtMost.{AtMost};
-ghost use Rattle.tide.specs.Answer.{ruleOf, reading_of, answer_of};
+ghost use Rattle.tide.specs.Answer.{rule_of, reading_of, answer_of};
 
 use crate::judge::{both_readable, gauge, ratio_in, readable, weights_in};
 use crate::nearest::nearest;
@@ -28,7 +28,7 @@ fn fault(ranged: bool, readable: bool) -> Check
 // The refusal, or else the height, brought to the nearest whole millimetre.
 fn answered(fault: Check, h: f64, rule: TideRule) -> TideAnswer
     requires { verdict fault ≡ none → AtMost 80000 h }
-    ensures { answer_of result ≡ answer (record { height = h; millimetres = nearestWhole h; rule = ruleOf rule }) (verdict fault) }
+    ensures { answer_of result ≡ answer (record { height = h; millimetres = nearest_whole h; rule = rule_of rule }) (verdict fault) }
 {
     match fault {
         Check::Bad(r) => TideAnswer::Refused(r),
@@ -42,7 +42,7 @@ fn answered(fault: Check, h: f64, rule: TideRule) -> TideAnswer
 
 // The height of tide by a zone's rule and both readings, or the first refusal.
 pub fn height(rule: TideRule, first: Reading, second: Reading) -> TideAnswer
-    ensures { answer_of result ≡ tide (ruleOf rule) (reading_of first) (reading_of second) }
+    ensures { answer_of result ≡ tide (rule_of rule) (reading_of first) (reading_of second) }
 {
     match rule {
         TideRule::Unset => answered(given(14, 0, true), 0.0, rule),

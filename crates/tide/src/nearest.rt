@@ -1,6 +1,6 @@
 // The nearest whole number from a float's bits: "halves away from zero, exactly for the float obtained".
 ghost use Rattle.std.specs.Prelude.{◌≡◌, ◌≤◌};
-ghost use Rattle.paper.specs.Tide.{nearestWhole};
+ghost use Rattle.paper.specs.Tide.{nearest_whole};
 ghost use Rattle.laws_tide.specs.AtMost.{AtMost};
 ghost use Rattle.laws_tide.specs.Pattern.{field, whole_of};
 
@@ -23,7 +23,7 @@ fn magnitude(bits: u64) -> u64
 
 pub fn nearest(x: f64) -> i32
     requires { AtMost 2147483647 x }
-    ensures { result ≡ nearestWhole x }
+    ensures { result ≡ nearest_whole x }
 {
     let bits = f64::to_bits(x);
     let n = magnitude(bits) as i32;

@@ -2,64 +2,64 @@
 use Rattle.std.specs.Prelude.{◌≡◌, refl, ◌≤◌}
 use Rattle.std.proofs.Common.{sym, ◌∙◌, ap, arith, ltb-false}
 use Rattle.seq.specs.Seq.{Bool, true, false, not, ◌&&◌, List, [], ◌∷◌, map, none, ℕ, zero, suc, ◌-◌, min, ltb}
-use Rattle.paper.specs.Limits.{yearFiles, yearPairs}
+use Rattle.paper.specs.Limits.{year_files, year_pairs}
 use Rattle.paper.specs.Refusal as refusal
 use Rattle.paper.specs.Refusal.{given, answer}
-use Rattle.paper.specs.Names.{wholeNames}
+use Rattle.paper.specs.Names.{whole_names}
 use Rattle.paper.specs.Year.{Row}
-use Rattle.laws_refusals.specs.Refusals.{nothing, given-none}
+use Rattle.laws_refusals.specs.Refusals.{nothing, given_none}
 use Rattle.map_file.specs.declared.refusal.Check.{Check}
 use Rattle.map_file.specs.declared.refusal.Check.TheVariants.{Fine, Bad}
 use Rattle.map_file.specs.declared.refusal.Refusal.{Refusal}
-use Rattle.map_file.specs.Verdict.{verdict, refusalOf}
-use Rattle.laws_year.specs.Step.{badFault, rowIs}
-use Rattle.laws_year.specs.Capped.{capFault, capAnswer}
+use Rattle.map_file.specs.Verdict.{verdict, refusal_of}
+use Rattle.laws_year.specs.Step.{bad_fault, the_row_is}
+use Rattle.laws_year.specs.Capped.{cap_fault, cap_answer}
 use Rattle.year.specs.declared.state.Sums.{Sums}
 use Rattle.year.specs.declared.answer.Closed.{Closed}
 use Rattle.year.specs.declared.answer.Closed.TheVariants.{Done, Refused}
-use Rattle.year.specs.TallyRows.{talliesIn}
+use Rattle.year.specs.TallyRows.{tallies_in}
 use Rattle.year.specs.Kept.{kept}
-use Rattle.year.specs.Stated.{minusOne, state_of}
+use Rattle.year.specs.Stated.{minus_one, state_of}
 
 -- of a table t
-abbrev pub closedOf : List ℕ → Closed → refusal.Answer (List Row × ℕ)
-closedOf t (Done x) = refusal.done (map rowIs (talliesIn t x.pairs), x.gaps)
-closedOf t (Refused r) = refusal.refused (refusalOf r)
+abbrev pub closed_of : List ℕ → Closed → refusal.Answer (List Row × ℕ)
+closed_of t (Done x) = refusal.done (map the_row_is (tallies_in t x.pairs), x.gaps)
+closed_of t (Refused r) = refusal.refused (refusal_of r)
 
 -- ── both lists ──
 
-pub torn-second : (a b : Bool) (zs bs : List ℕ) → a ≡ wholeNames zs → b ≡ wholeNames bs → a ≡ true → not b ≡ not (wholeNames zs && wholeNames bs)
-torn-second a b zs bs e f t = ap not f ∙ sym (ap (λ (x : Bool). not (x && wholeNames bs)) (sym e ∙ t))
+pub torn-second : (a b : Bool) (zs bs : List ℕ) → a ≡ whole_names zs → b ≡ whole_names bs → a ≡ true → not b ≡ not (whole_names zs && whole_names bs)
+torn-second a b zs bs e f t = ap not f ∙ sym (ap (λ (x : Bool). not (x && whole_names bs)) (sym e ∙ t))
 
-pub torn-first : (a : Bool) (zs bs : List ℕ) → a ≡ wholeNames zs → a ≡ false → true ≡ not (wholeNames zs && wholeNames bs)
-torn-first a zs bs e t = sym (ap (λ (x : Bool). not (x && wholeNames bs)) (sym e ∙ t))
+pub torn_first : (a : Bool) (zs bs : List ℕ) → a ≡ whole_names zs → a ≡ false → true ≡ not (whole_names zs && whole_names bs)
+torn_first a zs bs e t = sym (ap (λ (x : Bool). not (x && whole_names bs)) (sym e ∙ t))
 
 -- ── the bad file ──
 
-pub bad-none : (b : ℕ) → b ≡ 0 → none ≡ badFault (minusOne b)
-bad-none b e = sym (ap (λ (k : ℕ). badFault (minusOne k)) e)
+pub bad_none : (b : ℕ) → b ≡ 0 → none ≡ bad_fault (minus_one b)
+bad_none b e = sym (ap (λ (k : ℕ). bad_fault (minus_one k)) e)
 
-pub bad-some : (b : ℕ) → (b ≡ 0 → ⊥) → given 17 (b - 1) true ≡ badFault (minusOne b)
-bad-some zero q = absurd (q refl)
-bad-some (suc k) q = let e : suc k - 1 ≡ k = omega arith in ap (λ (j : ℕ). given 17 j true) e
+pub bad_some : (b : ℕ) → (b ≡ 0 → ⊥) → given 17 (b - 1) true ≡ bad_fault (minus_one b)
+bad_some zero q = absurd (q refl)
+bad_some (suc k) q = let e : suc k - 1 ≡ k = omega arith in ap (λ (j : ℕ). given 17 j true) e
 
 -- ── the answer ──
 
 module _ (t : List ℕ) (y : Sums) (zones blocks : List ℕ) where
-  pub refused-is : (c : Check) (r : Refusal) → c ≡ Bad r → verdict c ≡ capFault (state_of [] y) zones blocks → closedOf t (Refused r) ≡ capAnswer (state_of t y) zones blocks
-  refused-is c r e v = ap (answer (map rowIs (kept t y.pairs).tallies, y.gaps)) (sym (ap verdict e) ∙ v)
+  pub refused_is : (c : Check) (r : Refusal) → c ≡ Bad r → verdict c ≡ cap_fault (state_of [] y) zones blocks → closed_of t (Refused r) ≡ cap_answer (state_of t y) zones blocks
+  refused_is c r e v = ap (answer (map the_row_is (kept t y.pairs).tallies, y.gaps)) (sym (ap verdict e) ∙ v)
 
   -- where nothing is refused there are at most 500 pairs
-  few-pairs : none ≡ capFault (state_of [] y) zones blocks → y.pairs ≤ yearPairs
-  few-pairs n =
-      let (a, (b, (d, _))) = nothing (badFault (minusOne y.bad) ∷ given 18 0 (ltb yearFiles y.files) ∷ given 19 0 (ltb yearPairs y.pairs) ∷ given 20 0 (not (wholeNames zones && wholeNames blocks)) ∷ []) (sym n) in
-      ltb-false yearPairs y.pairs (given-none 19 0 (ltb yearPairs y.pairs) d)
+  few_pairs : none ≡ cap_fault (state_of [] y) zones blocks → y.pairs ≤ year_pairs
+  few_pairs n =
+      let (a, (b, (d, _))) = nothing (bad_fault (minus_one y.bad) ∷ given 18 0 (ltb year_files y.files) ∷ given 19 0 (ltb year_pairs y.pairs) ∷ given 20 0 (not (whole_names zones && whole_names blocks)) ∷ []) (sym n) in
+      ltb-false year_pairs y.pairs (given_none 19 0 (ltb year_pairs y.pairs) d)
 
-  pub done-few : (c : Check) → c ≡ Fine → verdict c ≡ capFault (state_of [] y) zones blocks → y.pairs ≤ yearPairs
-  done-few c e v = few-pairs (sym (ap verdict e) ∙ v)
+  pub done_few : (c : Check) → c ≡ Fine → verdict c ≡ cap_fault (state_of [] y) zones blocks → y.pairs ≤ year_pairs
+  done_few c e v = few_pairs (sym (ap verdict e) ∙ v)
 
-  pub done-is : (c : Check) → c ≡ Fine → verdict c ≡ capFault (state_of [] y) zones blocks → closedOf t (Done (record { pairs = y.pairs; gaps = y.gaps })) ≡ capAnswer (state_of t y) zones blocks
-  done-is c e v =
-      let n : none ≡ capFault (state_of t y) zones blocks = sym (ap verdict e) ∙ v in
-      let m : y.pairs ≡ min yearPairs y.pairs = omega (arith, few-pairs n) in
-      ap (λ (k : ℕ). refusal.done (map rowIs (talliesIn t k), y.gaps)) m ∙ ap (answer (map rowIs (kept t y.pairs).tallies, y.gaps)) n
+  pub done_is : (c : Check) → c ≡ Fine → verdict c ≡ cap_fault (state_of [] y) zones blocks → closed_of t (Done (record { pairs = y.pairs; gaps = y.gaps })) ≡ cap_answer (state_of t y) zones blocks
+  done_is c e v =
+      let n : none ≡ cap_fault (state_of t y) zones blocks = sym (ap verdict e) ∙ v in
+      let m : y.pairs ≡ min year_pairs y.pairs = omega (arith, few_pairs n) in
+      ap (λ (k : ℕ). refusal.done (map the_row_is (tallies_in t k), y.gaps)) m ∙ ap (answer (map the_row_is (kept t y.pairs).tallies, y.gaps)) n

@@ -1,11 +1,11 @@
 // What comes of the whole run: 17, 18, 19 and 20, in this order, or the pairs and the gaps.
 ghost use Rattle.std.specs.Prelude.{◌≡◌, not, ◌&&◌, []};
-ghost use Rattle.paper.specs.Names.{wholeNames};
+ghost use Rattle.paper.specs.Names.{whole_names};
 ghost use Rattle.map_file.specs.Verdict.{verdict};
-ghost use Rattle.laws_year.specs.Step.{badFault};
-ghost use Rattle.laws_year.specs.Capped.{capFault, capAnswer};
-ghost use Rattle.year.specs.Stated.{minusOne, state_of, yearState};
-ghost use Rattle.year.specs.Closing.{closedOf};
+ghost use Rattle.laws_year.specs.Step.{bad_fault};
+ghost use Rattle.laws_year.specs.Capped.{cap_fault, cap_answer};
+ghost use Rattle.year.specs.Stated.{minus_one, state_of, year_state};
+ghost use Rattle.year.specs.Closing.{closed_of};
 
 use crate::state::{Sums, Year};
 use limits::{YEAR_FILES, YEAR_PAIRS};
@@ -27,14 +27,14 @@ pub enum Closed {
 
 // Whether one of two lists ends inside an entry.
 fn torn(zones: &[u8], blocks: &[u8]) -> bool
-    ensures { result ≡ not (wholeNames zones.now && wholeNames blocks.now) }
+    ensures { result ≡ not (whole_names zones.now && whole_names blocks.now) }
 {
     if whole(zones) { !whole(blocks) } else { true }
 }
 
 // 17, by the number of the first bad file + 1, or 0.
 fn bad_file(bad: u16) -> Check
-    ensures { verdict result ≡ badFault (minusOne bad) }
+    ensures { verdict result ≡ bad_fault (minus_one bad) }
 {
     if bad == 0 {
         return Check::Fine;
@@ -44,7 +44,7 @@ fn bad_file(bad: u16) -> Check
 
 // What the year is refused for.
 fn fault(sums: Sums, zones: &[u8], blocks: &[u8]) -> Check
-    ensures { verdict result ≡ capFault (state_of [] sums) zones.now blocks.now }
+    ensures { verdict result ≡ cap_fault (state_of [] sums) zones.now blocks.now }
 {
     let bad = bad_file(sums.bad);
     let many = given(18, 0, YEAR_FILES < sums.files);
@@ -55,7 +55,7 @@ fn fault(sums: Sums, zones: &[u8], blocks: &[u8]) -> Check
 
 // What comes of the files that were added, with two lists of names.
 pub fn close(year: Year, zones: &[u8], blocks: &[u8]) -> Closed
-    ensures { closedOf year.rows result ≡ capAnswer (yearState year) zones.now blocks.now }
+    ensures { closed_of year.rows result ≡ cap_answer (year_state year) zones.now blocks.now }
 {
     let sums = year.sums;
     match fault(sums, zones, blocks) {

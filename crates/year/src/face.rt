@@ -1,13 +1,13 @@
 // One face more in a table of pairs in order: rows of zone, block, sheets, faces, and the last file that has the pair.
 ghost use Rattle.std.specs.Prelude.{◌≡◌, true, ◌&&◌, ◌+◌, ◌*◌, ◌≤◌, ◌<◌, ltb, length};
-ghost use Rattle.seq.specs.Seq.{rowStored};
-ghost use Rattle.seq.specs.Placed.{placeBy};
-ghost use Rattle.seq.specs.RowInserted.{rowInserted};
-ghost use Rattle.seq.specs.PairOrder.{pairBefore, same_pair};
-ghost use Rattle.paper.specs.Limits.{yearPairs};
-ghost use Rattle.laws_year.specs.Step.{firstFace};
-ghost use Rattle.laws_year.specs.Capped.{capFace};
-ghost use Rattle.year.specs.TallyRows.{tallyWidth, tallyAt, pair_at, talliesIn, cells_of, again};
+ghost use Rattle.seq.specs.Seq.{row_stored};
+ghost use Rattle.seq.specs.Placed.{place_by};
+ghost use Rattle.seq.specs.RowInserted.{row_inserted};
+ghost use Rattle.seq.specs.PairOrder.{pair_before, same_pair};
+ghost use Rattle.paper.specs.Limits.{year_pairs};
+ghost use Rattle.laws_year.specs.Step.{first_face};
+ghost use Rattle.laws_year.specs.Capped.{cap_face};
+ghost use Rattle.year.specs.TallyRows.{tally_width, tally_at, pair_at, tallies_in, cells_of, again};
 ghost use Rattle.year.specs.Risen.{InOrder};
 ghost use Rattle.year.specs.Kept.{kept, Few, most};
 
@@ -16,8 +16,8 @@ use seq::{lift_u32, store5_u32};
 
 // Whether the pair in row r comes before this one.
 fn earlier(rows: &[u32], r: usize, zone: u32, block: u32) -> bool
-    requires { tallyWidth * r + tallyWidth ≤ length rows.now }
-    ensures { result ≡ pairBefore (pair_at rows.now r) (zone, block) }
+    requires { tally_width * r + tally_width ≤ length rows.now }
+    ensures { result ≡ pair_before (pair_at rows.now r) (zone, block) }
 {
     let at = TALLY_WIDTH * r;
     let first = rows[at];
@@ -30,8 +30,8 @@ fn earlier(rows: &[u32], r: usize, zone: u32, block: u32) -> bool
 
 // Whether the pairs of the first n rows are in strict order, as after any files: each row is compared with the next.
 pub fn in_order(rows: &[u32], n: usize) -> bool
-    requires { tallyWidth * n ≤ length rows.now }
-    ensures { result ≡ true → InOrder (talliesIn rows.now n) }
+    requires { tally_width * n ≤ length rows.now }
+    ensures { result ≡ true → InOrder (tallies_in rows.now n) }
 {
     if n == 0 {
         return true;
@@ -51,8 +51,8 @@ pub fn in_order(rows: &[u32], n: usize) -> bool
 
 // The first of n rows whose pair does not come before this one, or n: one row after the other.
 fn place_in_turn(rows: &[u32], n: usize, zone: u32, block: u32) -> usize
-    requires { tallyWidth * n ≤ length rows.now }
-    ensures { result ≡ placeBy pairBefore (zone, block) (pair_at rows.now) n }
+    requires { tally_width * n ≤ length rows.now }
+    ensures { result ≡ place_by pair_before (zone, block) (pair_at rows.now) n }
 {
     let mut k = 0;
     while k < n {
@@ -67,9 +67,9 @@ fn place_in_turn(rows: &[u32], n: usize, zone: u32, block: u32) -> usize
 
 // The same by halves, of rows in order.
 fn place_by_halves(rows: &[u32], n: usize, zone: u32, block: u32) -> usize
-    requires fact_1 { tallyWidth * n ≤ length rows.now }
-    requires fact_2 { InOrder (talliesIn rows.now n) }
-    ensures { result ≡ placeBy pairBefore (zone, block) (pair_at rows.now) n }
+    requires fact_1 { tally_width * n ≤ length rows.now }
+    requires fact_2 { InOrder (tallies_in rows.now n) }
+    ensures { result ≡ place_by pair_before (zone, block) (pair_at rows.now) n }
 {
     let mut low = 0;
     let mut high = n;
@@ -86,9 +86,9 @@ fn place_by_halves(rows: &[u32], n: usize, zone: u32, block: u32) -> usize
 
 // By halves where the rows are known to be in order.
 fn place(rows: &[u32], n: usize, zone: u32, block: u32, ordered: bool) -> usize
-    requires fact_1 { tallyWidth * n ≤ length rows.now }
-    requires fact_2 { (ordered ≡ true → InOrder (talliesIn rows.now n)) }
-    ensures { result ≡ placeBy pairBefore (zone, block) (pair_at rows.now) n }
+    requires fact_1 { tally_width * n ≤ length rows.now }
+    requires fact_2 { (ordered ≡ true → InOrder (tallies_in rows.now n)) }
+    ensures { result ≡ place_by pair_before (zone, block) (pair_at rows.now) n }
 {
     if ordered {
         return place_by_halves(rows, n, zone, block);
@@ -98,7 +98,7 @@ fn place(rows: &[u32], n: usize, zone: u32, block: u32, ordered: bool) -> usize
 
 // Whether row r of n has this pair.
 fn stands(rows: &[u32], n: usize, r: usize, zone: u32, block: u32) -> bool
-    requires { tallyWidth * n ≤ length rows.now }
+    requires { tally_width * n ≤ length rows.now }
     ensures { result ≡ (ltb r n && same_pair (pair_at rows.now r) (zone, block)) }
 {
     if n <= r {
@@ -114,9 +114,9 @@ fn stands(rows: &[u32], n: usize, r: usize, zone: u32, block: u32) -> bool
 
 // The sheets of row r with one more face of this file: the file counts once.
 fn sheets(rows: &[u32], r: usize, file: u32) -> u32
-    requires fact_1 { tallyWidth * r + tallyWidth ≤ length rows.now }
-    requires fact_2 { (tallyAt rows.now r).sheets ≤ most }
-    ensures { result ≡ (again file (tallyAt rows.now r)).sheets }
+    requires fact_1 { tally_width * r + tally_width ≤ length rows.now }
+    requires fact_2 { (tally_at rows.now r).sheets ≤ most }
+    ensures { result ≡ (again file (tally_at rows.now r)).sheets }
 {
     let at = TALLY_WIDTH * r;
     let so_far = rows[at + 2];
@@ -129,9 +129,9 @@ fn sheets(rows: &[u32], r: usize, file: u32) -> u32
 
 // One face more of this file in row r.
 fn count(rows: &mut [u32], r: usize, file: u32)
-    requires fact_1 { tallyWidth * r + tallyWidth ≤ length rows.old }
-    requires fact_2 { ((tallyAt rows.old r).sheets ≤ most) × ((tallyAt rows.old r).faces ≤ most) }
-    ensures { rows.new ≡ rowStored tallyWidth rows.old r (cells_of (again file (tallyAt rows.old r))) }
+    requires fact_1 { tally_width * r + tally_width ≤ length rows.old }
+    requires fact_2 { ((tally_at rows.old r).sheets ≤ most) × ((tally_at rows.old r).faces ≤ most) }
+    ensures { rows.new ≡ row_stored tally_width rows.old r (cells_of (again file (tally_at rows.old r))) }
 {
     let s = sheets(rows, r, file);
     let at = TALLY_WIDTH * r;
@@ -143,9 +143,9 @@ fn count(rows: &mut [u32], r: usize, file: u32)
 
 // A new pair in row r of n, the rows from r on moved up by one.
 fn open_row(rows: &mut [u32], n: usize, r: usize, zone: u32, block: u32, file: u32)
-    requires fact_1 { tallyWidth * n + tallyWidth ≤ length rows.old }
+    requires fact_1 { tally_width * n + tally_width ≤ length rows.old }
     requires fact_2 { r ≤ n }
-    ensures { rows.new ≡ rowInserted tallyWidth rows.old n r (cells_of (firstFace file (zone, block))) }
+    ensures { rows.new ≡ row_inserted tally_width rows.old n r (cells_of (first_face file (zone, block))) }
 {
     lift_u32(rows, TALLY_WIDTH * r, TALLY_WIDTH * n, TALLY_WIDTH);
     store5_u32(rows, r, zone, block, 1, 1, file);
@@ -160,10 +160,10 @@ pub fn add_face(
     file: u32,
     ordered: bool,
 ) -> usize
-    requires fact_1 { tallyWidth * yearPairs ≤ length rows.old }
+    requires fact_1 { tally_width * year_pairs ≤ length rows.old }
     requires fact_2 { Few most (kept rows.old n).tallies }
     requires fact_3 { (ordered ≡ true → InOrder (kept rows.old n).tallies) }
-    ensures { kept rows.new result ≡ capFace file (kept rows.old n) (zone, block) }
+    ensures { kept rows.new result ≡ cap_face file (kept rows.old n) (zone, block) }
 {
     if YEAR_PAIRS < n {
         return n;

@@ -1,15 +1,15 @@
 // One file more.
 ghost use Rattle.std.specs.Prelude.{◌≡◌, ◌-◌, ◌*◌, ◌≤◌, ◌<◌, length};
 ghost use Rattle.seq.specs.Seq.{some};
-ghost use Rattle.paper.specs.Limits.{yearFiles, yearPairs};
-ghost use Rattle.paper.specs.Year.{sheetOf};
-ghost use Rattle.laws_year.specs.Step.{orFirst};
-ghost use Rattle.laws_year.specs.Capped.{capRead};
-ghost use Rattle.ovfile.specs.Values.{layoutFrom};
+ghost use Rattle.paper.specs.Limits.{year_files, year_pairs};
+ghost use Rattle.paper.specs.Year.{sheet_of};
+ghost use Rattle.laws_year.specs.Step.{or_first};
+ghost use Rattle.laws_year.specs.Capped.{cap_read};
+ghost use Rattle.ovfile.specs.Values.{layout_from};
 ghost use Rattle.ovfile.specs.Known.{Known};
-ghost use Rattle.year.specs.TallyRows.{tallyWidth};
-ghost use Rattle.year.specs.Faced.{pairsFrom, others};
-ghost use Rattle.year.specs.Stated.{minusOne, state_of, yearState, next, Roomy};
+ghost use Rattle.year.specs.TallyRows.{tally_width};
+ghost use Rattle.year.specs.Faced.{pairs_from, others};
+ghost use Rattle.year.specs.Stated.{minus_one, state_of, year_state, next, Roomy};
 
 use crate::face::in_order;
 use crate::faces::{add_faces, gaps};
@@ -21,8 +21,8 @@ use ovfile_read::{counts, faces_start, judge, layout_in};
 
 // The first bad file + 1, where the next one is bad.
 fn first_bad(bad: u16, files: u16) -> u16
-    requires { files < yearFiles }
-    ensures { minusOne result ≡ orFirst (minusOne bad) files }
+    requires { files < year_files }
+    ensures { minus_one result ≡ or_first (minus_one bad) files }
 {
     if bad == 0 { files + 1 } else { bad }
 }
@@ -36,11 +36,11 @@ fn others(faces: u16) -> usize
 
 // A file that is read, with n faces other than 0.
 fn add_sheet(layout: Layout, file: &[u8], n: usize, rows: &mut [u32], sums: Sums) -> Sums
-    requires fact_1 { Known (layoutFrom layout) }
+    requires fact_1 { Known (layout_from layout) }
     requires fact_2 { n ≤ others }
     requires fact_3 { Roomy rows.old sums }
-    requires fact_4 { sums.files < yearFiles }
-    ensures { state_of rows.new result ≡ capRead (state_of rows.old sums) (some (pairsFrom (layoutFrom layout) file.now n)) }
+    requires fact_4 { sums.files < year_files }
+    ensures { state_of rows.new result ≡ cap_read (state_of rows.old sums) (some (pairs_from (layout_from layout) file.now n)) }
 {
     let number = sums.files + 1;
     let start = faces_start(layout, file);
@@ -67,8 +67,8 @@ fn add_sheet(layout: Layout, file: &[u8], n: usize, rows: &mut [u32], sums: Sums
 // A file among the first 400, as the reader judges it.
 fn add_read(rows: &mut [u32], sums: Sums, file: &[u8]) -> Sums
     requires fact_1 { Roomy rows.old sums }
-    requires fact_2 { sums.files < yearFiles }
-    ensures { state_of rows.new result ≡ capRead (state_of rows.old sums) (sheetOf file.now) }
+    requires fact_2 { sums.files < year_files }
+    ensures { state_of rows.new result ≡ cap_read (state_of rows.old sums) (sheet_of file.now) }
 {
     let check = judge(file, VERTEX_CELLS, HALF_CELLS, SOURCE_CELLS, FACE_CELLS);
     match check {
@@ -90,8 +90,8 @@ fn add_read(rows: &mut [u32], sums: Sums, file: &[u8]) -> Sums
 
 // Any file: after the first 400 it is only counted, and not read.
 fn add_file(rows: &mut [u32], sums: Sums, file: &[u8]) -> Sums
-    requires { tallyWidth * yearPairs ≤ length rows.old }
-    ensures { state_of rows.new result ≡ next (state_of rows.old sums) (sheetOf file.now) }
+    requires { tally_width * year_pairs ≤ length rows.old }
+    ensures { state_of rows.new result ≡ next (state_of rows.old sums) (sheet_of file.now) }
 {
     if !has_room(rows, sums) {
         return sums;
@@ -109,7 +109,7 @@ fn add_file(rows: &mut [u32], sums: Sums, file: &[u8]) -> Sums
 
 // One file more.
 pub fn add(year: Year, file: &[u8]) -> Year
-    ensures { yearState result ≡ next (yearState year) (sheetOf file.now) }
+    ensures { year_state result ≡ next (year_state year) (sheet_of file.now) }
 {
     let mut rows = year.rows;
     let sums = add_file(&mut rows, year.sums, file);

@@ -1,10 +1,10 @@
 // The year so far, which goes in and comes back by value; and whether a file's faces can be added to every count of it.
 ghost use Rattle.std.specs.Prelude.{◌≡◌, ◌+◌, ◌*◌, ◌≤◌, min, length};
-ghost use Rattle.seq.specs.HowMany.{howMany};
-ghost use Rattle.paper.specs.Limits.{yearPairs};
-ghost use Rattle.laws_year.specs.Capped.{capStart};
-ghost use Rattle.year.specs.TallyRows.{tallyWidth, tallyAt, talliesIn};
-ghost use Rattle.year.specs.Stated.{state_of, yearState, isFull, hasRoom};
+ghost use Rattle.seq.specs.HowMany.{how_many};
+ghost use Rattle.paper.specs.Limits.{year_pairs};
+ghost use Rattle.laws_year.specs.Capped.{cap_start};
+ghost use Rattle.year.specs.TallyRows.{tally_width, tally_at, tallies_in};
+ghost use Rattle.year.specs.Stated.{state_of, year_state, is_full, has_room};
 
 use limits::{OVERLAY_FACES, TALLY_CELLS, TALLY_WIDTH, YEAR_PAIRS};
 
@@ -29,7 +29,7 @@ pub struct Year {
 
 // No file yet.
 pub fn begin() -> Year
-    ensures { yearState result ≡ capStart }
+    ensures { year_state result ≡ cap_start }
 {
     Year {
         rows: [0; TALLY_CELLS],
@@ -47,8 +47,8 @@ const ROOMY: u32 = 4294967295 - OVERLAY_FACES as u32;
 
 // Whether a count of row r is over it.
 fn full(rows: &[u32], r: usize) -> bool
-    requires { tallyWidth * r + tallyWidth ≤ length rows.now }
-    ensures { result ≡ isFull (tallyAt rows.now r) }
+    requires { tally_width * r + tally_width ≤ length rows.now }
+    ensures { result ≡ is_full (tally_at rows.now r) }
 {
     let at = TALLY_WIDTH * r;
     if ROOMY < rows[at + 2] {
@@ -59,8 +59,8 @@ fn full(rows: &[u32], r: usize) -> bool
 
 // In how many of the first n rows one is.
 fn full_rows(rows: &[u32], n: usize) -> usize
-    requires { tallyWidth * n ≤ length rows.now }
-    ensures { result ≡ howMany isFull (talliesIn rows.now n) }
+    requires { tally_width * n ≤ length rows.now }
+    ensures { result ≡ how_many is_full (tallies_in rows.now n) }
 {
     let mut total = 0;
     let mut r = 0;
@@ -75,7 +75,7 @@ fn full_rows(rows: &[u32], n: usize) -> usize
 
 // The pairs that are in the table.
 pub fn kept_pairs(pairs: usize) -> usize
-    ensures { result ≡ min yearPairs pairs }
+    ensures { result ≡ min year_pairs pairs }
 {
     if pairs < YEAR_PAIRS {
         pairs
@@ -86,8 +86,8 @@ pub fn kept_pairs(pairs: usize) -> usize
 
 // Whether a file's faces can be added to every count. They can after any files; a state that no files give may have counts that leave no room.
 pub fn has_room(rows: &[u32], sums: Sums) -> bool
-    requires { tallyWidth * yearPairs ≤ length rows.now }
-    ensures { result ≡ hasRoom (state_of rows.now sums) }
+    requires { tally_width * year_pairs ≤ length rows.now }
+    ensures { result ≡ has_room (state_of rows.now sums) }
 {
     if full_rows(rows, kept_pairs(sums.pairs)) != 0 {
         return false;

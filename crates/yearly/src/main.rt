@@ -1,7 +1,7 @@
 // yearly ZONE-NAMES BLOCK-NAMES FILE...: the year in whole numbers. For each pair of zone and block that occurs on a face other than 0 of the overlay files a line `ZONE BLOCK SHEETS FACES NAME`,
 // sorted by pair, then `gaps N`; or the line of what is refused. A list of names that cannot be opened is an empty one. Every hundred files a line on standard error says how far it is.
 ghost use Rattle.std.specs.Prelude.{◌≡◌, ◌<◌, length};
-ghost use Rattle.paper.specs.Limits.{yearPairs};
+ghost use Rattle.paper.specs.Limits.{year_pairs};
 
 use console::{load_arg, say, say_number, say_refused};
 use libc::STDERR_FILENO;
@@ -66,7 +66,7 @@ fn label(rows: &[u32], at: usize) -> u16 {
 
 // `ZONE BLOCK SHEETS FACES NAME`: the name's bytes as they stand in their list.
 fn say_row<'a>(rows: &[u32], r: usize, zones: &'a [u8], blocks: &'a [u8])
-    requires { r < yearPairs }
+    requires { r < year_pairs }
 {
     let at = TALLY_WIDTH * r;
     say_cell(rows, at);

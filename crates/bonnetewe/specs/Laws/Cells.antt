@@ -4,25 +4,25 @@ use Rattle.std.specs.Prelude.{◌≡◌, ◌<◌, ◌≤◌}
 use Rattle.std.proofs.Common.{sym, ◌∙◌, ap, arith}
 use borrow.Author.Tests.{ltb-false}
 use Rattle.seq.specs.Seq.{Bool, not, List, [], ◌∷◌, ◌++◌, map, Option, none, ℕ, ◌%◌, ltb, eqb, length, get_or}
-use Rattle.seq.specs.Tests.{or-false}
+use Rattle.seq.specs.Tests.{or_false}
 use Rattle.seq.specs.Terms.{Every}
 use Rattle.seq.specs.Table.{table_at}
-use Rattle.paper.specs.Limits.{listSoundings}
-use Rattle.paper.specs.Refusal.{Refusal, Answer, done, refused, given, first_at, first_of, ofMap}
-use Rattle.paper.specs.Map.{mapOf, fault}
+use Rattle.paper.specs.Limits.{list_soundings}
+use Rattle.paper.specs.Refusal.{Refusal, Answer, done, refused, given, first_at, first_of, the_of_map}
+use Rattle.paper.specs.Map.{map_of, fault}
 use Rattle.paper.specs.Soundings as paper
-use Rattle.paper.specs.Soundings.{Cells, Entry, CountRoom, entryRoom, soundingsIn, cells, readIn, tally, badList, far, soundings}
-use Rattle.laws_refusals.specs.Refusals.{nothing, given-none}
-use Rattle.bonnetewe.specs.Sounded.{toldCells, toldRead, readCell, ToldCells}
+use Rattle.paper.specs.Soundings.{Cells, Entry, CountRoom, entry_room, soundings_in, cells, read_in, tally, bad_list, far, soundings}
+use Rattle.laws_refusals.specs.Refusals.{nothing, given_none}
+use Rattle.bonnetewe.specs.Sounded.{told_cells, told_read, read_cell, ToldCells}
 use Rattle.bonnetewe.specs.Laws.Means.{Sound, four-apart}
-use Rattle.bonnetewe.specs.Laws.Sound.{Fit, given-fits, at-fits, then-fits, of-fits, sound-by, fault-fits}
+use Rattle.bonnetewe.specs.Laws.Sound.{Fit, given_fits, at_fits, then_fits, of_fits, sound_by, fault_fits}
 
 abbrev pub CellsFit : Cells → Type 0
 CellsFit c = (c.entries < 65536) × (c.soundings < 65536)
 
 -- ── one number and one cell tell one answer ──
 
-pub told-cells-means : (a b : Answer Cells) → Sound CellsFit a → Sound CellsFit b → toldCells a ≡ toldCells b → toldRead a ≡ toldRead b → a ≡ b
+pub told-cells-means : (a b : Answer Cells) → Sound CellsFit a → Sound CellsFit b → told_cells a ≡ told_cells b → told_read a ≡ told_read b → a ≡ b
 told-cells-means (done c) (done k) (v, w) (x, y) e f =
     let t = four-apart 0 c.entries c.soundings 0 0 k.entries k.soundings 0 (omega arith) v w (omega arith) x y e in
     λ i. done (record { entries = t.1 i; soundings = t.2 i; read = f i })
@@ -41,40 +41,40 @@ module _ (l : CountRoom) (a b s : List ℕ) where
   files = a ∷ b ∷ []
 
   abbrev pairs : List Entry
-  pairs = tally (cells (map mapOf files) s)
+  pairs = tally (cells (map map_of files) s)
 
   abbrev full : Bool
-  full = ltb (entryRoom (length files) l) (length pairs)
+  full = ltb (entry_room (length files) l) (length pairs)
 
   -- of the maps and the list; and of what is looked at only where these keep their rules
   abbrev heads : List (Option Refusal)
-  heads = ofMap 1 (fault a) ∷ ofMap 2 (fault b) ∷ given 12 0 (badList s) ∷ []
+  heads = the_of_map 1 (fault a) ∷ the_of_map 2 (fault b) ∷ given 12 0 (bad_list s) ∷ []
 
   abbrev rest : List (Option Refusal)
-  rest = first_at 13 (far s) (soundingsIn s) ∷ given 11 6 full ∷ []
+  rest = first_at 13 (far s) (soundings_in s) ∷ given 11 6 full ∷ []
 
-  few : given 12 0 (badList s) ≡ none → soundingsIn s ≤ listSoundings
-  few e = ltb-false listSoundings (soundingsIn s) (or-false (not (eqb (length s % 4) 0)) (ltb listSoundings (soundingsIn s)) (given-none 12 0 (badList s) e)).1
+  few : given 12 0 (bad_list s) ≡ none → soundings_in s ≤ list_soundings
+  few e = ltb-false list_soundings (soundings_in s) (or_false (not (eqb (length s % 4) 0)) (ltb list_soundings (soundings_in s)) (given_none 12 0 (bad_list s) e)).1
 
   heads-fit : Every Fit heads
   heads-fit = (
-    of-fits 1 (fault a) (omega arith) (fault-fits a),
-    (of-fits 2 (fault b) (omega arith) (fault-fits b), (given-fits 12 0 (badList s) (omega arith) (omega arith) (omega arith), tt)),
+    of_fits 1 (fault a) (omega arith) (fault_fits a),
+    (of_fits 2 (fault b) (omega arith) (fault_fits b), (given_fits 12 0 (bad_list s) (omega arith) (omega arith) (omega arith), tt)),
   )
 
   pub cells-sound : Sound CellsFit (soundings l (a ∷ b ∷ []) s).answer
   unfolding soundings
   cells-sound =
-      sound-by CellsFit (record { entries = length pairs; soundings = soundingsIn s; read = readIn (map mapOf files) s }) (first_of (heads ++ rest))
-      (then-fits heads rest heads-fit
-      (λ n. (at-fits 13 (far s) (soundingsIn s) (omega arith) (omega arith) (omega (arith, few n.1.1.0)), (given-fits 11 6 full (omega arith) (omega arith) (omega arith), tt))))
+      sound_by CellsFit (record { entries = length pairs; soundings = soundings_in s; read = read_in (map map_of files) s }) (first_of (heads ++ rest))
+      (then_fits heads rest heads-fit
+      (λ n. (at_fits 13 (far s) (soundings_in s) (omega arith) (omega arith) (omega (arith, few n.1.1.0)), (given_fits 11 6 full (omega arith) (omega arith) (omega arith), tt))))
       (λ e. let n = nothing (heads ++ rest) e in
-      let room : length pairs ≤ entryRoom (length files) l = ltb-false (entryRoom (length files) l) (length pairs) (given-none 11 6 full n.1.1.1.1.0) in
+      let room : length pairs ≤ entry_room (length files) l = ltb-false (entry_room (length files) l) (length pairs) (given_none 11 6 full n.1.1.1.1.0) in
       (omega (arith, room), omega (arith, few n.1.1.0)))
 
 -- the first cell of a table that has one
-first_cell : {o : paper.Counted} {n : ℕ} {ls cs q : List ℕ} {r : ℕ} → 0 < n → ToldCells o n ls cs q r → get_or q 0 0 ≡ toldRead o.answer
-first_cell {o} {n} h t = ap (λ (x : List ℕ). get_or x 0 0) t.read ∙ table_at (readCell (toldRead o.answer)) n 0 0 h
+first_cell : {o : paper.Counted} {n : ℕ} {ls cs q : List ℕ} {r : ℕ} → 0 < n → ToldCells o n ls cs q r → get_or q 0 0 ≡ told_read o.answer
+first_cell {o} {n} h t = ap (λ (x : List ℕ). get_or x 0 0) t.read ∙ table_at (read_cell (told_read o.answer)) n 0 0 h
 
 -- of bonnetewe_soundings: whatever the maps, the lists and the lent tables are
 pub cells-means : (l k : CountRoom) (a b s x y z : List ℕ) (n m : ℕ) → 0 < n → 0 < m → {ls cs q us vs w : List ℕ} {r : ℕ}

@@ -5,7 +5,7 @@ use Rattle.std.proofs.Common.{ap, arith}
 use Rattle.seq.specs.Seq.{ℕ, ◌+◌, ◌*◌}
 use Rattle.paper.specs.Refusal.{Refusal, Answer, done, refused}
 use Rattle.paper.specs.Tables.{Counts}
-use Rattle.bonnetewe.specs.Told.{four, told, toldMap, toldLength}
+use Rattle.bonnetewe.specs.Told.{four, told, told_map, told_length}
 
 -- what is counted is small, or the refusal has a number and all of it is small
 abbrev pub Sound : {A : Type 0} → (A → Type 0) → Answer A → Type 0
@@ -49,7 +49,7 @@ told-means (refused r) (refused s) (o, n, m, k, j) (p, x, y, z, i) e =
 abbrev pub PairFits : ℕ × ℕ → Type 0
 PairFits c = (c.0 < 65536) × (c.1 < 65536)
 
-pub told-map-means : (a b : Answer (ℕ × ℕ)) → Sound PairFits a → Sound PairFits b → toldMap a ≡ toldMap b → a ≡ b
+pub told-map-means : (a b : Answer (ℕ × ℕ)) → Sound PairFits a → Sound PairFits b → told_map a ≡ told_map b → a ≡ b
 told-map-means (done c) (done k) (v, w) (x, y) e =
     let t = four-apart 0 c.0 c.1 0 0 k.0 k.1 0 (omega arith) v w (omega arith) x y e in
     λ i. done (t.1 i, t.2 i)
@@ -61,7 +61,7 @@ told-map-means (refused r) (refused s) (o, n, m, k, j) (p, x, y, z, i) e =
     let t = four-apart r.number r.map r.place r.other s.number s.map s.place s.other n m k x y z e in
     ap refused (refusals r s t.0 t.1 t.2 t.3)
 
-pub told-length-means : (a b : Answer ℕ) → Sound (λ n. Unit {0}) a → Sound (λ n. Unit {0}) b → toldLength a ≡ toldLength b → a ≡ b
+pub told-length-means : (a b : Answer ℕ) → Sound (λ n. Unit {0}) a → Sound (λ n. Unit {0}) b → told_length a ≡ told_length b → a ≡ b
 told-length-means (done n) (done k) h l e = ap done (omega (arith, e))
 told-length-means (done c) (refused s) h (o, n, m, k, j) e = absurd (omega (arith, o, n, e))
 told-length-means (refused r) (done c) (o, n, m, k, j) h e = absurd (omega (arith, o, n, e))

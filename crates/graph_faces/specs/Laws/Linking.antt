@@ -6,30 +6,30 @@ use Rattle.seq.specs.Seq.{List, Option·getD, ℕ, ◌*◌, length, get_or, take
 use Rattle.seq.specs.Table.{table-ext}
 use Rattle.seq.specs.Filled.{filled-ext, Holds, filled-holds, holds-ext}
 use Rattle.paper.specs.Limits.{absent}
-use Rattle.paper.specs.Graph.{Graph, halfCount, follower, followers, heading, greatestOut}
-use Rattle.paper.specs.Faces.{walksOf, leadAt}
+use Rattle.paper.specs.Graph.{Graph, the_half_count, follower, followers, heading, greatest_out}
+use Rattle.paper.specs.Faces.{walks_of, lead_at}
 use Rattle.laws_graph.specs.Plane.{Plane}
-use Rattle.laws_graph.specs.Walks.{lead_is, lead-below}
-use Rattle.graph.specs.Flat.{flatGraph, Flat, Numbers}
+use Rattle.laws_graph.specs.Walks.{lead_is, lead_below}
+use Rattle.graph.specs.Flat.{flat_graph, Flat, Numbers}
 use Rattle.graph.specs.Laws.Decode.{flat-halves}
 use Rattle.graph.specs.Heading.{row}
-use Rattle.graph.specs.Follow.{Headings, Heads, followerAt, heads-laid, headings-laid, followers-flat}
+use Rattle.graph.specs.Follow.{Headings, Heads, follower_at, heads-laid, headings-laid, followers-flat}
 use Rattle.graph_faces.specs.Lead.{Permutes}
-use Rattle.graph.specs.Stars.{greatestAt, Apart, flat-apart}
-use Rattle.graph_faces.specs.Turns.{lowAt, topAt}
+use Rattle.graph.specs.Stars.{greatest_at, Apart, flat-apart}
+use Rattle.graph_faces.specs.Turns.{low_at, top_at}
 use Rattle.graph_faces.specs.Linked.{Linked, Led}
-use Rattle.graph_faces.specs.Walked.{top_of, next-permutes, front-leader, flat-greatest, flat-top, low-cell}
+use Rattle.graph_faces.specs.Walked.{top_of, next_permutes, front-leader, flat-greatest, flat-top, low_cell}
 
-module _ (ps : List ℤ) (os : List ℕ) (cs : List ℤ) (n e : ℕ) (F : Flat ps os cs n e) (P : Plane (flatGraph ps os cs n e)) where
+module _ (ps : List ℤ) (os : List ℕ) (cs : List ℤ) (n e : ℕ) (F : Flat ps os cs n e) (P : Plane (flat_graph ps os cs n e)) where
   abbrev g : Graph
-  g = flatGraph ps os cs n e
+  g = flat_graph ps os cs n e
 
   -- by the definition's own count
-  halves : 2 * e ≡ halfCount g
+  halves : 2 * e ≡ the_half_count g
   halves = sym (flat-halves ps os cs n e)
 
-  of-count : {f : ℕ → ℕ} {t : List ℕ} → Holds f t (2 * e) → Holds f t (halfCount g)
-  of-count {f} {t} h = subst (Holds f t) halves h
+  of_count : {f : ℕ → ℕ} {t : List ℕ} → Holds f t (2 * e) → Holds f t (the_half_count g)
+  of_count {f} {t} h = subst (Holds f t) halves h
 
   -- ── headings ──
 
@@ -49,72 +49,72 @@ module _ (ps : List ℤ) (os : List ℕ) (cs : List ℤ) (n e : ℕ) (F : Flat p
 
   -- ── followers ──
 
-  module _ (ways : List ℤ) (H : Heads ps os cs n e ways) (d : List ℕ) (room : 2 * e ≤ length d) (next : List ℕ) (is : next ≡ filled (2 * e) (followerAt os ways (2 * e)) d) where
-    pub next-filled : next ≡ filled (2 * e) (follower g) d
-    next-filled = is ∙ followers-flat ps os cs n e ways H d
+  module _ (ways : List ℤ) (H : Heads ps os cs n e ways) (d : List ℕ) (room : 2 * e ≤ length d) (next : List ℕ) (is : next ≡ filled (2 * e) (follower_at os ways (2 * e)) d) where
+    pub next_filled : next ≡ filled (2 * e) (follower g) d
+    next_filled = is ∙ followers-flat ps os cs n e ways H d
 
-    pub next-holds : Holds (follower g) next (2 * e)
-    next-holds = filled-holds (follower g) next d (2 * e) room next-filled
+    pub next_holds : Holds (follower g) next (2 * e)
+    next_holds = filled-holds (follower g) next d (2 * e) room next_filled
 
-  pub next-permuted : (next : List ℕ) → Holds (follower g) next (2 * e) → Permutes next (2 * e)
-  next-permuted next h = subst (Permutes next) (sym halves) (next-permutes g P next (of-count h))
+  pub next_permuted : (next : List ℕ) → Holds (follower g) next (2 * e) → Permutes next (2 * e)
+  next_permuted next h = subst (Permutes next) (sym halves) (next_permutes g P next (of_count h))
 
   -- ── least half-edges ──
 
   module _ (next : List ℕ) (N : Holds (follower g) next (2 * e)) (d : List ℕ) (room : 2 * e ≤ length d) (lead : List ℕ) (is : lead ≡ filled (2 * e) (leader (take (2 * e) next)) d) where
-    leader-is : (h : ℕ) → h < 2 * e → leader (take (2 * e) next) h ≡ leadAt (walksOf g) h
-    leader-is h l = ap (λ (k : ℕ). leader (take k next) h) halves ∙ front-leader g P next (of-count N) h (omega (arith, halves))
+    leader_is : (h : ℕ) → h < 2 * e → leader (take (2 * e) next) h ≡ lead_at (walks_of g) h
+    leader_is h l = ap (λ (k : ℕ). leader (take k next) h) halves ∙ front-leader g P next (of_count N) h (omega (arith, halves))
 
-    pub lead-filled : lead ≡ filled (2 * e) (leadAt (walksOf g)) d
-    lead-filled = is ∙ filled-ext (leader (take (2 * e) next)) (leadAt (walksOf g)) (2 * e) d leader-is
+    pub lead-filled : lead ≡ filled (2 * e) (lead_at (walks_of g)) d
+    lead-filled = is ∙ filled-ext (leader (take (2 * e) next)) (lead_at (walks_of g)) (2 * e) d leader_is
 
-    pub lead-holds : Holds (leadAt (walksOf g)) lead (2 * e)
-    lead-holds = filled-holds (leadAt (walksOf g)) lead d (2 * e) room lead-filled
+    pub lead-holds : Holds (lead_at (walks_of g)) lead (2 * e)
+    lead-holds = filled-holds (lead_at (walks_of g)) lead d (2 * e) room lead-filled
 
-  pub lead-numbers : (lead : List ℕ) → Holds (leadAt (walksOf g)) lead (2 * e) → Numbers lead (2 * e) (2 * e)
-  lead-numbers lead h = record { long = h.long; named = λ i l. omega (arith, halves, h.at i l, lead-below g P i (omega (arith, halves))) }
+  pub lead-numbers : (lead : List ℕ) → Holds (lead_at (walks_of g)) lead (2 * e) → Numbers lead (2 * e) (2 * e)
+  lead-numbers lead h = record { long = h.long; named = λ i l. omega (arith, halves, h.at i l, lead_below g P i (omega (arith, halves))) }
 
   -- ── greatest angles ──
 
-  pub greatest-holds : (ways : List ℤ) → Heads ps os cs n e ways → (d : List ℕ) → n ≤ length d → (out : List ℕ) → out ≡ filled n (greatestAt os ways (2 * e)) d → Holds (λ v. Option·getD (greatestOut g v) absent) out n
+  pub greatest-holds : (ways : List ℤ) → Heads ps os cs n e ways → (d : List ℕ) → n ≤ length d → (out : List ℕ) → out ≡ filled n (greatest_at os ways (2 * e)) d → Holds (λ v. Option·getD (greatest_out g v) absent) out n
   greatest-holds ways H d room out is =
-      holds-ext (greatestAt os ways (2 * e)) (λ v. Option·getD (greatestOut g v) absent) out n (λ v l. flat-greatest ps os cs n e F ways H v) (filled-holds (greatestAt os ways (2 * e)) out d n room is)
+      holds-ext (greatest_at os ways (2 * e)) (λ v. Option·getD (greatest_out g v) absent) out n (λ v l. flat-greatest ps os cs n e F ways H v) (filled-holds (greatest_at os ways (2 * e)) out d n room is)
 
   -- ── smallest vertices ──
 
-  pub low-holds : (lead : List ℕ) (k : ℕ) → 2 * e ≤ k → (low : List ℕ) → low ≡ filled (2 * e) (lowAt ps os lead (2 * e)) (replicate k 0) → Holds (lowAt ps os lead (2 * e)) low (2 * e)
-  low-holds lead k room low is = made (lowAt ps os lead (2 * e)) (2 * e) k low room is
+  pub low_holds : (lead : List ℕ) (k : ℕ) → 2 * e ≤ k → (low : List ℕ) → low ≡ filled (2 * e) (low_at ps os lead (2 * e)) (replicate k 0) → Holds (low_at ps os lead (2 * e)) low (2 * e)
+  low_holds lead k room low is = made (low_at ps os lead (2 * e)) (2 * e) k low room is
 
-  module _ (lead low : List ℕ) (L : Holds (leadAt (walksOf g)) lead (2 * e)) (O : Holds (lowAt ps os lead (2 * e)) low (2 * e)) where
-    pub low-cells : (h : ℕ) → h < 2 * e → get_or low (get_or lead h 0) 0 < 2 * e
-    low-cells h l = low-cell ps os cs n e F P lead L h l low O
+  module _ (lead low : List ℕ) (L : Holds (lead_at (walks_of g)) lead (2 * e)) (O : Holds (low_at ps os lead (2 * e)) low (2 * e)) where
+    pub low_cells : (h : ℕ) → h < 2 * e → get_or low (get_or lead h 0) 0 < 2 * e
+    low_cells h l = low_cell ps os cs n e F P lead L h l low O
 
-    pub top-filled : (out : List ℕ) → Holds (λ v. Option·getD (greatestOut g v) absent) out n → (d top : List ℕ) → top ≡ filled (2 * e) (topAt os lead low out) d → top ≡ filled (2 * e) (top_of g) d
+    pub top-filled : (out : List ℕ) → Holds (λ v. Option·getD (greatest_out g v) absent) out n → (d top : List ℕ) → top ≡ filled (2 * e) (top_at os lead low out) d → top ≡ filled (2 * e) (top_of g) d
     top-filled out G d top is =
-        is ∙ filled-ext (topAt os lead low out) (top_of g) (2 * e) d (λ h l. flat-top ps os cs n e F P lead L h l low out O G)
+        is ∙ filled-ext (top_at os lead low out) (top_of g) (2 * e) d (λ h l. flat-top ps os cs n e F P lead L h l low out O G)
 
   -- ── the tables that are handed on ──
 
   -- by the definition's own count
-  pub over-is : (f : ℕ → ℕ) (d t : List ℕ) → t ≡ filled (2 * e) f d → t ≡ over (table f (halfCount g)) d
-  over-is f d t is = is ∙ ap (λ (j : ℕ). filled j f d) halves
+  pub over_is : (f : ℕ → ℕ) (d t : List ℕ) → t ≡ filled (2 * e) f d → t ≡ over (table f (the_half_count g)) d
+  over_is f d t is = is ∙ ap (λ (j : ℕ). filled j f d) halves
 
-  leads-table : table (leadAt (walksOf g)) (halfCount g) ≡ (walksOf g).lead
-  leads-table = table-ext (leadAt (walksOf g)) (leader (followers g)) (halfCount g) (lead_is g P)
+  leads-table : table (lead_at (walks_of g)) (the_half_count g) ≡ (walks_of g).lead
+  leads-table = table-ext (lead_at (walks_of g)) (leader (followers g)) (the_half_count g) (lead_is g P)
 
-  pub leads-over : (d t : List ℕ) → t ≡ filled (2 * e) (leadAt (walksOf g)) d → t ≡ over (walksOf g).lead d
-  leads-over d t is = over-is (leadAt (walksOf g)) d t is ∙ ap (λ (l : List ℕ). over l d) leads-table
+  pub leads_over : (d t : List ℕ) → t ≡ filled (2 * e) (lead_at (walks_of g)) d → t ≡ over (walks_of g).lead d
+  leads_over d t is = over_is (lead_at (walks_of g)) d t is ∙ ap (λ (l : List ℕ). over l d) leads-table
 
   -- what they hold
   pub linked-led : {next₀ lead₀ top₀ : List ℕ} (next lead top : List ℕ) → Linked g next₀ lead₀ top₀ next lead top → 2 * e ≤ length lead₀ → 2 * e ≤ length top₀ → Led g lead top
   linked-led {next₀} {lead₀} {top₀} next lead top A long-lead long-top = record {
-    leads = filled-holds (leadAt (walksOf g)) lead lead₀ (halfCount g) (omega (arith, halves, long-lead)) (A.lead_is ∙ ap (λ (l : List ℕ). over l lead₀) (sym leads-table));
-    tops = filled-holds (top_of g) top top₀ (halfCount g) (omega (arith, halves, long-top)) A.top-is;
+    leads = filled-holds (lead_at (walks_of g)) lead lead₀ (the_half_count g) (omega (arith, halves, long-lead)) (A.lead_is ∙ ap (λ (l : List ℕ). over l lead₀) (sym leads-table));
+    tops = filled-holds (top_of g) top top₀ (the_half_count g) (omega (arith, halves, long-top)) A.top_is;
   }
 
   module _ (lead top : List ℕ) (A : Led g lead top) where
-    pub led-lead : Holds (leadAt (walksOf g)) lead (2 * e)
-    led-lead = subst (Holds (leadAt (walksOf g)) lead) (sym halves) A.leads
+    pub led-lead : Holds (lead_at (walks_of g)) lead (2 * e)
+    led-lead = subst (Holds (lead_at (walks_of g)) lead) (sym halves) A.leads
 
     pub led-top : Holds (top_of g) top (2 * e)
     led-top = subst (Holds (top_of g) top) (sym halves) A.tops

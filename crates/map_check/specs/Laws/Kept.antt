@@ -2,13 +2,13 @@
 -- ends that name vertices (7). Assumes nothing.
 use Rattle.std.specs.Prelude.{◌≤◌, ◌<◌}
 use Rattle.seq.specs.Seq.{List, ℕ, ◌+◌, ◌*◌}
-use Rattle.paper.specs.Limits.{mapVertices, mapEdges}
-use Rattle.paper.specs.Map.{vertexCount, edgesIn, cornerAt, originAt}
+use Rattle.paper.specs.Limits.{map_vertices, map_edges}
+use Rattle.paper.specs.Map.{vertex_count, edges_in, corner_at, origin_at}
 use Rattle.plane.specs.Bounds.{Corner}
 
 pub record Kept (s : List ℕ) : Type 0 where
-  pub few-vertices : vertexCount s ≤ mapVertices
-  pub few-edges : edgesIn s ≤ mapEdges
-  pub near : (v : ℕ) → v < vertexCount s → Corner (cornerAt s v)
-  pub from : (k : ℕ) → k < edgesIn s → originAt s (2 * k) < vertexCount s
-  pub to : (k : ℕ) → k < edgesIn s → originAt s (2 * k + 1) < vertexCount s
+  pub few_vertices : vertex_count s ≤ map_vertices
+  pub few_edges : edges_in s ≤ map_edges
+  pub near : (v : ℕ) → v < vertex_count s → Corner (corner_at s v)
+  pub from : (k : ℕ) → k < edges_in s → origin_at s (2 * k) < vertex_count s
+  pub to : (k : ℕ) → k < edges_in s → origin_at s (2 * k + 1) < vertex_count s

@@ -5,7 +5,7 @@ use mir.Syntax.{w16}
 use mir.Val.{SFits, to_z, of_z}
 use mir.ValLaws.{to_z-of_z}
 use Rattle.paper.specs.Plane.{Vec, vec}
-use Rattle.paper.specs.Meeting.{meetCorners}
+use Rattle.paper.specs.Meeting.{meet_corners}
 use borrow.Author.Rules.{rules}
 use Rattle.meet.proofs.meet.Statement.{statement}
 use Rattle.meet.proofs.meet.Tie as tie
@@ -23,7 +23,7 @@ returns c =
     let b = named n.bx n.by f.bx f.by c.before.before.before.corner2.ensures in
     let e = named n.cx n.cy f.cx f.cy c.before.before.corner3.ensures in
     let d = named n.dx n.dy f.dx f.dy c.before.corner4.ensures in
-    c.meet-corners.ensures ∙ (λ i. meetCorners (a i) (b i) (e i) (d i))
+    c.meet-corners.ensures ∙ (λ i. meet_corners (a i) (b i) (e i) (d i))
 
 pub meet-spec : {M : Type 1} → statement M
 meet-spec =

@@ -3,9 +3,9 @@ use mathlib.Core.Path.{◌≡◌, refl, sym, ◌∙◌, ap, subst}
 use Prim.Native.Nat.{ℕ, ◌+◌, ◌-◌}
 use native.Mathlib.Nat.{add_comm}
 use lib.ListN.{length, take, drop}
-use Rattle.paper.specs.Names.{nameLength}
+use Rattle.paper.specs.Names.{name_length}
 use Rattle.names.specs.Parts.{IsPart}
-use Rattle.names.specs.Walking.{Seeking, seek-starts, walk_end, seek-turns, seek_found, seek-ends}
+use Rattle.names.specs.Walking.{Seeking, seek_starts, walk_end, seek_turns, seek_found, seek_ends}
 use borrow.Author.Rules.{rules}
 use native.Mathlib.Omega.{arith}
 use Rattle.names.proofs.entry.Statement.{statement}
@@ -18,7 +18,7 @@ abbrev decreases-loop : tie.decreases-loop
 decreases-loop list label i₀ end₀ i end = length list - i
 
 loop-holds : tie.Need-loop-init invariant-loop decreases-loop
-loop-holds c = seek-starts _ _ _ c.entry-end.ensures
+loop-holds c = seek_starts _ _ _ c.entry-end.ensures
 
 sub-result : tie.Need-overflow-sub-result invariant-loop decreases-loop
 sub-result c = let e = walk_end _ c.before.before.before.loop.invariant.walking c.before.before.loop-test.true in omega (arith, e.0)
@@ -36,7 +36,7 @@ returns c =
     let r = c.before.before.before.before.loop.invariant in
     let n = c.before.before.before.loop-test.true in
     let e = (walk_end _ r.walking n).0 in
-    let d : c.before.before.before.before.loop.end - (i + 3) ≡ nameLength a.list.now i = omega (arith, e) in
+    let d : c.before.before.before.before.loop.end - (i + 3) ≡ name_length a.list.now i = omega (arith, e) in
     subst (IsPart a.list _) (sym (seek_found _ r n (sym c.before.before.u16-at.ensures ∙ c.before.if1.true)))
     (record { there = ap (λ (m : ℕ). (a.list.ref_ptr.0, m)) (add_comm (i + 3) a.list.ref_ptr.1); is = ap (λ (m : ℕ). take m (drop (i + 3) a.list.now)) d })
 
@@ -48,12 +48,12 @@ loop-less c = let e = walk_end _ c.before.before.before.before.loop.invariant.wa
 
 loop-again : tie.Need-loop-preserved invariant-loop decreases-loop
 loop-again c =
-    seek-turns _ c.before.before.before.before.loop.invariant c.before.before.before.loop-test.true (λ h. c.before.if1.false (c.before.before.u16-at.ensures ∙ h)) _ c.entry-end2.ensures
+    seek_turns _ c.before.before.before.before.loop.invariant c.before.before.before.loop-test.true (λ h. c.before.if1.false (c.before.before.u16-at.ensures ∙ h)) _ c.entry-end2.ensures
 
 returns-2 : tie.Need-returns-2 invariant-loop decreases-loop
 returns-2 c =
     let a = c.before.before.before.before.before.args in
-    subst (IsPart a.list _) (sym (seek-ends _ c.before.before.loop.invariant c.before.loop-test.false))
+    subst (IsPart a.list _) (sym (seek_ends _ c.before.before.loop.invariant c.before.loop-test.false))
     (record { there = ap (λ (m : ℕ). (a.list.ptr.0, m)) (add_comm 0 a.list.ptr.1); is = refl })
 
 pub entry_spec : {M : Type 1} → statement M

@@ -1,7 +1,7 @@
 -- `names::whole` meets its contract. Assumes nothing.
 use Prim.Native.Nat.{◌-◌}
 use lib.ListN.{length}
-use Rattle.names.specs.Walking.{Passing, pass-starts, walk_end, pass-turns, pass-ends}
+use Rattle.names.specs.Walking.{Passing, pass_starts, walk_end, pass_turns, pass_ends}
 use borrow.Author.Rules.{rules}
 use native.Mathlib.Omega.{arith}
 use Rattle.names.proofs.whole.Statement.{statement}
@@ -14,7 +14,7 @@ abbrev decreases-loop : tie.decreases-loop
 decreases-loop list i₀ end₀ i end = length list - i
 
 loop-holds : tie.Need-loop-init invariant-loop decreases-loop
-loop-holds c = pass-starts _ _ c.entry-end.ensures
+loop-holds c = pass_starts _ _ c.entry-end.ensures
 
 entry-end-requires-2 : tie.Need-entry-end-requires-2 invariant-loop decreases-loop
 entry-end-requires-2 c κs = (walk_end _ c.before.loop.invariant.walking c.loop-test.true).1
@@ -23,10 +23,10 @@ loop-less : tie.Need-loop-smaller invariant-loop decreases-loop
 loop-less c = let e = walk_end _ c.before.before.loop.invariant.walking c.before.loop-test.true in omega (arith, e.0, e.1)
 
 loop-again : tie.Need-loop-preserved invariant-loop decreases-loop
-loop-again c = pass-turns _ c.before.before.loop.invariant c.before.loop-test.true _ c.entry-end2.ensures
+loop-again c = pass_turns _ c.before.before.loop.invariant c.before.loop-test.true _ c.entry-end2.ensures
 
 returns : tie.Need-returns invariant-loop decreases-loop
-returns c = pass-ends _ c.before.loop.invariant c.loop-test.false
+returns c = pass_ends _ c.before.loop.invariant c.loop-test.false
 
 pub whole-spec : {M : Type 1} → statement M
 whole-spec =

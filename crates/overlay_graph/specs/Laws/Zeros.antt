@@ -6,12 +6,12 @@ use Rattle.seq.specs.Seq.{List, ℕ, ◌-◌, length, replicate, over}
 use Rattle.seq.specs.Wiped.{over_zeros}
 use Rattle.overlay_graph.specs.Traced.{Blank, Zeroed}
 
-pub blank-long : (n : ℕ) (t : List ℕ) → Blank n t → n ≤ length t
-blank-long n t B = omega (arith, B.room, ap length B.is, length-replicate {A = ℕ} B.cells 0)
+pub blank_long : (n : ℕ) (t : List ℕ) → Blank n t → n ≤ length t
+blank_long n t B = omega (arith, B.room, ap length B.is, length-replicate {A = ℕ} B.cells 0)
 
-pub zeroed-long : (xs t : List ℕ) → Zeroed xs t → length xs ≤ length t
-zeroed-long xs t Z = omega (arith, ap length Z.is, length-append xs (replicate (Z.cells - length xs) 0))
+pub zeroed_long : (xs t : List ℕ) → Zeroed xs t → length xs ≤ length t
+zeroed_long xs t Z = omega (arith, ap length Z.is, length-append xs (replicate (Z.cells - length xs) 0))
 
 -- what is laid over zeros
-pub over-blank : (n : ℕ) (xs d t : List ℕ) → Blank n d → t ≡ over xs d → Zeroed xs t
-over-blank n xs d t B e = record { cells = B.cells; is = e ∙ ap (over xs) B.is ∙ over_zeros 0 B.cells xs }
+pub over_blank : (n : ℕ) (xs d t : List ℕ) → Blank n d → t ≡ over xs d → Zeroed xs t
+over_blank n xs d t B e = record { cells = B.cells; is = e ∙ ap (over xs) B.is ∙ over_zeros 0 B.cells xs }

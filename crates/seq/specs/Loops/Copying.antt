@@ -13,12 +13,12 @@ pub record Copying {A : Type 0} (xs d : List A) (at : ℕ) (t : List A) (i : ℕ
   pub is : t ≡ sets d at (take i xs)
 
 module _ {A : Type 0} {xs d : List A} {at : ℕ} where
-  pub copy-starts : Copying xs d at d 0
-  copy-starts = record { within = omega arith; kept = refl; is = refl }
+  pub copy_starts : Copying xs d at d 0
+  copy_starts = record { within = omega arith; kept = refl; is = refl }
 
   module _ {t : List A} {i : ℕ} (r : Copying xs d at t i) where
-    pub copy-turns : (z : A) → i < length xs → Copying xs d at (set t (at + i) (get_or xs i z)) (i + 1)
-    copy-turns z h =
+    pub copy_turns : (z : A) → i < length xs → Copying xs d at (set t (at + i) (get_or xs i z)) (i + 1)
+    copy_turns z h =
         let x = get_or xs i z in
         let e : length (take i xs) ≡ i = length-take i xs ∙ omega arith in
         let s : set t (at + i) x ≡ sets d at (take (i + 1) xs) =
@@ -26,5 +26,5 @@ module _ {A : Type 0} {xs d : List A} {at : ℕ} where
         ∙ stored-behind d at (take i xs) (x ∷ []) ∙ ap (sets d at) (sym (take-suc xs i z h)) ∙ ap (λ (k : ℕ). sets d at (take k xs)) (sym (add-one i)) in
         record { within = omega arith; kept = ap length s ∙ length-sets d at (take (i + 1) xs); is = s }
 
-    pub copy-ends : length xs ≤ i → t ≡ sets d at xs
-    copy-ends h = r.is ∙ ap (sets d at) (take_all i xs h)
+    pub copy_ends : length xs ≤ i → t ≡ sets d at xs
+    copy_ends h = r.is ∙ ap (sets d at) (take_all i xs h)

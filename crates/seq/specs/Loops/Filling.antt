@@ -13,12 +13,12 @@ pub record Filling {A : Type 0} (f : ℕ → A) (n : ℕ) (d t : List A) (i : �
   pub is : t ≡ filled i f d
 
 module _ {A : Type 0} {f : ℕ → A} {n : ℕ} {d : List A} where
-  pub fill-starts : n ≤ length d → Filling f n d d 0
-  fill-starts h = record { room = h; within = omega arith; kept = refl; is = filled_none f d }
+  pub fill_starts : n ≤ length d → Filling f n d d 0
+  fill_starts h = record { room = h; within = omega arith; kept = refl; is = filled_none f d }
 
   module _ {t : List A} {i : ℕ} (r : Filling f n d t i) where
-    pub fill-turns : {v : A} → i < n → v ≡ f i → Filling f n d (set t i v) (i + 1)
-    fill-turns {v} l e =
+    pub fill_turns : {v : A} → i < n → v ≡ f i → Filling f n d (set t i v) (i + 1)
+    fill_turns {v} l e =
         record {
           room = r.room;
           within = omega arith;
@@ -26,5 +26,5 @@ module _ {A : Type 0} {f : ℕ → A} {n : ℕ} {d : List A} where
           is = ap (λ (x : List A). set x i v) r.is ∙ filled_more f i d v (omega (arith, r.room)) e;
         }
 
-    pub fill-ends : n ≤ i → t ≡ filled n f d
-    fill-ends l = let s : i ≡ n = omega (arith, r.within) in r.is ∙ ap (λ (j : ℕ). filled j f d) s
+    pub fill_ends : n ≤ i → t ≡ filled n f d
+    fill_ends l = let s : i ≡ n = omega (arith, r.within) in r.is ∙ ap (λ (j : ℕ). filled j f d) s

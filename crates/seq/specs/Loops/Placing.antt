@@ -4,7 +4,7 @@
 use Rattle.std.specs.Prelude.{◌≡◌, refl, ◌≤◌, ◌<◌, set}
 use Rattle.std.proofs.Common.{sym, ◌∙◌, ap, arith, length-set}
 use Rattle.seq.specs.Seq.{List, ℕ, suc, ◌-◌, length, firsts}
-use Rattle.seq.specs.Firsts.{firsts-none, firsts-stored}
+use Rattle.seq.specs.Firsts.{firsts_none, firsts-stored}
 
 -- t is what the loop has made of d where it is down to i
 pub record Placing (key : ℕ → ℕ) (m : ℕ) (d t : List ℕ) (i : ℕ) : Type 0 where
@@ -13,14 +13,14 @@ pub record Placing (key : ℕ → ℕ) (m : ℕ) (d t : List ℕ) (i : ℕ) : Ty
   pub is : t ≡ firsts key i (m - i) d
 
 module _ {key : ℕ → ℕ} {m : ℕ} {d : List ℕ} where
-  pub place-starts : Placing key m d d m
-  place-starts =
+  pub place_starts : Placing key m d d m
+  place_starts =
       let z : m - m ≡ 0 = omega arith in
-      record { within = omega arith; kept = refl; is = firsts-none key m d ∙ ap (λ (j : ℕ). firsts key m j d) (sym z) }
+      record { within = omega arith; kept = refl; is = firsts_none key m d ∙ ap (λ (j : ℕ). firsts key m j d) (sym z) }
 
   module _ {t : List ℕ} {i : ℕ} (r : Placing key m d t i) where
-    pub place-turns : {u : List ℕ} → 0 < i → u ≡ set t (key (i - 1)) (i - 1) → Placing key m d u (i - 1)
-    place-turns {u} l e =
+    pub place_turns : {u : List ℕ} → 0 < i → u ≡ set t (key (i - 1)) (i - 1) → Placing key m d u (i - 1)
+    place_turns {u} l e =
         let s : i ≡ suc (i - 1) = omega arith in
         let more : suc (m - i) ≡ m - (i - 1) = omega (arith, r.within) in
         record {
@@ -31,8 +31,8 @@ module _ {key : ℕ → ℕ} {m : ℕ} {d : List ℕ} where
               ∙ firsts-stored key (i - 1) (m - i) d ∙ ap (λ (j : ℕ). firsts key (i - 1) j d) more;
         }
 
-    pub place-ends : i ≤ 0 → t ≡ firsts key 0 m d
-    place-ends l =
+    pub place_ends : i ≤ 0 → t ≡ firsts key 0 m d
+    place_ends l =
         let z : i ≡ 0 = omega arith in
         let w : m - 0 ≡ m = omega arith in
         r.is ∙ ap (λ (j : ℕ). firsts key j (m - j) d) z ∙ ap (λ (j : ℕ). firsts key 0 j d) w

@@ -4,8 +4,8 @@
 use Rattle.std.specs.Prelude.{◌≡◌, refl, ◌≤◌, ◌<◌}
 use Rattle.std.proofs.Common.{sym, ◌∙◌, ap, zero-add, arith}
 use Rattle.std.proofs.Math.Seq.{length-sets}
-use Rattle.seq.specs.Seq.{List, ℕ, ◌+◌, ◌*◌, length, sets, rows, laid, padded, rowStored, wiped}
-use Rattle.seq.specs.Over.{stored-behind, stored-first}
+use Rattle.seq.specs.Seq.{List, ℕ, ◌+◌, ◌*◌, length, sets, rows, laid, padded, row_stored, wiped}
+use Rattle.seq.specs.Over.{stored-behind, stored_first}
 use Rattle.seq.specs.Rows.{length-rows, rows_more}
 use Rattle.seq.specs.Wiped.{stored-wiped}
 
@@ -21,11 +21,11 @@ Laying w f n d t i = Storing w f 0 n d t i
 
 module _ {A : Type 0} {w : ℕ} {f : ℕ → List A} where
   module _ {at n : ℕ} {d : List A} where
-    pub store-starts : at + w * n ≤ length d → Storing w f at n d d 0
-    store-starts h = record { room = h; within = omega arith; kept = refl; is = refl }
+    pub store_starts : at + w * n ≤ length d → Storing w f at n d d 0
+    store_starts h = record { room = h; within = omega arith; kept = refl; is = refl }
 
-    pub store-turns : {t : List A} {i : ℕ} → Storing w f at n d t i → {u : List A} → ((k : ℕ) → length (f k) ≡ w) → i < n → u ≡ sets t (at + w * i) (f i) → Storing w f at n d u (i + 1)
-    store-turns {t} {i} r {u} each l e =
+    pub store_turns : {t : List A} {i : ℕ} → Storing w f at n d t i → {u : List A} → ((k : ℕ) → length (f k) ≡ w) → i < n → u ≡ sets t (at + w * i) (f i) → Storing w f at n d u (i + 1)
+    store_turns {t} {i} r {u} each l e =
         record {
           room = r.room;
           within = omega arith;
@@ -35,20 +35,20 @@ module _ {A : Type 0} {w : ℕ} {f : ℕ → List A} where
               ∙ stored-behind d at (rows f i) (f i) ∙ ap (sets d at) (sym (rows_more f i));
         }
 
-    pub store-ends : {t : List A} {i : ℕ} → Storing w f at n d t i → n ≤ i → t ≡ sets d at (rows f n)
-    store-ends {t} {i} r l = let e : i ≡ n = omega (arith, r.within) in r.is ∙ ap (λ (k : ℕ). sets d at (rows f k)) e
+    pub store_ends : {t : List A} {i : ℕ} → Storing w f at n d t i → n ≤ i → t ≡ sets d at (rows f n)
+    store_ends {t} {i} r l = let e : i ≡ n = omega (arith, r.within) in r.is ∙ ap (λ (k : ℕ). sets d at (rows f k)) e
 
   -- ── from the start on ──
 
   module _ {n : ℕ} {d : List A} where
-    pub lay-starts : w * n ≤ length d → Laying w f n d d 0
-    lay-starts h = store-starts (omega arith)
+    pub lay_starts : w * n ≤ length d → Laying w f n d d 0
+    lay_starts h = store_starts (omega arith)
 
-    pub lay-turns : {t : List A} {i : ℕ} → Laying w f n d t i → {u vs : List A} → ((k : ℕ) → length (f k) ≡ w) → i < n → u ≡ rowStored w t i vs → vs ≡ f i → Laying w f n d u (i + 1)
-    lay-turns {t} {i} r each l e g = store-turns r each l (e ∙ ap (rowStored w t i) g ∙ ap (λ (k : ℕ). sets t k (f i)) (sym (zero-add (w * i))))
+    pub lay_turns : {t : List A} {i : ℕ} → Laying w f n d t i → {u vs : List A} → ((k : ℕ) → length (f k) ≡ w) → i < n → u ≡ row_stored w t i vs → vs ≡ f i → Laying w f n d u (i + 1)
+    lay_turns {t} {i} r each l e g = store_turns r each l (e ∙ ap (row_stored w t i) g ∙ ap (λ (k : ℕ). sets t k (f i)) (sym (zero-add (w * i))))
 
-    pub lay-ends : {t : List A} {i : ℕ} → Laying w f n d t i → ((k : ℕ) → length (f k) ≡ w) → n ≤ i → t ≡ laid n f d
-    lay-ends r each l = store-ends r l ∙ stored-first d (rows f n) (omega (arith, r.room, length-rows w f n (λ j m. each j)))
+    pub lay_ends : {t : List A} {i : ℕ} → Laying w f n d t i → ((k : ℕ) → length (f k) ≡ w) → n ≤ i → t ≡ laid n f d
+    lay_ends r each l = store_ends r l ∙ stored_first d (rows f n) (omega (arith, r.room, length-rows w f n (λ j m. each j)))
 
 -- wiped past the rows it is the rows and zeros
 pub laid-wiped : {A : Type 0} (z : A) (w : ℕ) (f : ℕ → List A) → ((j : ℕ) → length (f j) ≡ w) → (n : ℕ) (d : List A) {k : ℕ} {t u : List A} → w * n ≤ length d → t ≡ sets d 0 (rows f n) → u ≡ wiped z k t → k ≡ w * n

@@ -4,7 +4,7 @@ use mathlib.Core.List.{[], ◌∷◌, append-nil}
 use lib.ListN.{length}
 use Rattle.paper.specs.Soundings.{soundings}
 use Rattle.laws_soundings.specs.Run.{Run, next}
-use Rattle.soundings.specs.Answer.{roomBy}
+use Rattle.soundings.specs.Answer.{room_by}
 use Rattle.soundings.specs.Unique.{run-answer}
 use borrow.Author.Rules.{rules}
 use Rattle.soundings.proofs.soundings.Statement.{statement}
@@ -13,7 +13,7 @@ use Rattle.soundings.proofs.soundings.Tie as tie
 returns : tie.Need-returns
 returns c =
     let a = c.before.before.before.before.before.before.before.before.before.before.before.before.before.before.args in
-    let l = roomBy (length a.labels.now) (length a.counts.now) in
+    let l = room_by (length a.labels.now) (length a.counts.now) in
     let s = a.list.now in
     let x = c.before.before.before.before.before.before.before.add in
     let y = c.before.before.before.before.close in

@@ -8,17 +8,17 @@ use lib.IntN.{ℤ}
 use borrow.Author.Rules.{rules}
 use Rattle.paper.specs.Refusal.{answer, done}
 use Rattle.paper.specs.Tide as paper
-use Rattle.paper.specs.Tide.{nearestWhole}
+use Rattle.paper.specs.Tide.{nearest_whole}
 use Rattle.laws_tide.specs.AtMost.{wider}
 use Rattle.map_file.specs.Verdict.{verdict}
 use Rattle.map_file.specs.declared.refusal.Check.{Check}
-use Rattle.tide.specs.Answer.{ruleOf}
+use Rattle.tide.specs.Answer.{rule_of}
 use Rattle.tide.proofs.answered.Statement.{statement}
 use Rattle.tide.proofs.answered.Tie as tie
 
 -- what is answered where nothing is refused
 abbrev made : tie.Start → paper.Height
-made z = record { height = z.args.h; millimetres = nearestWhole z.args.h; rule = ruleOf z.args.rule }
+made z = record { height = z.args.h; millimetres = nearest_whole z.args.h; rule = rule_of z.args.rule }
 
 nearest-requires : tie.Need-nearest-requires
 nearest-requires c κs =
@@ -34,7 +34,7 @@ returns-2 c =
     let n : ℤ = c.nearest.result in
     let f : SFits w32 n = search rules in
     let e = to_z-of_z w32 n f ∙ c.nearest.ensures in
-    (λ i. done (record { height = z.args.h; millimetres = e i; rule = ruleOf z.args.rule }))
+    (λ i. done (record { height = z.args.h; millimetres = e i; rule = rule_of z.args.rule }))
     ∙ sym (ap (λ (k : Check). answer (made z) (verdict k)) c.before.enum_told.given.1)
 
 pub answered-spec : {M : Type 1} → statement M

@@ -8,11 +8,11 @@ use borrow.Author.Rules.{rules}
 use Rattle.seq.specs.Seq.{false}
 use Rattle.paper.specs.Refusal.{given, first_of}
 use Rattle.paper.specs.Tide as paper
-use Rattle.paper.specs.Tide.{unset, ratio, weights, tideRefusal, heightOf, tide}
+use Rattle.paper.specs.Tide.{unset, ratio, weights, tide_refusal, height_of, tide}
 use Rattle.map_file.specs.Verdict.{verdict}
-use Rattle.laws_tide.specs.Cases.{small_by, tide-by}
+use Rattle.laws_tide.specs.Cases.{small_by, tide_by}
 use Rattle.tide.specs.declared.rule.TideRule.{TideRule}
-use Rattle.tide.specs.Answer.{ruleOf, reading_of}
+use Rattle.tide.specs.Answer.{rule_of, reading_of}
 use Rattle.tide.proofs.height.Statement.{statement}
 use Rattle.tide.proofs.height.Tie as tie
 
@@ -24,8 +24,8 @@ abbrev second : tie.Start → paper.Reading
 second z = reading_of z.args.second
 
 -- what is answered by a variant is answered by the rule that is that variant
-by-rule : (z : tie.Start) {v : TideRule} → z.args.rule ≡ v → tide (ruleOf v) (first z) (second z) ≡ tide (ruleOf z.args.rule) (first z) (second z)
-by-rule z e = sym (ap (λ (t : TideRule). tide (ruleOf t) (first z) (second z)) e)
+by_rule : (z : tie.Start) {v : TideRule} → z.args.rule ≡ v → tide (rule_of v) (first z) (second z) ≡ tide (rule_of z.args.rule) (first z) (second z)
+by_rule z e = sym (ap (λ (t : TideRule). tide (rule_of t) (first z) (second z)) e)
 
 -- ── none ──
 
@@ -40,7 +40,7 @@ returns : tie.Need-returns
 returns c =
     let z = c.before.before.before.before in
     let e = c.before.before.enum_told.given.1 in
-    c.answered.ensures ∙ tide-by unset (first z) (second z) c.before.given.ensures no-height (ap ruleOf e) ∙ by-rule z e
+    c.answered.ensures ∙ tide_by unset (first z) (second z) c.before.given.ensures no-height (ap rule_of e) ∙ by_rule z e
 
 -- ── a ratio ──
 
@@ -51,12 +51,12 @@ module _ (c : tie.After-gauge) where
   abbrev k : Float
   k = c.before.before.before.before.before.rule.given.0.0
 
-  ratio-fault : verdict c.before.fault.result ≡ tideRefusal (ratio k) (first start) (second start)
+  ratio-fault : verdict c.before.fault.result ≡ tide_refusal (ratio k) (first start) (second start)
   ratio-fault =
       c.before.fault.ensures
       ∙ (λ i. first_of (given 15 0 (not (c.before.before.before.ratio-in.ensures i)) ∷ given 16 0 (not (c.before.before.readable.ensures i)) ∷ []))
 
-  ratio-height : mul binary64 k c.gauge.result ≡ heightOf (ratio k) (first start) (second start)
+  ratio-height : mul binary64 k c.gauge.result ≡ height_of (ratio k) (first start) (second start)
   ratio-height = ap (mul binary64 k) c.gauge.ensures
 
 answered-requires-2 : tie.Need-answered-requires-2
@@ -66,7 +66,7 @@ returns-2 : tie.Need-returns-2
 returns-2 c =
     let d = c.before in
     let e = d.before.before.before.before.before.rule.given.1 in
-    c.answered2.ensures ∙ tide-by (ratio (k d)) (first (start d)) (second (start d)) (ratio-fault d) (ratio-height d) refl ∙ by-rule (start d) e
+    c.answered2.ensures ∙ tide_by (ratio (k d)) (first (start d)) (second (start d)) (ratio-fault d) (ratio-height d) refl ∙ by_rule (start d) e
 
 -- ── weights ──
 
@@ -80,12 +80,12 @@ module _ (c : tie.After-gauge3) where
   abbrev b : Float
   b = c.before.before.before.before.before.before.rule2.given.0.1.0
 
-  weights-fault : verdict c.before.before.fault2.result ≡ tideRefusal (weights a b) (first start-3) (second start-3)
+  weights-fault : verdict c.before.before.fault2.result ≡ tide_refusal (weights a b) (first start-3) (second start-3)
   weights-fault =
       c.before.before.fault2.ensures
       ∙ (λ i. first_of (given 15 0 (not (c.before.before.before.before.weights-in.ensures i)) ∷ given 16 0 (not (c.before.before.before.both-readable.ensures i)) ∷ []))
 
-  weights-height : add binary64 (mul binary64 a c.before.gauge2.result) (mul binary64 b c.gauge3.result) ≡ heightOf (weights a b) (first start-3) (second start-3)
+  weights-height : add binary64 (mul binary64 a c.before.gauge2.result) (mul binary64 b c.gauge3.result) ≡ height_of (weights a b) (first start-3) (second start-3)
   weights-height = λ i. add binary64 (mul binary64 a (c.before.gauge2.ensures i)) (mul binary64 b (c.gauge3.ensures i))
 
 answered-requires-3 : tie.Need-answered-requires-3
@@ -95,7 +95,7 @@ returns-3 : tie.Need-returns-3
 returns-3 c =
     let d = c.before in
     let e = d.before.before.before.before.before.before.rule2.given.1 in
-    c.answered3.ensures ∙ tide-by (weights (a d) (b d)) (first (start-3 d)) (second (start-3 d)) (weights-fault d) (weights-height d) refl ∙ by-rule (start-3 d) e
+    c.answered3.ensures ∙ tide_by (weights (a d) (b d)) (first (start-3 d)) (second (start-3 d)) (weights-fault d) (weights-height d) refl ∙ by_rule (start-3 d) e
 
 pub height_spec : {M : Type 1} → statement M
 height_spec =

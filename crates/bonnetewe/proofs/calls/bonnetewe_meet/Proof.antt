@@ -4,7 +4,7 @@ use mir.Syntax.{w16}
 use mir.ValLaws.{to_z-of_z}
 use borrow.Author.Rules.{rules}
 use Rattle.paper.specs.Meeting.{meet}
-use Rattle.bonnetewe.specs.Met.{told-meeting-by}
+use Rattle.bonnetewe.specs.Met.{told-meeting_by}
 use Rattle.bonnetewe.proofs.calls.bonnetewe_meet.Statement.{statement}
 use Rattle.bonnetewe.proofs.calls.bonnetewe_meet.Tie as tie
 
@@ -15,7 +15,7 @@ returns c =
     let after-lay : tie.After-lay-point = search rules in
     let n = after-meet.before.args in
     let f = after-meet.before.fits in
-    told-meeting-by
+    told-meeting_by
     (meet n.ax n.ay n.bx n.by n.cx n.cy n.dx n.dy)
     (after-meet.meet.ensures ∙ (λ i.
     meet

@@ -1,9 +1,9 @@
 -- `bonnetewe::calls::bonnetewe_melt` meets its contract. Assumes nothing.
 use borrow.Author.Rules.{rules}
-use Rattle.paper.specs.Lent.{lengthsOf}
+use Rattle.paper.specs.Lent.{lengths_of}
 use Rattle.paper.specs.Melt.{melt}
-use Rattle.tables.specs.Values.{tablesBy}
-use Rattle.bonnetewe.specs.Told.{told-by}
+use Rattle.tables.specs.Values.{tables_by}
+use Rattle.bonnetewe.specs.Told.{told_by}
 use Rattle.bonnetewe.proofs.calls.bonnetewe_melt.Statement.{statement}
 use Rattle.bonnetewe.proofs.calls.bonnetewe_melt.Tie as tie
 
@@ -12,8 +12,8 @@ returns c =
     let o : tie.After-melt = search rules in
     let start : tie.Start = search rules in
     let a = start.args in
-    told-by
-    (melt (lengthsOf (tablesBy a.vertices.now a.halves.now a.sources.now a.faces.now)) a.zones.now a.blocks.now a.bed.now)
+    told_by
+    (melt (lengths_of (tables_by a.vertices.now a.halves.now a.sources.now a.faces.now)) a.zones.now a.blocks.now a.bed.now)
     o.melt.ensures
     c.of-answer.ensures
 

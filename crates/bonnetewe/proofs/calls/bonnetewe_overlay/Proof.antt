@@ -1,9 +1,9 @@
 -- `bonnetewe::calls::bonnetewe_overlay` meets its contract. Assumes nothing.
 use borrow.Author.Rules.{rules}
-use Rattle.paper.specs.Lent.{lengthsOf}
+use Rattle.paper.specs.Lent.{lengths_of}
 use Rattle.paper.specs.Overlay.{overlay}
-use Rattle.tables.specs.Values.{tablesBy}
-use Rattle.bonnetewe.specs.Told.{told-by}
+use Rattle.tables.specs.Values.{tables_by}
+use Rattle.bonnetewe.specs.Told.{told_by}
 use Rattle.bonnetewe.proofs.calls.bonnetewe_overlay.Statement.{statement}
 use Rattle.bonnetewe.proofs.calls.bonnetewe_overlay.Tie as tie
 
@@ -12,8 +12,8 @@ returns c =
     let o : tie.After-overlay = search rules in
     let start : tie.Start = search rules in
     let a = start.args in
-    told-by
-    (overlay (lengthsOf (tablesBy a.vertices.now a.halves.now a.sources.now a.faces.now)) a.zones.now a.blocks.now a.bed.now)
+    told_by
+    (overlay (lengths_of (tables_by a.vertices.now a.halves.now a.sources.now a.faces.now)) a.zones.now a.blocks.now a.bed.now)
     o.overlay.ensures
     c.of-answer.ensures
 

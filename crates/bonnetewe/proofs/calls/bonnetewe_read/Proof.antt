@@ -2,8 +2,8 @@
 use borrow.Author.Rules.{rules}
 use Rattle.seq.specs.Seq.{length}
 use Rattle.paper.specs.Reader.{read}
-use Rattle.tables.specs.Values.{lengthsBy}
-use Rattle.bonnetewe.specs.Told.{told-by}
+use Rattle.tables.specs.Values.{lengths_by}
+use Rattle.bonnetewe.specs.Told.{told_by}
 use Rattle.bonnetewe.proofs.calls.bonnetewe_read.Statement.{statement}
 use Rattle.bonnetewe.proofs.calls.bonnetewe_read.Tie as tie
 
@@ -11,8 +11,8 @@ returns : tie.Need-returns
 returns c =
     let r : tie.After-read = search rules in
     let a = r.before.before.before.before.before.before.before.before.before.args in
-    told-by
-    (read (lengthsBy (length a.vertices.now) (length a.halves.now) (length a.sources.now) (length a.faces.now)) a.file.now)
+    told_by
+    (read (lengths_by (length a.vertices.now) (length a.halves.now) (length a.sources.now) (length a.faces.now)) a.file.now)
     r.read.ensures
     c.of-answer.ensures
 

@@ -6,7 +6,7 @@ use mir.ValLaws.{to_z-of_z}
 use lib.IntN.{ℤ}
 use borrow.Author.Rules.{rules}
 use Rattle.paper.specs.Tide.{tide}
-use Rattle.bonnetewe.specs.ToldTide.{readingBy, toldTide}
+use Rattle.bonnetewe.specs.ToldTide.{reading_by, told_tide}
 use Rattle.bonnetewe.proofs.calls.bonnetewe_tide.Statement.{statement}
 use Rattle.bonnetewe.proofs.calls.bonnetewe_tide.Tie as tie
 
@@ -18,9 +18,9 @@ returns c =
     let y : ℤ = one.before.before.args.second in
     let f : SFits w32 x = search rules in
     let g : SFits w32 y = search rules in
-    let first = one.reading-by.ensures ∙ ap readingBy (to_z-of_z w32 x f) in
-    let second = d.before.reading-by2.ensures ∙ ap readingBy (to_z-of_z w32 y g) in
-    c.of-tide.ensures ∙ ap toldTide (d.height.ensures ∙ (λ i. tide (one.before.rule-by.ensures i) (first i) (second i)))
+    let first = one.reading-by.ensures ∙ ap reading_by (to_z-of_z w32 x f) in
+    let second = d.before.reading-by2.ensures ∙ ap reading_by (to_z-of_z w32 y g) in
+    c.of-tide.ensures ∙ ap told_tide (d.height.ensures ∙ (λ i. tide (one.before.rule-by.ensures i) (first i) (second i)))
 
 pub bonnetewe-tide-spec : {M : Type 1} → statement M
 bonnetewe-tide-spec = tie.close (tie.spec (λ c κs. search rules) (λ c κs. search rules) (λ c κs. search rules) (λ c κs. search rules) (λ c κs. search rules) returns)

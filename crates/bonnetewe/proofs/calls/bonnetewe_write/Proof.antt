@@ -3,8 +3,8 @@ use native.Mathlib.Omega.{arith}
 use borrow.Author.Rules.{rules}
 use Rattle.seq.specs.Seq.{length}
 use Rattle.paper.specs.Writer.{write}
-use Rattle.tables.specs.Values.{tablesBy}
-use Rattle.bonnetewe.specs.Told.{counts, told-file, write-short}
+use Rattle.tables.specs.Values.{tables_by}
+use Rattle.bonnetewe.specs.Told.{counts, told-file, write_short}
 use Rattle.bonnetewe.proofs.calls.bonnetewe_write.Statement.{statement}
 use Rattle.bonnetewe.proofs.calls.bonnetewe_write.Tie as tie
 
@@ -12,12 +12,12 @@ of-written-requires : tie.Need-of-written-requires
 of-written-requires c κs =
     let w = c.before.before in
     let a = w.before.before.before.before.before.before.args in
-    write-short
+    write_short
     (length a.buffer.now)
     a.v
     a.e
     a.f
-    (tablesBy a.vertices.now a.halves.now a.sources.now a.faces.now)
+    (tables_by a.vertices.now a.halves.now a.sources.now a.faces.now)
     (omega arith)
     (omega arith)
     (omega arith)
@@ -28,7 +28,7 @@ returns c =
     let w : tie.After-write = search rules in
     let a = w.before.before.before.before.before.before.args in
     told-file
-    (write (length a.buffer.now) (counts a.v a.e a.f) (tablesBy a.vertices.now a.halves.now a.sources.now a.faces.now))
+    (write (length a.buffer.now) (counts a.v a.e a.f) (tables_by a.vertices.now a.halves.now a.sources.now a.faces.now))
     w.write.ensures
     c.of-written.ensures
 

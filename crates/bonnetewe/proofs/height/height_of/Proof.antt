@@ -6,7 +6,7 @@ use lib.Ieee.{fin, binary64, of_bits}
 use borrow.Author.Rules.{rules}
 use Rattle.tide.specs.declared.rule.TideAnswer.{TideAnswer}
 use Rattle.tide.specs.Answer.{answer_of}
-use Rattle.bonnetewe.specs.ToldTide.{toldHeight}
+use Rattle.bonnetewe.specs.ToldTide.{told_height}
 use Rattle.bonnetewe.proofs.height.height_of.Statement.{statement}
 use Rattle.bonnetewe.proofs.height.height_of.Tie as tie
 
@@ -15,7 +15,7 @@ unfolding of_bits
 nothing = refl
 
 returns-2 : tie.Need-returns-2
-returns-2 c = nothing ∙ sym (ap (λ (a : TideAnswer). toldHeight (answer_of a)) c.enum_told.given.1)
+returns-2 c = nothing ∙ sym (ap (λ (a : TideAnswer). told_height (answer_of a)) c.enum_told.given.1)
 
 pub height-of-spec : {M : Type 1} → statement M
 height-of-spec = tie.close (tie.spec (λ c. search rules) (λ c. search rules) (λ c. search rules) returns-2)

@@ -10,7 +10,7 @@ use lib.Signed.{◌≤ℤ◌, ◌<ℤ◌, lt_z_yes, lt_z_no}
 use borrow.Author.Rules.{rules}
 use Rattle.exact.specs.Order.{pos≮0}
 use Rattle.exact.specs.Mach.{trs, trbs, fits, taken, left}
-use Rattle.bonnetewe.specs.ToldTide.{toldMillimetres}
+use Rattle.bonnetewe.specs.ToldTide.{told_millimetres}
 use Rattle.bonnetewe.proofs.height.of_millimetres.Statement.{statement}
 use Rattle.bonnetewe.proofs.height.of_millimetres.Tie as tie
 
@@ -59,11 +59,11 @@ mul-result-4 c = let h = most c.before in record { fits = omega arith }
 
 -- ── by the sign ──
 
-below : (z : ℤ) (n : ℕ) → z <ℤ pos 0 → n ≡ nat_abs z → 65536 * (1 + 65536 * n) ≡ toldMillimetres z
+below : (z : ℤ) (n : ℕ) → z <ℤ pos 0 → n ≡ nat_abs z → 65536 * (1 + 65536 * n) ≡ told_millimetres z
 below (pos k) n l e = absurd (pos≮0 k l)
 below (negsuc k) n l e = ap (λ (m : ℕ). 65536 * (1 + 65536 * m)) e
 
-from_zero : (z : ℤ) (n : ℕ) → pos 0 ≤ℤ z → n ≡ nat_abs z → 65536 * (65536 * n) ≡ toldMillimetres z
+from_zero : (z : ℤ) (n : ℕ) → pos 0 ≤ℤ z → n ≡ nat_abs z → 65536 * (65536 * n) ≡ told_millimetres z
 from_zero (pos k) n l e = omega (arith, e)
 from_zero (negsuc k) n l e = absurd l.le
 

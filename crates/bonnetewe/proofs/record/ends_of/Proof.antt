@@ -3,8 +3,8 @@ use mathlib.Core.Path.{sym, ◌∙◌, ap}
 use borrow.Author.Rules.{rules}
 use Rattle.seq.specs.Seq.{ℕ}
 use Rattle.tables.specs.declared.edge_record.Found.{Found}
-use Rattle.tables.specs.Found.{foundOf}
-use Rattle.bonnetewe.specs.Told.{four, toldEnds}
+use Rattle.tables.specs.Found.{found_of}
+use Rattle.bonnetewe.specs.Told.{four, told_ends}
 use Rattle.bonnetewe.proofs.record.ends_of.Statement.{statement}
 use Rattle.bonnetewe.proofs.record.ends_of.Tie as tie
 
@@ -14,7 +14,7 @@ returns c =
     let after-kind : tie.After-kind = search rules in
     let e = match.found.given.0.0 in
     c.join.ensures ∙ ap (λ (x : ℕ). four x e.lower e.upper 0) after-kind.kind.ensures
-    ∙ sym (ap (λ (f : Found). toldEnds (foundOf f)) match.found.given.1)
+    ∙ sym (ap (λ (f : Found). told_ends (found_of f)) match.found.given.1)
 
 pub ends-of-spec : {M : Type 1} → statement M
 ends-of-spec =

@@ -2,8 +2,8 @@
 use mathlib.Core.Path.{sym, ◌∙◌, ap}
 use borrow.Author.Rules.{rules}
 use Rattle.tables.specs.declared.edge_record.Found.{Found}
-use Rattle.tables.specs.Found.{foundOf}
-use Rattle.bonnetewe.specs.Told.{four, toldSources}
+use Rattle.tables.specs.Found.{found_of}
+use Rattle.bonnetewe.specs.Told.{four, told_sources}
 use Rattle.bonnetewe.proofs.record.sources_of.Statement.{statement}
 use Rattle.bonnetewe.proofs.record.sources_of.Tie as tie
 
@@ -16,7 +16,7 @@ returns c =
     let after-third : tie.After-in-third = search rules in
     c.join.ensures
     ∙ (λ i. four (after-kind.kind.ensures i) (after_first.in-first.ensures i) (after-second.in-second.ensures i) (after-third.in-third.ensures i))
-    ∙ sym (ap (λ (f : Found). toldSources (foundOf f)) match.found.given.1)
+    ∙ sym (ap (λ (f : Found). told_sources (found_of f)) match.found.given.1)
 
 pub sources-of-spec : {M : Type 1} → statement M
 sources-of-spec =

@@ -3,7 +3,7 @@ use borrow.Author.Rules.{rules}
 use mathlib.Core.List.{[], ◌∷◌}
 use lib.ListN.{length}
 use Rattle.paper.specs.Soundings.{soundings}
-use Rattle.soundings.specs.Answer.{roomBy}
+use Rattle.soundings.specs.Answer.{room_by}
 use Rattle.bonnetewe.specs.Sounded.{told-cells}
 use Rattle.bonnetewe.proofs.sounded.bonnetewe_soundings.Statement.{statement}
 use Rattle.bonnetewe.proofs.sounded.bonnetewe_soundings.Tie as tie
@@ -16,7 +16,7 @@ returns c =
     let z : tie.After-lay-read = search rules in
     let a = s.args in
     told-cells
-    (soundings (roomBy (length a.labels.now) (length a.counts.now)) (a.zones.now ∷ a.blocks.now ∷ []) a.list.now)
+    (soundings (room_by (length a.labels.now) (length a.counts.now)) (a.zones.now ∷ a.blocks.now ∷ []) a.list.now)
     x.soundings.result
     x.soundings.ensures
     y.Read-of.ensures

@@ -2,8 +2,8 @@
 use borrow.Author.Rules.{rules}
 use lib.ListN.{length}
 use Rattle.laws_soundings.specs.Run.{closed}
-use Rattle.soundings_count.specs.Entries.{pairWidth}
-use Rattle.soundings.specs.Answer.{roomBy}
+use Rattle.soundings_count.specs.Entries.{pair_width}
+use Rattle.soundings.specs.Answer.{room_by}
 use Rattle.soundings.specs.State.{run_of}
 use Rattle.bonnetewe.specs.Sounded.{told-cells}
 use Rattle.bonnetewe.proofs.sounded.bonnetewe_soundings_close.Statement.{statement}
@@ -17,7 +17,7 @@ returns c =
     let z : tie.After-lay-read = search rules in
     let a = s.args in
     told-cells
-    (closed pairWidth (roomBy (length a.labels.now) (length a.counts.now)) (run_of a.count))
+    (closed pair_width (room_by (length a.labels.now) (length a.counts.now)) (run_of a.count))
     x.close.result
     x.close.ensures
     y.Read-of.ensures

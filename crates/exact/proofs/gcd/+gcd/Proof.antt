@@ -4,8 +4,8 @@ use mathlib.Core.Path.{◌≡◌, sym, ◌∙◌, ap}
 use native.Mathlib.Nat.{pos_of_ne-zero, mod-lt, div-le_self}
 use native.Mathlib.Omega.{arith}
 use borrow.Author.Rules.{rules}
-use Rattle.exact.specs.Gcd.{gcdOf, gcd-zero, gcd-step}
-use Rattle.exact.specs.Odd.{gcd-sym, gcd-both-even, gcd-under}
+use Rattle.exact.specs.Gcd.{gcd_of, gcd_zero, gcd_step}
+use Rattle.exact.specs.Odd.{gcd_sym, gcd_both-even, gcd_under}
 use Prim.Native.Nat.{ℕ, ◌<◌, ◌*◌, ◌%◌}
 use borrow.Fn.Kinds.{In}
 use borrow.Fn.PlainCycle.{Measures, is, falls, and}
@@ -31,7 +31,7 @@ gcd-returns : (t : ℕ) → gcd-lts.Need-returns (
   gcd-below t,
   gcd.Post,
 ) (gcd-at t) gcd.Post
-gcd-returns t c = sym (ap (gcdOf c.before.args.a) c.if1.true ∙ gcd-zero c.before.args.a)
+gcd-returns t c = sym (ap (gcd_of c.before.args.a) c.if1.true ∙ gcd_zero c.before.args.a)
 
 gcd-rem-r : (t : ℕ) → gcd-lts.Need-nonzero-rem-r (
   odd-gcd-reads.Asked,
@@ -55,7 +55,7 @@ gcd-returns-2 : (t : ℕ) → gcd-lts.Need-returns-2 (
   gcd-below t,
   gcd.Post,
 ) (gcd-at t) gcd.Post
-gcd-returns-2 t c = c.odd-gcd.ensures ∙ sym (gcd-step c.before.before.before.args.a c.before.before.before.args.b (pos_of_ne-zero c.before.before.if1.false))
+gcd-returns-2 t c = c.odd-gcd.ensures ∙ sym (gcd_step c.before.before.before.args.a c.before.before.before.args.b (pos_of_ne-zero c.before.before.if1.false))
 
 gcd-odd-gcd-requires-2 : (t : ℕ) → gcd-lts.Need-odd-gcd-requires-2 (
   odd-gcd-reads.Asked,
@@ -73,7 +73,7 @@ gcd-returns-3 : (t : ℕ) → gcd-lts.Need-returns-3 (
 ) (gcd-at t) gcd.Post
 gcd-returns-3 t c =
     let a = c.before.before.before.before.args in
-    c.odd-gcd2.ensures ∙ gcd-sym (a.a % a.b) a.b ∙ sym (gcd-step a.a a.b (pos_of_ne-zero c.before.before.before.if1.false))
+    c.odd-gcd2.ensures ∙ gcd_sym (a.a % a.b) a.b ∙ sym (gcd_step a.a a.b (pos_of_ne-zero c.before.before.before.if1.false))
 
 gcd-gcd-requires : (t : ℕ) → gcd-lts.Need-gcd-requires (
   odd-gcd-reads.Asked,
@@ -91,10 +91,10 @@ twice : (t : ℕ) (c : gcd-lts.After-gcd (
   odd-gcd-reads.Learnt,
   gcd-below t,
   gcd.Post,
-) (gcd-at t) gcd.Post) → 2 * c.gcd.result ≡ gcdOf c.before.before.before.before.args.a c.before.before.before.before.args.b
+) (gcd-at t) gcd.Post) → 2 * c.gcd.result ≡ gcd_of c.before.before.before.before.args.a c.before.before.before.before.args.b
 twice t c =
     let a = c.before.before.before.before.args in
-    ap (λ (n : ℕ). 2 * n) c.gcd.ensures ∙ gcd-both-even a.a a.b (pos_of_ne-zero c.before.before.before.if1.false) c.before.before.if2.false c.before.if3.false
+    ap (λ (n : ℕ). 2 * n) c.gcd.ensures ∙ gcd_both-even a.a a.b (pos_of_ne-zero c.before.before.before.if1.false) c.before.before.if2.false c.before.if3.false
 
 gcd-mul-result : (t : ℕ) → gcd-lts.Need-overflow-mul-result (
   odd-gcd-reads.Asked,
@@ -102,7 +102,7 @@ gcd-mul-result : (t : ℕ) → gcd-lts.Need-overflow-mul-result (
   gcd-below t,
   gcd.Post,
 ) (gcd-at t) gcd.Post
-gcd-mul-result t c = record { fits = omega (arith, twice t c, gcd-under c.before.before.before.before.args.a c.before.before.before.before.args.b (pos_of_ne-zero c.before.before.before.if1.false), c.before.before.before.before.ranges.b.fits) }
+gcd-mul-result t c = record { fits = omega (arith, twice t c, gcd_under c.before.before.before.before.args.a c.before.before.before.before.args.b (pos_of_ne-zero c.before.before.before.if1.false), c.before.before.before.before.ranges.b.fits) }
 
 gcd-returns-4 : (t : ℕ) → gcd-lts.Need-returns-4 (
   odd-gcd-reads.Asked,

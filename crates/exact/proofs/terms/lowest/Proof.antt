@@ -10,10 +10,10 @@ use lib.Signed.{quot_z, ◌<ℤ◌}
 use mir.Syntax.{w64}
 use mir.Val.{SFits, to_z, of_z}
 use mir.ValLaws.{to_z-of_z}
-use Rattle.exact.specs.Gcd.{gcdOf, gcd3, gcd3-d, gcd3-pos}
+use Rattle.exact.specs.Gcd.{gcd_of, gcd3, gcd3_d, gcd3-pos}
 use Rattle.exact.specs.Lowest.{Pt, pt, lowest, lowest-coprime, abs-pos}
-use Rattle.exact.specs.Odd.{gcd3-turned, gcd-one}
-use Rattle.exact.specs.Range.{quot-range}
+use Rattle.exact.specs.Odd.{gcd3-turned, gcd_one}
+use Rattle.exact.specs.Range.{quot_range}
 use Rattle.exact.proofs.terms.lowest.Statement.{statement}
 use Rattle.exact.proofs.terms.lowest.Tie as tie
 
@@ -29,14 +29,14 @@ module _ (r : ℤ) (g : ℕ) (e : r ≡ pos g) (l : g < 2 ^ 63) where
   quot_is x f = λ i. quot_z (to_z-of_z w64 x f i) (divisor-is i)
 
   quot_fits : (x : ℤ) → SFits w64 x → SFits w64 (quot_z (to_z w64 (of_z w64 x)) (to_z w64 (of_z w64 r)))
-  quot_fits x f = subst (SFits w64) (sym (quot_is x f)) (quot-range w64 x g f)
+  quot_fits x f = subst (SFits w64) (sym (quot_is x f)) (quot_range w64 x g f)
 
   quot-back : (x : ℤ) → SFits w64 x → to_z w64 (of_z w64 (quot_z (to_z w64 (of_z w64 x)) (to_z w64 (of_z w64 r)))) ≡ quot_z x (pos g)
-  quot-back x f = ap (λ (z : ℤ). to_z w64 (of_z w64 z)) (quot_is x f) ∙ to_z-of_z w64 (quot_z x (pos g)) (quot-range w64 x g f)
+  quot-back x f = ap (λ (z : ℤ). to_z w64 (of_z w64 z)) (quot_is x f) ∙ to_z-of_z w64 (quot_z x (pos g)) (quot_range w64 x g f)
 
 -- the divisor fits
 divisor-fits : (x y d : ℤ) → pos 0 <ℤ d → SFits w64 d → gcd3 (nat_abs x) (nat_abs y) (nat_abs d) < 2 ^ 63
-divisor-fits x y d h f = go d h f (le_of_dvd (abs-pos d h) (gcd3-d (nat_abs x) (nat_abs y) (nat_abs d)))
+divisor-fits x y d h f = go d h f (le_of_dvd (abs-pos d h) (gcd3_d (nat_abs x) (nat_abs y) (nat_abs d)))
   where
     go : (d : ℤ) {g : ℕ} → pos 0 <ℤ d → SFits w64 d → g ≤ nat_abs d → g < 2 ^ 63
     go (pos n) h f l = omega (arith, f.sfits)
@@ -46,12 +46,12 @@ abbrev start : tie.After-gcd → tie.Start
 start c = c.before.before.before
 
 -- what the first calls give
-first : (c : tie.After-gcd) → c.gcd.result ≡ gcdOf (nat_abs (start c).args.x) (nat_abs (start c).args.d)
+first : (c : tie.After-gcd) → c.gcd.result ≡ gcd_of (nat_abs (start c).args.x) (nat_abs (start c).args.d)
 first c =
     let s = start c in
     let mx = c.before.before.magnitude.ensures ∙ ap nat_abs (to_z-of_z w64 s.args.x s.fits.x) in
     let md = c.before.magnitude2.ensures ∙ ap nat_abs (to_z-of_z w64 s.args.d s.fits.d) in
-    c.gcd.ensures ∙ (λ i. gcdOf (mx i) (md i))
+    c.gcd.ensures ∙ (λ i. gcd_of (mx i) (md i))
 
 -- a point that is not changed
 unchanged : (s : tie.Start) → gcd3 (nat_abs s.args.x) (nat_abs s.args.y) (nat_abs s.args.d) ≡ 1
@@ -63,7 +63,7 @@ unchanged s e =
 returns : tie.Need-returns
 returns c =
     let s = start c.before in
-    unchanged s (sym (gcd3-turned (nat_abs s.args.x) (nat_abs s.args.y) (nat_abs s.args.d)) ∙ ap (gcdOf (nat_abs s.args.y)) (sym (first c.before) ∙ c.if1.true) ∙ gcd-one (nat_abs s.args.y))
+    unchanged s (sym (gcd3-turned (nat_abs s.args.x) (nat_abs s.args.y) (nat_abs s.args.d)) ∙ ap (gcd_of (nat_abs s.args.y)) (sym (first c.before) ∙ c.if1.true) ∙ gcd_one (nat_abs s.args.y))
 
 abbrev begin : tie.After-gcd2 → tie.Start
 begin c = start c.before.before.before
@@ -76,7 +76,7 @@ calls : (c : tie.After-gcd2) → c.gcd2.result ≡ divisor c
 calls c =
     let s = begin c in
     let my = c.before.magnitude3.ensures ∙ ap nat_abs (to_z-of_z w64 s.args.y s.fits.y) in
-    c.gcd2.ensures ∙ (λ i. gcdOf (my i) (first c.before.before.before i)) ∙ gcd3-turned (nat_abs s.args.x) (nat_abs s.args.y) (nat_abs s.args.d)
+    c.gcd2.ensures ∙ (λ i. gcd_of (my i) (first c.before.before.before i)) ∙ gcd3-turned (nat_abs s.args.x) (nat_abs s.args.y) (nat_abs s.args.d)
 
 small : (c : tie.After-gcd2) → divisor c < 2 ^ 63
 small c = divisor-fits (begin c).args.x (begin c).args.y (begin c).args.d (begin c).requires (begin c).ranges.d

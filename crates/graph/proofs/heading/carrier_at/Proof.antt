@@ -3,9 +3,9 @@ use mathlib.Core.Path.{◌≡◌, sym, subst}
 use Prim.Native.Nat.{◌+◌, ◌*◌}
 use borrow.Author.Rules.{rules}
 use Rattle.plane.specs.Bounds.{Edge}
-use Rattle.plane.specs.Values.{seg, segOf}
-use Rattle.graph.specs.Flat.{carrierAt}
-use Rattle.graph.proofs.Rows.{wide, widened, widened-first}
+use Rattle.plane.specs.Values.{seg, seg_of}
+use Rattle.graph.specs.Flat.{carrier_at}
+use Rattle.graph.proofs.Rows.{wide, widened, widened_first}
 use Rattle.graph.proofs.heading.carrier_at.Statement.{statement}
 use Rattle.graph.proofs.heading.carrier_at.Tie as tie
 
@@ -14,7 +14,7 @@ returns c =
     let s = c.before.before.before.before in
     let cs = s.args.carriers.now in
     let at = 4 * s.args.k in
-    let e : segOf _ ≡ carrierAt cs s.args.k = λ i. seg (widened-first 4 cs s.args.k c.before.before.before.t6.given i) (widened cs (at + 1) c.before.before.t11.given i) (widened cs (at + 2) c.before.t16.given i) (widened cs (at + 3) c.t21.given i) in
+    let e : seg_of _ ≡ carrier_at cs s.args.k = λ i. seg (widened_first 4 cs s.args.k c.before.before.before.t6.given i) (widened cs (at + 1) c.before.before.t11.given i) (widened cs (at + 2) c.before.t16.given i) (widened cs (at + 3) c.t21.given i) in
     (e, subst Edge (sym e) s.requires.near)
 
 pub carrier-at-spec : {M : Type 1} → statement M

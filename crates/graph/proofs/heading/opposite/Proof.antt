@@ -14,7 +14,7 @@ returns c =
     let u = c.before.before.before.before.args.u in
     let x : back (pos 0 -ℤ back u.x) ≡ pos 0 -ℤ u.x = plain (search tr depth 20) tt in
     let y : back (pos 0 -ℤ back u.y) ≡ pos 0 -ℤ u.y = plain (search tr depth 20) tt in
-    (λ i. vec ((x ∙ minus u.x) i) ((y ∙ minus u.y) i), record { x-is = atmost (search tru depth 20) tt; y-is = atmost (search tru depth 20) tt })
+    (λ i. vec ((x ∙ minus u.x) i) ((y ∙ minus u.y) i), record { x_is = atmost (search tru depth 20) tt; y_is = atmost (search tru depth 20) tt })
 
 pub opposite-spec : {M : Type 1} → statement M
 opposite-spec = tie.close (tie.spec (λ c. fits (search tr depth 20) tt) (λ c. fits (search tr depth 20) tt) returns)

@@ -3,7 +3,7 @@ use mathlib.Core.Path.{◌≡◌, sym, ◌∙◌, ap}
 use borrow.Author.Rules.{rules}
 use Rattle.seq.specs.Seq.{Bool, cond, not, ◌+◌, ◌*◌}
 use Rattle.paper.specs.Plane.{Pt, below}
-use Rattle.plane.specs.Values.{ptOf}
+use Rattle.plane.specs.Values.{pt_of}
 use Rattle.graph.specs.Flat.{start_at}
 use Rattle.graph.proofs.look.at_height.Statement.{statement}
 use Rattle.graph.proofs.look.at_height.Tie as tie
@@ -18,7 +18,7 @@ returns c =
     let after-start : tie.After-start = search rules in
     let after-below : tie.After-below = search rules in
     let a = start.args in
-    let p = ptOf a.p in
+    let p = pt_of a.p in
     let ps = a.points.now in
     let os = a.origins.now in
     by p (start_at ps os (2 * a.k)) (start_at ps os (2 * a.k + 1))
@@ -31,7 +31,7 @@ returns-2 c =
     let after-start : tie.After-start = search rules in
     let after-below : tie.After-below = search rules in
     let a = start.args in
-    let p = ptOf a.p in
+    let p = pt_of a.p in
     let ps = a.points.now in
     let os = a.origins.now in
     by p (start_at ps os (2 * a.k)) (start_at ps os (2 * a.k + 1))

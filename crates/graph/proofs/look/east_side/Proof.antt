@@ -2,14 +2,14 @@
 use mathlib.Core.Path.{sym, ◌∙◌, ap, subst}
 use borrow.Author.Rules.{rules}
 use Rattle.seq.specs.Seq.{Bool, cond, ◌+◌, ◌*◌}
-use Rattle.laws_graph.specs.Halves.{twin-first}
+use Rattle.laws_graph.specs.Halves.{twin_first}
 use Rattle.graph.specs.Flat.{Starts}
 use Rattle.graph.proofs.look.east_side.Statement.{statement}
 use Rattle.graph.proofs.look.east_side.Tie as tie
 
 goes-up-requires : tie.Need-goes-up-requires
 goes-up-requires c κs = let s = c.before in
-    (s.requires.0, s.requires.1, subst (Starts s.args.points.now s.args.origins.now) (sym (twin-first s.args.k)) s.requires.2)
+    (s.requires.0, s.requires.1, subst (Starts s.args.points.now s.args.origins.now) (sym (twin_first s.args.k)) s.requires.2)
 
 returns : tie.Need-returns
 returns c = let a =

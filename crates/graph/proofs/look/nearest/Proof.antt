@@ -2,14 +2,14 @@
 use mathlib.Core.Path.{sym, ◌∙◌}
 use native.Mathlib.Omega.{arith}
 use borrow.Author.Rules.{rules}
-use Rattle.plane.specs.Values.{ptOf}
-use Rattle.graph.specs.Look.{nearerOf, nearerAt}
-use Rattle.seq.specs.Pick.{better-none, better-by}
+use Rattle.plane.specs.Values.{pt_of}
+use Rattle.graph.specs.Look.{nearer_of, nearer_at}
+use Rattle.seq.specs.Pick.{better_none, better_by}
 use Rattle.graph.proofs.look.nearest.Statement.{statement}
 use Rattle.graph.proofs.look.nearest.Tie as tie
 
 returns : tie.Need-returns
-returns c = let a = c.before.args in better-none (nearerAt a.carriers.now (ptOf a.p)) a.none a.k a.r c.if1.true
+returns c = let a = c.before.args in better_none (nearer_at a.carriers.now (pt_of a.p)) a.none a.k a.r c.if1.true
 
 carrier-at-requires-2 : tie.Need-carrier-at-requires-2
 carrier-at-requires-2 c κs = c.before.before.requires.1 (omega (arith, c.before.if1.false, c.before.before.requires.2))
@@ -20,9 +20,9 @@ returns-2 c =
     let else1 : tie.Else1 = search rules in
     let after-carrier-at : tie.After-carrier-at = search rules in
     let a = start.args in
-    let p = ptOf a.p in
-    better-by (nearerAt a.carriers.now p) a.none a.k a.r else1.if1.left
-    ((λ i. nearerOf (sym after-carrier-at.carrier-at.ensures.0 i) (sym c.before.before.carrier-at2.ensures.0 i) p) ∙ sym c.before.nearer.ensures ∙ c.if2.true)
+    let p = pt_of a.p in
+    better_by (nearer_at a.carriers.now p) a.none a.k a.r else1.if1.left
+    ((λ i. nearer_of (sym after-carrier-at.carrier_at_lem.ensures.0 i) (sym c.before.before.carrier-at2.ensures.0 i) p) ∙ sym c.before.nearer.ensures ∙ c.if2.true)
 
 returns-3 : tie.Need-returns-3
 returns-3 c =
@@ -30,9 +30,9 @@ returns-3 c =
     let else1 : tie.Else1 = search rules in
     let after-carrier-at : tie.After-carrier-at = search rules in
     let a = start.args in
-    let p = ptOf a.p in
-    better-by (nearerAt a.carriers.now p) a.none a.k a.r else1.if1.left
-    ((λ i. nearerOf (sym after-carrier-at.carrier-at.ensures.0 i) (sym c.before.before.carrier-at2.ensures.0 i) p) ∙ sym c.before.nearer.ensures ∙ c.if2.false)
+    let p = pt_of a.p in
+    better_by (nearer_at a.carriers.now p) a.none a.k a.r else1.if1.left
+    ((λ i. nearer_of (sym after-carrier-at.carrier_at_lem.ensures.0 i) (sym c.before.before.carrier-at2.ensures.0 i) p) ∙ sym c.before.nearer.ensures ∙ c.if2.false)
 
 pub nearest-spec : {M : Type 1} → statement M
 nearest-spec =

@@ -4,8 +4,8 @@ use lib.IntN.{pos, neg_ℤ, ◌-ℤ◌}
 use borrow.Author.Rules.{rules}
 use Rattle.exact.specs.Mach.{tr, fits, plain}
 use Rattle.paper.specs.Plane.{vec, cross, rises}
-use Rattle.plane.proofs.Machine.{back, vec-back}
-use Rattle.plane.specs.Values.{vec_of, segOf}
+use Rattle.plane.proofs.Machine.{back, vec_back}
+use Rattle.plane.specs.Values.{vec_of, seg_of}
 use Rattle.graph.proofs.Rows.{minus}
 use Rattle.graph.proofs.look.westward.Statement.{statement}
 use Rattle.graph.proofs.look.westward.Tie as tie
@@ -20,8 +20,8 @@ returns c =
     let x : back q.result ≡ q.result = plain (search tr depth 20) tt in
     let y : back (pos 0 -ℤ back l.result) ≡ pos 0 -ℤ l.result = plain (search tr depth 20) tt in
     let pre = start.pre in
-    let turn : cross (vec (back a.d.x) (back a.d.y)) (vec (back s.u) (back s.v)) ≡ cross (vec_of a.d) (segOf s).up =
-    λ i. cross (vec-back a.d.x a.d.y pre.2 i) (vec-back s.u s.v pre.0.up_is i) in
+    let turn : cross (vec (back a.d.x) (back a.d.y)) (vec (back s.u) (back s.v)) ≡ cross (vec_of a.d) (seg_of s).up =
+    λ i. cross (vec_back a.d.x a.d.y pre.2 i) (vec_back s.u s.v pre.0.up_is i) in
     c.rises.ensures ∙ (λ i. rises (vec ((x ∙ q.ensures.0 ∙ turn) i) ((y ∙ minus l.result ∙ ap neg_ℤ l.ensures.0) i)))
 
 pub westward-spec : {M : Type 1} → statement M

@@ -2,7 +2,7 @@
 use mathlib.Core.Path.{refl}
 use Prim.Native.Nat.{◌-◌}
 use borrow.Author.Rules.{rules}
-use Rattle.seq.specs.Loops.Filling.{Filling, fill-starts, fill-turns, fill-ends}
+use Rattle.seq.specs.Loops.Filling.{Filling, fill_starts, fill_turns, fill_ends}
 use Rattle.graph.proofs.places.fill.Statement.{statement}
 use Rattle.graph.proofs.places.fill.Tie as tie
 
@@ -13,4 +13,4 @@ abbrev decreases-loop : tie.decreases-loop
 decreases-loop out₀ n value i₀ out i = n - i
 
 pub fill_spec : {M : Type 1} → statement M
-fill_spec = tie.close (tie.spec invariant-loop decreases-loop (λ c. fill-starts (search rules)) (λ c. search rules) (λ c. search rules) (λ c. search rules) (λ c. search rules) (λ c. fill-turns c.before.loop.invariant (search rules) refl) (λ c. search rules) (λ c. fill-ends c.before.loop.invariant (search rules)))
+fill_spec = tie.close (tie.spec invariant-loop decreases-loop (λ c. fill_starts (search rules)) (λ c. search rules) (λ c. search rules) (λ c. search rules) (λ c. search rules) (λ c. fill_turns c.before.loop.invariant (search rules) refl) (λ c. search rules) (λ c. fill_ends c.before.loop.invariant (search rules)))

@@ -5,7 +5,7 @@ use native.Mathlib.Omega.{arith}
 use borrow.Author.Rules.{rules}
 use Rattle.seq.specs.Filled.{length-filled}
 use Rattle.seq.specs.Seq.{get_or, length, firsts}
-use Rattle.seq.specs.Loops.Placing.{Placing, place-starts, place-turns, place-ends}
+use Rattle.seq.specs.Loops.Placing.{Placing, place_starts, place_turns, place_ends}
 use Rattle.graph.specs.Places.{places-filled}
 use Rattle.graph.proofs.places.first_places.Statement.{statement}
 use Rattle.graph.proofs.places.first_places.Tie as tie
@@ -41,10 +41,10 @@ returns : tie.Need-returns invariant-loop decreases-loop
 returns c =
     let after-fill : tie.After-fill invariant-loop decreases-loop = search rules in
     let s : tie.Start invariant-loop decreases-loop = search rules in
-    place-ends c.before.loop.invariant (omega arith) ∙ ap (firsts (λ k. get_or s.args.xs.now k 0) 0 s.args.m) after-fill.fill.ensures
+    place_ends c.before.loop.invariant (omega arith) ∙ ap (firsts (λ k. get_or s.args.xs.now k 0) 0 s.args.m) after-fill.fill.ensures
     ∙ places-filled s.args.xs.now s.args.m s.args.none s.args.n s.args.out.now s.pre.0 s.pre.1.1
 
 pub first-places-spec : {M : Type 1} → statement M
 first-places-spec =
     tie.close
-    (tie.spec invariant-loop decreases-loop (λ c κs. search rules) (λ c. place-starts) (λ c. search rules) (λ c. search rules) (λ c. search rules) cast-x (λ c. search rules) mul-out slice-write-out (λ c. search rules) (λ c. place-turns c.before.before.loop.invariant (omega arith) refl) (λ c. search rules) returns)
+    (tie.spec invariant-loop decreases-loop (λ c κs. search rules) (λ c. place_starts) (λ c. search rules) (λ c. search rules) (λ c. search rules) cast-x (λ c. search rules) mul-out slice-write-out (λ c. search rules) (λ c. place_turns c.before.before.loop.invariant (omega arith) refl) (λ c. search rules) returns)

@@ -7,8 +7,8 @@ use Rattle.seq.specs.Seq.{◌-◌}
 use Rattle.seq.specs.Tests.{clash, never, was-false, was-true}
 use Rattle.paper.specs.Plane.{before}
 use Rattle.plane.specs.Bounds.{Near}
-use Rattle.graph.specs.Flat.{pointAt}
-use Rattle.graph.specs.Rising.{Rises, rises-starts, rises-turns, rises-ends}
+use Rattle.graph.specs.Flat.{the_point_at}
+use Rattle.graph.specs.Rising.{Rises, rises_starts, rises_turns, rises_ends}
 use Rattle.graph.proofs.rising.rise.Statement.{statement}
 use Rattle.graph.proofs.rising.rise.Tie as tie
 
@@ -34,7 +34,7 @@ before-requires c κs =
     (subst Near (sym p.point_at.ensures) (s.pre.near (v - 1) (omega arith)), subst Near (sym q.point-at2.ensures) (s.pre.near v i.loop-test.taken))
 
 -- what the test says
-told : (c : tie.After-before2 invariant-loop decreases-loop) → c.before2.result ≡ before (pointAt (begun c).args.points.now ((turn c).before.loop.v - 1)) (pointAt (begun c).args.points.now (turn c).before.loop.v)
+told : (c : tie.After-before2 invariant-loop decreases-loop) → c.before2.result ≡ before (the_point_at (begun c).args.points.now ((turn c).before.loop.v - 1)) (the_point_at (begun c).args.points.now (turn c).before.loop.v)
 told c =
     let p : tie.After-point-at invariant-loop decreases-loop = search rules in
     let q : tie.After-point-at2 invariant-loop decreases-loop = search rules in
@@ -53,13 +53,13 @@ loop-again c =
     let i : tie.In-loop invariant-loop decreases-loop = search rules in
     let b : tie.After-before2 invariant-loop decreases-loop = search rules in
     let l = i.before.loop in
-    (omega arith, rises-turns s.args.points.now s.args.n s.pre l.v i.loop-test.taken l.inv.0 l.inv.1 (sym (told b) ∙ was-true b.before2.result c.if1.false))
+    (omega arith, rises_turns s.args.points.now s.args.n s.pre l.v i.loop-test.taken l.inv.0 l.inv.1 (sym (told b) ∙ was-true b.before2.result c.if1.false))
 
 returns-2 : tie.Need-returns-2 invariant-loop decreases-loop
 returns-2 c =
     let s : tie.Start invariant-loop decreases-loop = search rules in
     let l : tie.At-loop invariant-loop decreases-loop = search rules in
-    (λ e. rises-ends s.args.points.now s.args.n l.loop.v l.loop.inv.1 (omega arith), λ e. never (sym e))
+    (λ e. rises_ends s.args.points.now s.args.n l.loop.v l.loop.inv.1 (omega arith), λ e. never (sym e))
 
 pub rise-spec : {M : Type 1} → statement M
 rise-spec =
@@ -67,7 +67,7 @@ rise-spec =
     (tie.spec
     invariant-loop
     decreases-loop
-    (λ c. let s : tie.Start invariant-loop decreases-loop = search rules in (omega arith, rises-starts s.args.points.now))
+    (λ c. let s : tie.Start invariant-loop decreases-loop = search rules in (omega arith, rises_starts s.args.points.now))
     (λ c. search rules)
     (λ c κs. let s : tie.Start invariant-loop decreases-loop = search rules in omega (arith, s.pre.long))
     (λ c κs. let s : tie.Start invariant-loop decreases-loop = search rules in omega (arith, s.pre.long))

@@ -2,8 +2,8 @@
 use mathlib.Core.Path.{◌∙◌}
 use borrow.Author.Rules.{rules}
 use Rattle.paper.specs.Plane.{before}
-use Rattle.graph.specs.Flat.{originAt}
-use Rattle.graph.specs.Rising.{number-before}
+use Rattle.graph.specs.Flat.{origin_at}
+use Rattle.graph.specs.Rising.{number_before}
 use Rattle.graph.proofs.rising.starts_first.Statement.{statement}
 use Rattle.graph.proofs.rising.starts_first.Tie as tie
 
@@ -12,7 +12,7 @@ returns c =
     let s : tie.Start = search rules in
     let t : tie.Then1 = search rules in
     let a = s.args in
-    number-before a.points.now a.n (s.pre.0 t.if1.taken) (originAt a.origins.now a.h) (originAt a.origins.now a.k) s.pre.1.1.0 s.pre.1.1.1
+    number_before a.points.now a.n (s.pre.0 t.if1.taken) (origin_at a.origins.now a.h) (origin_at a.origins.now a.k) s.pre.1.1.0 s.pre.1.1.1
 
 returns-2 : tie.Need-returns-2
 returns-2 c =

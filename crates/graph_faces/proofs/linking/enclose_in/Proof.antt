@@ -6,17 +6,17 @@ use borrow.Author.Rules.{rules}
 use Rattle.seq.specs.Count.{count-le}
 use Rattle.seq.specs.Seq.{Bool, List, ℕ, ◌+◌, ◌*◌, length, count, filled, ℤ}
 use Rattle.seq.specs.Filled.{Holds}
-use Rattle.paper.specs.Limits.{overlayEdges, absent}
+use Rattle.paper.specs.Limits.{overlay_edges, absent}
 use Rattle.paper.specs.Graph.{Graph}
-use Rattle.paper.specs.Faces.{walksOf, leadAt, faceIn}
+use Rattle.paper.specs.Faces.{walks_of, lead_at, face_in}
 use Rattle.laws_graph.specs.Plane.{Plane}
-use Rattle.graph.specs.Flat.{flatGraph, Flat, Numbers}
+use Rattle.graph.specs.Flat.{flat_graph, Flat, Numbers}
 use Rattle.graph.specs.Rising.{RisesIf}
 use Rattle.graph_faces.specs.Sides.{Sighted}
-use Rattle.graph_faces.specs.Kinds.{Known, Faced, outerLead, known_by, faceFrom}
+use Rattle.graph_faces.specs.Kinds.{Known, Faced, outer_lead, known_by, face_from}
 use Rattle.graph_faces.specs.Linked.{Led}
-use Rattle.graph_faces.specs.Laws.Linking.{over-is, lead-numbers, led-lead, led-top}
-use Rattle.graph_faces.specs.Laws.Numbered.{tops-numbers, faced, face-filled, face-under, count-flat, outers-flat, holes-filled}
+use Rattle.graph_faces.specs.Laws.Linking.{over_is, lead-numbers, led-lead, led-top}
+use Rattle.graph_faces.specs.Laws.Numbered.{tops-numbers, faced, face-filled, face_under, count-flat, outers-flat, holes-filled}
 use Rattle.graph_faces.specs.Walked.{top_of}
 use Rattle.graph_faces.proofs.linking.enclose_in.Statement.{statement}
 use Rattle.graph_faces.proofs.linking.enclose_in.Tie as tie
@@ -49,12 +49,12 @@ module _ (s : tie.Start) where
   face₀ = s.args.face.now
 
   abbrev g : Graph
-  g = flatGraph ps os cs n e
+  g = flat_graph ps os cs n e
 
   abbrev F : Flat ps os cs n e
   F = s.pre.0
 
-  small : e ≤ overlayEdges
+  small : e ≤ overlay_edges
   small = s.pre.1.0
 
   abbrev P : Plane g
@@ -66,7 +66,7 @@ module _ (s : tie.Start) where
   big : 2 * e ≤ absent
   big = omega (arith, small)
 
-  L : Holds (leadAt (walksOf g)) lead (2 * e)
+  L : Holds (lead_at (walks_of g)) lead (2 * e)
   L = led-lead ps os cs n e F P lead top A
 
   T : Holds (top_of g) top (2 * e)
@@ -83,11 +83,11 @@ module _ (s : tie.Start) where
     all-faced : Faced lead top known (2 * e)
     all-faced = faced ps os cs n e F P big lead top L T known K leads
 
-    below : (r : ℕ) → r ≡ count (outerLead lead top) (2 * e) → (h : ℕ) → h < 2 * e → faceFrom lead top known n h < r + 1
-    below r q h l = omega (arith, face-under ps os cs n e F P big lead top L T known K h l, q)
+    below : (r : ℕ) → r ≡ count (outer_lead lead top) (2 * e) → (h : ℕ) → h < 2 * e → face_from lead top known n h < r + 1
+    below r q h l = omega (arith, face_under ps os cs n e F P big lead top L T known K h l, q)
 
-    face-at : (face : List ℕ) → face ≡ filled (2 * e) (faceFrom lead top known n) face₀ → face ≡ filled (2 * e) (faceIn (walksOf g) (length g.points)) face₀
-    face-at face = face-filled ps os cs n e F P big lead top L T known K face₀ face
+    face_at_lem : (face : List ℕ) → face ≡ filled (2 * e) (face_from lead top known n) face₀ → face ≡ filled (2 * e) (face_in (walks_of g) (length g.points)) face₀
+    face_at_lem face = face-filled ps os cs n e F P big lead top L T known K face₀ face
 
 -- ── the needs ──
 
@@ -101,7 +101,7 @@ add-settle : tie.Need-overflow-add-settle
 add-settle c =
     let s : tie.Start = search rules in
     let t : tie.After-tell = search rules in
-    omega (arith, small s, t.tell.ensures.1.1, count-le (outerLead (lead s) (top s)) (2 * e s))
+    omega (arith, small s, t.tell.ensures.1.1, count-le (outer_lead (lead s) (top s)) (2 * e s))
 
 settle-requires : tie.Need-settle-requires
 settle-requires c κs =
@@ -110,7 +110,7 @@ settle-requires c κs =
     let known = t.tell.last.1.1.1.1.1.1.1.1.0 in
     let K = t.tell.ensures.0 in
     let r = t.tell.ensures.1.1 in
-    (all-faced s known K, (big s, (below s known K t.tell.result r, (s.pre.1.1.1.1.1, omega (arith, s.pre.1.1.1.1.3, r, count-le (outerLead (lead s) (top s)) (2 * e s))))))
+    (all-faced s known K, (big s, (below s known K t.tell.result r, (s.pre.1.1.1.1.1, omega (arith, s.pre.1.1.1.1.3, r, count-le (outer_lead (lead s) (top s)) (2 * e s))))))
 
 returns : tie.Need-returns
 returns c =
@@ -121,10 +121,10 @@ returns c =
     let K = t.tell.ensures.0 in
     let face = d.settle.last.1.1.1.1.1.0 in
     record {
-      face-is = over-is (ps s) (os s) (cs s) (n s) (e s) (F s) (P s) (faceIn (walksOf (g s)) (length (g s).points)) (face₀ s) face (face-at s known K face d.settle.ensures.0);
-      outers-is = outers-flat (ps s) (os s) (cs s) (n s) (e s) (F s) (P s) (big s) (lead s) (top s) (L s) (T s) s.args.leaders.now t.tell.last.1.1.1.1.1.1.1.1.1.0 t.tell.ensures.1.0;
-      count-is = count-flat (ps s) (os s) (cs s) (n s) (e s) (F s) (P s) (big s) (lead s) (top s) (L s) (T s) t.tell.result t.tell.ensures.1.1;
-      holes-is = holes-filled (ps s) (os s) (cs s) (n s) (e s) (F s) (P s) (big s) (lead s) (top s) (L s) (T s) known K t.tell.result s.args.inside.now d.settle.last.1.1.1.1.1.1.0 d.settle.ensures.1;
+      face_is = over_is (ps s) (os s) (cs s) (n s) (e s) (F s) (P s) (face_in (walks_of (g s)) (length (g s).points)) (face₀ s) face (face_at_lem s known K face d.settle.ensures.0);
+      outers_is = outers-flat (ps s) (os s) (cs s) (n s) (e s) (F s) (P s) (big s) (lead s) (top s) (L s) (T s) s.args.leaders.now t.tell.last.1.1.1.1.1.1.1.1.1.0 t.tell.ensures.1.0;
+      count_is = count-flat (ps s) (os s) (cs s) (n s) (e s) (F s) (P s) (big s) (lead s) (top s) (L s) (T s) t.tell.result t.tell.ensures.1.1;
+      holes_is = holes-filled (ps s) (os s) (cs s) (n s) (e s) (F s) (P s) (big s) (lead s) (top s) (L s) (T s) known K t.tell.result s.args.inside.now d.settle.last.1.1.1.1.1.1.0 d.settle.ensures.1;
     }
 
 pub enclose-in-spec : {M : Type 1} → statement M

@@ -5,15 +5,15 @@ use native.Mathlib.Omega.{arith}
 use borrow.Author.Rules.{rules}
 use Rattle.seq.specs.Seq.{List, Option·getD, ℕ, ◌*◌, take, leader, length, filled, laid, ℤ}
 use Rattle.seq.specs.Filled.{Holds}
-use Rattle.paper.specs.Limits.{overlayEdges, absent}
-use Rattle.paper.specs.Graph.{Graph, follower, heading, greatestOut}
-use Rattle.paper.specs.Faces.{walksOf, leadAt}
+use Rattle.paper.specs.Limits.{overlay_edges, absent}
+use Rattle.paper.specs.Graph.{Graph, follower, heading, greatest_out}
+use Rattle.paper.specs.Faces.{walks_of, lead_at}
 use Rattle.laws_graph.specs.Plane.{Plane}
-use Rattle.graph.specs.Flat.{flatGraph, Flat}
+use Rattle.graph.specs.Flat.{flat_graph, Flat}
 use Rattle.graph.specs.Heading.{row}
-use Rattle.graph.specs.Follow.{Headings, Heads, followerAt}
-use Rattle.graph.specs.Stars.{greatestAt, Roomy}
-use Rattle.graph_faces.specs.Laws.Linking.{ways-heads, ways-near, ways-apart, next-filled, next-holds, next-permuted, lead-filled, lead-holds, greatest-holds, over-is, leads-over}
+use Rattle.graph.specs.Follow.{Headings, Heads, follower_at}
+use Rattle.graph.specs.Stars.{greatest_at, Roomy}
+use Rattle.graph_faces.specs.Laws.Linking.{ways-heads, ways-near, ways-apart, next_filled, next_holds, next_permuted, lead-filled, lead-holds, greatest-holds, over_is, leads_over}
 use Rattle.graph_faces.specs.Walked.{top_of}
 use Rattle.graph_faces.proofs.links.link_in.Statement.{statement}
 use Rattle.graph_faces.proofs.links.link_in.Tie as tie
@@ -52,12 +52,12 @@ module _ (s : tie.Start) where
   top₀ = s.args.top.now
 
   abbrev g : Graph
-  g = flatGraph ps os cs n e
+  g = flat_graph ps os cs n e
 
   abbrev F : Flat ps os cs n e
   F = s.pre.0
 
-  small : e ≤ overlayEdges
+  small : e ≤ overlay_edges
   small = s.pre.1.0
 
   abbrev P : Plane g
@@ -85,25 +85,25 @@ module _ (s : tie.Start) where
       headings = near;
       apart = ways-apart ps os cs n e F P ways₀ wide ways W;
       small = big;
-      long-heads = s.pre.1.1.1.0.1;
-      long-next = long;
+      long_heads = s.pre.1.1.1.0.1;
+      long_next = long;
     }
 
-    outs : (out : List ℕ) → out ≡ filled n (greatestAt os ways (2 * e)) out₀ → Holds (λ v. Option·getD (greatestOut g v) absent) out n
+    outs : (out : List ℕ) → out ≡ filled n (greatest_at os ways (2 * e)) out₀ → Holds (λ v. Option·getD (greatest_out g v) absent) out n
     outs out O = greatest-holds ps os cs n e F P ways heads out₀ s.pre.1.1.1.0.1 out O
 
-    module _ (next : List ℕ) (N : next ≡ filled (2 * e) (followerAt os ways (2 * e)) next₀) where
-      next-at : next ≡ filled (2 * e) (follower g) next₀
-      next-at = next-filled ps os cs n e F P ways heads next₀ long next N
+    module _ (next : List ℕ) (N : next ≡ filled (2 * e) (follower_at os ways (2 * e)) next₀) where
+      next_at : next ≡ filled (2 * e) (follower g) next₀
+      next_at = next_filled ps os cs n e F P ways heads next₀ long next N
 
       nexts : Holds (follower g) next (2 * e)
-      nexts = next-holds ps os cs n e F P ways heads next₀ long next N
+      nexts = next_holds ps os cs n e F P ways heads next₀ long next N
 
       module _ (lead : List ℕ) (L : lead ≡ filled (2 * e) (leader (take (2 * e) next)) lead₀) where
-        lead-at : lead ≡ filled (2 * e) (leadAt (walksOf g)) lead₀
-        lead-at = lead-filled ps os cs n e F P next nexts lead₀ s.pre.1.1.1.1.1 lead L
+        lead_at_lem : lead ≡ filled (2 * e) (lead_at (walks_of g)) lead₀
+        lead_at_lem = lead-filled ps os cs n e F P next nexts lead₀ s.pre.1.1.1.1.1 lead L
 
-        leads : Holds (leadAt (walksOf g)) lead (2 * e)
+        leads : Holds (lead_at (walks_of g)) lead (2 * e)
         leads = lead-holds ps os cs n e F P next nexts lead₀ s.pre.1.1.1.1.1 lead L
 
 -- ── the needs ──
@@ -145,7 +145,7 @@ leads-requires c κs =
     let W = w.headings-by in
     let N = f.follow-stars in
     let next = N.last.1.1.1.1.1.0 in
-    (next-permuted (ps s) (os s) (cs s) (n s) (e s) (F s) (P s) next (nexts s W.last.1.1.1.1.1.1.0 W.ensures next N.ensures.1), (big s, s.pre.1.1.1.1.1))
+    (next_permuted (ps s) (os s) (cs s) (n s) (e s) (F s) (P s) next (nexts s W.last.1.1.1.1.1.1.0 W.ensures next N.ensures.1), (big s, s.pre.1.1.1.1.1))
 
 tops-of-requires : tie.Need-tops-of-requires
 tops-of-requires c κs =
@@ -177,9 +177,9 @@ returns c =
     let lead = L.last.1.1.0 in
     let top = t.tops-of.last.1.1.1.1.1.1.1.1.0 in
     record {
-      next-is = over-is (ps s) (os s) (cs s) (n s) (e s) (F s) (P s) (follower (g s)) (next₀ s) next (next-at s ways W.ensures next N.ensures.1);
-      lead_is = leads-over (ps s) (os s) (cs s) (n s) (e s) (F s) (P s) (lead₀ s) lead (lead-at s ways W.ensures next N.ensures.1 lead L.ensures);
-      top-is = over-is (ps s) (os s) (cs s) (n s) (e s) (F s) (P s) (top_of (g s)) (top₀ s) top t.tops-of.ensures;
+      next_is = over_is (ps s) (os s) (cs s) (n s) (e s) (F s) (P s) (follower (g s)) (next₀ s) next (next_at s ways W.ensures next N.ensures.1);
+      lead_is = leads_over (ps s) (os s) (cs s) (n s) (e s) (F s) (P s) (lead₀ s) lead (lead_at_lem s ways W.ensures next N.ensures.1 lead L.ensures);
+      top_is = over_is (ps s) (os s) (cs s) (n s) (e s) (F s) (P s) (top_of (g s)) (top₀ s) top t.tops-of.ensures;
     }
 
 pub link-in-spec : {M : Type 1} → statement M

@@ -5,18 +5,18 @@ use Prim.Native.Nat.{◌<◌}
 use native.Mathlib.Omega.{arith}
 use borrow.Author.Rules.{rules}
 use Rattle.seq.specs.Seq.{ℕ, ◌-◌}
-use Rattle.seq.specs.Loops.Picking.{Picking, pick-starts, pick-most, pick_takes, pick-skips, pick-lacks, pick-has}
+use Rattle.seq.specs.Loops.Picking.{Picking, pick_starts, pick-most, pick_takes, pick-skips, pick-lacks, pick_has}
 use Rattle.paper.specs.Plane.{nowhere}
-use Rattle.plane.specs.Values.{ptOf}
+use Rattle.plane.specs.Values.{pt_of}
 use Rattle.plane.specs.Bounds.{Near}
 use Rattle.graph.specs.Flat.{Carried}
 use Rattle.graph.specs.Heading.{flat-carried}
-use Rattle.graph.specs.Look.{candidateAt, nearerAt, flat-best}
+use Rattle.graph.specs.Look.{candidate_at, nearer_at, flat-best}
 use Rattle.graph_faces.proofs.looking.look_from.Statement.{statement}
 use Rattle.graph_faces.proofs.looking.look_from.Tie as tie
 
 abbrev invariant-loop : tie.invariant-loop
-invariant-loop points origins carriers n e rising v p r₀ k₀ r k = Picking (candidateAt points origins carriers (ptOf p) nowhere) (nearerAt carriers (ptOf p)) e r k
+invariant-loop points origins carriers n e rising v p r₀ k₀ r k = Picking (candidate_at points origins carriers (pt_of p) nowhere) (nearer_at carriers (pt_of p)) e r k
 
 abbrev decreases-loop : tie.decreases-loop
 decreases-loop points origins carriers n e rising v p r₀ k₀ r k = e - k
@@ -25,7 +25,7 @@ decreases-loop points origins carriers n e rising v p r₀ k₀ r k = e - k
 carried : (s : tie.Start invariant-loop decreases-loop) (k : ℕ) → k < s.args.e → Carried s.args.carriers.now k
 carried s = flat-carried s.args.points.now s.args.origins.now s.args.carriers.now s.args.n s.args.e s.requires.0.flat
 
-near : (s : tie.Start invariant-loop decreases-loop) → Near (ptOf s.args.p)
+near : (s : tie.Start invariant-loop decreases-loop) → Near (pt_of s.args.p)
 near s = subst Near (sym s.requires.1.1) (s.requires.0.flat.points.near s.args.v s.requires.1.0)
 
 strictly-west-requires : tie.Need-strictly-west-requires invariant-loop decreases-loop
@@ -56,12 +56,12 @@ cast-t15 c =
 returns : tie.Need-returns invariant-loop decreases-loop
 returns c =
     let s : tie.Start invariant-loop decreases-loop = search rules in
-    pick-lacks c.before.before.loop.invariant (search rules) c.if2.true ∙ flat-best s.args.points.now s.args.origins.now s.args.carriers.now s.args.n s.args.e s.pre.0.flat (ptOf s.args.p) (near s) nowhere
+    pick-lacks c.before.before.loop.invariant (search rules) c.if2.true ∙ flat-best s.args.points.now s.args.origins.now s.args.carriers.now s.args.n s.args.e s.pre.0.flat (pt_of s.args.p) (near s) nowhere
 
 returns-2 : tie.Need-returns-2 invariant-loop decreases-loop
 returns-2 c =
     let s : tie.Start invariant-loop decreases-loop = search rules in
-    pick-has c.before.before.loop.invariant (search rules) c.if2.false ∙ flat-best s.args.points.now s.args.origins.now s.args.carriers.now s.args.n s.args.e s.pre.0.flat (ptOf s.args.p) (near s) nowhere
+    pick_has c.before.before.loop.invariant (search rules) c.if2.false ∙ flat-best s.args.points.now s.args.origins.now s.args.carriers.now s.args.n s.args.e s.pre.0.flat (pt_of s.args.p) (near s) nowhere
 
 pub look-from-spec : {M : Type 1} → statement M
 look-from-spec =
@@ -69,7 +69,7 @@ look-from-spec =
     (tie.spec
     invariant-loop
     decreases-loop
-    (λ c. pick-starts)
+    (λ c. pick_starts)
     strictly-west-requires
     nearest-requires
     (λ c. search rules)

@@ -4,7 +4,7 @@ use native.Mathlib.Omega.{arith}
 use borrow.Author.Rules.{rules}
 use borrow.Author.Tests.{lt-ltb, le-ltb}
 use Rattle.seq.specs.Seq.{Bool, cond, not, ◌+◌, ◌*◌, ltb}
-use Rattle.graph.specs.Flat.{originAt}
+use Rattle.graph.specs.Flat.{origin_at}
 use Rattle.graph_faces.proofs.looking.one_side.Statement.{statement}
 use Rattle.graph_faces.proofs.looking.one_side.Tie as tie
 
@@ -22,15 +22,15 @@ returns : tie.Need-returns
 returns c =
     let s : tie.Start = search rules in
     let a = s.args in
-    let to = ltb a.v (originAt a.origins.now (2 * a.k + 1)) in
-    ap (λ (b : Bool). cond b to (not to)) (sym (lt-ltb a.v (originAt a.origins.now (2 * a.k)) c.if1.true))
+    let to = ltb a.v (origin_at a.origins.now (2 * a.k + 1)) in
+    ap (λ (b : Bool). cond b to (not to)) (sym (lt-ltb a.v (origin_at a.origins.now (2 * a.k)) c.if1.true))
 
 returns-2 : tie.Need-returns-2
 returns-2 c =
     let s : tie.Start = search rules in
     let a = s.args in
-    let to = ltb a.v (originAt a.origins.now (2 * a.k + 1)) in
-    ap (λ (b : Bool). cond b to (not to)) (sym (le-ltb a.v (originAt a.origins.now (2 * a.k)) (omega (arith, c.if1.false))))
+    let to = ltb a.v (origin_at a.origins.now (2 * a.k + 1)) in
+    ap (λ (b : Bool). cond b to (not to)) (sym (le-ltb a.v (origin_at a.origins.now (2 * a.k)) (omega (arith, c.if1.false))))
 
 pub one-side-spec : {M : Type 1} → statement M
 one-side-spec =

@@ -6,21 +6,21 @@ use borrow.Author.Rules.{rules}
 use Rattle.seq.specs.Seq.{Bool, true, false, cond, List, Option, some, Option·map, Option·getD, ℕ, ◌+◌, ◌*◌, ℤ}
 use Rattle.paper.specs.Limits.{absent}
 use Rattle.paper.specs.Plane.{Pt, nowhere}
-use Rattle.paper.specs.Graph.{eastSide, west}
-use Rattle.plane.specs.Values.{ptOf}
+use Rattle.paper.specs.Graph.{east_side, west}
+use Rattle.plane.specs.Values.{pt_of}
 use Rattle.plane.specs.Bounds.{Near}
-use Rattle.graph.specs.Flat.{flatGraph}
-use Rattle.graph.specs.Heading.{upAt, flat-ends}
-use Rattle.graph.specs.Look.{seenOf, eastAt, flat-west, seen_below, seen-east}
+use Rattle.graph.specs.Flat.{flat_graph}
+use Rattle.graph.specs.Heading.{the_up_at, flat_ends}
+use Rattle.graph.specs.Look.{the_seen_of, east_at, flat-west, seen_below, seen-east}
 use Rattle.graph_faces.proofs.looking.seen_from.Statement.{statement}
 use Rattle.graph_faces.proofs.looking.seen_from.Tie as tie
 
-east-by : (k : ℕ) (c : Bool) → cond c (2 * k + 1) (2 * k) ≤ 2 * k + 1
-east-by k true = omega arith
-east-by k false = omega arith
+east_by : (k : ℕ) (c : Bool) → cond c (2 * k + 1) (2 * k) ≤ 2 * k + 1
+east_by k true = omega arith
+east_by k false = omega arith
 
-east-le : (ps : List ℤ) (os : List ℕ) (k : ℕ) → eastAt ps os k ≤ 2 * k + 1
-east-le ps os k = east-by k (upAt ps os (2 * k))
+east-le : (ps : List ℤ) (os : List ℕ) (k : ℕ) → east_at ps os k ≤ 2 * k + 1
+east-le ps os k = east_by k (the_up_at ps os (2 * k))
 
 east-side-requires : tie.Need-east-side-requires
 east-side-requires c κs =
@@ -30,11 +30,11 @@ east-side-requires c κs =
     let a = s.args in
     let F = s.pre.0.flat in
     let k = c.before.seen.given.0.0 in
-    let p = ptOf at.point_at.result in
+    let p = pt_of at.point_at.result in
     let near = subst Near (sym at.point_at.ensures) (F.points.near a.v s.pre.1) in
-    let q = sym found.look-from.ensures ∙ ap seenOf c.before.seen.given.1 in
+    let q = sym found.look-from.ensures ∙ ap the_seen_of c.before.seen.given.1 in
     let l = seen_below a.points.now a.origins.now a.carriers.now a.n a.e F p near nowhere k q in
-    let ends = flat-ends a.points.now a.origins.now a.carriers.now a.n a.e F k l in
+    let ends = flat_ends a.points.now a.origins.now a.carriers.now a.n a.e F k l in
     (omega (arith, s.pre.0.small), ends.0, ends.1)
 
 cast-result : tie.Need-overflow-cast-result
@@ -45,9 +45,9 @@ cast-result c =
     let a = s.args in
     let F = s.pre.0.flat in
     let k = c.before.before.seen.given.0.0 in
-    let p = ptOf at.point_at.result in
+    let p = pt_of at.point_at.result in
     let near = subst Near (sym at.point_at.ensures) (F.points.near a.v s.pre.1) in
-    let q = sym found.look-from.ensures ∙ ap seenOf c.before.before.seen.given.1 in
+    let q = sym found.look-from.ensures ∙ ap the_seen_of c.before.before.seen.given.1 in
     omega (arith, s.pre.0.small, seen_below a.points.now a.origins.now a.carriers.now a.n a.e F p near nowhere k q, c.east-side.ensures, east-le a.points.now a.origins.now k)
 
 returns : tie.Need-returns
@@ -57,11 +57,11 @@ returns c =
     let found : tie.After-look-from = search rules in
     let a = s.args in
     let F = s.pre.0.flat in
-    let g = flatGraph a.points.now a.origins.now a.carriers.now a.n a.e in
-    let p = ptOf at.point_at.result in
+    let g = flat_graph a.points.now a.origins.now a.carriers.now a.n a.e in
+    let p = pt_of at.point_at.result in
     let near = subst Near (sym at.point_at.ensures) (F.points.near a.v s.pre.1) in
     ap (λ (o : Option ℕ). Option·getD o absent)
-    (ap (Option·map (eastSide g)) (sym (ap seenOf c.enum_told.given.1) ∙ found.look-from.ensures) ∙ flat-west a.points.now a.origins.now a.carriers.now a.n a.e F p near nowhere
+    (ap (Option·map (east_side g)) (sym (ap the_seen_of c.enum_told.given.1) ∙ found.look-from.ensures) ∙ flat-west a.points.now a.origins.now a.carriers.now a.n a.e F p near nowhere
     ∙ ap (λ (q : Pt). west g q nowhere) at.point_at.ensures)
 
 returns-2 : tie.Need-returns-2
@@ -71,11 +71,11 @@ returns-2 c =
     let found : tie.After-look-from = search rules in
     let a = s.args in
     let F = s.pre.0.flat in
-    let g = flatGraph a.points.now a.origins.now a.carriers.now a.n a.e in
+    let g = flat_graph a.points.now a.origins.now a.carriers.now a.n a.e in
     let k = c.before.before.seen.given.0.0 in
-    let p = ptOf at.point_at.result in
+    let p = pt_of at.point_at.result in
     let near = subst Near (sym at.point_at.ensures) (F.points.near a.v s.pre.1) in
-    let q = sym found.look-from.ensures ∙ ap seenOf c.before.before.seen.given.1 in
+    let q = sym found.look-from.ensures ∙ ap the_seen_of c.before.before.seen.given.1 in
     ap (λ (o : Option ℕ). Option·getD o absent)
     (ap some c.east-side.ensures ∙ seen-east a.points.now a.origins.now a.carriers.now a.n a.e F p near nowhere k q ∙ ap (λ (q : Pt). west g q nowhere) at.point_at.ensures)
 

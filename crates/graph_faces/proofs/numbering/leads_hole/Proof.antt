@@ -26,13 +26,13 @@ returns c =
     let t : tie.Then1 = search rules in
     let i : tie.After-is-hole = search rules in
     let own = eqb (get_or s.args.lead.now s.args.h 0) s.args.h in
-    and_yes own ∙ ap (λ (b : Bool). own && b) (sym t.if1.taken ∙ i.is-hole.ensures)
+    and_yes own ∙ ap (λ (b : Bool). own && b) (sym t.if1.taken ∙ i.is_hole.ensures)
 
 returns-2 : tie.Need-returns-2
 returns-2 c =
     let s : tie.Start = search rules in
     let own = eqb (get_or s.args.lead.now s.args.h 0) s.args.h in
-    and_no own ∙ ap (λ (b : Bool). own && b) (sym c.if1.false ∙ c.before.is-hole.ensures)
+    and_no own ∙ ap (λ (b : Bool). own && b) (sym c.if1.false ∙ c.before.is_hole.ensures)
 
 pub leads-hole-spec : {M : Type 1} → statement M
 leads-hole-spec =

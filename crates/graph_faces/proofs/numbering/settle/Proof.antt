@@ -5,15 +5,15 @@ use Prim.Native.Nat.{◌<◌}
 use native.Mathlib.Omega.{arith}
 use borrow.Author.Rules.{rules}
 use Rattle.seq.specs.Seq.{◌-◌, ℕ}
-use Rattle.seq.specs.Loops.Filling.{Filling, fill-starts, fill-turns, fill-ends}
-use Rattle.seq.specs.Loops.Tallying.{Tallying, tally-starts, tally-most, tally-takes, tally-skips, tally-ends}
-use Rattle.graph_faces.specs.Kinds.{holeLead, faceFrom, faced-kinded}
+use Rattle.seq.specs.Loops.Filling.{Filling, fill_starts, fill_turns, fill_ends}
+use Rattle.seq.specs.Loops.Tallying.{Tallying, tally_starts, tally-most, tally-takes, tally-skips, tally_ends}
+use Rattle.graph_faces.specs.Kinds.{hole_lead, face_from, faced_kinded}
 use Rattle.graph_faces.proofs.numbering.settle.Statement.{statement}
 use Rattle.graph_faces.proofs.numbering.settle.Tie as tie
 
 abbrev invariant-loop : tie.invariant-loop
 invariant-loop lead top known n m faces₀ inside₀ f h₀ faces inside h =
-    Filling (faceFrom lead top known n) m faces₀ faces h × Tallying (holeLead lead top) (faceFrom lead top known n) m f inside₀ inside h
+    Filling (face_from lead top known n) m faces₀ faces h × Tallying (hole_lead lead top) (face_from lead top known n) m f inside₀ inside h
 
 abbrev decreases-loop : tie.decreases-loop
 decreases-loop lead top known n m faces₀ inside₀ f h₀ faces inside h = m - h
@@ -22,7 +22,7 @@ loop-holds : tie.Need-loop-init invariant-loop decreases-loop
 loop-holds c =
     let s : tie.Start invariant-loop decreases-loop = search rules in
     let cleared : tie.After-fill invariant-loop decreases-loop = search rules in
-    (fill-starts s.pre.1.1.1.0, tally-starts s.args.inside.now s.pre.1.1.1.1 cleared.fill.ensures)
+    (fill_starts s.pre.1.1.1.0, tally_starts s.args.inside.now s.pre.1.1.1.1 cleared.fill.ensures)
 
 face-requires : tie.Need-face-requires invariant-loop decreases-loop
 face-requires c κs =
@@ -34,7 +34,7 @@ leads-hole-requires c κs =
     let s : tie.Start invariant-loop decreases-loop = search rules in
     let l : tie.At-loop invariant-loop decreases-loop = search rules in
     let i : tie.In-loop invariant-loop decreases-loop = search rules in
-    faced-kinded s.pre.0 l.loop.h i.loop-test.taken
+    faced_kinded s.pre.0 l.loop.h i.loop-test.taken
 
 abbrev started : tie.After-face invariant-loop decreases-loop → tie.Start invariant-loop decreases-loop
 started c = search rules
@@ -86,7 +86,7 @@ loop-again c =
     let o : tie.After-leads-hole invariant-loop decreases-loop = search rules in
     let b = i.loop-test.taken in
     let q = sym o.leads-hole.ensures in (
-      fill-turns l.loop.inv.0 b v.face.ensures,
+      fill_turns l.loop.inv.0 b v.face.ensures,
       ⊎_elim (λ w. rw w.2 (tally-takes l.loop.inv.1 b (q ∙ w.0.taken) v.face.ensures (cell v))) (λ w. rw w.1 (tally-skips l.loop.inv.1 b (q ∙ w.0.left))) c.if1.branch,
     )
 
@@ -95,7 +95,7 @@ returns c =
     let s : tie.Start invariant-loop decreases-loop = search rules in
     let cleared : tie.After-fill invariant-loop decreases-loop = search rules in
     let r = c.before.loop.invariant in
-    (fill-ends r.0 (search rules), tally-ends r.1 s.args.inside.now (omega arith) s.pre.1.1.1.1 cleared.fill.ensures)
+    (fill_ends r.0 (search rules), tally_ends r.1 s.args.inside.now (omega arith) s.pre.1.1.1.1 cleared.fill.ensures)
 
 pub settle-spec : {M : Type 1} → statement M
 settle-spec =

@@ -6,15 +6,15 @@ use native.Mathlib.Numerals.{add-one}
 use native.Mathlib.Omega.{arith}
 use borrow.Author.Rules.{rules}
 use Rattle.seq.specs.Seq.{ℕ, suc, ◌-◌, ◌*◌}
-use Rattle.seq.specs.Loops.Selecting.{Selecting, count_most, count-ends, select-starts, select-ends}
-use Rattle.graph_faces.specs.Kinds.{Kinded, outerLead, known_by, known_with}
-use Rattle.graph_faces.specs.Laws.Telling.{Telling, tell-starts, tell-takes, tell-skips, tell-ends, outer-turns, outer-skips}
+use Rattle.seq.specs.Loops.Selecting.{Selecting, count_most, count_ends, select_starts, select_ends}
+use Rattle.graph_faces.specs.Kinds.{Kinded, outer_lead, known_by, known_with}
+use Rattle.graph_faces.specs.Laws.Telling.{Telling, tell_starts, tell-takes, tell-skips, tell_ends, outer_turns, outer-skips}
 use Rattle.graph_faces.proofs.numbering.tell.Statement.{statement}
 use Rattle.graph_faces.proofs.numbering.tell.Tie as tie
 
 abbrev invariant-loop : tie.invariant-loop
 invariant-loop points origins carriers n e rising lead top known₀ leaders₀ m c₀ h₀ known leaders c h =
-    Telling (known_by points origins carriers n e lead top) lead (2 * e) known₀ known h × Selecting (outerLead lead top) (2 * e) leaders₀ leaders c h
+    Telling (known_by points origins carriers n e lead top) lead (2 * e) known₀ known h × Selecting (outer_lead lead top) (2 * e) leaders₀ leaders c h
 
 abbrev decreases-loop : tie.decreases-loop
 decreases-loop points origins carriers n e rising lead top known₀ leaders₀ m c₀ h₀ known leaders c h = 2 * e - h
@@ -22,7 +22,7 @@ decreases-loop points origins carriers n e rising lead top known₀ leaders₀ m
 loop-holds : tie.Need-loop-init invariant-loop decreases-loop
 loop-holds c =
     let s : tie.Start invariant-loop decreases-loop = search rules in
-    (tell-starts s.pre.1.1.0, select-starts s.pre.1.1.1)
+    (tell_starts s.pre.1.1.0, select_starts s.pre.1.1.1)
 
 mul-if1 : tie.Need-overflow-mul-if1 invariant-loop decreases-loop
 mul-if1 c =
@@ -73,7 +73,7 @@ loop-again c =
     ⊎_elim
     (λ w. (
       rw (w.8 ∙ w.3.ensures.0) (tell-takes t b (ap (λ (k : ℕ). known_with a.points.now a.origins.now a.carriers.now a.n a.e a.lead.now a.top.now l.loop.h k) (add-one l.loop.c ∙ ap suc r.counted.is))),
-      outer-turns a.lead.now a.top.now r b w.0.taken (w.9 ∙ w.3.ensures.1.0) (w.10 ∙ w.3.ensures.1.1),
+      outer_turns a.lead.now a.top.now r b w.0.taken (w.9 ∙ w.3.ensures.1.0) (w.10 ∙ w.3.ensures.1.1),
     ))
     (λ w. (rw w.1 (tell-skips t b w.0.left), rw (w.2, w.3) (outer-skips a.lead.now a.top.now r b w.0.left)))
     c.if1.branch
@@ -95,4 +95,4 @@ tell-spec =
     loop-again
     (λ c. c.before.loop.invariant.0.kept)
     (λ c. c.before.loop.invariant.1.kept)
-    (λ c. (tell-ends c.before.loop.invariant.0 (search rules), (select-ends c.before.loop.invariant.1 (search rules), count-ends c.before.loop.invariant.1.counted (search rules)))))
+    (λ c. (tell_ends c.before.loop.invariant.0 (search rules), (select_ends c.before.loop.invariant.1 (search rules), count_ends c.before.loop.invariant.1.counted (search rules)))))

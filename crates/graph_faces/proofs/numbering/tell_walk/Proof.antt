@@ -4,8 +4,8 @@ use native.Mathlib.Omega.{arith}
 use borrow.Author.Rules.{rules}
 use lib.ListN.{set}
 use Rattle.seq.specs.Seq.{Bool, cond, ℕ, ◌+◌, get_or}
-use Rattle.graph.specs.Flat.{originAt}
-use Rattle.graph_faces.specs.Kinds.{seenFrom}
+use Rattle.graph.specs.Flat.{origin_at}
+use Rattle.graph_faces.specs.Kinds.{seen_from}
 use Rattle.graph_faces.proofs.numbering.tell_walk.Statement.{statement}
 use Rattle.graph_faces.proofs.numbering.tell_walk.Tie as tie
 
@@ -26,8 +26,8 @@ returns c =
     let i : tie.After-is-hole = search rules in
     let f : tie.After-seen-from = search rules in
     let a = s.args in
-    let hole = sym t.if1.taken ∙ i.is-hole.ensures in
-    let seen = seenFrom a.points.now a.origins.now a.carriers.now a.n a.e (originAt a.origins.now (get_or a.top.now a.h 0)) in (
+    let hole = sym t.if1.taken ∙ i.is_hole.ensures in
+    let seen = seen_from a.points.now a.origins.now a.carriers.now a.n a.e (origin_at a.origins.now (get_or a.top.now a.h 0)) in (
       ap (set a.known.now a.h) (f.seen-from.ensures ∙ ap (λ (b : Bool). cond b seen (a.c + 1)) hole),
       (ap (λ (b : Bool). cond b a.leaders.now (set a.leaders.now a.c a.h)) hole, ap (λ (b : Bool). cond b a.c (a.c + 1)) hole),
     )
@@ -38,8 +38,8 @@ returns-2 c =
     let t : tie.Else1 = search rules in
     let i : tie.After-is-hole = search rules in
     let a = s.args in
-    let outer = sym t.if1.left ∙ i.is-hole.ensures in
-    let seen = seenFrom a.points.now a.origins.now a.carriers.now a.n a.e (originAt a.origins.now (get_or a.top.now a.h 0)) in (
+    let outer = sym t.if1.left ∙ i.is_hole.ensures in
+    let seen = seen_from a.points.now a.origins.now a.carriers.now a.n a.e (origin_at a.origins.now (get_or a.top.now a.h 0)) in (
       ap (λ (b : Bool). set a.known.now a.h (cond b seen (a.c + 1))) outer,
       (ap (λ (b : Bool). cond b a.leaders.now (set a.leaders.now a.c a.h)) outer, ap (λ (b : Bool). cond b a.c (a.c + 1)) outer),
     )

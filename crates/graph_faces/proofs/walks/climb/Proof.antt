@@ -5,7 +5,7 @@ use native.Mathlib.Omega.{arith}
 use borrow.Author.Rules.{rules}
 use Rattle.seq.specs.Seq.{true, ◌+◌, ◌*◌, ◌-◌, length}
 use Rattle.seq.specs.Tests.{never, was-true}
-use Rattle.graph_faces.specs.Climbs.{Climbing, climb-starts, climb-turns, climb-ends}
+use Rattle.graph_faces.specs.Climbs.{Climbing, climb_starts, climb_turns, climb_ends}
 use Rattle.graph_faces.proofs.walks.climb.Statement.{statement}
 use Rattle.graph_faces.proofs.walks.climb.Tie as tie
 
@@ -26,7 +26,7 @@ loop-holds : tie.Need-loop-init invariant-loop decreases-loop
 loop-holds c =
     let s : tie.Start invariant-loop decreases-loop = search rules in
     let b : tie.Else1 invariant-loop decreases-loop = search rules in
-    (was-true s.args.rising b.if1.left, climb-starts s.args.origins.now 0)
+    (was-true s.args.rising b.if1.left, climb_starts s.args.origins.now 0)
 
 loop-again : tie.Need-loop-preserved invariant-loop decreases-loop
 loop-again c =
@@ -35,13 +35,13 @@ loop-again c =
     let a : tie.Else2 invariant-loop decreases-loop = search rules in
     let b : tie.Else3 invariant-loop decreases-loop = search rules in
     let l = i.before.loop in
-    (l.inv.0, climb-turns s.args.origins.now l.k l.last l.inv.1 (omega (arith, a.if2.left)) (omega (arith, b.if3.left)))
+    (l.inv.0, climb_turns s.args.origins.now l.k l.last l.inv.1 (omega (arith, a.if2.left)) (omega (arith, b.if3.left)))
 
 returns-4 : tie.Need-returns-4 invariant-loop decreases-loop
 returns-4 c =
     let s : tie.Start invariant-loop decreases-loop = search rules in
     let l : tie.At-loop invariant-loop decreases-loop = search rules in
-    λ e. (l.loop.inv.0, climb-ends s.args.origins.now l.loop.k l.loop.last s.args.e l.loop.inv.1 (omega arith))
+    λ e. (l.loop.inv.0, climb_ends s.args.origins.now l.loop.k l.loop.last s.args.e l.loop.inv.1 (omega arith))
 
 pub climb-spec : {M : Type 1} → statement M
 climb-spec =

@@ -6,7 +6,7 @@ use native.Mathlib.Omega.{arith}
 use borrow.Author.Rules.{rules}
 use Rattle.seq.specs.Seq.{get_or, walk, leader, ◌+◌, List, ℕ, length, take, filled, ◌-◌}
 use Rattle.paper.specs.Limits.{absent}
-use Rattle.graph_faces.specs.Lead.{marks, Leading, Permutes, length_front, lead-starts, lead-skips, lead-marks, lead-ends}
+use Rattle.graph_faces.specs.Lead.{marks, Leading, Permutes, length_front, lead_starts, lead-skips, lead-marks, lead_ends}
 use Rattle.graph_faces.proofs.walks.leads.Statement.{statement}
 use Rattle.graph_faces.proofs.walks.leads.Tie as tie
 
@@ -22,7 +22,7 @@ module _ (t : List ℕ) (m : ℕ) (P : Permutes t m) (small : m ≤ absent) (o d
   clean = is ∙ ap (λ (k : ℕ). filled k (λ x. absent) o) (sym front)
 
   starts : Leading nx d d 0
-  starts = lead-starts nx P.once (omega (arith, front)) d o (omega (arith, front)) clean
+  starts = lead_starts nx P.once (omega (arith, front)) d o (omega (arith, front)) clean
 
   skips : (l : List ℕ) (h : ℕ) → Leading nx d l h → h < m → (get_or l h 0 ≡ absent → ⊥) → Leading nx d l (h + 1)
   skips l h r b = lead-skips nx P.once (omega (arith, front)) d l h r (omega (arith, front))
@@ -31,7 +31,7 @@ module _ (t : List ℕ) (m : ℕ) (P : Permutes t m) (small : m ≤ absent) (o d
   finds l h r b = lead-marks nx P.once (omega (arith, front)) d l h r (omega (arith, front))
 
   ends : (l : List ℕ) (h : ℕ) → Leading nx d l h → m ≤ h → l ≡ filled m (leader nx) o
-  ends l h r b = lead-ends nx P.once (omega (arith, front)) d r (omega (arith, front)) o (omega (arith, front)) clean ∙ ap (λ (k : ℕ). filled k (leader nx) o) front
+  ends l h r b = lead_ends nx P.once (omega (arith, front)) d r (omega (arith, front)) o (omega (arith, front)) clean ∙ ap (λ (k : ℕ). filled k (leader nx) o) front
 
 abbrev invariant-loop : tie.invariant-loop
 invariant-loop next m lead₀ h₀ lead h = Leading (take m next) lead₀ lead h

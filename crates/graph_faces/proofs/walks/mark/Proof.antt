@@ -5,7 +5,7 @@ use native.Mathlib.Omega.{arith}
 use lib.ListN.{length-set}
 use borrow.Author.Rules.{rules}
 use Rattle.seq.specs.Seq.{List, ℕ, take}
-use Rattle.graph_faces.specs.Lead.{Marking, mark-starts, mark-turns, mark-back, mark-ends, length_front, front_at, front_below, Permutes}
+use Rattle.graph_faces.specs.Lead.{Marking, mark_starts, mark_turns, mark_back, mark_ends, length_front, front_at, front_below, Permutes}
 use Rattle.graph_faces.proofs.walks.mark.Statement.{statement}
 use Rattle.graph_faces.proofs.walks.mark.Tie as tie
 
@@ -28,7 +28,7 @@ loop-holds c =
     let nx = s.args.next.now in
     let m = s.args.m in
     let front = length_front nx m s.requires.0 in
-    mark-starts (take m nx) s.args.h _ _ _ (front_at nx m s.requires.0 s.args.h s.requires.1.1.0) (omega (arith, front, front_below nx m s.requires.0 s.args.h s.requires.1.1.0)) (sym front)
+    mark_starts (take m nx) s.args.h _ _ _ (front_at nx m s.requires.0 s.args.h s.requires.1.1.0) (omega (arith, front, front_below nx m s.requires.0 s.args.h s.requires.1.1.0)) (sym front)
 
 same_length : tie.Need-same-length invariant-loop decreases-loop
 same_length c = let s =
@@ -38,7 +38,7 @@ same_length c = let s =
 returns : tie.Need-returns invariant-loop decreases-loop
 returns c = let s =
     let start : tie.Start invariant-loop decreases-loop = search rules in
-    start in mark-back (take s.args.m s.args.next.now) s.args.h _ c.before.before.loop.invariant c.if1.true
+    start in mark_back (take s.args.m s.args.next.now) s.args.h _ c.before.before.loop.invariant c.if1.true
 
 mul-lead-2 : tie.Need-overflow-mul-lead-2 invariant-loop decreases-loop
 mul-lead-2 c =
@@ -80,7 +80,7 @@ loop-again c =
     let nx = s.args.next.now in
     let m = s.args.m in
     let u = under s.args.next.now s.args.m s.args.h l.x l.left _ _ s.pre.0 l.inv in
-    mark-turns (take m nx) s.args.h _ l.inv c.before.before.loop-test.true c.before.if1.false _ (front_at nx m s.pre.0 l.x u) (omega (arith, length_front nx m s.pre.0, front_below nx m s.pre.0 l.x u))
+    mark_turns (take m nx) s.args.h _ l.inv c.before.before.loop-test.true c.before.if1.false _ (front_at nx m s.pre.0 l.x u) (omega (arith, length_front nx m s.pre.0, front_below nx m s.pre.0 l.x u))
 
 same-length-2 : tie.Need-same-length-2 invariant-loop decreases-loop
 same-length-2 c = let s =
@@ -90,7 +90,7 @@ same-length-2 c = let s =
 returns-2 : tie.Need-returns-2 invariant-loop decreases-loop
 returns-2 c = let s =
     let start : tie.Start invariant-loop decreases-loop = search rules in
-    start in mark-ends (take s.args.m s.args.next.now) s.args.h _ c.before.loop.invariant (omega arith)
+    start in mark_ends (take s.args.m s.args.next.now) s.args.h _ c.before.loop.invariant (omega arith)
 
 pub mark_spec : {M : Type 1} → statement M
 mark_spec =

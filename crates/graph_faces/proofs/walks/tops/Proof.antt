@@ -4,13 +4,13 @@ use Prim.Native.Nat.{◌<◌}
 use native.Mathlib.Omega.{arith}
 use borrow.Author.Rules.{rules}
 use Rattle.seq.specs.Seq.{ℕ, get_or, ◌-◌, length}
-use Rattle.seq.specs.Loops.Filling.{Filling, fill-starts, fill-turns, fill-ends}
-use Rattle.graph_faces.specs.Turns.{topAt}
+use Rattle.seq.specs.Loops.Filling.{Filling, fill_starts, fill_turns, fill_ends}
+use Rattle.graph_faces.specs.Turns.{top_at}
 use Rattle.graph_faces.proofs.walks.tops.Statement.{statement}
 use Rattle.graph_faces.proofs.walks.tops.Tie as tie
 
 abbrev invariant-loop : tie.invariant-loop
-invariant-loop origins lead low greatest m top₀ h₀ top h = Filling (topAt origins lead low greatest) m top₀ top h
+invariant-loop origins lead low greatest m top₀ h₀ top h = Filling (top_at origins lead low greatest) m top₀ top h
 
 abbrev decreases-loop : tie.decreases-loop
 decreases-loop origins lead low greatest m top₀ h₀ top h = m - h
@@ -36,7 +36,7 @@ loop-again : tie.Need-loop-preserved invariant-loop decreases-loop
 loop-again c =
     let at-loop : tie.At-loop invariant-loop decreases-loop = search rules in
     let in-loop : tie.In-loop invariant-loop decreases-loop = search rules in
-    fill-turns at-loop.loop.inv in-loop.loop-test.taken refl
+    fill_turns at-loop.loop.inv in-loop.loop-test.taken refl
 
 pub tops-spec : {M : Type 1} → statement M
 tops-spec =
@@ -44,7 +44,7 @@ tops-spec =
     (tie.spec
     invariant-loop
     decreases-loop
-    (λ c. fill-starts c.requires.1.1.1.1)
+    (λ c. fill_starts c.requires.1.1.1.1)
     (λ c. search rules)
     (λ c. search rules)
     (λ c. omega (arith, lead-fits (search rules)))
@@ -62,4 +62,4 @@ tops-spec =
     (λ c. search rules)
     loop-again
     (λ c. search rules)
-    (λ c. fill-ends c.before.loop.invariant (search rules)))
+    (λ c. fill_ends c.before.loop.invariant (search rules)))

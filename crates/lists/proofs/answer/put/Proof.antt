@@ -2,14 +2,14 @@
 use mathlib.Core.Path.{sym, ap}
 use borrow.Author.Rules.{rules}
 use Rattle.tables.specs.Values.{answer_of}
-use Rattle.lists.specs.Laws.Room.{line_as, roomy-as}
+use Rattle.lists.specs.Laws.Room.{line_as, roomy_as}
 use Rattle.lists.proofs.answer.put.Statement.{statement}
 use Rattle.lists.proofs.answer.put.Tie as tie
 
 listing-requires : tie.Need-listing-requires
 listing-requires c κs =
     let start : tie.Start = search rules in
-    roomy-as (sym (ap answer_of c.before.before.answer.given.1)) start.pre
+    roomy_as (sym (ap answer_of c.before.before.answer.given.1)) start.pre
 
 returns : tie.Need-returns
 returns c =

@@ -1,7 +1,7 @@
 -- `lists::melted::list` meets its contract. Assumes nothing.
 use borrow.Author.Rules.{rules}
 use Rattle.paper.specs.Melt.{melt}
-use Rattle.lists.specs.Listed.{fullTables}
+use Rattle.lists.specs.Listed.{full_tables}
 use Rattle.lists.specs.Laws.Room.{listed_of}
 use Rattle.lists.specs.Filed.{melt-answered}
 use Rattle.lists.proofs.melted.list.Statement.{statement}
@@ -12,14 +12,14 @@ put-requires c κs =
     let o : tie.After-melt = search rules in
     let start : tie.Start = search rules in
     let a = start.args in
-    melt-answered fullTables a.zones.now a.blocks.now a.bed.now o.melt.ensures
+    melt-answered full_tables a.zones.now a.blocks.now a.bed.now o.melt.ensures
 
 returns : tie.Need-returns
 returns c =
     let o : tie.After-melt = search rules in
     let start : tie.Start = search rules in
     let a = start.args in
-    listed_of (melt fullTables a.zones.now a.blocks.now a.bed.now) o.melt.result o.melt.ensures c.put.ensures
+    listed_of (melt full_tables a.zones.now a.blocks.now a.bed.now) o.melt.result o.melt.ensures c.put.ensures
 
 pub list-spec : {M : Type 1} → statement M
 list-spec =

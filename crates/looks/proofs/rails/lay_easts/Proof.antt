@@ -4,17 +4,17 @@ use Prim.Native.Nat.{◌-◌, ◌*◌}
 use lib.ListN.{get_or}
 use native.Mathlib.Omega.{arith}
 use Rattle.seq.specs.Seq.{ℕ}
-use Rattle.seq.specs.Loops.Filling.{Filling, fill-starts, fill-turns, fill-ends}
-use Rattle.graph.specs.Heading.{upAt}
-use Rattle.graph.specs.Look.{eastAt}
-use Rattle.looks.specs.Ordering.{edgeIn}
-use Rattle.looks.specs.Rails.{side-below}
+use Rattle.seq.specs.Loops.Filling.{Filling, fill_starts, fill_turns, fill_ends}
+use Rattle.graph.specs.Heading.{the_up_at}
+use Rattle.graph.specs.Look.{east_at}
+use Rattle.looks.specs.Ordering.{the_edge_in}
+use Rattle.looks.specs.Rails.{side_below}
 use borrow.Author.Rules.{rules}
 use Rattle.looks.proofs.rails.lay_easts.Statement.{statement}
 use Rattle.looks.proofs.rails.lay_easts.Tie as tie
 
 abbrev invariant-loop : tie.invariant-loop
-invariant-loop points origins labels order e easts₀ i₀ easts i = Filling (λ j. get_or labels (eastAt points origins (edgeIn order j)) 0) e easts₀ easts i
+invariant-loop points origins labels order e easts₀ i₀ easts i = Filling (λ j. get_or labels (east_at points origins (the_edge_in order j)) 0) e easts₀ easts i
 
 abbrev decreases-loop : tie.decreases-loop
 decreases-loop points origins labels order e easts₀ i₀ easts i = e - i
@@ -33,7 +33,7 @@ east-side-requires c κs =
     let s : tie.Start invariant-loop decreases-loop = search rules in
     let l : tie.At-loop invariant-loop decreases-loop = search rules in
     let k = s.pre.1.0.named l.loop.i (search rules) in
-    let n = s.pre.0.2.ends (edgeIn s.args.order.now l.loop.i) k in
+    let n = s.pre.0.2.ends (the_edge_in s.args.order.now l.loop.i) k in
     (omega (arith, k, s.pre.0.0), n.first, n.second)
 
 -- the side is one of the labelled half-edges
@@ -43,8 +43,8 @@ mul-easts c =
     let l : tie.At-loop invariant-loop decreases-loop = search rules in
     let n : tie.After-east-side invariant-loop decreases-loop = search rules in
     let a = s.args in
-    let k = edgeIn a.order.now l.loop.i in
-    omega (arith, n.east-side.ensures, side-below (upAt a.points.now a.origins.now (2 * k)) k (s.pre.1.0.named l.loop.i (search rules)), s.pre.0.0)
+    let k = the_edge_in a.order.now l.loop.i in
+    omega (arith, n.east-side.ensures, side_below (the_up_at a.points.now a.origins.now (2 * k)) k (s.pre.1.0.named l.loop.i (search rules)), s.pre.0.0)
 
 shared-slice-read-easts : tie.Need-shared-slice-read-easts invariant-loop decreases-loop
 shared-slice-read-easts c =
@@ -52,8 +52,8 @@ shared-slice-read-easts c =
     let l : tie.At-loop invariant-loop decreases-loop = search rules in
     let n : tie.After-east-side invariant-loop decreases-loop = search rules in
     let a = s.args in
-    let k = edgeIn a.order.now l.loop.i in
-    omega (arith, n.east-side.ensures, side-below (upAt a.points.now a.origins.now (2 * k)) k (s.pre.1.0.named l.loop.i (search rules)), s.pre.0.1)
+    let k = the_edge_in a.order.now l.loop.i in
+    omega (arith, n.east-side.ensures, side_below (the_up_at a.points.now a.origins.now (2 * k)) k (s.pre.1.0.named l.loop.i (search rules)), s.pre.0.1)
 
 slice-write-easts : tie.Need-slice-write-easts invariant-loop decreases-loop
 slice-write-easts c =
@@ -66,7 +66,7 @@ loop-again c =
     let s : tie.Start invariant-loop decreases-loop = search rules in
     let l : tie.At-loop invariant-loop decreases-loop = search rules in
     let n : tie.After-east-side invariant-loop decreases-loop = search rules in
-    fill-turns l.loop.inv (search rules) (ap (λ (h : ℕ). get_or s.args.labels.now h 0) n.east-side.ensures)
+    fill_turns l.loop.inv (search rules) (ap (λ (h : ℕ). get_or s.args.labels.now h 0) n.east-side.ensures)
 
 pub lay-easts-spec : {M : Type 1} → statement M
 lay-easts-spec =
@@ -74,7 +74,7 @@ lay-easts-spec =
     (tie.spec
     invariant-loop
     decreases-loop
-    (λ c. fill-starts (search rules))
+    (λ c. fill_starts (search rules))
     (λ c. search rules)
     shared-slice-read-east-side
     cast-east-side
@@ -87,4 +87,4 @@ lay-easts-spec =
     (λ c. search rules)
     loop-again
     (λ c. search rules)
-    (λ c. fill-ends c.before.loop.invariant (search rules)))
+    (λ c. fill_ends c.before.loop.invariant (search rules)))

@@ -2,7 +2,7 @@
 use mathlib.Core.Path.{◌∙◌}
 use borrow.Author.Rules.{rules}
 use Rattle.exact.specs.Mach.{tr, tru, fits, plain, atmost}
-use Rattle.looks.proofs.WholeLaws.{left-whole}
+use Rattle.looks.proofs.WholeLaws.{left_whole}
 use Rattle.looks.proofs.reading.left_of.Statement.{statement}
 use Rattle.looks.proofs.reading.left_of.Tie as tie
 
@@ -10,7 +10,7 @@ returns : tie.Need-returns
 returns c =
     let start : tie.Start = search rules in
     let a = start.args in
-    (plain (search tr depth 20) tt ∙ left-whole a.x a.y a.u a.v a.a a.b, atmost (search tru depth 20) tt)
+    (plain (search tr depth 20) tt ∙ left_whole a.x a.y a.u a.v a.a a.b, atmost (search tru depth 20) tt)
 
 pub left-of-spec : {M : Type 1} → statement M
 left-of-spec =

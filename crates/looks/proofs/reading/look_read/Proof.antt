@@ -6,7 +6,7 @@ use Rattle.seq.specs.Seq.{List}
 use native.Mathlib.Omega.{arith}
 use Rattle.plane.specs.Values.{vec_of}
 use Rattle.graph.specs.Flat.{Carriers, Carried}
-use Rattle.looks.specs.Rails.{above, Reading, read-starts, read-le, read-turns, read-ends}
+use Rattle.looks.specs.Rails.{above, Reading, read_starts, read-le, read_turns, read_ends}
 use borrow.Author.Rules.{rules}
 use Rattle.looks.proofs.reading.look_read.Statement.{statement}
 use Rattle.looks.proofs.reading.look_read.Tie as tie
@@ -21,7 +21,7 @@ carried : (rs : List ℤ) (e : ℕ) → Carriers rs e → (k : ℕ) → k < e �
 carried rs e C k l = record { row = omega (arith, C.long); near = C.near k l }
 
 loop-holds : tie.Need-loop-init invariant-loop decreases-loop
-loop-holds c = read-starts _ _ _
+loop-holds c = read_starts _ _ _
 
 carrier-at-requires : tie.Need-carrier-at-requires invariant-loop decreases-loop
 carrier-at-requires c κs =
@@ -42,7 +42,7 @@ returns c =
     let row : tie.After-carrier-at invariant-loop decreases-loop = search rules in
     let test : tie.After-starts-above invariant-loop decreases-loop = search rules in
     let then : tie.Then1 invariant-loop decreases-loop = search rules in
-    read-ends _ _ _ l.loop.inv (λ q. sym (sym then.if1.taken ∙ test.starts-above.ensures ∙ ap (above (vec_of s.args.c)) row.carrier-at.ensures.0)) _ refl refl
+    read_ends _ _ _ l.loop.inv (λ q. sym (sym then.if1.taken ∙ test.starts-above.ensures ∙ ap (above (vec_of s.args.c)) row.carrier_at_lem.ensures.0)) _ refl refl
 
 take-requires : tie.Need-take-requires invariant-loop decreases-loop
 take-requires c κs =
@@ -58,7 +58,7 @@ loop-again c =
     let row : tie.After-carrier-at invariant-loop decreases-loop = search rules in
     let test : tie.After-starts-above invariant-loop decreases-loop = search rules in
     let else : tie.Else1 invariant-loop decreases-loop = search rules in
-    read-turns _ _ _ l.loop.inv _ (search rules) (sym (sym else.if1.left ∙ test.starts-above.ensures ∙ ap (above (vec_of s.args.c)) row.carrier-at.ensures.0)) c.take.ensures
+    read_turns _ _ _ l.loop.inv _ (search rules) (sym (sym else.if1.left ∙ test.starts-above.ensures ∙ ap (above (vec_of s.args.c)) row.carrier_at_lem.ensures.0)) c.take.ensures
 
 cast-t10 : tie.Need-overflow-cast-t10 invariant-loop decreases-loop
 cast-t10 c =
@@ -69,7 +69,7 @@ cast-t10 c =
 returns-2 : tie.Need-returns-2 invariant-loop decreases-loop
 returns-2 c =
     let l : tie.At-loop invariant-loop decreases-loop = search rules in
-    read-ends _ _ _ l.loop.inv (λ q. absurd (omega arith)) _ refl refl
+    read_ends _ _ _ l.loop.inv (λ q. absurd (omega arith)) _ refl refl
 
 pub look-read-spec : {M : Type 1} → statement M
 look-read-spec =

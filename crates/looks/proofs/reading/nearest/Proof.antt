@@ -3,13 +3,13 @@ use mathlib.Core.Path.{sym, ◌∙◌}
 use native.Mathlib.Omega.{arith}
 use borrow.Author.Rules.{rules}
 use Rattle.plane.specs.Values.{vec_of}
-use Rattle.seq.specs.Pick.{better-none, better-by}
-use Rattle.looks.specs.Rails.{closer, closerAt}
+use Rattle.seq.specs.Pick.{better_none, better_by}
+use Rattle.looks.specs.Rails.{closer, closer_at}
 use Rattle.looks.proofs.reading.nearest.Statement.{statement}
 use Rattle.looks.proofs.reading.nearest.Tie as tie
 
 returns : tie.Need-returns
-returns c = let a = c.before.args in better-none (closerAt a.rails.now (vec_of a.c)) a.none a.i a.r c.if1.true
+returns c = let a = c.before.args in better_none (closer_at a.rails.now (vec_of a.c)) a.none a.i a.r c.if1.true
 
 carrier-at-requires-2 : tie.Need-carrier-at-requires-2
 carrier-at-requires-2 c κs = c.before.before.requires.1 (omega (arith, c.before.if1.false, c.before.before.requires.2))
@@ -20,8 +20,8 @@ returns-2 c =
     let else1 : tie.Else1 = search rules in
     let after-carrier-at : tie.After-carrier-at = search rules in
     let a = start.args in
-    better-by (closerAt a.rails.now (vec_of a.c)) a.none a.i a.r else1.if1.left
-    ((λ i. closer (vec_of a.c) (sym after-carrier-at.carrier-at.ensures.0 i) (sym c.before.before.carrier-at2.ensures.0 i)) ∙ sym c.before.closer.ensures ∙ c.if2.true)
+    better_by (closer_at a.rails.now (vec_of a.c)) a.none a.i a.r else1.if1.left
+    ((λ i. closer (vec_of a.c) (sym after-carrier-at.carrier_at_lem.ensures.0 i) (sym c.before.before.carrier-at2.ensures.0 i)) ∙ sym c.before.closer.ensures ∙ c.if2.true)
 
 returns-3 : tie.Need-returns-3
 returns-3 c =
@@ -29,8 +29,8 @@ returns-3 c =
     let else1 : tie.Else1 = search rules in
     let after-carrier-at : tie.After-carrier-at = search rules in
     let a = start.args in
-    better-by (closerAt a.rails.now (vec_of a.c)) a.none a.i a.r else1.if1.left
-    ((λ i. closer (vec_of a.c) (sym after-carrier-at.carrier-at.ensures.0 i) (sym c.before.before.carrier-at2.ensures.0 i)) ∙ sym c.before.closer.ensures ∙ c.if2.false)
+    better_by (closer_at a.rails.now (vec_of a.c)) a.none a.i a.r else1.if1.left
+    ((λ i. closer (vec_of a.c) (sym after-carrier-at.carrier_at_lem.ensures.0 i) (sym c.before.before.carrier-at2.ensures.0 i)) ∙ sym c.before.closer.ensures ∙ c.if2.false)
 
 pub nearest-spec : {M : Type 1} → statement M
 nearest-spec =

@@ -2,9 +2,9 @@
 use mathlib.Core.Path.{◌≡◌, sym, ◌∙◌}
 use Prim.Native.Nat.{◌+◌, ◌*◌}
 use borrow.Author.Rules.{rules}
-use Rattle.graph.specs.Flat.{carrierAt}
-use Rattle.graph.proofs.Rows.{wide, widened, widened-first}
-use Rattle.looks.specs.Straying.{straysBy, strays-first, strays-second}
+use Rattle.graph.specs.Flat.{carrier_at}
+use Rattle.graph.proofs.Rows.{wide, widened, widened_first}
+use Rattle.looks.specs.Straying.{strays_by, strays_first, strays-second}
 use Rattle.looks.proofs.straying.strays_at.Statement.{statement}
 use Rattle.looks.proofs.straying.strays_at.Tie as tie
 
@@ -16,7 +16,7 @@ returns c =
     let t : tie.After-strays-by = search rules in
     let rs = s.args.rails.now in
     let i = s.args.i in
-    strays-first rs i _ (t.strays-by.ensures ∙ (λ j. straysBy (widened-first 4 rs i a.strays-by-arg.given j) (widened rs (4 * i + 2) b.strays-by-arg2.given j))) c.if1.true
+    strays_first rs i _ (t.strays-by.ensures ∙ (λ j. strays_by (widened_first 4 rs i a.strays-by-arg.given j) (widened rs (4 * i + 2) b.strays-by-arg2.given j))) c.if1.true
 
 returns-2 : tie.Need-returns-2
 returns-2 c =
@@ -29,8 +29,8 @@ returns-2 c =
     let q : tie.After-strays-by-arg4 = search rules in
     let rs = s.args.rails.now in
     let i = s.args.i in
-    strays-second rs i _ _ (t.strays-by.ensures ∙ (λ j. straysBy (widened-first 4 rs i a.strays-by-arg.given j) (widened rs (4 * i + 2) b.strays-by-arg2.given j))) e.if1.left
-    (c.strays-by2.ensures ∙ (λ j. straysBy (widened rs (4 * i + 1) p.strays-by-arg3.given j) (widened rs (4 * i + 3) q.strays-by-arg4.given j)))
+    strays-second rs i _ _ (t.strays-by.ensures ∙ (λ j. strays_by (widened_first 4 rs i a.strays-by-arg.given j) (widened rs (4 * i + 2) b.strays-by-arg2.given j))) e.if1.left
+    (c.strays-by2.ensures ∙ (λ j. strays_by (widened rs (4 * i + 1) p.strays-by-arg3.given j) (widened rs (4 * i + 3) q.strays-by-arg4.given j)))
 
 pub strays-at-spec : {M : Type 1} → statement M
 strays-at-spec =

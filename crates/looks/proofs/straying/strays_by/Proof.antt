@@ -11,7 +11,7 @@ use Rattle.exact.specs.Mach.{tr, fits, plain}
 use Rattle.paper.specs.Limits.{reach}
 use Rattle.plane.specs.Bounds.{span}
 use Rattle.plane.proofs.Machine.{back}
-use Rattle.looks.specs.Straying.{strays-low, strays-way, strays-high}
+use Rattle.looks.specs.Straying.{strays_low, strays-way, strays_high}
 use Rattle.looks.proofs.straying.strays_by.Statement.{statement}
 use Rattle.looks.proofs.straying.strays_by.Tie as tie
 
@@ -19,7 +19,7 @@ returns : tie.Need-returns
 returns c =
     let s : tie.Start = search rules in
     let m : tie.After-magnitude = search rules in
-    strays-low s.args.x s.args.u (omega (arith, m.magnitude.ensures ∙ ap nat_abs (to_z-of_z w64 s.args.x s.fits.x), c.if1.true))
+    strays_low s.args.x s.args.u (omega (arith, m.magnitude.ensures ∙ ap nat_abs (to_z-of_z w64 s.args.x s.fits.x), c.if1.true))
 
 returns-2 : tie.Need-returns-2
 returns-2 c =
@@ -49,7 +49,7 @@ returns-3 c =
     let a : nat_abs s.args.x ≤ reach = omega (arith, m.magnitude.ensures ∙ ap nat_abs (to_z-of_z w64 s.args.x s.fits.x), e.if1.left) in
     let b : nat_abs s.args.u ≤ span = omega (arith, w.magnitude2.ensures ∙ ap nat_abs (to_z-of_z w64 s.args.u s.fits.u), f.if2.left) in
     let q : back (back s.args.x +ℤ back s.args.u) ≡ s.args.x +ℤ s.args.u = plain (search tr depth 20) tt in
-    ap (ltb reach) (c.magnitude3.ensures ∙ ap nat_abs q) ∙ strays-high s.args.x s.args.u a b
+    ap (ltb reach) (c.magnitude3.ensures ∙ ap nat_abs q) ∙ strays_high s.args.x s.args.u a b
 
 pub strays-by-spec : {M : Type 1} → statement M
 strays-by-spec =

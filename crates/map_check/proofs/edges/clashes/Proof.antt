@@ -3,14 +3,14 @@ use mathlib.Core.Path.{◌≡◌, sym, ◌∙◌}
 use mathlib.Core.Logic.{inl, inr}
 use lib.Signed.{lt_z}
 use borrow.Author.Rules.{rules}
-use Rattle.exact.specs.Tests.{lt-t}
+use Rattle.exact.specs.Tests.{lt_t}
 use Rattle.seq.specs.Seq.{true, false}
 use Rattle.paper.specs.Plane.{Seg, head, clash}
-use Rattle.paper.specs.Meeting.{meeting, clashBy}
+use Rattle.paper.specs.Meeting.{meeting, clash_by}
 use Rattle.laws_plane.specs.Cone.{UpV}
-use Rattle.laws_plane.specs.Boxes.{BoxesApart, boxesApart, boxes-apart, boxes-clear, heights-apart}
+use Rattle.laws_plane.specs.Boxes.{BoxesApart, boxes_apart, boxes-apart, boxes-clear, heights-apart}
 use Rattle.laws_meet.specs.Uses.{clash-meeting}
-use Rattle.graph.specs.Flat.{carrierAt}
+use Rattle.graph.specs.Flat.{carrier_at}
 use Rattle.keys.specs.Rows.{carried}
 use Rattle.map_check.proofs.edges.clashes.Statement.{statement}
 use Rattle.map_check.proofs.edges.clashes.Tie as tie
@@ -22,10 +22,10 @@ other_way s t (inl a) = inr a
 other_way s t (inr a) = inl a
 
 under-clear : (s t : Seg) → UpV s.up → UpV t.up → lt_z (head s).y t.foot.y ≡ true → clash s t ≡ false
-under-clear s t us ut e = boxes-clear s t us ut (heights-apart s t us ut (lt-t {a = (head s).y} {b = t.foot.y} e))
+under-clear s t us ut e = boxes-clear s t us ut (heights-apart s t us ut (lt_t {a = (head s).y} {b = t.foot.y} e))
 
 over-clear : (s t : Seg) → UpV s.up → UpV t.up → lt_z (head t).y s.foot.y ≡ true → clash s t ≡ false
-over-clear s t us ut e = boxes-clear s t us ut (other_way s t (heights-apart t s ut us (lt-t {a = (head t).y} {b = s.foot.y} e)))
+over-clear s t us ut e = boxes-clear s t us ut (other_way s t (heights-apart t s ut us (lt_t {a = (head t).y} {b = s.foot.y} e)))
 
 -- ── the code ──
 
@@ -41,10 +41,10 @@ returns c =
     let after-carrier-at : tie.After-carrier-at = search rules in
     let after-carrier-at2 : tie.After-carrier-at2 = search rules in
     let a = start.args in
-    let s = carrierAt a.carriers.now a.k in
-    let t = carrierAt a.carriers.now a.j in
+    let s = carrier_at a.carriers.now a.k in
+    let t = carrier_at a.carriers.now a.j in
     let up = start.pre.3.up in
-    let e : lt_z (head s).y t.foot.y ≡ true = (λ i. lt_z (head (sym after-carrier-at.carrier-at.ensures.0 i)).y (sym after-carrier-at2.carrier-at2.ensures.0 i).foot.y) ∙ sym c.before.lies-under.ensures ∙ c.if1.true in
+    let e : lt_z (head s).y t.foot.y ≡ true = (λ i. lt_z (head (sym after-carrier-at.carrier_at_lem.ensures.0 i)).y (sym after-carrier-at2.carrier-at2.ensures.0 i).foot.y) ∙ sym c.before.lies-under.ensures ∙ c.if1.true in
     sym (under-clear s t (up a.k start.pre.1) (up a.j start.pre.2) e)
 
 returns-2 : tie.Need-returns-2
@@ -53,10 +53,10 @@ returns-2 c =
     let after-carrier-at : tie.After-carrier-at = search rules in
     let after-carrier-at2 : tie.After-carrier-at2 = search rules in
     let a = start.args in
-    let s = carrierAt a.carriers.now a.k in
-    let t = carrierAt a.carriers.now a.j in
+    let s = carrier_at a.carriers.now a.k in
+    let t = carrier_at a.carriers.now a.j in
     let up = start.pre.3.up in
-    let e : lt_z (head t).y s.foot.y ≡ true = (λ i. lt_z (head (sym after-carrier-at2.carrier-at2.ensures.0 i)).y (sym after-carrier-at.carrier-at.ensures.0 i).foot.y) ∙ sym c.before.lies-under2.ensures ∙ c.if2.true in
+    let e : lt_z (head t).y s.foot.y ≡ true = (λ i. lt_z (head (sym after-carrier-at2.carrier-at2.ensures.0 i)).y (sym after-carrier-at.carrier_at_lem.ensures.0 i).foot.y) ∙ sym c.before.lies-under2.ensures ∙ c.if2.true in
     sym (over-clear s t (up a.k start.pre.1) (up a.j start.pre.2) e)
 
 returns-3 : tie.Need-returns-3
@@ -65,10 +65,10 @@ returns-3 c =
     let after-carrier-at : tie.After-carrier-at = search rules in
     let after-carrier-at2 : tie.After-carrier-at2 = search rules in
     let a = start.args in
-    let s = carrierAt a.carriers.now a.k in
-    let t = carrierAt a.carriers.now a.j in
+    let s = carrier_at a.carriers.now a.k in
+    let t = carrier_at a.carriers.now a.j in
     let up = start.pre.3.up in
-    let e : boxesApart s t ≡ true = (λ i. boxesApart (sym after-carrier-at.carrier-at.ensures.0 i) (sym after-carrier-at2.carrier-at2.ensures.0 i)) ∙ sym c.before.boxes-apart.ensures ∙ c.if3.true in
+    let e : boxes_apart s t ≡ true = (λ i. boxes_apart (sym after-carrier-at.carrier_at_lem.ensures.0 i) (sym after-carrier-at2.carrier-at2.ensures.0 i)) ∙ sym c.before.boxes-apart.ensures ∙ c.if3.true in
     sym (boxes-clear s t (up a.k start.pre.1) (up a.j start.pre.2) (boxes-apart s t e))
 
 returns-4 : tie.Need-returns-4
@@ -77,11 +77,11 @@ returns-4 c =
     let after-carrier-at2 : tie.After-carrier-at2 = search rules in
     let start : tie.Start = search rules in
     let a = start.args in
-    let s = after-carrier-at.carrier-at.ensures.0 in
+    let s = after-carrier-at.carrier_at_lem.ensures.0 in
     let t = after-carrier-at2.carrier-at2.ensures.0 in
     let up = start.pre.3.up in
-    c.clash-by.ensures ∙ (λ i. clashBy (s i) (t i) (meeting (s i) (t i)))
-    ∙ sym (clash-meeting (carrierAt a.carriers.now a.k) (carrierAt a.carriers.now a.j) (up a.k start.pre.1) (up a.j start.pre.2))
+    c.clash-by.ensures ∙ (λ i. clash_by (s i) (t i) (meeting (s i) (t i)))
+    ∙ sym (clash-meeting (carrier_at a.carriers.now a.k) (carrier_at a.carriers.now a.j) (up a.k start.pre.1) (up a.j start.pre.2))
 
 pub clashes-spec : {M : Type 1} → statement M
 clashes-spec =

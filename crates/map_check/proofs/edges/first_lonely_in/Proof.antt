@@ -7,8 +7,8 @@ use borrow.Author.Tests.{ltb-true, eq-eqb, ne_eqb}
 use Rattle.seq.specs.Filled.{filled_at}
 use Rattle.seq.specs.Least.{least-le, least-ext}
 use Rattle.seq.specs.Seq.{Bool, true, false, cond, not, List, ℕ, eqb, ltb, get_or, least, filled}
-use Rattle.graph.specs.Places.{firstPlace}
-use Rattle.map_check.specs.Net.{startsAt, lonelyAt}
+use Rattle.graph.specs.Places.{first_place}
+use Rattle.map_check.specs.Net.{starts_at, lonely_at}
 use Rattle.map_check.proofs.edges.first_lonely_in.Statement.{statement}
 use Rattle.map_check.proofs.edges.first_lonely_in.Tie as tie
 
@@ -20,10 +20,10 @@ place h m l = go (ltb h m) refl
     go true e = ne_eqb h m (λ q. omega (arith, ltb-true h m e))
     go false e = eq-eqb m m refl
 
-lonely-least : (os fs d : List ℕ) (m n : ℕ) → fs ≡ filled n (firstPlace os m m) d → least (startsAt fs m) n ≡ least (lonelyAt os m) n
+lonely-least : (os fs d : List ℕ) (m n : ℕ) → fs ≡ filled n (first_place os m m) d → least (starts_at fs m) n ≡ least (lonely_at os m) n
 lonely-least os fs d m n e =
-    least-ext (startsAt fs m) (lonelyAt os m) n
-    (λ v l. ap (λ (x : ℕ). eqb x m) (ap (λ (t : List ℕ). get_or t v 0) e ∙ filled_at (firstPlace os m m) n v d 0 l) ∙ place (least (startsAt os v) m) m (least-le (startsAt os v) m))
+    least-ext (starts_at fs m) (lonely_at os m) n
+    (λ v l. ap (λ (x : ℕ). eqb x m) (ap (λ (t : List ℕ). get_or t v 0) e ∙ filled_at (first_place os m m) n v d 0 l) ∙ place (least (starts_at os v) m) m (least-le (starts_at os v) m))
 
 returns : tie.Need-returns
 returns c =

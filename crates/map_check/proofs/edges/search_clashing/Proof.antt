@@ -4,13 +4,13 @@ use native.Mathlib.Omega.{arith}
 use borrow.Author.Rules.{rules}
 use borrow.Author.Tests.{lt-ltb, le-ltb}
 use Rattle.seq.specs.Seq.{◌-◌, ℕ, ltb}
-use Rattle.map_check.specs.Later.{laterClashing, least-later}
+use Rattle.map_check.specs.Later.{later_clashing, least-later}
 use Rattle.map_check.proofs.edges.search_clashing.Statement.{statement}
 use Rattle.map_check.proofs.edges.search_clashing.Tie as tie
-use Rattle.seq.specs.Loops.Searching.{Searching, search-starts, search-turns, search-finds, search-ends}
+use Rattle.seq.specs.Loops.Searching.{Searching, search_starts, search_turns, search_finds, search_ends}
 
 abbrev invariant-loop : tie.invariant-loop
-invariant-loop carriers e k₀ k = Searching (laterClashing carriers e) e k
+invariant-loop carriers e k₀ k = Searching (later_clashing carriers e) e k
 
 abbrev decreases-loop : tie.decreases-loop
 decreases-loop carriers e k₀ k = e - k
@@ -19,18 +19,18 @@ returns : tie.Need-returns invariant-loop decreases-loop
 returns c =
     let start : tie.Start invariant-loop decreases-loop = search rules in
     let at : tie.At-loop invariant-loop decreases-loop = search rules in
-    search-finds at.loop.inv (omega arith) (ap (λ (r : ℕ). ltb r start.args.e) (sym c.before.first-clash.ensures) ∙ lt-ltb _ _ c.if1.true) ∙ least-later start.args.carriers.now start.args.e
+    search_finds at.loop.inv (omega arith) (ap (λ (r : ℕ). ltb r start.args.e) (sym c.before.first-clash.ensures) ∙ lt-ltb _ _ c.if1.true) ∙ least-later start.args.carriers.now start.args.e
 
 loop-again : tie.Need-loop-preserved invariant-loop decreases-loop
 loop-again c =
     let start : tie.Start invariant-loop decreases-loop = search rules in
     let at : tie.At-loop invariant-loop decreases-loop = search rules in
-    search-turns at.loop.inv (omega arith) (ap (λ (r : ℕ). ltb r start.args.e) (sym c.before.first-clash.ensures) ∙ le-ltb _ _ c.if1.false)
+    search_turns at.loop.inv (omega arith) (ap (λ (r : ℕ). ltb r start.args.e) (sym c.before.first-clash.ensures) ∙ le-ltb _ _ c.if1.false)
 
 returns-2 : tie.Need-returns-2 invariant-loop decreases-loop
 returns-2 c =
     let start : tie.Start invariant-loop decreases-loop = search rules in
-    search-ends c.before.loop.invariant (omega arith) ∙ least-later start.args.carriers.now start.args.e
+    search_ends c.before.loop.invariant (omega arith) ∙ least-later start.args.carriers.now start.args.e
 
 pub search-clashing-spec : {M : Type 1} → statement M
 search-clashing-spec =
@@ -38,7 +38,7 @@ search-clashing-spec =
     (tie.spec
     invariant-loop
     decreases-loop
-    (λ c. search-starts)
+    (λ c. search_starts)
     (λ c κs. search rules)
     returns
     (λ c. search rules)

@@ -9,14 +9,14 @@ use Rattle.seq.specs.Seq.{false, ℕ}
 use Rattle.seq.specs.Tests.{was-true}
 use Rattle.paper.specs.Plane.{Seg, clash}
 use Rattle.laws_plane.specs.Cone.{UpV}
-use Rattle.graph.specs.Flat.{carrierAt}
+use Rattle.graph.specs.Flat.{carrier_at}
 use Rattle.map_check.specs.Pass.{ClearAfter}
 use Rattle.keys.specs.Rows.{carried}
 use Rattle.map_check.proofs.few.clear_after.Statement.{statement}
 use Rattle.map_check.proofs.few.clear_after.Tie as tie
 
 abbrev invariant-loop : tie.invariant-loop
-invariant-loop carriers e i s j₀ j = ClearAfter (carrierAt carriers) j i
+invariant-loop carriers e i s j₀ j = ClearAfter (carrier_at carriers) j i
 
 abbrev decreases-loop : tie.decreases-loop
 decreases-loop carriers e i s j₀ j = e - j
@@ -39,9 +39,9 @@ clear-requires c κs =
     let two : tie.After-carrier-at2 invariant-loop decreases-loop = search rules in
     let p = start.pre in
     let up = p.1.up in (
-      one.carrier-at.ensures.1,
+      one.carrier_at_lem.ensures.1,
       two.carrier-at2.ensures.1,
-      subst (λ (s : Seg). UpV s.up) (sym one.carrier-at.ensures.0) (up start.args.i p.2),
+      subst (λ (s : Seg). UpV s.up) (sym one.carrier_at_lem.ensures.0) (up start.args.i p.2),
       subst (λ (s : Seg). UpV s.up) (sym two.carrier-at2.ensures.0) (up at.loop.j in-loop.loop-test.taken),
     )
 
@@ -53,10 +53,10 @@ loop-again c =
     let two : tie.After-carrier-at2 invariant-loop decreases-loop = search rules in
     let after : tie.After-clear invariant-loop decreases-loop = search rules in
     let a = start.args in
-    let seg = carrierAt a.carriers.now in
+    let seg = carrier_at a.carriers.now in
     λ k l h.
     below_more (λ k. a.i < k → clash (seg a.i) (seg k) ≡ false) _ (λ k h l. at.loop.inv k l h)
-    (λ l. (λ i. clash (sym one.carrier-at.ensures.0 i) (sym two.carrier-at2.ensures.0 i)) ∙ after.clear.ensures (was-true _ c.if1.false)) k h l
+    (λ l. (λ i. clash (sym one.carrier_at_lem.ensures.0 i) (sym two.carrier-at2.ensures.0 i)) ∙ after.clear.ensures (was-true _ c.if1.false)) k h l
 
 returns-2 : tie.Need-returns-2 invariant-loop decreases-loop
 returns-2 c = λ r k l h. c.before.loop.invariant k l (omega (arith, c.loop-test.false, h))

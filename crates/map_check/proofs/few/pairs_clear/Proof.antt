@@ -6,14 +6,14 @@ use native.Mathlib.Omega.{arith}
 use Rattle.exact.specs.Tests.{never}
 use Rattle.seq.specs.Seq.{ℕ}
 use Rattle.seq.specs.Tests.{was-true}
-use Rattle.graph.specs.Flat.{carrierAt}
+use Rattle.graph.specs.Flat.{carrier_at}
 use Rattle.map_check.specs.Pass.{ClearAfter}
 use Rattle.map_check.specs.Laws.Rising.{pairs-least}
 use Rattle.map_check.proofs.few.pairs_clear.Statement.{statement}
 use Rattle.map_check.proofs.few.pairs_clear.Tie as tie
 
 abbrev invariant-loop : tie.invariant-loop
-invariant-loop carriers e i₀ i = (k : ℕ) → k < i → ClearAfter (carrierAt carriers) e k
+invariant-loop carriers e i₀ i = (k : ℕ) → k < i → ClearAfter (carrier_at carriers) e k
 
 abbrev decreases-loop : tie.decreases-loop
 decreases-loop carriers e i₀ i = e - i
@@ -23,7 +23,7 @@ loop-again c =
     let start : tie.Start invariant-loop decreases-loop = search rules in
     let at : tie.At-loop invariant-loop decreases-loop = search rules in
     let after : tie.After-clear-after invariant-loop decreases-loop = search rules in
-    below_more (ClearAfter (carrierAt start.args.carriers.now) start.args.e) _ at.loop.inv (after.clear-after.ensures (was-true _ c.if1.false))
+    below_more (ClearAfter (carrier_at start.args.carriers.now) start.args.e) _ at.loop.inv (after.clear-after.ensures (was-true _ c.if1.false))
 
 returns-2 : tie.Need-returns-2 invariant-loop decreases-loop
 returns-2 c =

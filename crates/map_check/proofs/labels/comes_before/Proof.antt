@@ -8,12 +8,12 @@ use native.Mathlib.Omega.{arith}
 use Rattle.exact.specs.Lowest.{pt}
 use Rattle.exact.specs.Mach.{trb, test, trbits, eq_yes, eq_no}
 use Rattle.exact.specs.Order.{zomega, sq}
-use Rattle.exact.specs.Tests.{lt-t, t-lt}
+use Rattle.exact.specs.Tests.{lt_t, t_lt}
 use Rattle.seq.specs.Seq.{true, ℤ, pos, ◌-ℤ◌}
 use Rattle.seq.specs.Tests.{bool-ext}
 use Rattle.paper.specs.Plane.{Vec, vec, whole, before}
 use Rattle.laws_plane.specs.Cone.{Up, above, level}
-use Rattle.laws_plane.specs.Ends.{corner-up, up-corner}
+use Rattle.laws_plane.specs.Ends.{corner_up, up_corner}
 use Rattle.map_check.proofs.labels.comes_before.Statement.{statement}
 use Rattle.map_check.proofs.labels.comes_before.Tie as tie
 
@@ -37,21 +37,21 @@ module _ (a b : ℤ) where
 module _ (a b : Vec) where
   by_height : (a.y ≡ b.y → ⊥) → lt_z a.y b.y ≡ before (whole a) (whole b)
   by_height f =
-      bool-ext (lt_z a.y b.y) (before (whole a) (whole b)) (λ e. up-corner a b (above (way a.y b.y (lt-t {a = a.y} {b = b.y} e))))
-      (λ e. go (corner-up a b e))
+      bool-ext (lt_z a.y b.y) (before (whole a) (whole b)) (λ e. up_corner a b (above (way a.y b.y (lt_t {a = a.y} {b = b.y} e))))
+      (λ e. go (corner_up a b e))
     where
       go : Up (b.x -ℤ a.x) (b.y -ℤ a.y) → lt_z a.y b.y ≡ true
-      go (above h) = t-lt {a = a.y} {b = b.y} (less a.y b.y h)
+      go (above h) = t_lt {a = a.y} {b = b.y} (less a.y b.y h)
       go (level e h) = absurd (f (one a.y b.y e))
 
   by_width : a.y ≡ b.y → lt_z a.x b.x ≡ before (whole a) (whole b)
   by_width q =
-      bool-ext (lt_z a.x b.x) (before (whole a) (whole b)) (λ e. up-corner a b (level (none a.y b.y q) (way a.x b.x (lt-t {a = a.x} {b = b.x} e))))
-      (λ e. go (corner-up a b e))
+      bool-ext (lt_z a.x b.x) (before (whole a) (whole b)) (λ e. up_corner a b (level (none a.y b.y q) (way a.x b.x (lt_t {a = a.x} {b = b.x} e))))
+      (λ e. go (corner_up a b e))
     where
       go : Up (b.x -ℤ a.x) (b.y -ℤ a.y) → lt_z a.x b.x ≡ true
       go (above h) = absurd (not-way a.y b.y q h)
-      go (level e h) = t-lt {a = a.x} {b = b.x} (less a.x b.x h)
+      go (level e h) = t_lt {a = a.x} {b = b.x} (less a.x b.x h)
 
 -- points over 1 are corners
 over-one : (a b : Vec) {d e : ℤ} → pos 1 ≡ d → pos 1 ≡ e → before (whole a) (whole b) ≡ before (pt a.x a.y d) (pt b.x b.y e)

@@ -3,8 +3,8 @@ use mathlib.Core.Path.{◌≡◌, sym, ap, ◌∙◌}
 use native.Mathlib.Omega.{arith}
 use borrow.Author.Tests.{eq-eqb, ne_eqb}
 use Rattle.seq.specs.Seq.{Bool, true, false, not, ◌&&◌, ◌||◌, ℕ, ◌*◌, eqb, get_or}
-use Rattle.graph.specs.Heading.{flat-starts}
-use Rattle.map_check.specs.Labels.{makesHoleAt, seenWest}
+use Rattle.graph.specs.Heading.{flat_starts}
+use Rattle.map_check.specs.Labels.{makes_hole_at, seen_west}
 use borrow.Author.Rules.{rules}
 use Rattle.map_check.proofs.labels.disagrees.Statement.{statement}
 use Rattle.map_check.proofs.labels.disagrees.Tie as tie
@@ -42,15 +42,15 @@ returns c =
     let os = a.origins.now in
     let ls = a.labels.now in
     let nx = a.next.now in
-    let made = makesHoleAt ps os a.heads.now nx (2 * a.e) a.h in
-    let seen = eqb (get_or ls a.h 0) (seenWest ps os a.carriers.now ls a.n a.e a.h) in
+    let made = makes_hole_at ps os a.heads.now nx (2 * a.e) a.h in
+    let seen = eqb (get_or ls a.h 0) (seen_west ps os a.carriers.now ls a.n a.e a.h) in
     by-follower (get_or ls a.h 0) (get_or ls (get_or nx a.h 0) 0) (made && not seen) c.if1.true
 
 makes-hole-requires : tie.Need-makes-hole-requires
 makes-hole-requires c κs =
     let s : tie.Start = search rules in
     let F = s.pre.0.flat in
-    let starts = flat-starts s.args.points.now s.args.origins.now s.args.carriers.now s.args.n s.args.e F in
+    let starts = flat_starts s.args.points.now s.args.origins.now s.args.carriers.now s.args.n s.args.e F in
     (F.origins.long, record { starts = starts; next = s.pre.0.next }, s.pre.1, omega (arith, F.origins.named s.args.h s.pre.1, s.pre.0.heads), s.pre.0.few)
 
 returns-2 : tie.Need-returns-2
@@ -62,8 +62,8 @@ returns-2 c =
     let os = a.origins.now in
     let ls = a.labels.now in
     let nx = a.next.now in
-    let made = makesHoleAt ps os a.heads.now nx (2 * a.e) a.h in
-    let seen = eqb (get_or ls a.h 0) (seenWest ps os a.carriers.now ls a.n a.e a.h) in
+    let made = makes_hole_at ps os a.heads.now nx (2 * a.e) a.h in
+    let seen = eqb (get_or ls a.h 0) (seen_west ps os a.carriers.now ls a.n a.e a.h) in
     ap (λ (x : ℕ). not (eqb (get_or ls a.h 0) x)) c.seen-west.ensures
     ∙ by-look (get_or ls a.h 0) (get_or ls (get_or nx a.h 0) 0) made (not seen) else1.if1.left (sym c.before.before.makes-hole.ensures ∙ c.before.if2.true)
 
@@ -75,8 +75,8 @@ returns-3 c =
     let os = a.origins.now in
     let ls = a.labels.now in
     let nx = a.next.now in
-    let made = makesHoleAt ps os a.heads.now nx (2 * a.e) a.h in
-    let seen = eqb (get_or ls a.h 0) (seenWest ps os a.carriers.now ls a.n a.e a.h) in
+    let made = makes_hole_at ps os a.heads.now nx (2 * a.e) a.h in
+    let seen = eqb (get_or ls a.h 0) (seen_west ps os a.carriers.now ls a.n a.e a.h) in
     no-look (get_or ls a.h 0) (get_or ls (get_or nx a.h 0) 0) made (not seen) c.before.before.if1.false (sym c.before.makes-hole.ensures ∙ c.if2.false)
 
 pub disagrees-spec : {M : Type 1} → statement M

@@ -2,13 +2,13 @@
 use mathlib.Core.Path.{sym, ◌∙◌}
 use native.Mathlib.Omega.{arith}
 use borrow.Author.Rules.{rules}
-use Rattle.map_check.specs.Labels.{earlierAt}
-use Rattle.map_check.specs.Laws.Walking.{Walking, walk-starts, walk-turns, walk-finds, walk-back, walk_ends}
+use Rattle.map_check.specs.Labels.{earlier_at}
+use Rattle.map_check.specs.Laws.Walking.{Walking, walk_starts, walk_turns, walk-finds, walk_back, walk_ends}
 use Rattle.map_check.proofs.labels.is_smallest.Statement.{statement}
 use Rattle.map_check.proofs.labels.is_smallest.Tie as tie
 
 abbrev invariant-loop : tie.invariant-loop
-invariant-loop points origins next m h x₀ left₀ x left = Walking (earlierAt points origins h) next h m x left
+invariant-loop points origins next m h x₀ left₀ x left = Walking (earlier_at points origins h) next h m x left
 
 abbrev decreases-loop : tie.decreases-loop
 decreases-loop points origins next m h x₀ left₀ x left = left
@@ -30,7 +30,7 @@ loop-holds : tie.Need-loop-init invariant-loop decreases-loop
 loop-holds c =
     let s : tie.Start invariant-loop decreases-loop = search rules in
     let a = s.args in
-    walk-starts (s.pre.0.next.named a.h s.pre.1)
+    walk_starts (s.pre.0.next.named a.h s.pre.1)
 
 earlier-requires : tie.Need-earlier-requires invariant-loop decreases-loop
 earlier-requires c κs =
@@ -71,7 +71,7 @@ loop-again c =
     let else1 : tie.Else1 invariant-loop decreases-loop = search rules in
     let s : tie.Start invariant-loop decreases-loop = search rules in
     let l = at-loop.loop in
-    walk-turns l.inv
+    walk_turns l.inv
     in-loop.loop-test.taken else1.if1.left (sym c.before.before.earlier.ensures ∙ c.before.if2.false) (s.pre.0.next.named l.x l.inv.below)
 
 returns-3 : tie.Need-returns-3 invariant-loop decreases-loop
@@ -87,7 +87,7 @@ is-smallest-spec =
     shared-slice-read-x
     cast-x
     loop-holds
-    (λ c. walk-back c.before.before.loop.invariant c.if1.true)
+    (λ c. walk_back c.before.before.loop.invariant c.if1.true)
     earlier-requires
     returns-2
     mul-x-2

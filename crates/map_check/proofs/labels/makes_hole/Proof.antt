@@ -4,8 +4,8 @@ use borrow.Author.Rules.{rules}
 use borrow.Author.Tests.{eq-eqb, ne_eqb}
 use native.Mathlib.Omega.{arith}
 use Rattle.seq.specs.Seq.{Bool, ◌&&◌, get_or}
-use Rattle.graph.specs.Flat.{originAt}
-use Rattle.map_check.specs.Labels.{smallestAt}
+use Rattle.graph.specs.Flat.{origin_at}
+use Rattle.map_check.specs.Labels.{smallest_at}
 use Rattle.map_check.proofs.labels.makes_hole.Statement.{statement}
 use Rattle.map_check.proofs.labels.makes_hole.Tie as tie
 
@@ -13,16 +13,16 @@ returns : tie.Need-returns
 returns c =
     let start : tie.Start = search rules in
     let a = start.args in
-    let smallest = smallestAt a.points.now a.origins.now a.next.now a.m a.h in
-    sym (ap (λ (b : Bool). b && smallest) (ne_eqb (get_or a.heads.now (originAt a.origins.now a.h) 0) a.h c.if1.true))
+    let smallest = smallest_at a.points.now a.origins.now a.next.now a.m a.h in
+    sym (ap (λ (b : Bool). b && smallest) (ne_eqb (get_or a.heads.now (origin_at a.origins.now a.h) 0) a.h c.if1.true))
 
 returns-2 : tie.Need-returns-2
 returns-2 c =
     let start : tie.Start = search rules in
     let else1 : tie.Else1 = search rules in
     let a = start.args in
-    let smallest = smallestAt a.points.now a.origins.now a.next.now a.m a.h in
-    c.is-smallest.ensures ∙ sym (ap (λ (b : Bool). b && smallest) (eq-eqb (get_or a.heads.now (originAt a.origins.now a.h) 0) a.h else1.if1.left))
+    let smallest = smallest_at a.points.now a.origins.now a.next.now a.m a.h in
+    c.is-smallest.ensures ∙ sym (ap (λ (b : Bool). b && smallest) (eq-eqb (get_or a.heads.now (origin_at a.origins.now a.h) 0) a.h else1.if1.left))
 
 pub makes-hole-spec : {M : Type 1} → statement M
 makes-hole-spec =

@@ -3,12 +3,12 @@ use mathlib.Core.Path.{sym, ap, ◌∙◌}
 use native.Mathlib.Omega.{arith}
 use borrow.Author.Rules.{rules}
 use Rattle.paper.specs.Refusal.{answer}
-use Rattle.paper.specs.Map.{vertexCount, edgesIn}
-use Rattle.laws_refusals.specs.Refusals.{no-refusal}
+use Rattle.paper.specs.Map.{vertex_count, edges_in}
+use Rattle.laws_refusals.specs.Refusals.{no_refusal}
 use Rattle.map_file.specs.Verdict.{verdict}
-use Rattle.map_check.proofs.RoomLaws.{stored-all}
+use Rattle.map_check.proofs.RoomLaws.{stored_all}
 use Rattle.map_check.proofs.LoadedLaws.{is_read}
-use Rattle.map_check.proofs.ReadLaws.{form-some}
+use Rattle.map_check.proofs.ReadLaws.{form_some}
 use Rattle.map_check.proofs.lay.lay_map.Statement.{statement}
 use Rattle.map_check.proofs.lay.lay_map.Tie as tie
 
@@ -20,7 +20,7 @@ read-map-requires c κs =
     let s = start.args.file.now in
     let form = sym fine.before.before.form-fault.ensures ∙ ap verdict fine.enum-told2.given.1 in
     let head : tie.After-read-header = search rules in
-    (head.read-header.ensures, (omega (arith, room.corners, stored-all vertexCount s form), omega (arith, room.origins, stored-all edgesIn s form), omega (arith, room.labels, stored-all edgesIn s form)))
+    (head.read-header.ensures, (omega (arith, room.corners, stored_all vertex_count s form), omega (arith, room.origins, stored_all edges_in s form), omega (arith, room.labels, stored_all edges_in s form)))
 
 read-fault-requires : tie.Need-read-fault-requires
 read-fault-requires c κs =
@@ -32,20 +32,20 @@ read-fault-requires c κs =
     let form = sym fine.before.before.form-fault.ensures ∙ ap verdict fine.enum-told2.given.1 in
     let is = read.read-map.ensures in
     let R =
-    is_read s _ _ _ _ _ _ (omega (arith, room.corners, stored-all vertexCount s form)) (omega (arith, room.origins, stored-all edgesIn s form)) (omega (arith, room.labels, stored-all edgesIn s form))
+    is_read s _ _ _ _ _ _ (omega (arith, room.corners, stored_all vertex_count s form)) (omega (arith, room.origins, stored_all edges_in s form)) (omega (arith, room.labels, stored_all edges_in s form))
     is.0 is.1 is.2 in
     let head : tie.After-read-header = search rules in
-    (head.read-header.ensures, (form, (R, omega (arith, room.carriers, stored-all edgesIn s form))))
+    (head.read-header.ensures, (form, (R, omega (arith, room.carriers, stored_all edges_in s form))))
 
 returns : tie.Need-returns
 returns c =
     let start : tie.Start = search rules in
     let s = start.args.file.now in
     let told = ap verdict c.before.enum_told.given.1 in
-    let refused = form-some s (sym c.before.before.before.form-fault.ensures ∙ told) in
+    let refused = form_some s (sym c.before.before.before.form-fault.ensures ∙ told) in
     let head : tie.After-read-header = search rules in
     let hd = head.read-header.ensures in
-    (c.answered.ensures ∙ (λ i. answer ((hd i).vertices, (hd i).edges) ((told ∙ sym refused) i)), λ q. absurd (no-refusal (sym refused ∙ q)))
+    (c.answered.ensures ∙ (λ i. answer ((hd i).vertices, (hd i).edges) ((told ∙ sym refused) i)), λ q. absurd (no_refusal (sym refused ∙ q)))
 
 returns-2 : tie.Need-returns-2
 returns-2 c =

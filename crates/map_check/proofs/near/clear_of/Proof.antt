@@ -9,14 +9,14 @@ use Rattle.seq.specs.Seq.{false, ℕ, get_or}
 use Rattle.seq.specs.Tests.{was-true}
 use Rattle.paper.specs.Plane.{Seg, clash}
 use Rattle.laws_plane.specs.Cone.{UpV}
-use Rattle.map_check.specs.Near.{carrierIn}
-use Rattle.keys.specs.Cells.{edgeIn}
+use Rattle.map_check.specs.Near.{carrier_in}
+use Rattle.keys.specs.Cells.{the_edge_in}
 use Rattle.map_check.specs.Laws.Picks.{pick-clear}
 use Rattle.map_check.proofs.near.clear_of.Statement.{statement}
 use Rattle.map_check.proofs.near.clear_of.Tie as tie
 
 abbrev invariant-loop : tie.invariant-loop
-invariant-loop carriers cells e i near c s q₀ q = (p : ℕ) → p < q → clash (carrierIn carriers cells i) (carrierIn carriers cells (get_or near p 0)) ≡ false
+invariant-loop carriers cells e i near c s q₀ q = (p : ℕ) → p < q → clash (carrier_in carriers cells i) (carrier_in carriers cells (get_or near p 0)) ≡ false
 
 abbrev decreases-loop : tie.decreases-loop
 decreases-loop carriers cells e i near c s q₀ q = c - q
@@ -53,10 +53,10 @@ clear-requires c κs =
     let j = get_or start.args.near.now at.loop.q 0 in
     let up = p.1.up in
     let named = p.2.each in (
-      one.carrier-in.ensures.1,
+      one.carrier_in_lem.ensures.1,
       two.carrier-in2.ensures.1,
-      subst (λ (s : Seg). UpV s.up) (sym one.carrier-in.ensures.0) (up (edgeIn start.args.cells.now start.args.i) (named start.args.i p.3).named),
-      subst (λ (s : Seg). UpV s.up) (sym two.carrier-in2.ensures.0) (up (edgeIn start.args.cells.now j) (named j (start.pre.1.1.named at.loop.q in-loop.loop-test.taken)).named),
+      subst (λ (s : Seg). UpV s.up) (sym one.carrier_in_lem.ensures.0) (up (the_edge_in start.args.cells.now start.args.i) (named start.args.i p.3).named),
+      subst (λ (s : Seg). UpV s.up) (sym two.carrier-in2.ensures.0) (up (the_edge_in start.args.cells.now j) (named j (start.pre.1.1.named at.loop.q in-loop.loop-test.taken)).named),
     )
 
 loop-again : tie.Need-loop-preserved invariant-loop decreases-loop
@@ -69,8 +69,8 @@ loop-again c =
     let a = start.args in
     let cs = a.carriers.now in
     let ds = a.cells.now in
-    below_more (λ p. clash (carrierIn cs ds a.i) (carrierIn cs ds (get_or a.near.now p 0)) ≡ false) _ at.loop.inv
-    ((λ i. clash (sym one.carrier-in.ensures.0 i) (sym two.carrier-in2.ensures.0 i)) ∙ after.clear.ensures (was-true _ c.if1.false))
+    below_more (λ p. clash (carrier_in cs ds a.i) (carrier_in cs ds (get_or a.near.now p 0)) ≡ false) _ at.loop.inv
+    ((λ i. clash (sym one.carrier_in_lem.ensures.0 i) (sym two.carrier-in2.ensures.0 i)) ∙ after.clear.ensures (was-true _ c.if1.false))
 
 returns-2 : tie.Need-returns-2 invariant-loop decreases-loop
 returns-2 c =

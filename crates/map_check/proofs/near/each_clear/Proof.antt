@@ -2,7 +2,7 @@
 use borrow.Author.Rules.{rules}
 use native.Mathlib.Omega.{arith}
 use Rattle.seq.specs.Filled.{filled-holds}
-use Rattle.map_check.specs.Near.{westOf, eastOf, fromWest, carrierIn}
+use Rattle.map_check.specs.Near.{west_of, east_of, from_west, carrier_in}
 use Rattle.map_check.proofs.near.each_clear.Statement.{statement}
 use Rattle.map_check.proofs.near.each_clear.Tie as tie
 
@@ -13,9 +13,9 @@ all-above-requires c κs =
     let two : tie.After-lay-easts = search rules in
     let p = start.pre in
     let a = start.args in
-    let W = filled-holds (λ i. fromWest (westOf (carrierIn a.carriers.now a.cells.now i))) _ _ a.e (omega (arith, p.3)) one.lay-wests.ensures in
-    let E = filled-holds (λ i. fromWest (eastOf (carrierIn a.carriers.now a.cells.now i))) _ _ a.e (omega (arith, p.3)) two.lay-easts.ensures in
-    (p, (record { long-wests = W.long; long-easts = E.long; west-is = W.at; east-is = E.at }, omega (arith, p.3)))
+    let W = filled-holds (λ i. from_west (west_of (carrier_in a.carriers.now a.cells.now i))) _ _ a.e (omega (arith, p.3)) one.lay-wests.ensures in
+    let E = filled-holds (λ i. from_west (east_of (carrier_in a.carriers.now a.cells.now i))) _ _ a.e (omega (arith, p.3)) two.lay-easts.ensures in
+    (p, (record { long_wests = W.long; long_easts = E.long; west_is = W.at; east_is = E.at }, omega (arith, p.3)))
 
 pub each-clear-spec : {M : Type 1} → statement M
 each-clear-spec =

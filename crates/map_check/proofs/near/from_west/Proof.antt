@@ -8,7 +8,7 @@ use lib.Signed.{◌≤ℤ◌}
 use mir.Syntax.{w64, w16}
 use native.Mathlib.Omega.{arith}
 use Rattle.exact.specs.Abs.{abs-lo}
-use Rattle.exact.specs.Mach.{tr, fits, plain, cast-u}
+use Rattle.exact.specs.Mach.{tr, fits, plain, cast_u}
 use Rattle.exact.specs.Order.{zomega, sq}
 use Rattle.paper.specs.Limits.{reach}
 use Rattle.plane.proofs.Machine.{back}
@@ -22,7 +22,7 @@ cast-result : tie.Need-overflow-cast-result
 cast-result c =
     let start : tie.Start = search rules in
     let x = start.args.a.x in
-    cast-u w64 w16 (back x +ℤ pos 16000) (search tr depth 20) tt (not-below x start.pre.x-is)
+    cast_u w64 w16 (back x +ℤ pos 16000) (search tr depth 20) tt (not-below x start.pre.x_is)
 
 returns : tie.Need-returns
 returns c =

@@ -2,13 +2,13 @@
 use Prim.Native.Nat.{◌-◌}
 use borrow.Author.Rules.{rules}
 use native.Mathlib.Omega.{arith}
-use Rattle.seq.specs.Loops.Filling.{Filling, fill-starts, fill-turns, fill-ends}
-use Rattle.map_check.specs.Near.{eastOf, fromWest, carrierIn}
+use Rattle.seq.specs.Loops.Filling.{Filling, fill_starts, fill_turns, fill_ends}
+use Rattle.map_check.specs.Near.{east_of, from_west, carrier_in}
 use Rattle.map_check.proofs.near.lay_easts.Statement.{statement}
 use Rattle.map_check.proofs.near.lay_easts.Tie as tie
 
 abbrev invariant-loop : tie.invariant-loop
-invariant-loop carriers cells e easts₀ i₀ easts i = Filling (λ k. fromWest (eastOf (carrierIn carriers cells k))) e easts₀ easts i
+invariant-loop carriers cells e easts₀ i₀ easts i = Filling (λ k. from_west (east_of (carrier_in carriers cells k))) e easts₀ easts i
 
 abbrev decreases-loop : tie.decreases-loop
 decreases-loop carriers cells e easts₀ i₀ easts i = e - i
@@ -23,7 +23,7 @@ loop-again c =
     let at : tie.At-loop invariant-loop decreases-loop = search rules in
     let in-loop : tie.In-loop invariant-loop decreases-loop = search rules in
     let after : tie.After-east-in invariant-loop decreases-loop = search rules in
-    fill-turns at.loop.inv in-loop.loop-test.taken after.east-in.ensures
+    fill_turns at.loop.inv in-loop.loop-test.taken after.east-in.ensures
 
 pub lay-easts-spec : {M : Type 1} → statement M
 lay-easts-spec =
@@ -31,7 +31,7 @@ lay-easts-spec =
     (tie.spec
     invariant-loop
     decreases-loop
-    (λ c. let start : tie.Start invariant-loop decreases-loop = search rules in fill-starts start.pre.1)
+    (λ c. let start : tie.Start invariant-loop decreases-loop = search rules in fill_starts start.pre.1)
     east-in-requires
     (λ c. let at : tie.At-loop invariant-loop decreases-loop = search rules in omega (arith, at.loop.inv.room, at.loop.inv.kept, c.before.loop-test.true))
     (λ c. let at : tie.At-loop invariant-loop decreases-loop = search rules in let in-loop : tie.In-loop invariant-loop decreases-loop = search rules in omega (arith, at.loop.inv.room, at.loop.inv.kept, in-loop.loop-test.taken))
@@ -39,4 +39,4 @@ lay-easts-spec =
     (λ c. search rules)
     loop-again
     (λ c. c.before.loop.invariant.kept)
-    (λ c. fill-ends c.before.loop.invariant (omega (arith, c.loop-test.false))))
+    (λ c. fill_ends c.before.loop.invariant (omega (arith, c.loop-test.false))))

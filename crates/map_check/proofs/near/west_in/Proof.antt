@@ -6,8 +6,8 @@ use lib.IntN.{pos}
 use lib.Signed.{lt_z}
 use Rattle.exact.specs.Mach.{trb, test}
 use Rattle.paper.specs.Plane.{Seg, Vec, head}
-use Rattle.plane.specs.Values.{segOf}
-use Rattle.map_check.specs.Near.{westOf, fromWest}
+use Rattle.plane.specs.Values.{seg_of}
+use Rattle.map_check.specs.Near.{west_of, from_west}
 use Rattle.map_check.proofs.near.west_in.Statement.{statement}
 use Rattle.map_check.proofs.near.west_in.Tie as tie
 
@@ -16,26 +16,26 @@ returns c =
     let one : tie.After-carrier-in = search rules in
     let then1 : tie.Then1 = search rules in
     let end : tie.After-head = search rules in
-    let s = segOf one.carrier-in.result in
+    let s = seg_of one.carrier_in_lem.result in
     let e : lt_z s.up.x (pos 0) ≡ true = sym (test (search trb depth 20) tt) ∙ then1.if1.taken in
-    c.from-west.ensures ∙ ap (λ (v : Vec). fromWest v.x) end.head.ensures.0
-    ∙ ap (λ (b : Bool). fromWest (cond b (head s).x s.foot.x)) (sym e) ∙ ap (λ (t : Seg). fromWest (westOf t)) one.carrier-in.ensures.0
+    c.from-west.ensures ∙ ap (λ (v : Vec). from_west v.x) end.head.ensures.0
+    ∙ ap (λ (b : Bool). from_west (cond b (head s).x s.foot.x)) (sym e) ∙ ap (λ (t : Seg). from_west (west_of t)) one.carrier_in_lem.ensures.0
 
 returns-2 : tie.Need-returns-2
 returns-2 c =
     let one : tie.After-carrier-in = search rules in
     let else1 : tie.Else1 = search rules in
     let end : tie.After-foot = search rules in
-    let s = segOf one.carrier-in.result in
+    let s = seg_of one.carrier_in_lem.result in
     let e : lt_z s.up.x (pos 0) ≡ false = sym (test (search trb depth 20) tt) ∙ else1.if1.left in
-    c.from-west2.ensures ∙ ap (λ (v : Vec). fromWest v.x) end.foot.ensures.0
-    ∙ ap (λ (b : Bool). fromWest (cond b (head s).x s.foot.x)) (sym e) ∙ ap (λ (t : Seg). fromWest (westOf t)) one.carrier-in.ensures.0
+    c.from-west2.ensures ∙ ap (λ (v : Vec). from_west v.x) end.foot.ensures.0
+    ∙ ap (λ (b : Bool). from_west (cond b (head s).x s.foot.x)) (sym e) ∙ ap (λ (t : Seg). from_west (west_of t)) one.carrier_in_lem.ensures.0
 
 edge-requires : tie.Need-head-requires
-edge-requires c κs = let one : tie.After-carrier-in = search rules in one.carrier-in.ensures.1
+edge-requires c κs = let one : tie.After-carrier-in = search rules in one.carrier_in_lem.ensures.1
 
 edge-requires-2 : tie.Need-foot-requires
-edge-requires-2 c κs = let one : tie.After-carrier-in = search rules in one.carrier-in.ensures.1
+edge-requires-2 c κs = let one : tie.After-carrier-in = search rules in one.carrier_in_lem.ensures.1
 
 pub west-in-spec : {M : Type 1} → statement M
 west-in-spec =

@@ -15,7 +15,7 @@ returns c =
     let s = start.args.s in
     let x : back (back s.x +ℤ back s.u) ≡ s.x +ℤ s.u = plain (search tr depth 20) tt in
     let y : back (back s.y +ℤ back s.v) ≡ s.y +ℤ s.v = plain (search tr depth 20) tt in
-    (λ i. vec (x i) (y i), subst Corner (λ i. vec (sym x i) (sym y i)) start.pre.head-is)
+    (λ i. vec (x i) (y i), subst Corner (λ i. vec (sym x i) (sym y i)) start.pre.head_is)
 
 pub head_spec : {M : Type 1} → statement M
 head_spec = tie.close (tie.spec (λ c. fits (search tr depth 20) tt) (λ c. fits (search tr depth 20) tt) returns)

@@ -3,7 +3,7 @@ use mathlib.Core.Path.{◌≡◌, sym, ◌∙◌}
 use borrow.Author.Rules.{rules}
 use mir.Syntax.{w64}
 use mir.Val.{of_z}
-use Rattle.exact.specs.Mach.{trbits, eq_yes, eqb_is, eqZ→, holds}
+use Rattle.exact.specs.Mach.{trbits, eq_yes, eqb_is, eq_z→, holds}
 use Rattle.exact.specs.Tests.{never}
 use Rattle.paper.specs.Plane.{vec}
 use Rattle.map_check.proofs.pairs.one_corner.Statement.{statement}
@@ -17,7 +17,7 @@ returns-2 c =
     let b = start.args.b in
     λ e.
     let y : a.y ≡ b.y = eq_yes w64 differ.if1.left (search trbits depth 20) (search trbits depth 20) tt in
-    let x : a.x ≡ b.x = eqZ→ {a = a.x} {b = b.x} (holds (sym (eqb_is w64 {n = of_z w64 a.x} {m = of_z w64 b.x} (search trbits depth 20) (search trbits depth 20) tt) ∙ e)) in
+    let x : a.x ≡ b.x = eq_z→ {a = a.x} {b = b.x} (holds (sym (eqb_is w64 {n = of_z w64 a.x} {m = of_z w64 b.x} (search trbits depth 20) (search trbits depth 20) tt) ∙ e)) in
     λ i. vec (x i) (y i)
 
 pub one-corner-spec : {M : Type 1} → statement M

@@ -6,7 +6,7 @@ use native.Mathlib.Omega.{arith}
 use lib.Signed.{lt_z, ◌<ℤ◌}
 use Rattle.exact.specs.Mach.{trbs, test}
 use Rattle.exact.specs.Order.{zomega, sq}
-use Rattle.exact.specs.Tests.{lt-t}
+use Rattle.exact.specs.Tests.{lt_t}
 use Rattle.seq.specs.Seq.{Bool, true, false, ◌&&◌, ◌||◌, ℤ, pos}
 use Rattle.seq.specs.Tests.{clash, not-true}
 use Rattle.map_check.proofs.pairs.one_side.Statement.{statement}
@@ -19,10 +19,10 @@ by_first true false false w e f = refl
 by_first true false true w e f = absurd (clash refl f)
 by_first false y z w e f = absurd (clash e refl)
 
-by-second : (x y z w : Bool) → x ≡ false → z ≡ true → w ≡ ((x && y) || (z && w))
-by-second false y true w e f = refl
-by-second false y false w e f = absurd (clash f refl)
-by-second true y z w e f = absurd (clash refl e)
+by_second : (x y z w : Bool) → x ≡ false → z ≡ true → w ≡ ((x && y) || (z && w))
+by_second false y true w e f = refl
+by_second false y false w e f = absurd (clash f refl)
+by_second true y z w e f = absurd (clash refl e)
 
 by-neither : (x y z w : Bool) → x ≡ false → z ≡ false → false ≡ ((x && y) || (z && w))
 by-neither false y false w e f = refl
@@ -31,7 +31,7 @@ by-neither true y z w e f = absurd (clash refl e)
 
 not-under : (a : ℤ) → lt_z (pos 0) a ≡ true → lt_z a (pos 0) ≡ false
 not-under a e =
-    not-true (lt_z a (pos 0)) (λ f. zomega (a ∷ []) {A = pos 0 <ℤ a → a <ℤ pos 0 → ⊥} (search sq depth 20) (omega arith) (lt-t {a = pos 0} {b = a} e) (lt-t {a = a} {b = pos 0} f))
+    not-true (lt_z a (pos 0)) (λ f. zomega (a ∷ []) {A = pos 0 <ℤ a → a <ℤ pos 0 → ⊥} (search sq depth 20) (omega arith) (lt_t {a = pos 0} {b = a} e) (lt_t {a = a} {b = pos 0} f))
 
 returns : tie.Need-returns
 returns c =
@@ -48,7 +48,7 @@ returns-2 c =
     let b = start.args.b in
     let e : lt_z (pos 0) a ≡ false = sym (test (search trbs depth 20) tt) ∙ c.before.if1.false in
     let f : lt_z a (pos 0) ≡ true = sym (test (search trbs depth 20) tt) ∙ c.if2.true in
-    test (search trbs depth 20) tt ∙ by-second (lt_z (pos 0) a) (lt_z (pos 0) b) (lt_z a (pos 0)) (lt_z b (pos 0)) e f
+    test (search trbs depth 20) tt ∙ by_second (lt_z (pos 0) a) (lt_z (pos 0) b) (lt_z a (pos 0)) (lt_z b (pos 0)) e f
 
 returns-3 : tie.Need-returns-3
 returns-3 c =

@@ -2,8 +2,8 @@
 use native.Mathlib.Omega.{arith}
 use borrow.Author.Rules.{rules}
 use Rattle.seq.specs.Seq.{◌+◌, ◌*◌}
-use Rattle.graph.specs.Flat.{originAt}
-use Rattle.map_check.proofs.PartsLaws.{no-from, no-to, by-ends}
+use Rattle.graph.specs.Flat.{origin_at}
+use Rattle.map_check.proofs.PartsLaws.{no_from, no_to, by_ends}
 use Rattle.map_check.proofs.parts.bad_ends.Statement.{statement}
 use Rattle.map_check.proofs.parts.bad_ends.Tie as tie
 
@@ -17,19 +17,19 @@ returns : tie.Need-returns
 returns c =
     let s : tie.Start = search rules in
     let os = s.args.origins.now in
-    no-from s.args.n (originAt os (2 * s.args.k)) (originAt os (2 * s.args.k + 1)) c.if1.true
+    no_from s.args.n (origin_at os (2 * s.args.k)) (origin_at os (2 * s.args.k + 1)) c.if1.true
 
 returns-2 : tie.Need-returns-2
 returns-2 c =
     let s : tie.Start = search rules in
     let os = s.args.origins.now in
-    no-to s.args.n (originAt os (2 * s.args.k)) (originAt os (2 * s.args.k + 1)) (omega arith) c.if2.true
+    no_to s.args.n (origin_at os (2 * s.args.k)) (origin_at os (2 * s.args.k + 1)) (omega arith) c.if2.true
 
 returns-3 : tie.Need-returns-3
 returns-3 c =
     let s : tie.Start = search rules in
     let os = s.args.origins.now in
-    by-ends s.args.n (originAt os (2 * s.args.k)) (originAt os (2 * s.args.k + 1)) (omega arith) (omega arith)
+    by_ends s.args.n (origin_at os (2 * s.args.k)) (origin_at os (2 * s.args.k + 1)) (omega arith) (omega arith)
 
 pub bad-ends-spec : {M : Type 1} → statement M
 bad-ends-spec =

@@ -5,7 +5,7 @@ use borrow.Author.Rules.{rules}
 use Rattle.seq.specs.Seq.{◌+◌, ◌*◌}
 use Rattle.paper.specs.Plane.{between}
 use Rattle.plane.specs.Bounds.{Corner}
-use Rattle.graph.specs.Flat.{originAt}
+use Rattle.graph.specs.Flat.{origin_at}
 use Rattle.map_check.proofs.parts.carrier.Statement.{statement}
 use Rattle.map_check.proofs.parts.carrier.Tie as tie
 
@@ -33,8 +33,8 @@ between-requires c κs =
     let k = s.args.k in
     let near = s.pre.0.near in
     let named = s.pre.1.0.named in (
-      subst Corner (sym one.corner.ensures) (near (originAt os (2 * k)) (named (2 * k) (omega (arith, s.pre.1.1)))),
-      subst Corner (sym c.corner2.ensures) (near (originAt os (2 * k + 1)) (named (2 * k + 1) (omega (arith, s.pre.1.1)))),
+      subst Corner (sym one.corner.ensures) (near (origin_at os (2 * k)) (named (2 * k) (omega (arith, s.pre.1.1)))),
+      subst Corner (sym c.corner2.ensures) (near (origin_at os (2 * k + 1)) (named (2 * k + 1) (omega (arith, s.pre.1.1)))),
     )
 
 returns : tie.Need-returns

@@ -2,14 +2,14 @@
 use mathlib.Core.Path.{sym, ◌∙◌}
 use native.Mathlib.Omega.{arith}
 use borrow.Author.Rules.{rules}
-use Rattle.seq.specs.Loops.Searching.{Searching, search-starts, search-turns, search-finds, search-ends}
+use Rattle.seq.specs.Loops.Searching.{Searching, search_starts, search_turns, search_finds, search_ends}
 use Rattle.seq.specs.Seq.{◌-◌}
-use Rattle.map_check.specs.Parts.{badEndsAt}
+use Rattle.map_check.specs.Parts.{bad_ends_at}
 use Rattle.map_check.proofs.parts.first_bad_ends.Statement.{statement}
 use Rattle.map_check.proofs.parts.first_bad_ends.Tie as tie
 
 abbrev invariant-loop : tie.invariant-loop
-invariant-loop origins n e k₀ k = Searching (badEndsAt origins n) e k
+invariant-loop origins n e k₀ k = Searching (bad_ends_at origins n) e k
 
 abbrev decreases-loop : tie.decreases-loop
 decreases-loop origins n e k₀ k = e - k
@@ -17,12 +17,12 @@ decreases-loop origins n e k₀ k = e - k
 returns : tie.Need-returns invariant-loop decreases-loop
 returns c =
     let at : tie.At-loop invariant-loop decreases-loop = search rules in
-    search-finds at.loop.inv (omega arith) (sym c.before.bad-ends.ensures ∙ c.if1.true)
+    search_finds at.loop.inv (omega arith) (sym c.before.bad-ends.ensures ∙ c.if1.true)
 
 loop-again : tie.Need-loop-preserved invariant-loop decreases-loop
 loop-again c =
     let at : tie.At-loop invariant-loop decreases-loop = search rules in
-    search-turns at.loop.inv (omega arith) (sym c.before.bad-ends.ensures ∙ c.if1.false)
+    search_turns at.loop.inv (omega arith) (sym c.before.bad-ends.ensures ∙ c.if1.false)
 
 pub first-bad-ends-spec : {M : Type 1} → statement M
 first-bad-ends-spec =
@@ -30,10 +30,10 @@ first-bad-ends-spec =
     (tie.spec
     invariant-loop
     decreases-loop
-    (λ c. search-starts)
+    (λ c. search_starts)
     (λ c κs. search rules)
     returns
     (λ c. search rules)
     (λ c. search rules)
     loop-again
-    (λ c. search-ends c.before.loop.invariant (omega arith)))
+    (λ c. search_ends c.before.loop.invariant (omega arith)))

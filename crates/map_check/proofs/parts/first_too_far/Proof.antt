@@ -2,14 +2,14 @@
 use mathlib.Core.Path.{sym, ◌∙◌}
 use native.Mathlib.Omega.{arith}
 use borrow.Author.Rules.{rules}
-use Rattle.seq.specs.Loops.Searching.{Searching, search-starts, search-turns, search-finds, search-ends}
+use Rattle.seq.specs.Loops.Searching.{Searching, search_starts, search_turns, search_finds, search_ends}
 use Rattle.seq.specs.Seq.{◌-◌}
-use Rattle.map_check.specs.Parts.{farAt}
+use Rattle.map_check.specs.Parts.{far_at}
 use Rattle.map_check.proofs.parts.first_too_far.Statement.{statement}
 use Rattle.map_check.proofs.parts.first_too_far.Tie as tie
 
 abbrev invariant-loop : tie.invariant-loop
-invariant-loop points n v₀ v = Searching (farAt points) n v
+invariant-loop points n v₀ v = Searching (far_at points) n v
 
 abbrev decreases-loop : tie.decreases-loop
 decreases-loop points n v₀ v = n - v
@@ -17,12 +17,12 @@ decreases-loop points n v₀ v = n - v
 returns : tie.Need-returns invariant-loop decreases-loop
 returns c =
     let at : tie.At-loop invariant-loop decreases-loop = search rules in
-    search-finds at.loop.inv (omega arith) (sym c.before.too_far.ensures ∙ c.if1.true)
+    search_finds at.loop.inv (omega arith) (sym c.before.too_far.ensures ∙ c.if1.true)
 
 loop-again : tie.Need-loop-preserved invariant-loop decreases-loop
 loop-again c =
     let at : tie.At-loop invariant-loop decreases-loop = search rules in
-    search-turns at.loop.inv (omega arith) (sym c.before.too_far.ensures ∙ c.if1.false)
+    search_turns at.loop.inv (omega arith) (sym c.before.too_far.ensures ∙ c.if1.false)
 
 pub first-too-far-spec : {M : Type 1} → statement M
 first-too-far-spec =
@@ -30,10 +30,10 @@ first-too-far-spec =
     (tie.spec
     invariant-loop
     decreases-loop
-    (λ c. search-starts)
+    (λ c. search_starts)
     (λ c κs. search rules)
     returns
     (λ c. search rules)
     (λ c. search rules)
     loop-again
-    (λ c. search-ends c.before.loop.invariant (omega arith)))
+    (λ c. search_ends c.before.loop.invariant (omega arith)))

@@ -2,14 +2,14 @@
 use mathlib.Core.Path.{sym, ◌∙◌}
 use native.Mathlib.Omega.{arith}
 use borrow.Author.Rules.{rules}
-use Rattle.seq.specs.Loops.Searching.{Searching, search-starts, search-turns, search-finds, search-ends}
+use Rattle.seq.specs.Loops.Searching.{Searching, search_starts, search_turns, search_finds, search_ends}
 use Rattle.seq.specs.Seq.{◌-◌}
-use Rattle.map_check.specs.Parts.{liesOn}
+use Rattle.map_check.specs.Parts.{lies_on}
 use Rattle.map_check.proofs.parts.first_under.Statement.{statement}
 use Rattle.map_check.proofs.parts.first_under.Tie as tie
 
 abbrev invariant-loop : tie.invariant-loop
-invariant-loop points v u₀ u = Searching (liesOn points v) v u
+invariant-loop points v u₀ u = Searching (lies_on points v) v u
 
 abbrev decreases-loop : tie.decreases-loop
 decreases-loop points v u₀ u = v - u
@@ -17,12 +17,12 @@ decreases-loop points v u₀ u = v - u
 returns : tie.Need-returns invariant-loop decreases-loop
 returns c =
     let at : tie.At-loop invariant-loop decreases-loop = search rules in
-    search-finds at.loop.inv (omega arith) (sym c.before.lies-on.ensures ∙ c.if1.true)
+    search_finds at.loop.inv (omega arith) (sym c.before.lies-on.ensures ∙ c.if1.true)
 
 loop-again : tie.Need-loop-preserved invariant-loop decreases-loop
 loop-again c =
     let at : tie.At-loop invariant-loop decreases-loop = search rules in
-    search-turns at.loop.inv (omega arith) (sym c.before.lies-on.ensures ∙ c.if1.false)
+    search_turns at.loop.inv (omega arith) (sym c.before.lies-on.ensures ∙ c.if1.false)
 
 pub first-under-spec : {M : Type 1} → statement M
 first-under-spec =
@@ -30,10 +30,10 @@ first-under-spec =
     (tie.spec
     invariant-loop
     decreases-loop
-    (λ c. search-starts)
+    (λ c. search_starts)
     (λ c κs. search rules)
     returns
     (λ c. search rules)
     (λ c. search rules)
     loop-again
-    (λ c. search-ends c.before.loop.invariant (omega arith)))
+    (λ c. search_ends c.before.loop.invariant (omega arith)))

@@ -2,15 +2,15 @@
 use mathlib.Core.Path.{refl, ap}
 use native.Mathlib.Omega.{arith}
 use borrow.Author.Rules.{rules}
-use Rattle.seq.specs.Loops.Storing.{Laying, lay-starts, lay-turns, lay-ends}
+use Rattle.seq.specs.Loops.Storing.{Laying, lay_starts, lay_turns, lay_ends}
 use Rattle.seq.specs.Seq.{[], ◌∷◌, ◌-◌}
 use Rattle.paper.specs.Plane.{Seg}
-use Rattle.map_check.specs.Parts.{carrierRowBy}
+use Rattle.map_check.specs.Parts.{carrier_row_by}
 use Rattle.map_check.proofs.parts.lay_carriers.Statement.{statement}
 use Rattle.map_check.proofs.parts.lay_carriers.Tie as tie
 
 abbrev invariant-loop : tie.invariant-loop
-invariant-loop points origins n e carriers₀ k₀ carriers k = Laying 4 (carrierRowBy points origins) e carriers₀ carriers k
+invariant-loop points origins n e carriers₀ k₀ carriers k = Laying 4 (carrier_row_by points origins) e carriers₀ carriers k
 
 abbrev decreases-loop : tie.decreases-loop
 decreases-loop points origins n e carriers₀ k₀ carriers k = e - k
@@ -19,7 +19,7 @@ loop-again : tie.Need-loop-preserved invariant-loop decreases-loop
 loop-again c =
     let at : tie.At-loop invariant-loop decreases-loop = search rules in
     let made : tie.After-carrier invariant-loop decreases-loop = search rules in
-    lay-turns at.loop.inv (λ k. refl) (omega arith) c.before.store-carrier.ensures
+    lay_turns at.loop.inv (λ k. refl) (omega arith) c.before.store-carrier.ensures
     (ap (λ (s : Seg). s.foot.x ∷ s.foot.y ∷ s.up.x ∷ s.up.y ∷ []) made.carrier.ensures.0)
 
 pub lay-carriers-spec : {M : Type 1} → statement M
@@ -28,11 +28,11 @@ lay-carriers-spec =
     (tie.spec
     invariant-loop
     decreases-loop
-    (λ c. lay-starts (search rules))
+    (λ c. lay_starts (search rules))
     (λ c κs. search rules)
     (λ c κs. search rules)
     (λ c. search rules)
     (λ c. search rules)
     loop-again
     (λ c. search rules)
-    (λ c. lay-ends c.before.loop.invariant (λ k. refl) (omega arith)))
+    (λ c. lay_ends c.before.loop.invariant (λ k. refl) (omega arith)))

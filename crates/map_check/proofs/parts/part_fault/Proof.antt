@@ -4,7 +4,7 @@ use native.Mathlib.Omega.{arith}
 use borrow.Author.Rules.{rules}
 use Rattle.seq.specs.Least.{least-le}
 use Rattle.map_file.proofs.VerdictLaws.{last, before, at_least}
-use Rattle.map_check.specs.Parts.{farAt, doubledAt, badEndsAt}
+use Rattle.map_check.specs.Parts.{far_at, doubled_at, bad_ends_at}
 use Rattle.map_check.proofs.parts.part_fault.Statement.{statement}
 use Rattle.map_check.proofs.parts.part_fault.Tie as tie
 
@@ -12,19 +12,19 @@ cast-given : tie.Need-overflow-cast-given
 cast-given c =
     let s : tie.Start = search rules in
     let found : tie.After-first-too-far = search rules in
-    omega (arith, found.first-too-far.ensures, least-le (farAt s.args.points.now) s.args.n)
+    omega (arith, found.first-too-far.ensures, least-le (far_at s.args.points.now) s.args.n)
 
 cast-given-2 : tie.Need-overflow-cast-given-2
 cast-given-2 c =
     let s : tie.Start = search rules in
     let found : tie.After-first-doubled = search rules in
-    omega (arith, found.first-doubled.ensures, least-le (doubledAt s.args.points.now) s.args.n)
+    omega (arith, found.first-doubled.ensures, least-le (doubled_at s.args.points.now) s.args.n)
 
 cast-given-3 : tie.Need-overflow-cast-given-3
 cast-given-3 c =
     let s : tie.Start = search rules in
     let found : tie.After-first-bad-ends = search rules in
-    omega (arith, found.first-bad-ends.ensures, least-le (badEndsAt s.args.origins.now s.args.n) s.args.e)
+    omega (arith, found.first-bad-ends.ensures, least-le (bad_ends_at s.args.origins.now s.args.n) s.args.e)
 
 returns : tie.Need-returns
 returns c =
@@ -37,10 +37,10 @@ returns c =
     let seven : tie.After-given3 = search rules in
     let a = s.args in
     (before c.first2.ensures
-    (at_least 5 (farAt a.points.now) a.n _ _ _ five.given.ensures far.first-too-far.ensures refl)
+    (at_least 5 (far_at a.points.now) a.n _ _ _ five.given.ensures far.first-too-far.ensures refl)
     (before c.before.first.ensures
-    (at_least 6 (doubledAt a.points.now) a.n _ _ _ six.given2.ensures twice.first-doubled.ensures refl)
-    (last (at_least 7 (badEndsAt a.origins.now a.n) a.e _ _ _ seven.given3.ensures ends.first-bad-ends.ensures refl)))).is
+    (at_least 6 (doubled_at a.points.now) a.n _ _ _ six.given2.ensures twice.first-doubled.ensures refl)
+    (last (at_least 7 (bad_ends_at a.origins.now a.n) a.e _ _ _ seven.given3.ensures ends.first-bad-ends.ensures refl)))).is
 
 pub part-fault-spec : {M : Type 1} → statement M
 part-fault-spec =

@@ -2,8 +2,8 @@
 use native.Mathlib.Omega.{arith}
 use borrow.Author.Rules.{rules}
 use Rattle.seq.specs.Least.{least-le}
-use Rattle.map_check.specs.Net.{clashingAt}
-use Rattle.map_check.specs.Later.{laterAt, gives-clash, gives_none}
+use Rattle.map_check.specs.Net.{clashing_at}
+use Rattle.map_check.specs.Later.{later_at, gives-clash, gives_none}
 use Rattle.map_check.proofs.rules.edges_clash.Statement.{statement}
 use Rattle.map_check.proofs.rules.edges_clash.Tie as tie
 
@@ -21,14 +21,14 @@ cast-beside : tie.Need-overflow-cast-beside
 cast-beside c =
     let s : tie.Start = search rules in
     let place : tie.After-first-clashing = search rules in
-    omega (arith, s.pre.1, place.first-clashing.ensures, least-le (clashingAt s.args.carriers.now s.args.e) s.args.e)
+    omega (arith, s.pre.1, place.first-clashing.ensures, least-le (clashing_at s.args.carriers.now s.args.e) s.args.e)
 
 cast-beside-2 : tie.Need-overflow-cast-beside-2
 cast-beside-2 c =
     let s : tie.Start = search rules in
     let place : tie.After-first-clashing = search rules in
     let other : tie.After-first-clash = search rules in
-    omega (arith, s.pre.1, other.first-clash.ensures, least-le (laterAt s.args.carriers.now place.first-clashing.result) s.args.e)
+    omega (arith, s.pre.1, other.first-clash.ensures, least-le (later_at s.args.carriers.now place.first-clashing.result) s.args.e)
 
 returns : tie.Need-returns
 returns c =

@@ -17,8 +17,8 @@ follow-stars-requires c κs =
       headings = made-headings s.pre.0 few _ _ room.0 ways;
       apart = made-apart s.pre.0 few _ _ room.0 ways s.pre.1.1.1.0;
       small = omega (arith, few);
-      long-heads = room.1;
-      long-next = room.2;
+      long_heads = room.1;
+      long_next = room.2;
     }
 
 first-disagreeing-requires : tie.Need-first-disagreeing-requires

@@ -6,9 +6,9 @@ use lib.Seq.{length-take-le}
 use Rattle.seq.specs.Least.{least-le}
 use Rattle.seq.specs.Seq.{List, ℕ, ◌*◌, ◌-◌, take, least}
 use Rattle.paper.specs.Refusal.{first_at}
-use Rattle.paper.specs.Graph.{halfCount, followers}
+use Rattle.paper.specs.Graph.{the_half_count, followers}
 use Rattle.paper.specs.Map.{disagrees}
-use Rattle.graph.specs.Flat.{flatGraph}
+use Rattle.graph.specs.Flat.{flat_graph}
 use Rattle.graph.specs.Laws.Decode.{flat-halves}
 use Rattle.map_file.proofs.VerdictLaws.{at_least}
 use Rattle.map_check.specs.Held.{flat_map}
@@ -30,7 +30,7 @@ cast-given : tie.Need-overflow-cast-given
 cast-given c =
     let s : tie.Start = search rules in
     let a = s.args in
-    let g = flatGraph a.points.now a.origins.now a.carriers.now a.n a.e in
+    let g = flat_graph a.points.now a.origins.now a.carriers.now a.n a.e in
     omega (arith, s.pre.1.1.0, c.first-by-followers.ensures, least-le (disagrees (flat_map a.points.now a.origins.now a.carriers.now (take (2 * a.e - 0) a.labels.now) a.n a.e) (followers g)) (2 * a.e))
 
 -- without a half-edge
@@ -38,7 +38,7 @@ returns : tie.Need-returns
 returns c =
     let s : tie.Start = search rules in
     let a = s.args in
-    let g = flatGraph a.points.now a.origins.now a.carriers.now a.n a.e in
+    let g = flat_graph a.points.now a.origins.now a.carriers.now a.n a.e in
     let none = c.if1.true in
     let m = ap (λ (e : ℕ). 2 * e) (sym none) ∙ sym (flat-halves a.points.now a.origins.now a.carriers.now a.n a.e) in
     λ i. first_at 10 (disagrees (flat_map a.points.now a.origins.now a.carriers.now (take (2 * a.e) a.labels.now) a.n a.e) (followers g)) (m i)
@@ -47,10 +47,10 @@ returns-2 : tie.Need-returns-2
 returns-2 c =
     let s : tie.Start = search rules in
     let a = s.args in
-    let g = flatGraph a.points.now a.origins.now a.carriers.now a.n a.e in
+    let g = flat_graph a.points.now a.origins.now a.carriers.now a.n a.e in
     let m = sym (flat-halves a.points.now a.origins.now a.carriers.now a.n a.e) in
     let at = from_start a.labels.now (2 * a.e) in
-    at_least 10 (disagrees (flat_map a.points.now a.origins.now a.carriers.now (take (2 * a.e) a.labels.now) a.n a.e) (followers g)) (halfCount g) _ _ _ c.given.ensures
+    at_least 10 (disagrees (flat_map a.points.now a.origins.now a.carriers.now (take (2 * a.e) a.labels.now) a.n a.e) (followers g)) (the_half_count g) _ _ _ c.given.ensures
     (c.before.first-by-followers.ensures ∙ (λ i. least (disagrees (flat_map a.points.now a.origins.now a.carriers.now (at i) a.n a.e) (followers g)) (m i))) m
 
 pub labels-disagree-spec : {M : Type 1} → statement M

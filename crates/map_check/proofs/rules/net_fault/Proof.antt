@@ -5,8 +5,8 @@ use borrow.Author.Rules.{rules}
 use Rattle.seq.specs.Least.{least-le}
 use Rattle.seq.specs.Seq.{◌*◌, take}
 use Rattle.map_file.specs.Verdict.{verdict}
-use Rattle.map_check.specs.Net.{lonelyAt}
-use Rattle.map_check.proofs.NetLaws.{laid-upright, gives-eight, gives-nine, clear-plane, eight-nine, net-some, net-none}
+use Rattle.map_check.specs.Net.{lonely_at}
+use Rattle.map_check.proofs.NetLaws.{laid-upright, gives-eight, gives-nine, clear-plane, eight-nine, net_some, net_none}
 use Rattle.map_check.proofs.rules.net_fault.Statement.{statement}
 use Rattle.map_check.proofs.rules.net_fault.Tie as tie
 
@@ -20,7 +20,7 @@ cast-given : tie.Need-overflow-cast-given
 cast-given c =
     let s : tie.Start = search rules in
     let found : tie.After-first-lonely = search rules in
-    omega (arith, s.pre.1.0, found.first-lonely.ensures, least-le (lonelyAt s.args.origins.now (2 * s.args.e)) s.args.n)
+    omega (arith, s.pre.1.0, found.first-lonely.ensures, least-le (lonely_at s.args.origins.now (2 * s.args.e)) s.args.n)
 
 labels-disagree-requires : tie.Need-labels-disagree-requires
 labels-disagree-requires c κs =
@@ -56,7 +56,7 @@ returns c =
     (gives-eight ps os cs a.n a.e eight.edges-clash.ensures)
     (gives-nine ps os cs a.n a.e nine.given.ensures lonely.first-lonely.ensures) in
     let told = ap verdict c.enum_told.given.1 in
-    told ∙ sym (net-some ps os cs a.n a.e (take (2 * a.e) a.labels.now) (found ∙ told))
+    told ∙ sym (net_some ps os cs a.n a.e (take (2 * a.e) a.labels.now) (found ∙ told))
 
 returns-2 : tie.Need-returns-2
 returns-2 c =
@@ -73,7 +73,7 @@ returns-2 c =
     eight-nine ps os cs a.n a.e both.first.ensures
     (gives-eight ps os cs a.n a.e eight.edges-clash.ensures)
     (gives-nine ps os cs a.n a.e nine.given.ensures lonely.first-lonely.ensures) in
-    c.labels-disagree.ensures ∙ sym (net-none ps os cs a.n a.e (take (2 * a.e) a.labels.now) (found ∙ ap verdict c.before.enum-told2.given.1))
+    c.labels-disagree.ensures ∙ sym (net_none ps os cs a.n a.e (take (2 * a.e) a.labels.now) (found ∙ ap verdict c.before.enum-told2.given.1))
 
 pub net-fault-spec : {M : Type 1} → statement M
 net-fault-spec =

@@ -3,12 +3,12 @@ use mathlib.Core.Path.{sym}
 use native.Mathlib.Numerals.{add-one}
 use native.Mathlib.Omega.{arith}
 use borrow.Author.Rules.{rules}
-use Rattle.map_file.proofs.BytesLaws.{u16-past}
+use Rattle.map_file.proofs.BytesLaws.{u16_past}
 use Rattle.map_file.proofs.bytes.u16_at.Statement.{statement}
 use Rattle.map_file.proofs.bytes.u16_at.Tie as tie
 
 returns : tie.Need-returns
-returns c = sym (u16-past c.before.before.args.file.now c.before.before.args.at c.if1.true)
+returns c = sym (u16_past c.before.before.args.file.now c.before.before.args.at c.if1.true)
 
 returns-2 : tie.Need-returns-2
 returns-2 c =

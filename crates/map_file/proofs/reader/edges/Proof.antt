@@ -44,7 +44,7 @@ use denote.Triple.Walked.{says, needs, Stays, stay_none, gave_slice, walk_of, Go
 use denote.Exit.{yes}
 use denote.Triple.Clauses.{ensured, lasts}
 use Rattle.seq.specs.Seq.{filled}
-use Rattle.map_file.specs.Places.{originFrom, labelFrom}
+use Rattle.map_file.specs.Places.{origin_from, label_from}
 use Rattle.map_file.specs.declared.reader.Reader.{Reader}
 use Rattle.map_file.specs.contracts.reader.Reader as T
 use Rattle.map_file.proofs.reader.Reader.TheLaws as T'
@@ -148,7 +148,7 @@ module _ {M : Type 1} {𝓤 : Ura M} (𝓛 : Logic 𝓤) (mem : Memory → SProp
 
   -- what the callee says, of its result and the last lists
   abbrev Said : ℕ → List ℕ → List ℕ → Type 0
-  Said r zs zs' = (r ≡ d.at + 8 * n) × (zs ≡ filled (2 * n) (originFrom d.file.now d.at) ys) × (zs' ≡ filled (2 * n) (labelFrom d.file.now d.at) ys')
+  Said r zs zs' = (r ≡ d.at + 8 * n) × (zs ≡ filled (2 * n) (origin_from d.file.now d.at) ys) × (zs' ≡ filled (2 * n) (label_from d.file.now d.at) ys')
 
   -- ── the exit ──
 

@@ -45,7 +45,7 @@ use denote.Triple.Walked.{says, needs, Stays, stay_none, gave_slice, walk_of, Go
 use denote.Exit.{yes}
 use denote.Triple.Clauses.{ensured, lasts}
 use Rattle.seq.specs.Seq.{laid}
-use Rattle.map_file.specs.Places.{pointFrom}
+use Rattle.map_file.specs.Places.{point_from}
 use Rattle.map_file.specs.declared.reader.Reader.{Reader}
 use Rattle.map_file.specs.contracts.reader.Reader as T
 use Rattle.map_file.proofs.reader.Reader.TheLaws as T'
@@ -143,7 +143,7 @@ module _ {M : Type 1} {𝓤 : Ura M} (𝓛 : Logic 𝓤) (mem : Memory → SProp
 
   -- what the callee says, of its result and the last list
   abbrev Said : ℕ → List ℤ → Type 0
-  Said r zs = (r ≡ d.at + 4 * n) × (zs ≡ laid n (pointFrom d.file.now d.at) ys)
+  Said r zs = (r ≡ d.at + 4 * n) × (zs ≡ laid n (point_from d.file.now d.at) ys)
 
   -- ── the exit ──
 

@@ -41,7 +41,7 @@ use denote.Triple.Walked.{says, needs, Stays, stay_none, stay_none_slice, gave_s
 use denote.Exit.{yes}
 use denote.Triple.Clauses.{ensured, lasts}
 use Rattle.seq.specs.Seq.{filled, laid}
-use Rattle.map_file.specs.Places.{pointFrom, originFrom, labelFrom}
+use Rattle.map_file.specs.Places.{point_from, origin_from, label_from}
 use Rattle.map_file.specs.declared.reader.Reader.{Reader}
 use Rattle.map_file.proofs.ReaderLaws.{Stands, room, within, further, points-there, origins-there, labels-there, vertices-near, edges-near}
 use Rattle.map_file.specs.contracts.reader.Reader as T
@@ -167,13 +167,13 @@ module _ {M : Type 1} {𝓤 : Ura M} (𝓛 : Logic 𝓤) (mem : Memory → SProp
 
   -- ── the call of `new` ──
 
-  abbrev to-new : (New 𝓛 mem run).Ghost
-  to-new = (((κ, tt), (q, tt), tt, (s, tt), (f ∷ [], tt)), tt)
+  abbrev to_new : (New 𝓛 mem run).Ghost
+  to_new = (((κ, tt), (q, tt), tt, (s, tt), (f ∷ [], tt)), tt)
 
-  goes-new : ent 𝓤 (⋆ 𝓛 ((‵ (flft κ q) ⊛ ‵ ftrue) ∷ ‵ Own ∷ [])) (sep 𝓤 ((New 𝓛 mem run).pre to-new) (sem 𝓛 Own))
+  goes-new : ent 𝓤 (⋆ 𝓛 ((‵ (flft κ q) ⊛ ‵ ftrue) ∷ ‵ Own ∷ [])) (sep 𝓤 ((New 𝓛 mem run).pre to_new) (sem 𝓛 Own))
   goes-new =
       qed 𝓛 ((‵ (flft κ q) ⊛ ‵ ftrue) ∷ ‵ Own ∷ []) ∵ move ! (1 ∷ []) $ use1 𝓛 (‵ Own ⊛ ‵ Own) ((shr_slice_copy 𝓛 (named 0) κ u8).twice s (f ∷ [])) $ split ! $ nothing ! $ move ! (1 ∷ 0 ∷ []) $ fjoin ! $
-      move ! (2 ∷ 0 ∷ []) $ use2 𝓛 (raw ((New 𝓛 mem run).pre to-new)) (qed 𝓛 ((‵ (flft κ q) ⊛ ‵ ftrue) ∷ ‵ (owns (ShrSlice (named 0) κ u8 ∷ []) (s, tt) (f ∷ [], tt)) ∷ []) ∵ join ! $ frame ! $ done !) $ frame ! $ done !
+      move ! (2 ∷ 0 ∷ []) $ use2 𝓛 (raw ((New 𝓛 mem run).pre to_new)) (qed 𝓛 ((‵ (flft κ q) ⊛ ‵ ftrue) ∷ ‵ (owns (ShrSlice (named 0) κ u8 ∷ []) (s, tt) (f ∷ [], tt)) ∷ []) ∵ join ! $ frame ! $ done !) $ frame ! $ done !
 
   abbrev New-says : Reader → Type 0
   New-says r = (r.file ≡ s) × (r.at ≡ 0)
@@ -210,15 +210,15 @@ module _ {M : Type 1} {𝓤 : Ura M} (𝓛 : Logic 𝓤) (mem : Memory → SProp
       nothing ! $ move ! (1 ∷ 0 ∷ []) $ fjoin ! $ owned ! u16 (Is u16) (uint_Makes 𝓛 w16) v _ (refl, v-fits) $ fjoin ! $ move ! (1 ∷ 0 ∷ []) $ fjoin ! $ done !
 
   abbrev Points-says : Reader → Reader → List ℤ → Type 0
-  Points-says r r' zs = (r'.file ≡ r.file) × (r'.at ≡ r.at + 4 * v) × (zs ≡ laid v (pointFrom r.file.now r.at) ys₁)
+  Points-says r r' zs = (r'.file ≡ r.file) × (r'.at ≡ r.at + 4 * v) × (zs ≡ laid v (point_from r.file.now r.at) ys₁)
 
   -- ── the call of `edges` ──
 
-  abbrev to-edges : Reader → Val → (Edges 𝓛 mem run).Ghost
-  to-edges r u = (((κ, (κ₂, (κ₃, tt))), (q, (q₂, (q₃, tt))), tt, (r, (e, (x₂, (x₃, tt)))), (u ∷ [], (vint w16 e ∷ [], (s₂ ∷ [], (s₃ ∷ [], tt))))), tt)
+  abbrev to_edges_lem : Reader → Val → (Edges 𝓛 mem run).Ghost
+  to_edges_lem r u = (((κ, (κ₂, (κ₃, tt))), (q, (q₂, (q₃, tt))), tt, (r, (e, (x₂, (x₃, tt)))), (u ∷ [], (vint w16 e ∷ [], (s₂ ∷ [], (s₃ ∷ [], tt))))), tt)
 
   goes-edges : (r : Reader) (u : Val) → r.at + 8 * e < 2 ^ 64
-      → ent 𝓤 (⋆ 𝓛 (‵ (Has r u) ∷ (‵ (flft κ q) ⊛ ‵ (flft κ₁ q₁) ⊛ ‵ ftrue) ∷ (‵ (flft κ₂ q₂) ⊛ ‵ M₂ ⊛ ‵ (flft κ₃ q₃) ⊛ ‵ M₃) ∷ [])) (sep 𝓤 (sem 𝓛 (flft κ₁ q₁)) ((Edges 𝓛 mem run).pre (to-edges r u)))
+      → ent 𝓤 (⋆ 𝓛 (‵ (Has r u) ∷ (‵ (flft κ q) ⊛ ‵ (flft κ₁ q₁) ⊛ ‵ ftrue) ∷ (‵ (flft κ₂ q₂) ⊛ ‵ M₂ ⊛ ‵ (flft κ₃ q₃) ⊛ ‵ M₃) ∷ [])) (sep 𝓤 (sem 𝓛 (flft κ₁ q₁)) ((Edges 𝓛 mem run).pre (to_edges_lem r u)))
   goes-edges r u near =
       qed 𝓛 (‵ (Has r u) ∷ (‵ (flft κ q) ⊛ ‵ (flft κ₁ q₁) ⊛ ‵ ftrue) ∷ (‵ (flft κ₂ q₂) ⊛ ‵ M₂ ⊛ ‵ (flft κ₃ q₃) ⊛ ‵ M₃) ∷ []) ∵
       move ! (1 ∷ []) $ split ! $ move ! (1 ∷ []) $ split ! $ frame ! $ says ! (near, ok.1, ok.2) $
@@ -229,12 +229,12 @@ module _ {M : Type 1} {𝓤 : Ura M} (𝓛 : Logic 𝓤) (mem : Memory → SProp
       nothing ! $ move ! (1 ∷ 0 ∷ []) $ fjoin ! $ move ! (1 ∷ 0 ∷ []) $ fjoin ! $ owned ! u16 (Is u16) (uint_Makes 𝓛 w16) e _ (refl, e-fits) $ fjoin ! $ move ! (1 ∷ 0 ∷ []) $ fjoin ! $ done !
 
   abbrev Edges-says : Reader → Reader → List ℕ → List ℕ → Type 0
-  Edges-says r r' zs zs' = (r'.file ≡ r.file) × (r'.at ≡ r.at + 8 * e) × (zs ≡ filled (2 * e) (originFrom r.file.now r.at) ys₂) × (zs' ≡ filled (2 * e) (labelFrom r.file.now r.at) ys₃)
+  Edges-says r r' zs zs' = (r'.file ≡ r.file) × (r'.at ≡ r.at + 8 * e) × (zs ≡ filled (2 * e) (origin_from r.file.now r.at) ys₂) × (zs' ≡ filled (2 * e) (label_from r.file.now r.at) ys₃)
 
   -- ── the exit ──
 
   abbrev Said : List ℤ → List ℕ → List ℕ → Type 0
-  Said zs₁ zs₂ zs₃ = (zs₁ ≡ laid v (pointFrom s.now 9) ys₁) × (zs₂ ≡ filled (2 * e) (originFrom s.now (9 + 4 * v)) ys₂) × (zs₃ ≡ filled (2 * e) (labelFrom s.now (9 + 4 * v)) ys₃)
+  Said zs₁ zs₂ zs₃ = (zs₁ ≡ laid v (point_from s.now 9) ys₁) × (zs₂ ≡ filled (2 * e) (origin_from s.now (9 + 4 * v)) ys₂) × (zs₃ ≡ filled (2 * e) (label_from s.now (9 + 4 * v)) ys₃)
 
   exits : (zs₁ : List ℤ) (zs₂ zs₃ : List ℕ) → Said zs₁ zs₂ zs₃ → length zs₁ ≡ length ys₁ → length zs₂ ≡ length ys₂ → length zs₃ ≡ length ys₃
       → ent 𝓤 (⋆ 𝓛 ((‵ (flft κ q) ⊛ ‵ (flft κ₂ q₂) ⊛ ‵ (flft κ₃ q₃) ⊛ ‵ ftrue) ∷ ‵ (flft κ₁ q₁) ∷ ‵ (finally i64 γ₁ zs₁) ∷ ‵ (finally u16 γ₂ zs₂) ∷ ‵ (finally u16 γ₃ zs₃) ∷ ‵ Own ∷ [])) (Post vunit)
@@ -257,14 +257,14 @@ module _ {M : Type 1} {𝓤 : Ura M} (𝓛 : Logic 𝓤) (mem : Memory → SProp
         pass1 ! (init ! 26 refl (tt, (tt, (record { fits = room₁.0 }, tt)))) $ pass1 ! (init ! 24 refl (tt, (tt, (record { fits = room₂.0 }, tt)))) $ pass1 ! (init ! 22 refl (tt, (tt, (record { fits = room₃.0 }, tt)))) $ pass0 ! $
         move ! (36 ∷ []) $ use1 𝓛 ((‵ (flft κ q) ⊛ ‵ ftrue) ⊛ ‵ Own ⊛ (‵ (flft κ₁ q₁) ⊛ ‵ M₁) ⊛ (‵ (flft κ₂ q₂) ⊛ ‵ M₂ ⊛ ‵ (flft κ₃ q₃) ⊛ ‵ M₃)) opens $ split ! $ move ! (1 ∷ []) $ split ! $ move ! (1 ∷ []) $ split ! $ move ! (3 ∷ 2 ∷ []) $
         -- `new`, into _9. [the file's token; what s owns; the first table and its token; the others; _17; …]
-        use2 𝓛 (raw ((New 𝓛 mem run).pre to-new) ⊛ ‵ Own) goes-new $ split ! $
-        calls_at ! fm (New 𝓛 mem run) known-new to-new (and_then ! (load ! (from ! (stop !)) (look ! 36 refl)) (no_more !)) (λ u₀.
+        use2 𝓛 (raw ((New 𝓛 mem run).pre to_new) ⊛ ‵ Own) goes-new $ split ! $
+        calls_at ! fm (New 𝓛 mem run) known-new to_new (and_then ! (load ! (from ! (stop !)) (look ! 36 refl)) (no_more !)) (λ u₀.
         use1 𝓛 (later (some (λ (r : Reader). ((‵ (flft κ q) ⊛ ‵ ftrue) ⊛ ‵ (Has r u₀)) ⊛ raw (ensured 𝓛 new.ended (new.clauses 𝓛 mem run) (κ, tt) (s, tt) tt r)))) (id⊢ 𝓤 _) $ await ! tt $ pick ! (λ r₀.
         split ! $ move ! (1 ∷ []) $ use1 𝓛 (raw (fact 𝓤 (New-says r₀))) (new-said r₀) $ heard ! (New-says r₀) (λ e₀. split ! $ move ! (1 ∷ []) $
         peeks ! (B (κ, tt)) (Is (B (κ, tt))) (shows 𝓛 (B (κ, tt))) r₀ (u₀ ∷ []) (λ is₀.
         land ! (from ! (stop !)) (init ! 21 refl ((LL.lawful (T.the_type αᵉ) (T'.the_laws αᵉ) 𝓛).typed r₀ _ is₀).0) $
         -- past the header, into _7
-        let here₀ : Stands s 0 r₀ = record { file-is = e₀.0; at-is = e₀.1 } in
+        let here₀ : Stands s 0 r₀ = record { file_is = e₀.0; at_is = e₀.1 } in
         use2 𝓛 (raw ((Past 𝓛 mem run).pre (to-past r₀ u₀))) (goes-past r₀ u₀ (room here₀ 9 tt)) $
         calls_at ! fm (Past 𝓛 mem run) known_past (to-past r₀ u₀) (and_then ! (load ! (from ! (stop !)) (look ! 20 refl)) (and_then ! (lit ! tt) (no_more !))) (λ u₁.
         use1 𝓛 (later (some (λ (r : Reader). ((‵ (flft κ q) ⊛ ‵ ftrue) ⊛ ‵ (Has r u₁)) ⊛ raw (ensured 𝓛 past.ended (past.clauses 𝓛 mem run) (κ, tt) (r₀, (9, tt)) tt r)))) (id⊢ 𝓤 _) $ await ! tt $ pick ! (λ r₁.
@@ -293,9 +293,9 @@ module _ {M : Type 1} {𝓤 : Ura M} (𝓛 : Logic 𝓤) (mem : Memory → SProp
         assigns ! (addr ! (from ! (fld ! refl (hop ! (look_in ! 27 (sub ! 0 refl (whole !))) (stop !))))) (from ! (stop !)) (init ! 7 refl (tt, tt)) $
         assigns ! (agg ! (and_then ! (load ! (from ! (stop !)) (look ! 7 refl)) (and_then ! (load ! (from ! (fld ! refl (stop !))) (look_in ! 27 (sub ! 1 refl (whole !)))) (no_more !)))) (from ! (stop !)) (init ! 5 refl (tt, (tt, (record { fits = room₃.0 }, tt)))) $
         let here₂ : Stands s (9 + 4 * v) r₂ = further here₁ (4 * v) r₂ e₂.0 e₂.1 in
-        move ! (0 ∷ 1 ∷ 4 ∷ []) $ use3 𝓛 (‵ (flft κ₁ q₁) ⊛ raw ((Edges 𝓛 mem run).pre (to-edges r₂ u₂))) (goes-edges r₂ u₂ (within here₂ (8 * e) (edges-near v e v-fits e-fits))) $ split ! $ move ! (1 ∷ []) $
+        move ! (0 ∷ 1 ∷ 4 ∷ []) $ use3 𝓛 (‵ (flft κ₁ q₁) ⊛ raw ((Edges 𝓛 mem run).pre (to_edges_lem r₂ u₂))) (goes-edges r₂ u₂ (within here₂ (8 * e) (edges-near v e v-fits e-fits))) $ split ! $ move ! (1 ∷ []) $
         -- [what `edges` asks; the first table's token; its last list; what s owns; _17; …]
-        calls_at ! fm (Edges 𝓛 mem run) known-edges (to-edges r₂ u₂) (and_then ! (load ! (from ! (stop !)) (look ! 12 refl)) (and_then ! (load ! (from ! (stop !)) (look ! 32 refl)) (and_then ! (load ! (from ! (stop !)) (look ! 8 refl)) (and_then ! (load ! (from ! (stop !)) (look ! 4 refl)) (no_more !))))) (λ u₃.
+        calls_at ! fm (Edges 𝓛 mem run) known-edges (to_edges_lem r₂ u₂) (and_then ! (load ! (from ! (stop !)) (look ! 12 refl)) (and_then ! (load ! (from ! (stop !)) (look ! 32 refl)) (and_then ! (load ! (from ! (stop !)) (look ! 8 refl)) (and_then ! (load ! (from ! (stop !)) (look ! 4 refl)) (no_more !))))) (λ u₃.
         use1 𝓛 (later (some (λ (r : Reader). ((‵ (flft κ q) ⊛ ‵ (flft κ₂ q₂) ⊛ ‵ (flft κ₃ q₃) ⊛ ‵ ftrue) ⊛ ‵ (Has r u₃)) ⊛ raw (ensured 𝓛 edges.ended (edges.clauses 𝓛 mem run) (κ, (κ₂, (κ₃, tt))) (r₂, (e, (x₂, (x₃, tt)))) tt r)))) (id⊢ 𝓤 _) $ await ! tt $ pick ! (λ r₃.
         split ! $ move ! (1 ∷ []) $ use1 𝓛 (some (λ (ws : Unit {0} × (Unit {0} × (List ℕ × (List ℕ × Unit {0})))). ‵ (lasts edges.ended (κ, (κ₂, (κ₃, tt))) (r₂, (e, (x₂, (x₃, tt)))) ws) ⊛ raw (fact 𝓤 (Edges-says r₂ r₃ ws.1.1.0 ws.1.1.1.0)))) (id⊢ 𝓤 _) $ pick ! (λ ws.
         split ! $ move ! (1 ∷ []) $ heard ! (Edges-says r₂ r₃ ws.1.1.0 ws.1.1.1.0) (λ e₃. fsplit ! $ drop ! $ fsplit ! $ drop ! $ fsplit ! $ fsplit ! $ move ! (1 ∷ []) $ feq_l ! (λ k₂.

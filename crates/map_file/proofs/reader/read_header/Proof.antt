@@ -44,7 +44,7 @@ use denote.Triple.Walked.{says, Stays, stay_none_slice, walk_of, Goes-none_slice
 use denote.Exit.{yes}
 use denote.Triple.Clauses.{ensured, lasts}
 use Rattle.paper.specs.Bytes.{ascii, marked, u16 as u16In}
-use Rattle.map_file.specs.Header.{headerOf}
+use Rattle.map_file.specs.Header.{header_of}
 use Rattle.map_file.specs.declared.reader.Reader.{Reader}
 use Rattle.map_file.specs.declared.reader.Header.{Header}
 use Rattle.map_file.proofs.ReaderLaws.{Stands, room, further, mark-there, number}
@@ -117,14 +117,14 @@ module _ {M : Type 1} {𝓤 : Ura M} (𝓛 : Logic 𝓤) (mem : Memory → SProp
 
   -- ── the call of `new` ──
 
-  abbrev to-new : (New 𝓛 mem run).Ghost
-  to-new = (((κ, tt), (q, tt), tt, (s, tt), (v ∷ [], tt)), tt)
+  abbrev to_new : (New 𝓛 mem run).Ghost
+  to_new = (((κ, tt), (q, tt), tt, (s, tt), (v ∷ [], tt)), tt)
 
-  goes-new : ent 𝓤 (on_entry 𝓛 read-header.signature (κ, tt) (q, tt) (s, tt) (v ∷ [], tt)) (sep 𝓤 ((New 𝓛 mem run).pre to-new) (sem 𝓛 Own))
+  goes-new : ent 𝓤 (on_entry 𝓛 read-header.signature (κ, tt) (q, tt) (s, tt) (v ∷ [], tt)) (sep 𝓤 ((New 𝓛 mem run).pre to_new) (sem 𝓛 Own))
   goes-new =
       qed 𝓛 ((‵ (flft κ q) ⊛ ‵ ftrue) ∷ ‵ (owns (ShrSlice (named 0) κ u8 ∷ []) (s, tt) (v ∷ [], tt)) ∷ []) ∵
       move ! (1 ∷ []) $ fsplit ! $ use1 𝓛 (‵ Own ⊛ ‵ Own) ((shr_slice_copy 𝓛 (named 0) κ u8).twice s (v ∷ [])) $ split ! $
-      move ! (0 ∷ 2 ∷ []) $ fjoin ! $ move ! (2 ∷ 0 ∷ []) $ use2 𝓛 (raw ((New 𝓛 mem run).pre to-new)) (qed 𝓛 ((‵ (flft κ q) ⊛ ‵ ftrue) ∷ ‵ (owns (ShrSlice (named 0) κ u8 ∷ []) (s, tt) (v ∷ [], tt)) ∷ []) ∵ join ! $ frame ! $ done !) $ frame ! $ done !
+      move ! (0 ∷ 2 ∷ []) $ fjoin ! $ move ! (2 ∷ 0 ∷ []) $ use2 𝓛 (raw ((New 𝓛 mem run).pre to_new)) (qed 𝓛 ((‵ (flft κ q) ⊛ ‵ ftrue) ∷ ‵ (owns (ShrSlice (named 0) κ u8 ∷ []) (s, tt) (v ∷ [], tt)) ∷ []) ∵ join ! $ frame ! $ done !) $ frame ! $ done !
 
   abbrev New-says : Reader → Type 0
   New-says r = (r.file ≡ s) × (r.at ≡ 0)
@@ -181,7 +181,7 @@ module _ {M : Type 1} {𝓤 : Ura M} (𝓛 : Logic 𝓤) (mem : Memory → SProp
   abbrev made : Bool → ℕ → ℕ → ℕ → Header
   made t a b c = record { mark = t; version = a; vertices = b; edges = c }
 
-  exits : (t : Bool) (a b c : ℕ) → a < 2 ^ 16 → b < 2 ^ 16 → c < 2 ^ 16 → made t a b c ≡ headerOf s.now → ent 𝓤 (⋆ 𝓛 ((‵ (flft κ q) ⊛ ‵ ftrue) ∷ ‵ Own ∷ [])) (Post (N'.lowered (made t a b c)))
+  exits : (t : Bool) (a b c : ℕ) → a < 2 ^ 16 → b < 2 ^ 16 → c < 2 ^ 16 → made t a b c ≡ header_of s.now → ent 𝓤 (⋆ 𝓛 ((‵ (flft κ q) ⊛ ‵ ftrue) ∷ ‵ Own ∷ [])) (Post (N'.lowered (made t a b c)))
   exits t a b c fa fb fc e =
       qed 𝓛 ((‵ (flft κ q) ⊛ ‵ ftrue) ∷ ‵ Own ∷ []) ∵
       suffices ! _ (ends_at 𝓛 read-header.ended stayed (read-header.clauses 𝓛 mem run) (((κ, tt), (q, tt), tt, (s, tt), (v ∷ [], tt)), tt) (N'.lowered (made t a b c)) (made t a b c) (tt, tt) (tt, tt)) $ says ! e $
@@ -195,13 +195,13 @@ module _ {M : Type 1} {𝓤 : Ura M} (𝓛 : Logic 𝓤) (mem : Memory → SProp
         qed 𝓛 (raw (on_entry 𝓛 read-header.signature (κ, tt) (q, tt) (s, tt) (v ∷ [], tt)) ∷ []) ∵ enter ! C Λ code.function (v ∷ []) _ $
         alloc1 ! (λ l₀. alloc1 ! (λ l₁. alloc1 ! (λ l₂. alloc1 ! (λ l₃. alloc1 ! (λ l₄. alloc1 ! (λ l₅. alloc1 ! (λ l₆. alloc1 ! (λ l₇. alloc1 ! (λ l₈. alloc1 ! (λ l₉. alloc1 ! (λ l₁₀. alloc1 ! (λ l₁₁. alloc1 ! (λ l₁₂. alloc1 ! (λ l₁₃. alloc1 ! (λ l₁₄. alloc1 ! (λ l₁₅. alloc1 ! (λ l₁₆. alloc0 ! $ params1 ! $ pass1 ! (init ! 30 refl ((shr_slice_Lawful 𝓛 (named 0) κ u8).typed s (v ∷ []) p).0) $ pass0 ! $
         -- `new`, into _2. Before each part of the walk stand, in front of the locals from _16 to _0, what a reader owns, the token and what s owns
-        move ! (34 ∷ []) $ use1 𝓛 (raw ((New 𝓛 mem run).pre to-new) ⊛ ‵ Own) goes-new $ split ! $
-        calls_at ! fm (New 𝓛 mem run) known-new to-new (and_then ! (load ! (from ! (stop !)) (look ! 32 refl)) (no_more !)) (λ u₀.
+        move ! (34 ∷ []) $ use1 𝓛 (raw ((New 𝓛 mem run).pre to_new) ⊛ ‵ Own) goes-new $ split ! $
+        calls_at ! fm (New 𝓛 mem run) known-new to_new (and_then ! (load ! (from ! (stop !)) (look ! 32 refl)) (no_more !)) (λ u₀.
         use1 𝓛 (later (some (λ (r : Reader). ((‵ (flft κ q) ⊛ ‵ ftrue) ⊛ ‵ (Has r u₀)) ⊛ raw (ensured 𝓛 new.ended (new.clauses 𝓛 mem run) (κ, tt) (s, tt) tt r)))) (id⊢ 𝓤 _) $ await ! tt $ pick ! (λ r₀.
         split ! $ move ! (1 ∷ []) $ use1 𝓛 (raw (fact 𝓤 (New-says r₀))) (new-said r₀) $ heard ! (New-says r₀) (λ e₀. split ! $ move ! (1 ∷ []) $
         peeks ! (B (κ, tt)) (Is (B (κ, tt))) (shows 𝓛 (B (κ, tt))) r₀ (u₀ ∷ []) (λ is₀.
         land ! (from ! (stop !)) (init ! 31 refl ((LL.lawful (T.the_type αᵉ) (T'.the_laws αᵉ) 𝓛).typed r₀ _ is₀).0) $
-        let here₀ : Stands s 0 r₀ = record { file-is = e₀.0; at-is = e₀.1 } in
+        let here₀ : Stands s 0 r₀ = record { file_is = e₀.0; at_is = e₀.1 } in
         -- the mark, into _3
         use1 𝓛 (‵ (Has r₀ u₀) ⊛ ‵ (Has r₀ u₀)) ((LL.copy (T.the_type (named_lft 1 0 tt (κ, tt))) (T'.the_copy (named_lft 1 0 tt (κ, tt))) 𝓛).twice r₀ (u₀ ∷ [])) $ split ! $
         assigns ! (of_opd ! (load ! (from ! (stop !)) (look ! 32 refl))) (from ! (stop !)) (init ! 16 refl ((LL.lawful (T.the_type αᵉ) (T'.the_laws αᵉ) 𝓛).typed r₀ _ is₀).0) $

@@ -4,16 +4,16 @@ use mathlib.Core.Path.{◌≡◌, ◌∙◌, ap}
 use native.Mathlib.Omega.{arith}
 use borrow.Author.Rules.{rules}
 use lib.ListN.{length-set}
-use Rattle.seq.specs.Loops.Filling.{Filling, fill-starts, fill-ends}
+use Rattle.seq.specs.Loops.Filling.{Filling, fill_starts, fill_ends}
 use Rattle.seq.specs.Seq.{ℕ, ◌+◌, ◌*◌, ◌-◌}
 use Rattle.paper.specs.Bytes.{u16}
-use Rattle.map_file.specs.Places.{originFrom, labelFrom}
-use Rattle.map_file.proofs.PlacesLaws.{from_is, to_is, left_is, right_is, fill-two}
+use Rattle.map_file.specs.Places.{origin_from, label_from}
+use Rattle.map_file.proofs.PlacesLaws.{from_is, to_is, left_is, right_is, fill_two}
 use Rattle.map_file.proofs.rows.edges_at.Statement.{statement}
 use Rattle.map_file.proofs.rows.edges_at.Tie as tie
 
 abbrev invariant-loop : tie.invariant-loop
-invariant-loop file at n origins₀ labels₀ place₀ k₀ origins labels place k = Filling (originFrom file at) (2 * n) origins₀ origins (2 * k) × Filling (labelFrom file at) (2 * n) labels₀ labels (2 * k) × (place ≡ at + 8 * k)
+invariant-loop file at n origins₀ labels₀ place₀ k₀ origins labels place k = Filling (origin_from file at) (2 * n) origins₀ origins (2 * k) × Filling (label_from file at) (2 * n) labels₀ labels (2 * k) × (place ≡ at + 8 * k)
 
 abbrev decreases-loop : tie.decreases-loop
 decreases-loop file at n origins₀ labels₀ place₀ k₀ origins labels place k = n - k
@@ -29,8 +29,8 @@ loop-again c =
     let p = start.args.at in
     let k = at.loop.k in
     let here = at.loop.inv.2 in (
-      fill-two at.loop.inv.0 (omega arith) (from.u16-at.ensures ∙ ap (u16 s) here ∙ from_is s p k) (to.u16-at2.ensures ∙ ap (λ (x : ℕ). u16 s (x + 2)) here ∙ to_is s p k),
-      fill-two at.loop.inv.1 (omega arith) (left.u16-at3.ensures ∙ ap (λ (x : ℕ). u16 s (x + 4)) here ∙ left_is s p k) (c.u16-at4.ensures ∙ ap (λ (x : ℕ). u16 s (x + 6)) here ∙ right_is s p k),
+      fill_two at.loop.inv.0 (omega arith) (from.u16-at.ensures ∙ ap (u16 s) here ∙ from_is s p k) (to.u16-at2.ensures ∙ ap (λ (x : ℕ). u16 s (x + 2)) here ∙ to_is s p k),
+      fill_two at.loop.inv.1 (omega arith) (left.u16-at3.ensures ∙ ap (λ (x : ℕ). u16 s (x + 4)) here ∙ left_is s p k) (c.u16-at4.ensures ∙ ap (λ (x : ℕ). u16 s (x + 6)) here ∙ right_is s p k),
       omega arith,
     )
 
@@ -40,7 +40,7 @@ edges-at-spec =
     (tie.spec
     invariant-loop
     decreases-loop
-    (λ c. (fill-starts (search rules), fill-starts (search rules), search rules))
+    (λ c. (fill_starts (search rules), fill_starts (search rules), search rules))
     (λ c. search rules)
     (λ c. search rules)
     (λ c κs. search rules)
@@ -66,4 +66,4 @@ edges-at-spec =
     loop-again
     (λ c. c.before.loop.invariant.0.kept)
     (λ c. c.before.loop.invariant.1.kept)
-    (λ c. (omega arith, fill-ends c.before.loop.invariant.0 (omega arith), fill-ends c.before.loop.invariant.1 (omega arith))))
+    (λ c. (omega arith, fill_ends c.before.loop.invariant.0 (omega arith), fill_ends c.before.loop.invariant.1 (omega arith))))

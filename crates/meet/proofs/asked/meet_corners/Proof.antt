@@ -6,7 +6,7 @@ use Rattle.paper.specs.Refusal.{first_of, done, answer}
 use Rattle.plane.specs.Values.{vec_of}
 use Rattle.plane.specs.Bounds.{Corner}
 use Rattle.map_file.specs.Verdict.{verdict}
-use Rattle.paper.specs.Meeting.{Meeting, meeting, meetFaults}
+use Rattle.paper.specs.Meeting.{Meeting, meeting, meet_faults}
 use Rattle.laws_meet.specs.Asked.{Near, Askable, meet-done}
 use borrow.Author.Rules.{rules}
 use Rattle.meet.proofs.asked.meet_corners.Statement.{statement}
@@ -16,23 +16,23 @@ use Rattle.meet.proofs.asked.meet_corners.Tie as tie
 abbrev met : Vec → Vec → Vec → Vec → Meeting
 met a b c d = meeting (between a b) (between c d)
 
-askable : (a b c d : Vec) → first_of (meetFaults a b c d) ≡ none → Askable a b c d
+askable : (a b c d : Vec) → first_of (meet_faults a b c d) ≡ none → Askable a b c d
 askable a b c d e = (meet-done a b c d (met a b c d) (ap (answer (met a b c d)) e)).0
 
 corner : (a : Vec) → Near a → Corner a
-corner a n = record { x-is = n.0; y-is = n.1 }
+corner a n = record { x_is = n.0; y_is = n.1 }
 
 between-requires : tie.Need-between-requires
 between-requires c κs =
     let a = c.before.before.before.args in
     let k = askable (vec_of a.a) (vec_of a.b) (vec_of a.c) (vec_of a.d) (sym c.before.before.faults.ensures ∙ ap verdict c.enum_told.given.1) in
-    (corner (vec_of a.a) k.near-a, corner (vec_of a.b) k.near-b)
+    (corner (vec_of a.a) k.near_a, corner (vec_of a.b) k.near_b)
 
 between-requires-2 : tie.Need-between-requires-2
 between-requires-2 c κs =
     let a = c.before.before.before.before.args in
     let k = askable (vec_of a.a) (vec_of a.b) (vec_of a.c) (vec_of a.d) (sym c.before.before.before.faults.ensures ∙ ap verdict c.before.enum_told.given.1) in
-    (corner (vec_of a.c) k.near-c, corner (vec_of a.d) k.near_d)
+    (corner (vec_of a.c) k.near_c, corner (vec_of a.d) k.near_d)
 
 returns : tie.Need-returns
 returns c =

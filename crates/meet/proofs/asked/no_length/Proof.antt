@@ -8,7 +8,7 @@ use mir.ValLaws.{to_z-of_z}
 use Rattle.exact.specs.Tests.{not-true}
 use Rattle.paper.specs.Plane.{Vec, vec, whole, same}
 use Rattle.laws_plane.specs.Points.{same_self}
-use Rattle.laws_plane.specs.Ends.{corner-same}
+use Rattle.laws_plane.specs.Ends.{corner_same}
 use Rattle.plane.specs.Values.{vec_of}
 use borrow.Author.Rules.{rules}
 use Rattle.meet.proofs.asked.no_length.Statement.{statement}
@@ -16,7 +16,7 @@ use Rattle.meet.proofs.asked.no_length.Tie as tie
 
 module _ (a b : Vec) where
   two : (a ≡ b → ⊥) → false ≡ same (whole a) (whole b)
-  two n = sym (not-true (same (whole a) (whole b)) (λ q. n (corner-same a b q)))
+  two n = sym (not-true (same (whole a) (whole b)) (λ q. n (corner_same a b q)))
 
   one : a.x ≡ b.x → a.y ≡ b.y → true ≡ same (whole a) (whole b)
   one p q = sym (same_self (whole a)) ∙ (λ i. same (whole a) (whole (vec (p i) (q i))))

@@ -6,8 +6,8 @@ use borrow.Author.Rules.{rules}
 use borrow.Author.Tests.{leb-true}
 use lib.ListN.{length-replicate}
 use Rattle.seq.specs.Seq.{ℕ, suc, ◌+◌, ◌*◌, replicate}
-use Rattle.graph.specs.Small.{smallEdges}
-use Rattle.graph_faces.specs.Linked.{halfRows}
+use Rattle.graph.specs.Small.{small_edges}
+use Rattle.graph_faces.specs.Linked.{half_rows}
 use Rattle.overlay_graph.specs.Traced.{Blank}
 use Rattle.melt.proofs.left.melt_cut.Statement.{statement}
 use Rattle.melt.proofs.left.melt_cut.Tie as tie
@@ -20,15 +20,15 @@ melt-cut-with-requires c κs =
     let s = c.before.before.before.before.before.before.before.before.before.before.before.before.before.before.before.before.before.before.before.before.before.before.before in
     let p = s.requires in
     let few = c.before.before.before.before.before.before.before.before.before.before.before.before.before.before.if1.true in
-    let short = leb-true s.args.e smallEdges c.before.before.before.before.before.before.before.before.before.before.before.before.before.if2.true in
-    (p.0, (p.1.0, (p.1.1.0, (p.1.1.1, (omega (arith, short), omega (arith, short), blank _ (2 * smallEdges) (omega (arith, short)), blank _ (2 * smallEdges) (omega (arith, short)), blank _ (2 * smallEdges) (omega (arith, short)), blank _ (2 * smallEdges + 1) (omega (arith, short)), λ count h r. omega (arith, length-replicate {A = ℕ} (2 * smallEdges) 0), omega (arith, few), omega (arith, short))))))
+    let short = leb-true s.args.e small_edges c.before.before.before.before.before.before.before.before.before.before.before.before.before.if2.true in
+    (p.0, (p.1.0, (p.1.1.0, (p.1.1.1, (omega (arith, short), omega (arith, short), blank _ (2 * small_edges) (omega (arith, short)), blank _ (2 * small_edges) (omega (arith, short)), blank _ (2 * small_edges) (omega (arith, short)), blank _ (2 * small_edges + 1) (omega (arith, short)), λ count h r. omega (arith, length-replicate {A = ℕ} (2 * small_edges) 0), omega (arith, few), omega (arith, short))))))
 
 melt-cut-with-requires-2 : tie.Need-melt-cut-with-requires-2
 melt-cut-with-requires-2 c κs =
     let p = c.before.before.before.before.before.before.before.before.before.before.before.before.before.before.before.before.before.before.before.before.before.before.requires in
-    let few = p.1.1.0.few-vertices in
-    let short = p.1.1.0.few-edges in
-    (p.0, (p.1.0, (p.1.1.0, (p.1.1.1, (omega (arith, short), omega (arith, short), blank _ halfRows (omega (arith, short)), blank _ halfRows (omega (arith, short)), blank _ halfRows (omega (arith, short)), blank _ (suc halfRows) (omega (arith, short)), λ count h r. omega arith, omega (arith, few), omega (arith, short))))))
+    let few = p.1.1.0.few_vertices in
+    let short = p.1.1.0.few_edges in
+    (p.0, (p.1.0, (p.1.1.0, (p.1.1.1, (omega (arith, short), omega (arith, short), blank _ half_rows (omega (arith, short)), blank _ half_rows (omega (arith, short)), blank _ half_rows (omega (arith, short)), blank _ (suc half_rows) (omega (arith, short)), λ count h r. omega arith, omega (arith, few), omega (arith, short))))))
 
 pub melt-cut-spec : {M : Type 1} → statement M
 melt-cut-spec =

@@ -5,17 +5,17 @@ use borrow.Author.Rules.{rules}
 use Rattle.seq.specs.Seq.{List, ℕ}
 use Rattle.paper.specs.Map.{Map}
 use Rattle.paper.specs.Faces.{Overlay}
-use Rattle.paper.specs.Lent.{Lengths, lengthsOf}
-use Rattle.tables.specs.Values.{tablesBy}
-use Rattle.overlay_maps.specs.Layers.{Layers, layersBy}
-use Rattle.overlay_maps.specs.Held.{heldMaps}
-use Rattle.overlay_graph.specs.Cut.{Cut, cutBy}
+use Rattle.paper.specs.Lent.{Lengths, lengths_of}
+use Rattle.tables.specs.Values.{tables_by}
+use Rattle.overlay_maps.specs.Layers.{Layers, layers_by}
+use Rattle.overlay_maps.specs.Held.{held_maps}
+use Rattle.overlay_graph.specs.Cut.{Cut, cut_by}
 use Rattle.overlay_graph.specs.Laws.Standing.{keep}
 use Rattle.overlay_pairs.specs.Pairs.{Outlined, readable}
 use Rattle.thin.specs.Laws.Melted.{Labelled, thinnable}
-use Rattle.overlay_fill.specs.Judged.{laidOut}
-use Rattle.melt.specs.Laws.Left.{faces-are, face-long, labelled, left-melted, left-drawable, left-within}
-use Rattle.melt.specs.Laws.Judged.{melted-room, faces-fit}
+use Rattle.overlay_fill.specs.Judged.{laid_out}
+use Rattle.melt.specs.Laws.Left.{faces-are, face_long, labelled, left_melted, left_drawable, left_within}
+use Rattle.melt.specs.Laws.Judged.{melted_room, faces-fit}
 use Rattle.melt.proofs.left.melt_faces.Statement.{statement}
 use Rattle.melt.proofs.left.melt_faces.Tie as tie
 
@@ -23,16 +23,16 @@ use Rattle.melt.proofs.left.melt_faces.Tie as tie
 
 module _ (s : tie.Start) where
   abbrev L : Layers
-  L = let a = s.args in layersBy a.vstarts.now a.estarts.now a.corners.now a.origins.now a.carriers.now a.labels.now
+  L = let a = s.args in layers_by a.vstarts.now a.estarts.now a.corners.now a.origins.now a.carriers.now a.labels.now
 
   abbrev ms : List Map
-  ms = heldMaps L
+  ms = held_maps L
 
   abbrev C : Cut
-  C = let a = s.args in cutBy a.n a.points.now a.e a.pieces.now
+  C = let a = s.args in cut_by a.n a.points.now a.e a.pieces.now
 
   abbrev lent : Lengths
-  lent = let a = s.args in lengthsOf (tablesBy a.vertices.now a.halves.now a.sources.now a.faces.now)
+  lent = let a = s.args in lengths_of (tables_by a.vertices.now a.halves.now a.sources.now a.faces.now)
 
   abbrev O : Outlined L C s.args.ends.now s.args.lines.now s.args.next.now s.args.outers.now s.args.count
   O = s.pre.1.0
@@ -70,8 +70,8 @@ thin-requires c κs =
     let D = (O s).cut in
     let long = s.pre.1.1.1.1 in
     let faces = faces-are (L s) (C s) s.pre.0 a.ends.now a.lines.now a.next.now a.outers.now a.count (O s) a.face.now s.pre.1.1.0 in
-    let faced = face-long (L s) (C s) s.pre.0 a.ends.now a.lines.now a.next.now a.outers.now a.count (O s) a.face.now s.pre.1.1.0 in
-    (thinnable (ms s) (C s) a.face.now (triples r) (known r) D.points-long D.pieces-long faced (omega (arith, faces, r.lay-labels.auto.1.1.1.1.1.1.1.1.1.1.1.1.1.0, long.1)), (long.2, long.3))
+    let faced = face_long (L s) (C s) s.pre.0 a.ends.now a.lines.now a.next.now a.outers.now a.count (O s) a.face.now s.pre.1.1.0 in
+    (thinnable (ms s) (C s) a.face.now (triples r) (known r) D.points_long D.pieces_long faced (omega (arith, faces, r.lay-labels.auto.1.1.1.1.1.1.1.1.1.1.1.1.1.0, long.1)), (long.2, long.3))
 
 from-cut-requires : tie.Need-from-cut-requires
 from-cut-requires c κs =
@@ -79,13 +79,13 @@ from-cut-requires c κs =
     let s = begun r in
     let a = s.args in
     let t = c.before.before.before.before.before.before.before.before.before.thin in
-    let k = cutBy t.result.vertices t.new.1.1.1.1.1.1.0 t.result.edges t.new.1.1.1.1.1.1.1.0 in
+    let k = cut_by t.result.vertices t.new.1.1.1.1.1.1.0 t.result.edges t.new.1.1.1.1.1.1.1.0 in
     let long = s.pre.1.1.1.1 in (
       (O s).held,
       (
-        left-drawable (L s) (C s) s.pre.0 a.ends.now a.lines.now a.next.now a.outers.now a.count (O s) a.face.now s.pre.1.1.0 (triples r) _ r.lay-labels.ensures k t.ensures
+        left_drawable (L s) (C s) s.pre.0 a.ends.now a.lines.now a.next.now a.outers.now a.count (O s) a.face.now s.pre.1.1.0 (triples r) _ r.lay-labels.ensures k t.ensures
             (omega (arith, long.2, t.auto.1.1.1.1.1.1.0)) (omega (arith, long.3, t.auto.1.1.1.1.1.1.1.0)),
-        left-within (L s) (C s) s.pre.0 a.ends.now a.lines.now a.next.now a.outers.now a.count (O s) a.face.now s.pre.1.1.0 (triples r) _ r.lay-labels.ensures k t.ensures (lent s) s.pre.1.1.1.0,
+        left_within (L s) (C s) s.pre.0 a.ends.now a.lines.now a.next.now a.outers.now a.count (O s) a.face.now s.pre.1.1.0 (triples r) _ r.lay-labels.ensures k t.ensures (lent s) s.pre.1.1.1.0,
       ),
     )
 
@@ -95,12 +95,12 @@ returns c =
     let s = begun r in
     let a = s.args in
     let t = c.before.before.before.before.before.before.before.before.before.before.before.before.before.before.before.before.before.thin in
-    let k = cutBy t.result.vertices t.new.1.1.1.1.1.1.0 t.result.edges t.new.1.1.1.1.1.1.1.0 in
+    let k = cut_by t.result.vertices t.new.1.1.1.1.1.1.0 t.result.edges t.new.1.1.1.1.1.1.1.0 in
     let D = (O s).cut in
     c.before.before.before.before.before.before.before.from_cut.ensures
-    ∙ ap (λ (o : Overlay). laidOut (ms s) o (lent s)) (left-melted (L s) (C s) s.pre.0 a.ends.now a.lines.now a.next.now a.outers.now a.count (O s) a.face.now s.pre.1.1.0 (triples r) _ r.lay-labels.ensures k t.ensures)
-    ∙ melted-room (ms s) (lent s) (keep (L s) (O s).held)
-    (faces-fit (ms s) (C s) s.pre.0 D.few-vertices D.few-edges (lent s) s.pre.1.1.1.0 a.count (O s).count-is s.pre.1.1.1.1.0)
+    ∙ ap (λ (o : Overlay). laid_out (ms s) o (lent s)) (left_melted (L s) (C s) s.pre.0 a.ends.now a.lines.now a.next.now a.outers.now a.count (O s) a.face.now s.pre.1.1.0 (triples r) _ r.lay-labels.ensures k t.ensures)
+    ∙ melted_room (ms s) (lent s) (keep (L s) (O s).held)
+    (faces-fit (ms s) (C s) s.pre.0 D.few_vertices D.few_edges (lent s) s.pre.1.1.1.0 a.count (O s).count_is s.pre.1.1.1.1.0)
 
 pub melt-faces-spec : {M : Type 1} → statement M
 melt-faces-spec =

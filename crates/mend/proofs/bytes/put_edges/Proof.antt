@@ -3,17 +3,17 @@ use mathlib.Core.Path.{refl, sym, ◌∙◌}
 use mathlib.Core.Logic.{⊎_elim}
 use native.Mathlib.Omega.{arith}
 use borrow.Author.Rules.{rules}
-use Rattle.seq.specs.Count.{count-below}
+use Rattle.seq.specs.Count.{count_below}
 use Rattle.seq.specs.Seq.{◌-◌, gather}
 use Rattle.paper.specs.Bytes.{le}
-use Rattle.mend.specs.Steps.{stepIs}
+use Rattle.mend.specs.Steps.{step_is}
 use Rattle.mend.specs.Stored.{row_in}
-use Rattle.mend.proofs.AppendLaws.{Appending, append-starts, append-takes, append-leaves, append-ends}
+use Rattle.mend.proofs.AppendLaws.{Appending, append_starts, append_takes, append_leaves, append_ends}
 use Rattle.mend.proofs.bytes.put_edges.Statement.{statement}
 use Rattle.mend.proofs.bytes.put_edges.Tie as tie
 
 abbrev invariant-loop : tie.invariant-loop
-invariant-loop labels ends numbers steps e out₀ start at₀ k₀ out at k = Appending 8 (stepIs steps 0) (λ j. gather (le 2) (row_in labels ends numbers j)) start e out₀ out at k
+invariant-loop labels ends numbers steps e out₀ start at₀ k₀ out at k = Appending 8 (step_is steps 0) (λ j. gather (le 2) (row_in labels ends numbers j)) start e out₀ out at k
 
 abbrev decreases-loop : tie.decreases-loop
 decreases-loop labels ends numbers steps e out₀ start at₀ k₀ out at k = e - k
@@ -23,7 +23,7 @@ put-edge-requires c κs =
     let s : tie.Start invariant-loop decreases-loop = search rules in
     let l : tie.At-loop invariant-loop decreases-loop = search rules in
     let r = l.loop.inv in
-    let more = count-below (stepIs s.args.steps.now 0) s.args.e l.loop.k (omega arith) (sym c.before.before.is-step.ensures ∙ c.before.if1.true) in
+    let more = count_below (step_is s.args.steps.now 0) s.args.e l.loop.k (omega arith) (sym c.before.before.is-step.ensures ∙ c.before.if1.true) in
     omega (arith, r.place, r.room, r.kept, more)
 
 add_at : tie.Need-overflow-add-at invariant-loop decreases-loop
@@ -31,7 +31,7 @@ add_at c =
     let s : tie.Start invariant-loop decreases-loop = search rules in
     let l : tie.At-loop invariant-loop decreases-loop = search rules in
     let r = l.loop.inv in
-    let more = count-below (stepIs s.args.steps.now 0) s.args.e l.loop.k (omega arith) (sym c.before.before.before.before.before.is-step.ensures ∙ c.before.before.before.before.if1.true) in
+    let more = count_below (step_is s.args.steps.now 0) s.args.e l.loop.k (omega arith) (sym c.before.before.before.before.before.is-step.ensures ∙ c.before.before.before.before.if1.true) in
     omega (arith, r.place, r.room, r.kept, more)
 
 loop-again : tie.Need-loop-preserved invariant-loop decreases-loop
@@ -39,7 +39,7 @@ loop-again c =
     let r = c.before.before.before.loop.invariant in
     let b = c.before.before.loop-test.true in
     let q = sym c.before.is-step.ensures in
-    ⊎_elim (λ w. append-takes r (λ j. refl) b (q ∙ w.0.taken) (w.5 ∙ w.2.ensures) w.6) (λ w. append-leaves r b (q ∙ w.0.left) w.1 w.2) c.if1.branch
+    ⊎_elim (λ w. append_takes r (λ j. refl) b (q ∙ w.0.taken) (w.5 ∙ w.2.ensures) w.6) (λ w. append_leaves r b (q ∙ w.0.left) w.1 w.2) c.if1.branch
 
 pub put-edges-spec : {M : Type 1} → statement M
 put-edges-spec =
@@ -47,7 +47,7 @@ put-edges-spec =
     (tie.spec
     invariant-loop
     decreases-loop
-    (λ c. append-starts (search rules))
+    (λ c. append_starts (search rules))
     (λ c κs. search rules)
     put-edge-requires
     add_at
@@ -55,4 +55,4 @@ put-edges-spec =
     (λ c. search rules)
     loop-again
     (λ c. c.before.loop.invariant.kept)
-    (λ c. append-ends c.before.loop.invariant (omega arith)))
+    (λ c. append_ends c.before.loop.invariant (omega arith)))

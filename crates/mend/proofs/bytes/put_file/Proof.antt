@@ -1,7 +1,7 @@
 -- `mend::bytes::put_file` meets its contract. Assumes nothing.
 use native.Mathlib.Omega.{arith}
 use borrow.Author.Rules.{rules}
-use Rattle.mend.proofs.ByteLaws.{file-put, corners-room, edges_room}
+use Rattle.mend.proofs.ByteLaws.{file-put, corners_room, edges_room}
 use Rattle.mend.proofs.bytes.put_file.Statement.{statement}
 use Rattle.mend.proofs.bytes.put_file.Tie as tie
 
@@ -10,7 +10,7 @@ put-corners-requires c κs =
     let s : tie.Start = search rules in
     let head : tie.After-put-head = search rules in
     let a = s.args in
-    (s.pre.0, s.pre.1.vertices-long, corners-room a.points.now a.labels.now a.ends.now a.numbers.now a.corners.now a.pieces.now a.n a.e a.vertices a.edges s.pre.1 _ (omega (arith, s.pre.2, head.put-head.kept)))
+    (s.pre.0, s.pre.1.vertices_long, corners_room a.points.now a.labels.now a.ends.now a.numbers.now a.corners.now a.pieces.now a.n a.e a.vertices a.edges s.pre.1 _ (omega (arith, s.pre.2, head.put-head.kept)))
 
 put-edges-requires : tie.Need-put-edges-requires
 put-edges-requires c κs =
@@ -18,7 +18,7 @@ put-edges-requires c κs =
     let head : tie.After-put-head = search rules in
     let corners : tie.After-put-corners = search rules in
     let a = s.args in
-    (s.pre.1.edges-long, edges_room a.points.now a.labels.now a.ends.now a.numbers.now a.corners.now a.pieces.now a.n a.e a.vertices a.edges s.pre.1 _ _ c.vertex-place.ensures (omega (arith, s.pre.2, head.put-head.kept, corners.put-corners.kept)))
+    (s.pre.1.edges_long, edges_room a.points.now a.labels.now a.ends.now a.numbers.now a.corners.now a.pieces.now a.n a.e a.vertices a.edges s.pre.1 _ _ c.vertex-place.ensures (omega (arith, s.pre.2, head.put-head.kept, corners.put-corners.kept)))
 
 returns : tie.Need-returns
 returns c =

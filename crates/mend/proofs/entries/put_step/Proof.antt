@@ -6,10 +6,10 @@ use native.Mathlib.Numerals.{add-one}
 use native.Mathlib.Omega.{arith}
 use borrow.Author.Rules.{rules}
 use lib.ListN.{set, length-set}
-use Rattle.seq.specs.Count.{count-below}
+use Rattle.seq.specs.Count.{count_below}
 use Rattle.seq.specs.Seq.{Bool, true, List, [], ◌∷◌, ℕ, ◌+◌, ◌-◌, length, sets}
-use Rattle.mend.specs.Steps.{stepIs}
-use Rattle.mend.proofs.AppendLaws.{Appending, append-starts, append-takes, append-leaves, append-ends, append-place}
+use Rattle.mend.specs.Steps.{step_is}
+use Rattle.mend.proofs.AppendLaws.{Appending, append_starts, append_takes, append_leaves, append_ends, append_place}
 use Rattle.mend.proofs.entries.put_step.Statement.{statement}
 use Rattle.mend.proofs.entries.put_step.Tie as tie
 
@@ -18,14 +18,14 @@ at_next : (d : List ℕ) (a x y : ℕ) → set (set d a x) (a + 1) y ≡ sets d 
 at_next d a x y = ap (λ (k : ℕ). set (set d a x) k y) (add-one a)
 
 abbrev invariant-loop : tie.invariant-loop
-invariant-loop steps step n list₀ start at₀ i₀ list at i = Appending 2 (stepIs steps step) (λ j. step ∷ j ∷ []) start n list₀ list at i
+invariant-loop steps step n list₀ start at₀ i₀ list at i = Appending 2 (step_is steps step) (λ j. step ∷ j ∷ []) start n list₀ list at i
 
 abbrev decreases-loop : tie.decreases-loop
 decreases-loop steps step n list₀ start at₀ i₀ list at i = n - i
 
 -- the list has room for one more entry
 fits : {p : ℕ → Bool} {f : ℕ → List ℕ} {at n : ℕ} {d t : List ℕ} {a i : ℕ} → Appending 2 p f at n d t a i → i < n → p i ≡ true → a + 2 ≤ length t
-fits {p = p} {n = n} {i = i} r l e = omega (arith, r.place, r.room, r.kept, count-below p n i l e)
+fits {p = p} {n = n} {i = i} r l e = omega (arith, r.place, r.room, r.kept, count_below p n i l e)
 
 entry-fits : (c : tie.Then1 invariant-loop decreases-loop) → c.before.before.before.loop.at + 2 ≤ length c.before.before.before.loop.list
 entry-fits c = fits c.before.before.before.loop.invariant c.before.before.loop-test.true (sym c.before.is-step.ensures ∙ c.if1.true)
@@ -58,10 +58,10 @@ loop-again c =
     let l = c.before.before.before.loop in
     let b = c.before.before.loop-test.true in
     let q = sym c.before.is-step.ensures in
-    ⊎_elim (λ w. append-takes l.invariant (λ j. refl) b (q ∙ w.0.taken) (w.1 ∙ at_next l.list l.at s.args.step l.i) w.2) (λ w. append-leaves l.invariant b (q ∙ w.0.left) w.1 w.2) c.if1.branch
+    ⊎_elim (λ w. append_takes l.invariant (λ j. refl) b (q ∙ w.0.taken) (w.1 ∙ at_next l.list l.at s.args.step l.i) w.2) (λ w. append_leaves l.invariant b (q ∙ w.0.left) w.1 w.2) c.if1.branch
 
 returns : tie.Need-returns invariant-loop decreases-loop
-returns c = (append-ends c.before.loop.invariant (omega arith), append-place c.before.loop.invariant (omega arith))
+returns c = (append_ends c.before.loop.invariant (omega arith), append_place c.before.loop.invariant (omega arith))
 
 pub put-step-spec : {M : Type 1} → statement M
 put-step-spec =
@@ -69,7 +69,7 @@ put-step-spec =
     (tie.spec
     invariant-loop
     decreases-loop
-    (λ c. append-starts (search rules))
+    (λ c. append_starts (search rules))
     (λ c κs. search rules)
     mul-list
     slice-write-list

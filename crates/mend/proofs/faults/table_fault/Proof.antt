@@ -4,8 +4,8 @@ use native.Mathlib.Omega.{arith}
 use borrow.Author.Rules.{rules}
 use Rattle.seq.specs.Least.{least-le}
 use Rattle.map_file.proofs.VerdictLaws.{last, before, at_least}
-use Rattle.map_check.specs.Parts.{farAt}
-use Rattle.mend.specs.Steps.{noVertexAt}
+use Rattle.map_check.specs.Parts.{far_at}
+use Rattle.mend.specs.Steps.{no_vertex_at}
 use Rattle.mend.proofs.faults.table_fault.Statement.{statement}
 use Rattle.mend.proofs.faults.table_fault.Tie as tie
 
@@ -13,13 +13,13 @@ cast-given : tie.Need-overflow-cast-given
 cast-given c =
     let s : tie.Start = search rules in
     let found : tie.After-first-too-far = search rules in
-    omega (arith, found.first-too-far.ensures, least-le (farAt s.args.points.now) s.args.n)
+    omega (arith, found.first-too-far.ensures, least-le (far_at s.args.points.now) s.args.n)
 
 cast-given-2 : tie.Need-overflow-cast-given-2
 cast-given-2 c =
     let s : tie.Start = search rules in
     let found : tie.After-first-no-vertex = search rules in
-    omega (arith, found.first-no-vertex.ensures, least-le (noVertexAt s.args.origins.now s.args.n) s.args.e)
+    omega (arith, found.first-no-vertex.ensures, least-le (no_vertex_at s.args.origins.now s.args.n) s.args.e)
 
 returns : tie.Need-returns
 returns c =
@@ -30,8 +30,8 @@ returns c =
     let seven : tie.After-given2 = search rules in
     let a = s.args in
     (before c.first.ensures
-    (at_least 5 (farAt a.points.now) a.n _ _ _ five.given.ensures far.first-too-far.ensures refl)
-    (last (at_least 7 (noVertexAt a.origins.now a.n) a.e _ _ _ seven.given2.ensures ends.first-no-vertex.ensures refl))).is
+    (at_least 5 (far_at a.points.now) a.n _ _ _ five.given.ensures far.first-too-far.ensures refl)
+    (last (at_least 7 (no_vertex_at a.origins.now a.n) a.e _ _ _ seven.given2.ensures ends.first-no-vertex.ensures refl))).is
 
 pub table-fault-spec : {M : Type 1} → statement M
 table-fault-spec =

@@ -5,20 +5,20 @@ use borrow.Author.Rules.{rules}
 use borrow.Author.Tests.{ltb-false}
 use Rattle.seq.specs.Least.{least-le}
 use Rattle.seq.specs.Seq.{least}
-use Rattle.mend.specs.Keys.{likeIn}
+use Rattle.mend.specs.Keys.{like_in}
 use Rattle.mend.proofs.merge.lowest.Statement.{statement}
 use Rattle.mend.proofs.merge.lowest.Tie as tie
 
 cast-result : tie.Need-overflow-cast-result
 cast-result c =
     let s : tie.Start = search rules in
-    omega (arith, c.first-like.ensures, least-le (likeIn s.args.keys.now s.args.v) s.args.v)
+    omega (arith, c.first-like.ensures, least-le (like_in s.args.keys.now s.args.v) s.args.v)
 
 returns-2 : tie.Need-returns-2
 returns-2 c =
     let s : tie.Start = search rules in
-    let none = ltb-false (least (likeIn s.args.keys.now s.args.v) s.args.v) s.args.v (sym c.before.seen.ensures ∙ c.if1.false) in
-    omega (arith, none, least-le (likeIn s.args.keys.now s.args.v) s.args.v)
+    let none = ltb-false (least (like_in s.args.keys.now s.args.v) s.args.v) s.args.v (sym c.before.seen.ensures ∙ c.if1.false) in
+    omega (arith, none, least-le (like_in s.args.keys.now s.args.v) s.args.v)
 
 pub lowest-spec : {M : Type 1} → statement M
 lowest-spec =

@@ -1,14 +1,14 @@
 -- `mend::merge::merge_by` meets its contract: below the counter the cells are the lowest vertices, and the other cells as they were. Assumes nothing.
 use native.Mathlib.Omega.{arith}
 use borrow.Author.Rules.{rules}
-use Rattle.seq.specs.Loops.Filling.{Filling, fill-starts, fill-turns, fill-ends}
+use Rattle.seq.specs.Loops.Filling.{Filling, fill_starts, fill_turns, fill_ends}
 use Rattle.seq.specs.Seq.{◌-◌, least}
-use Rattle.mend.specs.Keys.{likeIn}
+use Rattle.mend.specs.Keys.{like_in}
 use Rattle.mend.proofs.merge.merge_by.Statement.{statement}
 use Rattle.mend.proofs.merge.merge_by.Tie as tie
 
 abbrev invariant-loop : tie.invariant-loop
-invariant-loop keys n into₀ v₀ into v = Filling (λ u. least (likeIn keys u) u) n into₀ into v
+invariant-loop keys n into₀ v₀ into v = Filling (λ u. least (like_in keys u) u) n into₀ into v
 
 abbrev decreases-loop : tie.decreases-loop
 decreases-loop keys n into₀ v₀ into v = n - v
@@ -27,7 +27,7 @@ loop-again : tie.Need-loop-preserved invariant-loop decreases-loop
 loop-again c =
     let at : tie.At-loop invariant-loop decreases-loop = search rules in
     let one : tie.After-lowest invariant-loop decreases-loop = search rules in
-    fill-turns at.loop.inv (omega arith) one.lowest.ensures
+    fill_turns at.loop.inv (omega arith) one.lowest.ensures
 
 pub merge-by-spec : {M : Type 1} → statement M
 merge-by-spec =
@@ -35,7 +35,7 @@ merge-by-spec =
     (tie.spec
     invariant-loop
     decreases-loop
-    (λ c. fill-starts (search rules))
+    (λ c. fill_starts (search rules))
     (λ c. search rules)
     (λ c κs. search rules)
     mul-into
@@ -44,4 +44,4 @@ merge-by-spec =
     (λ c. search rules)
     loop-again
     (λ c. c.before.loop.invariant.kept)
-    (λ c. fill-ends c.before.loop.invariant (omega arith)))
+    (λ c. fill_ends c.before.loop.invariant (omega arith)))

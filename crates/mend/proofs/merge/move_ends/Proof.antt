@@ -2,14 +2,14 @@
 use mathlib.Core.Path.{ap, ◌∙◌}
 use native.Mathlib.Omega.{arith}
 use borrow.Author.Rules.{rules}
-use Rattle.seq.specs.Loops.Filling.{Filling, fill-starts, fill-turns, fill-ends}
+use Rattle.seq.specs.Loops.Filling.{Filling, fill_starts, fill_turns, fill_ends}
 use Rattle.seq.specs.Seq.{ℕ, ◌*◌, ◌-◌, get_or}
-use Rattle.mend.specs.Steps.{nowIn}
+use Rattle.mend.specs.Steps.{now_in}
 use Rattle.mend.proofs.merge.move_ends.Statement.{statement}
 use Rattle.mend.proofs.merge.move_ends.Tie as tie
 
 abbrev invariant-loop : tie.invariant-loop
-invariant-loop into origins e ends₀ m h₀ ends h = Filling (nowIn into origins) (2 * e) ends₀ ends h
+invariant-loop into origins e ends₀ m h₀ ends h = Filling (now_in into origins) (2 * e) ends₀ ends h
 
 abbrev decreases-loop : tie.decreases-loop
 decreases-loop into origins e ends₀ m h₀ ends h = m - h
@@ -30,7 +30,7 @@ loop-again c =
     let at : tie.At-loop invariant-loop decreases-loop = search rules in
     let one : tie.After-u16-at invariant-loop decreases-loop = search rules in
     let two : tie.After-u16-at2 invariant-loop decreases-loop = search rules in
-    fill-turns at.loop.inv (omega arith) (two.u16-at2.ensures ∙ ap (λ (u : ℕ). get_or s.args.into.now u 0) one.u16-at.ensures)
+    fill_turns at.loop.inv (omega arith) (two.u16-at2.ensures ∙ ap (λ (u : ℕ). get_or s.args.into.now u 0) one.u16-at.ensures)
 
 pub move-ends-spec : {M : Type 1} → statement M
 move-ends-spec =
@@ -39,7 +39,7 @@ move-ends-spec =
     invariant-loop
     decreases-loop
     (λ c. search rules)
-    (λ c. fill-starts (search rules))
+    (λ c. fill_starts (search rules))
     (λ c κs. search rules)
     (λ c. search rules)
     (λ c κs. search rules)
@@ -49,4 +49,4 @@ move-ends-spec =
     (λ c. search rules)
     loop-again
     (λ c. c.before.loop.invariant.kept)
-    (λ c. fill-ends c.before.loop.invariant (omega arith)))
+    (λ c. fill_ends c.before.loop.invariant (omega arith)))

@@ -3,14 +3,14 @@ use mathlib.Core.Path.{sym, ◌∙◌}
 use mathlib.Core.Logic.{⊎_elim}
 use native.Mathlib.Omega.{arith}
 use borrow.Author.Rules.{rules}
-use Rattle.seq.specs.Loops.Selecting.{Counting, count-starts, count_most, count-takes, count-skips, count-ends}
+use Rattle.seq.specs.Loops.Selecting.{Counting, count_starts, count_most, count-takes, count-skips, count_ends}
 use Rattle.seq.specs.Seq.{◌-◌}
-use Rattle.mend.specs.Steps.{stepIs}
+use Rattle.mend.specs.Steps.{step_is}
 use Rattle.mend.proofs.numbers.count_kept.Statement.{statement}
 use Rattle.mend.proofs.numbers.count_kept.Tie as tie
 
 abbrev invariant-loop : tie.invariant-loop
-invariant-loop steps e c₀ k₀ c k = Counting (stepIs steps 0) e c k
+invariant-loop steps e c₀ k₀ c k = Counting (step_is steps 0) e c k
 
 abbrev decreases-loop : tie.decreases-loop
 decreases-loop steps e c₀ k₀ c k = e - k
@@ -33,10 +33,10 @@ count-kept-spec =
     (tie.spec
     invariant-loop
     decreases-loop
-    (λ c. count-starts)
+    (λ c. count_starts)
     (λ c κs. search rules)
     add-c
     (λ c. search rules)
     (λ c. search rules)
     loop-again
-    (λ c. count-ends c.before.loop.invariant (omega arith)))
+    (λ c. count_ends c.before.loop.invariant (omega arith)))

@@ -3,15 +3,15 @@ use mathlib.Core.Path.{sym, ◌∙◌}
 use mathlib.Core.Logic.{⊎_elim}
 use native.Mathlib.Omega.{arith}
 use borrow.Author.Rules.{rules}
-use Rattle.seq.specs.Loops.Filling.{Filling, fill-starts, fill-turns, fill-ends}
-use Rattle.seq.specs.Loops.Selecting.{Counting, count-starts, count_most, count-takes, count-skips, count-ends}
+use Rattle.seq.specs.Loops.Filling.{Filling, fill_starts, fill_turns, fill_ends}
+use Rattle.seq.specs.Loops.Selecting.{Counting, count_starts, count_most, count-takes, count-skips, count_ends}
 use Rattle.seq.specs.Seq.{◌-◌, count}
-use Rattle.mend.specs.Steps.{stepIs}
+use Rattle.mend.specs.Steps.{step_is}
 use Rattle.mend.proofs.numbers.number.Statement.{statement}
 use Rattle.mend.proofs.numbers.number.Tie as tie
 
 abbrev invariant-loop : tie.invariant-loop
-invariant-loop steps n out₀ c₀ v₀ out c v = Filling (count (stepIs steps 0)) n out₀ out v × Counting (stepIs steps 0) n c v
+invariant-loop steps n out₀ c₀ v₀ out c v = Filling (count (step_is steps 0)) n out₀ out v × Counting (step_is steps 0) n c v
 
 abbrev decreases-loop : tie.decreases-loop
 decreases-loop steps n out₀ c₀ v₀ out c v = n - v
@@ -36,10 +36,10 @@ loop-again c =
     let l = c.before.before.before.loop in
     let b = c.before.before.loop-test.true in
     let q = sym c.before.is-step.ensures in
-    (fill-turns l.invariant.0 b l.invariant.1.is, ⊎_elim (λ w. count-takes l.invariant.1 b (q ∙ w.0.taken) w.1) (λ w. count-skips l.invariant.1 b (q ∙ w.0.left) w.1) c.if1.branch)
+    (fill_turns l.invariant.0 b l.invariant.1.is, ⊎_elim (λ w. count-takes l.invariant.1 b (q ∙ w.0.taken) w.1) (λ w. count-skips l.invariant.1 b (q ∙ w.0.left) w.1) c.if1.branch)
 
 returns : tie.Need-returns invariant-loop decreases-loop
-returns c = (fill-ends c.before.loop.invariant.0 (omega arith), count-ends c.before.loop.invariant.1 (omega arith))
+returns c = (fill_ends c.before.loop.invariant.0 (omega arith), count_ends c.before.loop.invariant.1 (omega arith))
 
 pub number-spec : {M : Type 1} → statement M
 number-spec =
@@ -47,7 +47,7 @@ number-spec =
     (tie.spec
     invariant-loop
     decreases-loop
-    (λ c. (fill-starts (search rules), count-starts))
+    (λ c. (fill_starts (search rules), count_starts))
     (λ c. search rules)
     mul-out
     slice-write

@@ -3,7 +3,7 @@ use mathlib.Core.Path.{sym, ap, ◌∙◌}
 use borrow.Author.Rules.{rules}
 use Rattle.seq.specs.Seq.{length}
 use Rattle.map_file.specs.Verdict.{verdict}
-use Rattle.mend.proofs.OutcomeLaws.{mend-unformed}
+use Rattle.mend.proofs.OutcomeLaws.{mend_unformed}
 use Rattle.mend.proofs.outcome.mend.Statement.{statement}
 use Rattle.mend.proofs.outcome.mend.Tie as tie
 
@@ -17,7 +17,7 @@ returns : tie.Need-returns
 returns c =
     let a = c.before.before.before.before.before.before.before.before.before.before.before.before.before.before.before.args in
     let told = c.before.before.before.before.before.before.before.before.check.given in
-    c.before.before.before.before.refuse.ensures ∙ mend-unformed (length a.out.now) (length a.list.now) a.file.now _ (sym c.before.before.before.before.before.before.before.before.before.before.form-fault.ensures ∙ ap verdict told.1)
+    c.before.before.before.before.refuse.ensures ∙ mend_unformed (length a.out.now) (length a.list.now) a.file.now _ (sym c.before.before.before.before.before.before.before.before.before.before.form-fault.ensures ∙ ap verdict told.1)
 
 returns-2 : tie.Need-returns-2
 returns-2 c = c.before.before.before.before.mend-read.ensures

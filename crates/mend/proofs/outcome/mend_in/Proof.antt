@@ -3,10 +3,10 @@ use mathlib.Core.Path.{◌≡◌, sym, ap, ◌∙◌, subst}
 use Prim.Native.Nat.{◌≤◌}
 use borrow.Author.Rules.{rules}
 use Rattle.seq.specs.Seq.{ℕ, ◌*◌, length}
-use Rattle.paper.specs.Limits.{mapVertices, mapEdges}
+use Rattle.paper.specs.Limits.{map_vertices, map_edges}
 use Rattle.map_file.specs.declared.reader.Header.{Header}
 use Rattle.map_file.specs.Verdict.{verdict}
-use Rattle.map_check.proofs.KeptLaws.{few-vertices, few-edges}
+use Rattle.map_check.proofs.KeptLaws.{few_vertices, few_edges}
 use Rattle.map_check.proofs.LoadedLaws.{is_read}
 use Rattle.mend.proofs.OutcomeLaws.{mend-unread, faults-found}
 use Rattle.mend.proofs.outcome.mend_in.Statement.{statement}
@@ -25,7 +25,7 @@ table-fault-requires c κs =
     let x = a.file.now in
     let is = c.before.before.before.before.before.before.before.before.before.read-map.ensures in
     let R = is_read x _ _ _ _ _ _ s.requires.1.1.0 s.requires.1.1.1 s.requires.1.1.2 is.0 is.1 is.2 in
-    (as_many 4 v R.points-long, (as_many 2 e R.origins-long, (subst (λ (y : ℕ). y ≤ mapVertices) (sym v) (few-vertices x form), subst (λ (y : ℕ). y ≤ mapEdges) (sym e) (few-edges x form))))
+    (as_many 4 v R.points_long, (as_many 2 e R.origins_long, (subst (λ (y : ℕ). y ≤ map_vertices) (sym v) (few_vertices x form), subst (λ (y : ℕ). y ≤ map_edges) (sym e) (few_edges x form))))
 
 mend-map-requires : tie.Need-mend-map-requires
 mend-map-requires c κs =

@@ -4,7 +4,7 @@ use native.Mathlib.Omega.{arith}
 use borrow.Author.Rules.{rules}
 use Rattle.map_file.specs.declared.reader.Header.{Header}
 use Rattle.map_check.specs.Parts.{Corners}
-use Rattle.mend.proofs.OutcomeLaws.{corners-near, is-ready}
+use Rattle.mend.proofs.OutcomeLaws.{corners-near, is_ready}
 use Rattle.mend.proofs.TableLaws.{can-mend}
 use Rattle.mend.proofs.outcome.mend_map.Statement.{statement}
 use Rattle.mend.proofs.outcome.mend_map.Tie as tie
@@ -15,7 +15,7 @@ merge-requires c κs =
     let v = ap (λ (h : Header). h.vertices) s.requires.0 in
     let e = ap (λ (h : Header). h.edges) s.requires.0 in
     let f = (can-mend s.args.file.now s.requires.1.0).form in
-    (coe 0 1 (i. Corners s.args.points.now (sym v i)) (corners-near s.requires.1.1 s.requires.1.0), omega (arith, v, f.few-vertices), omega (arith, v, f.few-vertices))
+    (coe 0 1 (i. Corners s.args.points.now (sym v i)) (corners-near s.requires.1.1 s.requires.1.0), omega (arith, v, f.few_vertices), omega (arith, v, f.few_vertices))
 
 move-ends-requires : tie.Need-move-ends-requires
 move-ends-requires c κs =
@@ -23,7 +23,7 @@ move-ends-requires c κs =
     let v = ap (λ (h : Header). h.vertices) s.requires.0 in
     let e = ap (λ (h : Header). h.edges) s.requires.0 in
     let f = (can-mend s.args.file.now s.requires.1.0).form in
-    omega (arith, e, f.few-edges)
+    omega (arith, e, f.few_edges)
 
 edge-steps-requires : tie.Need-edge-steps-requires
 edge-steps-requires c κs =
@@ -31,7 +31,7 @@ edge-steps-requires c κs =
     let v = ap (λ (h : Header). h.vertices) s.requires.0 in
     let e = ap (λ (h : Header). h.edges) s.requires.0 in
     let f = (can-mend s.args.file.now s.requires.1.0).form in
-    (omega (arith, e, f.few-edges), omega (arith, e, f.few-edges))
+    (omega (arith, e, f.few_edges), omega (arith, e, f.few_edges))
 
 vertex-steps-requires : tie.Need-vertex-steps-requires
 vertex-steps-requires c κs =
@@ -39,7 +39,7 @@ vertex-steps-requires c κs =
     let v = ap (λ (h : Header). h.vertices) s.requires.0 in
     let e = ap (λ (h : Header). h.edges) s.requires.0 in
     let f = (can-mend s.args.file.now s.requires.1.0).form in
-    (omega (arith, e, f.few-edges, c.before.before.before.before.before.edge-steps.auto), omega (arith, v, f.few-vertices))
+    (omega (arith, e, f.few_edges, c.before.before.before.before.before.edge-steps.auto), omega (arith, v, f.few_vertices))
 
 count-kept-requires : tie.Need-count-kept-requires
 count-kept-requires c κs =
@@ -47,7 +47,7 @@ count-kept-requires c κs =
     let v = ap (λ (h : Header). h.vertices) s.requires.0 in
     let e = ap (λ (h : Header). h.edges) s.requires.0 in
     let f = (can-mend s.args.file.now s.requires.1.0).form in
-    omega (arith, e, f.few-edges, c.before.before.before.before.before.before.before.before.before.before.before.before.edge-steps.auto)
+    omega (arith, e, f.few_edges, c.before.before.before.before.before.before.before.before.before.before.before.before.edge-steps.auto)
 
 finish-requires : tie.Need-finish-requires
 finish-requires c κs =
@@ -57,8 +57,8 @@ finish-requires c κs =
     let f = (can-mend s.args.file.now s.requires.1.0).form in (
       v,
       e,
-      is-ready s.requires.1.1 s.requires.1.0 _ _ _ _ _ _ _ _ _ _ _ _ _ v e c.before.before.before.before.before.before.before.before.before.before.before.before.before.before.before.before.before.before.before.before.before.before.before.before.before.before.before.merge.ensures c.before.before.before.before.before.before.before.before.before.before.before.before.before.before.before.before.before.before.before.before.before.before.before.move-ends.ensures c.before.before.before.before.before.before.before.before.before.before.before.before.before.before.before.before.before.before.before.edge-steps.ensures c.before.before.before.before.before.before.before.before.before.before.before.before.before.vertex-steps.ensures c.before.before.before.before.before.before.before.before.before.number.ensures.0 c.before.before.before.before.before.before.before.before.before.number.ensures.1 c.before.before.before.before.before.before.count_kept.ensures
-          (omega (arith, v, f.few-vertices)) (omega (arith, e, f.few-edges)) (omega (arith, e, f.few-edges)) (omega (arith, v, f.few-vertices)),
+      is_ready s.requires.1.1 s.requires.1.0 _ _ _ _ _ _ _ _ _ _ _ _ _ v e c.before.before.before.before.before.before.before.before.before.before.before.before.before.before.before.before.before.before.before.before.before.before.before.before.before.before.before.merge.ensures c.before.before.before.before.before.before.before.before.before.before.before.before.before.before.before.before.before.before.before.before.before.before.before.move_ends.ensures c.before.before.before.before.before.before.before.before.before.before.before.before.before.before.before.before.before.before.before.edge-steps.ensures c.before.before.before.before.before.before.before.before.before.before.before.before.before.vertex-steps.ensures c.before.before.before.before.before.before.before.before.before.number.ensures.0 c.before.before.before.before.before.before.before.before.before.number.ensures.1 c.before.before.before.before.before.before.count_kept.ensures
+          (omega (arith, v, f.few_vertices)) (omega (arith, e, f.few_edges)) (omega (arith, e, f.few_edges)) (omega (arith, v, f.few_vertices)),
     )
 
 returns : tie.Need-returns

@@ -6,8 +6,8 @@ use borrow.Author.Tests.{leb-true}
 use Rattle.seq.specs.Seq.{leb}
 use Rattle.seq.specs.Tests.{and_parts}
 use Rattle.map_file.specs.declared.reader.Header.{Header}
-use Rattle.graph.specs.Small.{smallVertices, smallEdges}
-use Rattle.map_check.proofs.KeptLaws.{few-vertices, few-edges}
+use Rattle.graph.specs.Small.{small_vertices, small_edges}
+use Rattle.map_check.proofs.KeptLaws.{few_vertices, few_edges}
 use Rattle.mend.proofs.outcome.mend_read.Statement.{statement}
 use Rattle.mend.proofs.outcome.mend_read.Tie as tie
 
@@ -17,16 +17,16 @@ mend-in-requires c κs =
     let v = ap (λ (h : Header). h.vertices) s.requires.0 in
     let e = ap (λ (h : Header). h.edges) s.requires.0 in
     let h = s.args.h in
-    let q = and_parts (leb h.vertices smallVertices) (leb h.edges smallEdges) c.before.before.before.before.before.if1.true in
-    let n = leb-true h.vertices smallVertices q.0 in
-    let m = leb-true h.edges smallEdges q.1 in
+    let q = and_parts (leb h.vertices small_vertices) (leb h.edges small_edges) c.before.before.before.before.before.if1.true in
+    let n = leb-true h.vertices small_vertices q.0 in
+    let m = leb-true h.edges small_edges q.1 in
     (s.requires.0, (s.requires.1, (omega (arith, v, n), omega (arith, e, m), omega (arith, e, m))))
 
 mend-in-requires-2 : tie.Need-mend-in-requires-2
 mend-in-requires-2 c κs =
     let s = c.before.before.before.before.before.before.before.before.before.before.before in
-    let n = few-vertices s.args.file.now s.requires.1 in
-    let m = few-edges s.args.file.now s.requires.1 in
+    let n = few_vertices s.args.file.now s.requires.1 in
+    let m = few_edges s.args.file.now s.requires.1 in
     (s.requires.0, (s.requires.1, (omega (arith, n), omega (arith, m), omega (arith, m))))
 
 pub mend-read-spec : {M : Type 1} → statement M

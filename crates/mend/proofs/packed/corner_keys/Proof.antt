@@ -1,14 +1,14 @@
 -- `mend::packed::corner_keys` meets its contract: below the counter the cells are those of the corners, and the other cells as they were. Assumes nothing.
 use native.Mathlib.Omega.{arith}
 use borrow.Author.Rules.{rules}
-use Rattle.seq.specs.Loops.Filling.{Filling, fill-starts, fill-turns, fill-ends}
+use Rattle.seq.specs.Loops.Filling.{Filling, fill_starts, fill_turns, fill_ends}
 use Rattle.seq.specs.Seq.{◌-◌}
-use Rattle.mend.specs.Keys.{cornerKey}
+use Rattle.mend.specs.Keys.{corner_key}
 use Rattle.mend.proofs.packed.corner_keys.Statement.{statement}
 use Rattle.mend.proofs.packed.corner_keys.Tie as tie
 
 abbrev invariant-loop : tie.invariant-loop
-invariant-loop points n keys₀ v₀ keys v = Filling (cornerKey points) n keys₀ keys v
+invariant-loop points n keys₀ v₀ keys v = Filling (corner_key points) n keys₀ keys v
 
 abbrev decreases-loop : tie.decreases-loop
 decreases-loop points n keys₀ v₀ keys v = n - v
@@ -33,7 +33,7 @@ loop-again : tie.Need-loop-preserved invariant-loop decreases-loop
 loop-again c =
     let at : tie.At-loop invariant-loop decreases-loop = search rules in
     let one : tie.After-corner-key invariant-loop decreases-loop = search rules in
-    fill-turns at.loop.inv (omega arith) one.corner-key.ensures
+    fill_turns at.loop.inv (omega arith) one.corner-key.ensures
 
 pub corner-keys-spec : {M : Type 1} → statement M
 corner-keys-spec =
@@ -41,7 +41,7 @@ corner-keys-spec =
     (tie.spec
     invariant-loop
     decreases-loop
-    (λ c. fill-starts (search rules))
+    (λ c. fill_starts (search rules))
     (λ c. search rules)
     corner-key-requires
     mul-keys
@@ -50,4 +50,4 @@ corner-keys-spec =
     (λ c. search rules)
     loop-again
     (λ c. c.before.loop.invariant.kept)
-    (λ c. fill-ends c.before.loop.invariant (omega arith)))
+    (λ c. fill_ends c.before.loop.invariant (omega arith)))

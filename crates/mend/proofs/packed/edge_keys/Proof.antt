@@ -2,14 +2,14 @@
 use mathlib.Core.Path.{◌∙◌}
 use native.Mathlib.Omega.{arith}
 use borrow.Author.Rules.{rules}
-use Rattle.seq.specs.Loops.Filling.{Filling, fill-starts, fill-turns, fill-ends}
+use Rattle.seq.specs.Loops.Filling.{Filling, fill_starts, fill_turns, fill_ends}
 use Rattle.seq.specs.Seq.{◌-◌}
-use Rattle.mend.specs.Keys.{pairKey, edgeKey}
+use Rattle.mend.specs.Keys.{pair_key, edge_key}
 use Rattle.mend.proofs.packed.edge_keys.Statement.{statement}
 use Rattle.mend.proofs.packed.edge_keys.Tie as tie
 
 abbrev invariant-loop : tie.invariant-loop
-invariant-loop ends e keys₀ k₀ keys k = Filling (edgeKey ends) e keys₀ keys k
+invariant-loop ends e keys₀ k₀ keys k = Filling (edge_key ends) e keys₀ keys k
 
 abbrev decreases-loop : tie.decreases-loop
 decreases-loop ends e keys₀ k₀ keys k = e - k
@@ -28,7 +28,7 @@ loop-again : tie.Need-loop-preserved invariant-loop decreases-loop
 loop-again c =
     let at : tie.At-loop invariant-loop decreases-loop = search rules in
     let one : tie.After-pair-key invariant-loop decreases-loop = search rules in
-    fill-turns at.loop.inv (omega arith) (one.pair-key.ensures ∙ (λ i. pairKey (one.before.before.from-now.ensures i) (one.before.to-now.ensures i)))
+    fill_turns at.loop.inv (omega arith) (one.pair-key.ensures ∙ (λ i. pair_key (one.before.before.from-now.ensures i) (one.before.to-now.ensures i)))
 
 pub edge-keys-spec : {M : Type 1} → statement M
 edge-keys-spec =
@@ -36,7 +36,7 @@ edge-keys-spec =
     (tie.spec
     invariant-loop
     decreases-loop
-    (λ c. fill-starts (search rules))
+    (λ c. fill_starts (search rules))
     (λ c. search rules)
     (λ c κs. search rules)
     (λ c κs. search rules)
@@ -47,4 +47,4 @@ edge-keys-spec =
     (λ c. search rules)
     loop-again
     (λ c. c.before.loop.invariant.kept)
-    (λ c. fill-ends c.before.loop.invariant (omega arith)))
+    (λ c. fill_ends c.before.loop.invariant (omega arith)))

@@ -2,14 +2,14 @@
 use borrow.Author.Rules.{rules}
 use borrow.Author.Tests.{eq-eqb, ne_eqb}
 use native.Mathlib.Omega.{arith}
-use Rattle.seq.specs.Loops.Searching.{Searching, search-starts, search-turns, search-finds, search-ends}
+use Rattle.seq.specs.Loops.Searching.{Searching, search_starts, search_turns, search_finds, search_ends}
 use Rattle.seq.specs.Seq.{◌-◌}
-use Rattle.mend.specs.Keys.{likeIn}
+use Rattle.mend.specs.Keys.{like_in}
 use Rattle.mend.proofs.packed.first_like.Statement.{statement}
 use Rattle.mend.proofs.packed.first_like.Tie as tie
 
 abbrev invariant-loop : tie.invariant-loop
-invariant-loop keys i key j₀ j = Searching (likeIn keys i) i j
+invariant-loop keys i key j₀ j = Searching (like_in keys i) i j
 
 abbrev decreases-loop : tie.decreases-loop
 decreases-loop keys i key j₀ j = i - j
@@ -17,12 +17,12 @@ decreases-loop keys i key j₀ j = i - j
 returns : tie.Need-returns invariant-loop decreases-loop
 returns c =
     let at : tie.At-loop invariant-loop decreases-loop = search rules in
-    search-finds at.loop.inv (omega arith) (eq-eqb _ _ c.if1.true)
+    search_finds at.loop.inv (omega arith) (eq-eqb _ _ c.if1.true)
 
 loop-again : tie.Need-loop-preserved invariant-loop decreases-loop
 loop-again c =
     let at : tie.At-loop invariant-loop decreases-loop = search rules in
-    search-turns at.loop.inv (omega arith) (ne_eqb _ _ c.if1.false)
+    search_turns at.loop.inv (omega arith) (ne_eqb _ _ c.if1.false)
 
 pub first-like-spec : {M : Type 1} → statement M
 first-like-spec =
@@ -32,11 +32,11 @@ first-like-spec =
     decreases-loop
     (λ c. search rules)
     (λ c. search rules)
-    (λ c. search-starts)
+    (λ c. search_starts)
     (λ c. search rules)
     (λ c. search rules)
     returns
     (λ c. search rules)
     (λ c. search rules)
     loop-again
-    (λ c. search-ends c.before.loop.invariant (omega arith)))
+    (λ c. search_ends c.before.loop.invariant (omega arith)))

@@ -3,13 +3,13 @@ use mathlib.Core.Path.{refl}
 use borrow.Author.Rules.{rules}
 use native.Mathlib.Omega.{arith}
 use Rattle.seq.specs.Seq.{◌-◌}
-use Rattle.mend.specs.Keys.{likeIn}
-use Rattle.mend.proofs.MarkLaws.{Seeing, see-starts, see-turns, see-ends}
+use Rattle.mend.specs.Keys.{like_in}
+use Rattle.mend.proofs.MarkLaws.{Seeing, see_starts, see_turns, see_ends}
 use Rattle.mend.proofs.packed.seen.Statement.{statement}
 use Rattle.mend.proofs.packed.seen.Tie as tie
 
 abbrev invariant-loop : tie.invariant-loop
-invariant-loop keys i key found₀ j₀ found j = Seeing (likeIn keys i) i found j
+invariant-loop keys i key found₀ j₀ found j = Seeing (like_in keys i) i found j
 
 abbrev decreases-loop : tie.decreases-loop
 decreases-loop keys i key found₀ j₀ found j = i - j
@@ -17,7 +17,7 @@ decreases-loop keys i key found₀ j₀ found j = i - j
 loop-again : tie.Need-loop-preserved invariant-loop decreases-loop
 loop-again c =
     let at : tie.At-loop invariant-loop decreases-loop = search rules in
-    see-turns at.loop.inv (omega arith) refl
+    see_turns at.loop.inv (omega arith) refl
 
 pub seen-spec : {M : Type 1} → statement M
 seen-spec =
@@ -27,10 +27,10 @@ seen-spec =
     decreases-loop
     (λ c. search rules)
     (λ c. search rules)
-    (λ c. see-starts)
+    (λ c. see_starts)
     (λ c. search rules)
     (λ c. search rules)
     (λ c. search rules)
     (λ c. search rules)
     loop-again
-    (λ c. see-ends c.before.loop.invariant (omega arith)))
+    (λ c. see_ends c.before.loop.invariant (omega arith)))

@@ -4,13 +4,13 @@ use mathlib.Core.Logic.{⊎_elim}
 use borrow.Author.Rules.{rules}
 use native.Mathlib.Omega.{arith}
 use Rattle.seq.specs.Seq.{◌+◌, ◌*◌, ◌-◌, get_or}
-use Rattle.mend.specs.Steps.{stepIs}
-use Rattle.mend.proofs.MarkLaws.{Marking, mark-starts, mark-takes, mark-skips, mark-ends}
+use Rattle.mend.specs.Steps.{step_is}
+use Rattle.mend.proofs.MarkLaws.{Marking, mark_starts, mark-takes, mark-skips, mark_ends}
 use Rattle.mend.proofs.steps.keep_all_ends.Statement.{statement}
 use Rattle.mend.proofs.steps.keep_all_ends.Tie as tie
 
 abbrev invariant-loop : tie.invariant-loop
-invariant-loop ends dropped e steps₀ k₀ steps k = Marking (stepIs dropped 0) (λ j. get_or ends (2 * j) 0) (λ j. get_or ends (2 * j + 1) 0) e steps₀ steps k
+invariant-loop ends dropped e steps₀ k₀ steps k = Marking (step_is dropped 0) (λ j. get_or ends (2 * j) 0) (λ j. get_or ends (2 * j + 1) 0) e steps₀ steps k
 
 abbrev decreases-loop : tie.decreases-loop
 decreases-loop ends dropped e steps₀ k₀ steps k = e - k
@@ -28,11 +28,11 @@ keep-all-ends-spec =
     (tie.spec
     invariant-loop
     decreases-loop
-    (λ c. mark-starts)
+    (λ c. mark_starts)
     (λ c κs. search rules)
     (λ c κs. search rules)
     (λ c. search rules)
     (λ c. search rules)
     loop-again
     (λ c. c.before.loop.invariant.kept)
-    (λ c. mark-ends c.before.loop.invariant (omega arith)))
+    (λ c. mark_ends c.before.loop.invariant (omega arith)))

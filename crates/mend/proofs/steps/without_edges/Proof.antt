@@ -1,14 +1,14 @@
 -- `mend::steps::without_edges` meets its contract: below the counter the cells are their steps, and the other cells as they were. Assumes nothing.
 use native.Mathlib.Omega.{arith}
 use borrow.Author.Rules.{rules}
-use Rattle.seq.specs.Loops.Filling.{Filling, fill-starts, fill-turns, fill-ends}
+use Rattle.seq.specs.Loops.Filling.{Filling, fill_starts, fill_turns, fill_ends}
 use Rattle.seq.specs.Seq.{◌-◌, cond}
-use Rattle.mend.specs.Steps.{mergedIn}
+use Rattle.mend.specs.Steps.{merged_in}
 use Rattle.mend.proofs.steps.without_edges.Statement.{statement}
 use Rattle.mend.proofs.steps.without_edges.Tie as tie
 
 abbrev invariant-loop : tie.invariant-loop
-invariant-loop into n steps₀ v₀ steps v = Filling (λ u. cond (mergedIn into u) 1 4) n steps₀ steps v
+invariant-loop into n steps₀ v₀ steps v = Filling (λ u. cond (merged_in into u) 1 4) n steps₀ steps v
 
 abbrev decreases-loop : tie.decreases-loop
 decreases-loop into n steps₀ v₀ steps v = n - v
@@ -27,7 +27,7 @@ loop-again : tie.Need-loop-preserved invariant-loop decreases-loop
 loop-again c =
     let at : tie.At-loop invariant-loop decreases-loop = search rules in
     let one : tie.After-without-edge invariant-loop decreases-loop = search rules in
-    fill-turns at.loop.inv (omega arith) one.without-edge.ensures
+    fill_turns at.loop.inv (omega arith) one.without-edge.ensures
 
 pub without-edges-spec : {M : Type 1} → statement M
 without-edges-spec =
@@ -35,7 +35,7 @@ without-edges-spec =
     (tie.spec
     invariant-loop
     decreases-loop
-    (λ c. fill-starts (search rules))
+    (λ c. fill_starts (search rules))
     (λ c. search rules)
     (λ c κs. search rules)
     mul-steps
@@ -44,4 +44,4 @@ without-edges-spec =
     (λ c. search rules)
     loop-again
     (λ c. c.before.loop.invariant.kept)
-    (λ c. fill-ends c.before.loop.invariant (omega arith)))
+    (λ c. fill_ends c.before.loop.invariant (omega arith)))

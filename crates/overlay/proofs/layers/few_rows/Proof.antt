@@ -2,7 +2,7 @@
 use native.Mathlib.Omega.{arith}
 use borrow.Author.Rules.{rules}
 use Rattle.seq.specs.Seq.{[], ◌∷◌, ◌+◌}
-use Rattle.overlay.proofs.LayersLaws.{few-rows, many-rows}
+use Rattle.overlay.proofs.LayersLaws.{few_rows_lem, many-rows}
 use Rattle.overlay.proofs.layers.few_rows.Statement.{statement}
 use Rattle.overlay.proofs.layers.few_rows.Tie as tie
 
@@ -16,7 +16,7 @@ returns c =
     let f : tie.After-edge-count2 = search rules in
     let g : tie.After-edge-count3 = search rules in
     let a = s.args in
-    few-rows (a.zones.now ∷ a.blocks.now ∷ a.bed.now ∷ [])
+    few_rows_lem (a.zones.now ∷ a.blocks.now ∷ a.bed.now ∷ [])
     (v.vertex-count.result + w.vertex-count2.result + x.vertex-count3.result)
     (e.edge-count.result + f.edge-count2.result + g.edge-count3.result)
     (omega (arith, v.vertex-count.ensures, w.vertex-count2.ensures, x.vertex-count3.ensures))

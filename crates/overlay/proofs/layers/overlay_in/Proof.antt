@@ -3,11 +3,11 @@ use mathlib.Core.Path.{refl, sym, ◌∙◌, ap}
 use borrow.Author.Rules.{rules}
 use Rattle.seq.specs.Seq.{List, [], ◌∷◌}
 use Rattle.paper.specs.Map.{Map}
-use Rattle.paper.specs.Lent.{lengthsOf}
+use Rattle.paper.specs.Lent.{lengths_of}
 use Rattle.map_file.specs.Verdict.{verdict}
-use Rattle.tables.specs.Values.{tablesBy}
+use Rattle.tables.specs.Values.{tables_by}
 use Rattle.overlay_maps.proofs.StackLaws.{all_pass}
-use Rattle.overlay_maps.proofs.RoomLaws.{layer-room}
+use Rattle.overlay_maps.proofs.RoomLaws.{layer_room}
 use Rattle.overlay_maps.proofs.HeldLaws.{held-maps, layers-held}
 use Rattle.overlay_fill.specs.Judged.{overlaid}
 use Rattle.overlay_fill.proofs.JudgeLaws.{maps-refused, maps-pass}
@@ -28,7 +28,7 @@ lay-maps-requires : tie.Need-lay-maps-requires
 lay-maps-requires c κs =
     let s : tie.Start = search rules in
     let files = s.args.zones.now ∷ s.args.blocks.now ∷ s.args.bed.now ∷ [] in
-    layer-room files s.pre
+    layer_room files s.pre
 
 from-layers-requires : tie.Need-from-layers-requires
 from-layers-requires c κs =
@@ -39,7 +39,7 @@ from-layers-requires c κs =
     let laid = l.lay-maps.ensures in
     let none = sym laid.0 ∙ ap verdict f.enum_told.given.1 in
     let files = a.zones.now ∷ a.blocks.now ∷ a.bed.now ∷ [] in
-    layers-held files _ _ (laid.1 none) refl (layer-room files s.pre) (all_pass files none)
+    layers-held files _ _ (laid.1 none) refl (layer_room files s.pre) (all_pass files none)
 
 returns : tie.Need-returns
 returns c =
@@ -48,7 +48,7 @@ returns c =
     let t : tie.After-c = search rules in
     let a = (begun l).args in
     r.refuse.ensures
-    ∙ maps-refused (a.zones.now ∷ a.blocks.now ∷ a.bed.now ∷ []) (lengthsOf (tablesBy a.vertices.now a.halves.now a.sources.now a.faces.now)) _ (sym l.lay-maps.ensures.0 ∙ ap verdict t.c.given.1)
+    ∙ maps-refused (a.zones.now ∷ a.blocks.now ∷ a.bed.now ∷ []) (lengths_of (tables_by a.vertices.now a.halves.now a.sources.now a.faces.now)) _ (sym l.lay-maps.ensures.0 ∙ ap verdict t.c.given.1)
 
 returns-2 : tie.Need-returns-2
 returns-2 c =
@@ -59,7 +59,7 @@ returns-2 c =
     let laid = l.lay-maps.ensures in
     let none = sym laid.0 ∙ ap verdict f.enum_told.given.1 in
     let files = a.zones.now ∷ a.blocks.now ∷ a.bed.now ∷ [] in
-    let lengths = lengthsOf (tablesBy a.vertices.now a.halves.now a.sources.now a.faces.now) in
+    let lengths = lengths_of (tables_by a.vertices.now a.halves.now a.sources.now a.faces.now) in
     o.from-layers.ensures
     ∙ ap (λ (ms : List Map). overlaid ms lengths) (held-maps files _ _ (laid.1 none) refl)
     ∙ maps-pass files lengths refl none

@@ -2,7 +2,7 @@
 use native.Mathlib.Omega.{arith}
 use borrow.Author.Rules.{rules}
 use borrow.Author.Tests.{leb-true}
-use Rattle.graph.specs.Small.{smallEdges}
+use Rattle.graph.specs.Small.{small_edges}
 use Rattle.overlay.proofs.stages.from_few.Statement.{statement}
 use Rattle.overlay.proofs.stages.from_few.Tie as tie
 
@@ -13,7 +13,7 @@ lay-cut-requires : tie.Need-lay-cut-requires
 lay-cut-requires c κs =
     let k = c.before.before.before.before.before.before.before.before.before.before.before.before.cut-few in
     let few = c.before.before.before.before.before.before.before.before.if1.true in
-    let short = leb-true k.result.edges smallEdges c.before.before.before.before.before.before.if2.true in
+    let short = leb-true k.result.edges small_edges c.before.before.before.before.before.before.if2.true in
     (c.before.before.before.before.before.before.before.before.before.before.before.before.before.before.before.before.before.before.before.before.before.before.requires, (k.ensures few short, record { points = λ h. omega (arith, few, k.auto.1.1.1.1.1.1.0); pieces = λ h. omega (arith, short, k.auto.1.1.1.1.1.1.1.0) }))
 
 pub from-few-spec : {M : Type 1} → statement M

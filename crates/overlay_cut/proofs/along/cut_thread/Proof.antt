@@ -9,7 +9,7 @@ use Rattle.paper.specs.Pieces.{only}
 use Rattle.overlay_cut.specs.Links.{pieced, Linked}
 use Rattle.overlay_cut.specs.Cutting.{puts}
 use Rattle.overlay_cut.specs.Threads.{thread, strung, Thread}
-use Rattle.overlay_cut.specs.Laws.Along.{Stringing, string-starts, string-turns, string-ends, thread-ends, thread-next, next-falls, next_under, next-thread}
+use Rattle.overlay_cut.specs.Laws.Along.{Stringing, string_starts, string_turns, string_ends, thread_ends, thread_next, next_falls, next_under, next_thread}
 use Rattle.overlay_cut.proofs.along.cut_thread.Statement.{statement}
 use Rattle.overlay_cut.proofs.along.cut_thread.Tie as tie
 
@@ -25,7 +25,7 @@ loop-holds : tie.Need-loop-init invariant-loop decreases-loop
 loop-holds c =
     let start : tie.Start invariant-loop decreases-loop = search rules in
     let a = start.args in
-    (refl, refl, start.pre.1.0.0, start.pre.0, string-starts a.room a.n (only maps a.m a.number) a.rows.now a.count (thread a.nodes.now a.x))
+    (refl, refl, start.pre.1.0.0, start.pre.0, string_starts a.room a.n (only maps a.m a.number) a.rows.now a.count (thread a.nodes.now a.x))
 
 mul-v : tie.Need-overflow-mul-v invariant-loop decreases-loop
 mul-v c =
@@ -67,7 +67,7 @@ loop-less : tie.Need-loop-smaller invariant-loop decreases-loop
 loop-less c =
     let at-loop : tie.At-loop invariant-loop decreases-loop = search rules in
     let taken : tie.In-loop invariant-loop decreases-loop = search rules in
-    next-falls at-loop.loop.inv.2 taken.loop-test.taken
+    next_falls at-loop.loop.inv.2 taken.loop-test.taken
 
 loop-again : tie.Need-loop-preserved invariant-loop decreases-loop
 loop-again c =
@@ -81,9 +81,9 @@ loop-again c =
     let r = linked.link in (
       r.kept.0 ∙ l.inv.0,
       r.kept.1.0 ∙ l.inv.1,
-      next-thread l.inv.2 p,
+      next_thread l.inv.2 p,
       r.ensures.0,
-      string-turns a.room a.n (only maps a.m a.number) l.inv.4 _ _ r.last.0 r.result (thread-next l.inv.2 p) (next_under l.inv.2 p) r.ensures.1,
+      string_turns a.room a.n (only maps a.m a.number) l.inv.4 _ _ r.last.0 r.result (thread_next l.inv.2 p) (next_under l.inv.2 p) r.ensures.1,
     )
 
 returns : tie.Need-returns invariant-loop decreases-loop
@@ -91,7 +91,7 @@ returns c =
     let start : tie.Start invariant-loop decreases-loop = search rules in
     let l = c.before.loop in
     let a = start.args in
-    (l.invariant.3, string-ends a.room a.n (only maps a.m a.number) l.invariant.4 (thread-ends a.nodes.now l.at (search rules)))
+    (l.invariant.3, string_ends a.room a.n (only maps a.m a.number) l.invariant.4 (thread_ends a.nodes.now l.at (search rules)))
 
 pub cut-thread-spec : {M : Type 1} → statement M
 cut-thread-spec =

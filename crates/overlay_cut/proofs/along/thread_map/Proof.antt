@@ -5,15 +5,15 @@ use lib.ListN.{length}
 use native.Mathlib.Omega.{arith}
 use borrow.Author.Rules.{rules}
 use Rattle.overlay_cut.specs.Links.{pieced, Linked}
-use Rattle.overlay_cut.specs.Cutting.{puts, Cutting, cut-starts, cut-turns, cut-ends}
-use Rattle.overlay_cut.specs.Threads.{threadRow, threadMap}
+use Rattle.overlay_cut.specs.Cutting.{puts, Cutting, cut_starts, cut_turns, cut_ends}
+use Rattle.overlay_cut.specs.Threads.{thread_row, thread_map}
 use Rattle.overlay_cut.proofs.along.thread_map.Statement.{statement}
 use Rattle.overlay_cut.proofs.along.thread_map.Tie as tie
 
 abbrev invariant-loop : tie.invariant-loop
 invariant-loop last nodes n from e m rows₀ links₀ count room total₀ k₀ rows links total k =
     (k ≤ e) × (length rows ≡ length rows₀) × (length links ≡ length links₀) × Linked room rows links n total
-    × Cutting room (threadRow last nodes from m) (puts room (pieced rows₀ count) (threadMap last nodes from m e)) rows total k
+    × Cutting room (thread_row last nodes from m) (puts room (pieced rows₀ count) (thread_map last nodes from m e)) rows total k
 
 abbrev decreases-loop : tie.decreases-loop
 decreases-loop last nodes n from e m rows₀ links₀ count room total₀ k₀ rows links total k = k
@@ -21,7 +21,7 @@ decreases-loop last nodes n from e m rows₀ links₀ count room total₀ k₀ r
 loop-holds : tie.Need-loop-init invariant-loop decreases-loop
 loop-holds c =
     let start : tie.Start invariant-loop decreases-loop = search rules in
-    (search rules, refl, refl, start.pre.0, cut-starts _ _ _ _ _)
+    (search rules, refl, refl, start.pre.0, cut_starts _ _ _ _ _)
 
 add-x : tie.Need-overflow-add-x invariant-loop decreases-loop
 add-x c =
@@ -63,11 +63,11 @@ loop-again c =
       r.kept.1.1.1.1.1.0 ∙ l.inv.1,
       r.kept.1.1.1.1.1.1.0 ∙ l.inv.2,
       r.ensures.0,
-      cut-turns _ (threadRow s.last.now s.nodes.now s.from s.m) l.inv.4 r.last.1.1.1.1.1.0 r.result (search rules) r.ensures.1,
+      cut_turns _ (thread_row s.last.now s.nodes.now s.from s.m) l.inv.4 r.last.1.1.1.1.1.0 r.result (search rules) r.ensures.1,
     )
 
 returns : tie.Need-returns invariant-loop decreases-loop
-returns c = (c.before.loop.invariant.3, cut-ends _ _ c.before.loop.invariant.4 (search rules))
+returns c = (c.before.loop.invariant.3, cut_ends _ _ c.before.loop.invariant.4 (search rules))
 
 pub thread-map-spec : {M : Type 1} → statement M
 thread-map-spec =

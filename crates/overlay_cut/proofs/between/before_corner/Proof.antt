@@ -4,7 +4,7 @@ use lib.IntN.{◌*ℤ◌}
 use mir.Syntax.{w64}
 use borrow.Author.Rules.{rules}
 use Rattle.exact.specs.Mach.{tr, trb, trbits, fits, test, eq_yes, eq_no}
-use Rattle.plane.specs.Values.{ptOf, vec_of}
+use Rattle.plane.specs.Values.{pt_of, vec_of}
 use Rattle.overlay_cut.specs.Between.{corner-level, corner-apart}
 use Rattle.overlay_cut.proofs.between.before_corner.Statement.{statement}
 use Rattle.overlay_cut.proofs.between.before_corner.Tie as tie
@@ -16,7 +16,7 @@ returns c =
     let p = start.args.p in
     let a = start.args.a in
     let level : p.y ≡ a.y *ℤ p.d = eq_yes w64 then1.if1.taken (search trbits depth 20) (search trbits depth 20) tt in
-    test (search trb depth 20) tt ∙ corner-level (ptOf p) (vec_of a) level
+    test (search trb depth 20) tt ∙ corner-level (pt_of p) (vec_of a) level
 
 returns-2 : tie.Need-returns-2
 returns-2 c =
@@ -25,7 +25,7 @@ returns-2 c =
     let p = start.args.p in
     let a = start.args.a in
     let apart : p.y ≡ a.y *ℤ p.d → ⊥ = eq_no w64 else1.if1.left (search trbits depth 20) (search trbits depth 20) tt in
-    test (search trb depth 20) tt ∙ corner-apart (ptOf p) (vec_of a) apart
+    test (search trb depth 20) tt ∙ corner-apart (pt_of p) (vec_of a) apart
 
 pub before-corner-spec : {M : Type 1} → statement M
 before-corner-spec = tie.close (tie.spec (λ c. fits (search tr depth 20) tt) (λ c. fits (search tr depth 20) tt) returns returns-2)

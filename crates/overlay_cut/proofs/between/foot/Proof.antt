@@ -13,7 +13,7 @@ returns c =
     let x : back a.x ≡ a.x = plain (search tr depth 20) tt in
     let y : back a.y ≡ a.y = plain (search tr depth 20) tt in
     let e : vec (back a.x) (back a.y) ≡ vec a.x a.y = λ i. vec (x i) (y i) in
-    (e, subst Corner (sym e) c.before.requires.foot-is)
+    (e, subst Corner (sym e) c.before.requires.foot_is)
 
 pub foot-spec : {M : Type 1} → statement M
 foot-spec = tie.close (tie.spec returns)

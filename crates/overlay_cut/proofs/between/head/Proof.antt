@@ -15,7 +15,7 @@ returns c =
     let x : back (back s.x +ℤ back s.u) ≡ s.x +ℤ s.u = plain (search tr depth 20) tt in
     let y : back (back s.y +ℤ back s.v) ≡ s.y +ℤ s.v = plain (search tr depth 20) tt in
     let e : vec (back (back s.x +ℤ back s.u)) (back (back s.y +ℤ back s.v)) ≡ vec (s.x +ℤ s.u) (s.y +ℤ s.v) = λ i. vec (x i) (y i) in
-    (e, subst Corner (sym e) start.requires.head-is)
+    (e, subst Corner (sym e) start.requires.head_is)
 
 pub head_spec : {M : Type 1} → statement M
 head_spec = tie.close (tie.spec (λ c. fits (search tr depth 20) tt) (λ c. fits (search tr depth 20) tt) returns)

@@ -1,19 +1,19 @@
 -- `overlay_cut::collecting::append_new` meets its contract. Assumes nothing.
-use Rattle.plane.specs.Values.{ptOf}
-use Rattle.plane.proofs.Machine.{pt-back}
-use Rattle.overlay_cut.specs.Collecting.{append-full, append-old, append-new}
+use Rattle.plane.specs.Values.{pt_of}
+use Rattle.plane.proofs.Machine.{pt_back}
+use Rattle.overlay_cut.specs.Collecting.{append_full, append_old, append_new}
 use native.Mathlib.Omega.{arith}
 use borrow.Author.Rules.{rules}
 use Rattle.overlay_cut.proofs.collecting.append_new.Statement.{statement}
 use Rattle.overlay_cut.proofs.collecting.append_new.Tie as tie
 
 returns : tie.Need-returns
-returns c = let a = c.before.args in append-full a.room a.points.now a.n (ptOf a.p) (search rules)
+returns c = let a = c.before.args in append_full a.room a.points.now a.n (pt_of a.p) (search rules)
 
 returns-2 : tie.Need-returns-2
 returns-2 c = let a =
     let start : tie.Start = search rules in
-    start.args in append-old a.room a.points.now a.n (ptOf a.p) _ (omega arith) c.before.stands.ensures c.if2.true
+    start.args in append_old a.room a.points.now a.n (pt_of a.p) _ (omega arith) c.before.stands.ensures c.if2.true
 
 returns-3 : tie.Need-returns-3
 returns-3 c =
@@ -21,8 +21,8 @@ returns-3 c =
     let else2 : tie.Else2 = search rules in
     let s : tie.Start = search rules in
     let a = s.args in
-    append-new a.room a.points.now a.n (ptOf a.p) _ _ _ (omega arith) (omega arith) after-stands.stands.ensures else2.if2.left
-    (pt-back a.p.x a.p.y a.p.d s.pre.1) c.before.store4-i64.ensures
+    append_new a.room a.points.now a.n (pt_of a.p) _ _ _ (omega arith) (omega arith) after-stands.stands.ensures else2.if2.left
+    (pt_back a.p.x a.p.y a.p.d s.pre.1) c.before.store4-i64.ensures
 
 pub append-new-spec : {M : Type 1} → statement M
 append-new-spec =

@@ -7,7 +7,7 @@ use Rattle.paper.specs.Meeting.{meeting, point_of}
 use Rattle.laws_plane.specs.Boxes.{boxes-apart}
 use Rattle.laws_meet.specs.Collect.{boxes-meeting}
 use Rattle.plane.specs.Bounds.{NearIf}
-use Rattle.plane.specs.Values.{segOf, meetingOf}
+use Rattle.plane.specs.Values.{seg_of, meeting_of}
 use Rattle.plane.specs.declared.kinds.Meeting.{Meeting}
 use Rattle.overlay_cut.specs.Points.{points_of}
 use Rattle.overlay_cut.specs.Collecting.{gathered}
@@ -20,11 +20,11 @@ module _ (c : tie.After-meeting) where
   abbrev after : Option Pt → List Pt
   after o = gathered c.before.before.before.args.room (points_of c.before.before.before.args.points.now c.before.before.before.args.n) (optional o)
 
-  told : (m : Meeting) → c.meeting.result ≡ m → after (point_of (meetingOf m)) ≡ after (point_of (meeting (segOf c.before.before.before.args.s) (segOf c.before.before.before.args.t)))
-  told m e = ap (λ (w : Ways.Meeting). after (point_of w)) (sym (ap meetingOf e) ∙ c.meeting.ensures.0)
+  told : (m : Meeting) → c.meeting.result ≡ m → after (point_of (meeting_of m)) ≡ after (point_of (meeting (seg_of c.before.before.before.args.s) (seg_of c.before.before.before.args.t)))
+  told m e = ap (λ (w : Ways.Meeting). after (point_of w)) (sym (ap meeting_of e) ∙ c.meeting.ensures.0)
 
-  near : (m : Meeting) → c.meeting.result ≡ m → NearIf (point_of (meetingOf m))
-  near m e = subst (λ (x : Meeting). NearIf (point_of (meetingOf x))) e c.meeting.ensures.1
+  near : (m : Meeting) → c.meeting.result ≡ m → NearIf (point_of (meeting_of m))
+  near m e = subst (λ (x : Meeting). NearIf (point_of (meeting_of x))) e c.meeting.ensures.1
 
 append-new-requires : tie.Need-append-new-requires
 append-new-requires c κs =
@@ -41,8 +41,8 @@ append-new-requires-2 c κs =
 returns : tie.Need-returns
 returns c =
     let a = c.before.before.args in
-    let s = segOf a.s in
-    let t = segOf a.t in
+    let s = seg_of a.s in
+    let t = seg_of a.t in
     let up = c.before.before.requires.1.1 in
     ap (λ (w : Ways.Meeting). gathered a.room (points_of a.points.now a.n) (optional (point_of w)))
     (sym (boxes-meeting s t up.0 up.1 (boxes-apart s t (sym c.before.boxes-apart.ensures ∙ c.if1.true))))
@@ -54,7 +54,7 @@ returns-3 : tie.Need-returns-3
 returns-3 c =
     let after-meeting : tie.After-meeting = search rules in
     let after-p : tie.After-p = search rules in
-    c.before.append-new.ensures ∙ told after-meeting _ after-p.p.given.1
+    c.before.append_new.ensures ∙ told after-meeting _ after-p.p.given.1
 
 returns-4 : tie.Need-returns-4
 returns-4 c =

@@ -1,9 +1,9 @@
 -- `overlay_cut::collecting::stands` meets its contract: none of the rows that the loop has passed is the point. Assumes nothing.
 use mathlib.Core.Path.{sym, ◌∙◌}
 use Prim.Native.Nat.{◌-◌}
-use Rattle.plane.specs.Values.{ptOf}
-use Rattle.seq.specs.Loops.Searching.{Searching, search-starts, search-turns, search-has, search-lacks}
-use Rattle.graph.specs.Flat.{pointAt}
+use Rattle.plane.specs.Values.{pt_of}
+use Rattle.seq.specs.Loops.Searching.{Searching, search_starts, search_turns, search_has, search_lacks}
+use Rattle.graph.specs.Flat.{the_point_at}
 use Rattle.overlay_cut.specs.Points.{equal}
 use Rattle.overlay_cut.specs.Collecting.{among-rows}
 use borrow.Author.Rules.{rules}
@@ -11,7 +11,7 @@ use Rattle.overlay_cut.proofs.collecting.stands.Statement.{statement}
 use Rattle.overlay_cut.proofs.collecting.stands.Tie as tie
 
 abbrev invariant-loop : tie.invariant-loop
-invariant-loop points n p k₀ k = Searching (λ i. equal (ptOf p) (pointAt points i)) n k
+invariant-loop points n p k₀ k = Searching (λ i. equal (pt_of p) (the_point_at points i)) n k
 
 abbrev decreases-loop : tie.decreases-loop
 decreases-loop points n p k₀ k = n - k
@@ -20,17 +20,17 @@ returns : tie.Need-returns invariant-loop decreases-loop
 returns c =
     let start : tie.Start invariant-loop decreases-loop = search rules in
     let at-loop : tie.At-loop invariant-loop decreases-loop = search rules in
-    search-has at-loop.loop.inv (search rules) (sym c.before.is_at.ensures ∙ c.if1.true) ∙ sym (among-rows start.args.points.now start.args.n (ptOf start.args.p))
+    search_has at-loop.loop.inv (search rules) (sym c.before.is_at.ensures ∙ c.if1.true) ∙ sym (among-rows start.args.points.now start.args.n (pt_of start.args.p))
 
 loop-again : tie.Need-loop-preserved invariant-loop decreases-loop
 loop-again c =
     let at-loop : tie.At-loop invariant-loop decreases-loop = search rules in
-    search-turns at-loop.loop.inv (search rules) (sym c.before.is_at.ensures ∙ c.if1.false)
+    search_turns at-loop.loop.inv (search rules) (sym c.before.is_at.ensures ∙ c.if1.false)
 
 returns-2 : tie.Need-returns-2 invariant-loop decreases-loop
 returns-2 c =
     let start : tie.Start invariant-loop decreases-loop = search rules in
-    search-lacks c.before.loop.invariant (search rules) ∙ sym (among-rows start.args.points.now start.args.n (ptOf start.args.p))
+    search_lacks c.before.loop.invariant (search rules) ∙ sym (among-rows start.args.points.now start.args.n (pt_of start.args.p))
 
 pub stands-spec : {M : Type 1} → statement M
 stands-spec =
@@ -38,7 +38,7 @@ stands-spec =
     (tie.spec
     invariant-loop
     decreases-loop
-    (λ c. search-starts)
+    (λ c. search_starts)
     (λ c κs. search rules)
     returns
     (λ c. search rules)

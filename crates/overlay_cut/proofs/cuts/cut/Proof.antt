@@ -3,7 +3,7 @@ use mathlib.Core.Path.{refl, ◌∙◌, ap}
 use mathlib.Core.List.{[]}
 use borrow.Author.Rules.{rules}
 use Rattle.overlay_cut.specs.Cutting.{puts}
-use Rattle.overlay_cut.specs.Laws.Along.{threads-strung, threads-all}
+use Rattle.overlay_cut.specs.Laws.Along.{threads-strung, threads_all}
 use Rattle.overlay_cut.proofs.cuts.cut.Statement.{statement}
 use Rattle.overlay_cut.proofs.cuts.cut.Tie as tie
 
@@ -21,7 +21,7 @@ returns c =
     let then1 : tie.Then1 = search rules in
     let cut : tie.After-thread-all = search rules in
     let r = cut.thread-all.ensures in
-    (r.0, r.1 ∙ ap (puts start.args.room []) (threads-all (start.pre.1.1.0.1 then1.if1.taken) start.pre.1.0.0 refl))
+    (r.0, r.1 ∙ ap (puts start.args.room []) (threads_all (start.pre.1.1.0.1 then1.if1.taken) start.pre.1.0.0 refl))
 
 pub cut_spec : {M : Type 1} → statement M
 cut_spec = tie.close (tie.spec thread-all-requires (λ c. search rules) (λ c. search rules) returns (λ c κs. search rules) (λ c. search rules) (λ c. search rules) (λ c. search rules))

@@ -2,7 +2,7 @@
 use mathlib.Core.Path.{◌∙◌}
 use native.Mathlib.Omega.{arith}
 use borrow.Author.Rules.{rules}
-use Rattle.overlay_cut.specs.Laws.LinkedRows.{linked-within}
+use Rattle.overlay_cut.specs.Laws.LinkedRows.{linked_within}
 use Rattle.overlay_cut.proofs.cuts.pieces_in.Statement.{statement}
 use Rattle.overlay_cut.proofs.cuts.pieces_in.Tie as tie
 
@@ -16,7 +16,7 @@ lay-requires c κs =
     let start : tie.Start = search rules in
     let cut : tie.After-cut = search rules in
     let L = cut.cut.ensures.0 in
-    (linked-within L, omega (arith, L.within, start.pre.1.1.1.1))
+    (linked_within L, omega (arith, L.within, start.pre.1.1.1.1))
 
 returns : tie.Need-returns
 returns c =

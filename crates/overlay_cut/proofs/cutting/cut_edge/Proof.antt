@@ -5,16 +5,16 @@ use lib.ListN.{length}
 use Rattle.seq.specs.Least.{least-le}
 use Rattle.seq.specs.Halves.{reached}
 use Rattle.paper.specs.Limits.{maps}
-use Rattle.paper.specs.Plane.{whole, before, onSeg}
+use Rattle.paper.specs.Plane.{whole, before, on_seg}
 use Rattle.paper.specs.Pieces.{only}
-use Rattle.plane.specs.Values.{vec_of, segOf}
+use Rattle.plane.specs.Values.{vec_of, seg_of}
 use Rattle.plane.specs.Bounds.{Near}
-use Rattle.graph.specs.Flat.{pointAt}
-use Rattle.laws_cut.specs.Between.{onLine}
+use Rattle.graph.specs.Flat.{the_point_at}
+use Rattle.laws_cut.specs.Between.{the_on_line}
 use Rattle.overlay_cut.specs.Links.{pieced, Linked}
-use Rattle.overlay_cut.specs.Cutting.{puts, Linking, link-starts, link-skips, link-turns, link-ends}
+use Rattle.overlay_cut.specs.Cutting.{puts, Linking, link_starts, link-skips, link_turns, link_ends}
 use Rattle.overlay_cut.specs.Between.{Span, spans, span-upto, span_none, span-line}
-use Rattle.overlay_cut.specs.Cuts.{cutEdge}
+use Rattle.overlay_cut.specs.Cuts.{cut_edge}
 use borrow.Author.Rules.{rules}
 use native.Mathlib.Omega.{arith}
 use Rattle.overlay_cut.proofs.cutting.cut_edge.Statement.{statement}
@@ -22,8 +22,8 @@ use Rattle.overlay_cut.proofs.cutting.cut_edge.Tie as tie
 
 abbrev invariant-loop : tie.invariant-loop
 invariant-loop points n s m number rows₀ links₀ count room first top total₀ next₀ v₀ rows links total next v =
-    (length rows ≡ length rows₀) × (length links ≡ length links₀) × (v ≤ top + 1) × Span points n (segOf s) first top × Linked room rows links n total
-    × Linking room n (λ v. onSeg (segOf s) (pointAt points v)) (only maps m number) (puts room (pieced rows₀ count) (cutEdge points n (segOf s) m number)) rows total v next
+    (length rows ≡ length rows₀) × (length links ≡ length links₀) × (v ≤ top + 1) × Span points n (seg_of s) first top × Linked room rows links n total
+    × Linking room n (λ v. on_seg (seg_of s) (the_point_at points v)) (only maps m number) (puts room (pieced rows₀ count) (cut_edge points n (seg_of s) m number)) rows total v next
 
 abbrev decreases-loop : tie.decreases-loop
 decreases-loop points n s m number rows₀ links₀ count room first top total₀ next₀ v₀ rows links total next v = v
@@ -34,7 +34,7 @@ add-v c =
     let head : tie.After-head invariant-loop decreases-loop = search rules in
     let high : tie.After-place2 invariant-loop decreases-loop = search rules in
     let a = start.args in
-    omega (arith, high.place2.ensures, least-le (reached before (pointAt a.points.now) (whole (vec_of head.head.result))) a.n, start.pre.1.0.1)
+    omega (arith, high.place2.ensures, least-le (reached before (the_point_at a.points.now) (whole (vec_of head.head.result))) a.n, start.pre.1.0.1)
 
 loop-holds : tie.Need-loop-init invariant-loop decreases-loop
 loop-holds c =
@@ -45,8 +45,8 @@ loop-holds c =
     let high : tie.After-place2 invariant-loop decreases-loop = search rules in
     let a = start.args in
     let R = start.pre.1.0.2 in
-    let S = spans a.points.now a.n R (segOf a.s) start.pre.1.1.0.1 low.place.result high.place2.result _ _ low.place.ensures foot.foot.ensures.0 high.place2.ensures head.head.ensures.0 in
-    (refl, refl, search rules, S, start.pre.0, link-starts _ _ _ _ _ _ _ (omega (arith, S.high)) (span-upto a.points.now a.n R S))
+    let S = spans a.points.now a.n R (seg_of a.s) start.pre.1.1.0.1 low.place.result high.place2.result _ _ low.place.ensures foot.foot.ensures.0 high.place2.ensures head.head.ensures.0 in
+    (refl, refl, search rules, S, start.pre.0, link_starts _ _ _ _ _ _ _ (omega (arith, S.high)) (span-upto a.points.now a.n R S))
 
 point-at-requires : tie.Need-point-at-requires invariant-loop decreases-loop
 point-at-requires c κs =
@@ -69,14 +69,14 @@ link-requires c κs =
 
 -- what the test of vertex v - 1 says
 tested : (c : tie.After-on-line invariant-loop decreases-loop) → let l : tie.At-loop invariant-loop decreases-loop = search rules in let s : tie.Start invariant-loop decreases-loop = search rules in
-    onSeg (segOf s.args.s) (pointAt s.args.points.now (l.loop.v - 1)) ≡ c.on_line.result
+    on_seg (seg_of s.args.s) (the_point_at s.args.points.now (l.loop.v - 1)) ≡ c.on_line.result
 tested c =
     let at-loop : tie.At-loop invariant-loop decreases-loop = search rules in
     let start : tie.Start invariant-loop decreases-loop = search rules in
     let l = at-loop.loop in
     let a = start.args in
     span-line a.points.now a.n start.pre.1.0.2 l.inv.3 (l.v - 1) (omega arith) (omega (arith, l.inv.2))
-    ∙ ap (onLine (segOf a.s)) (sym c.before.point_at.ensures) ∙ sym c.on_line.ensures
+    ∙ ap (the_on_line (seg_of a.s)) (sym c.before.point_at.ensures) ∙ sym c.on_line.ensures
 
 loop-again : tie.Need-loop-preserved invariant-loop decreases-loop
 loop-again c =
@@ -91,7 +91,7 @@ loop-again c =
       omega (arith, l.inv.2),
       l.inv.3,
       r.ensures.0,
-      link-turns _ _ _ _ l.inv.5 r.last.0 r.result (search rules) (tested after-on-line ∙ then1.if1.taken) r.ensures.1,
+      link_turns _ _ _ _ l.inv.5 r.last.0 r.result (search rules) (tested after-on-line ∙ then1.if1.taken) r.ensures.1,
     )
 
 loop-again-2 : tie.Need-loop-preserved-2 invariant-loop decreases-loop
@@ -104,7 +104,7 @@ returns : tie.Need-returns invariant-loop decreases-loop
 returns c =
     let start : tie.Start invariant-loop decreases-loop = search rules in
     let l = c.before.loop in
-    (l.invariant.4, link-ends _ _ _ _ l.invariant.5 (span_none start.args.points.now start.args.n start.pre.1.0.2 l.invariant.3 l.v (search rules)))
+    (l.invariant.4, link_ends _ _ _ _ l.invariant.5 (span_none start.args.points.now start.args.n start.pre.1.0.2 l.invariant.3 l.v (search rules)))
 
 pub cut-edge-spec : {M : Type 1} → statement M
 cut-edge-spec =

@@ -4,9 +4,9 @@ use Prim.Native.Nat.{◌+◌, ◌-◌, ◌≤◌}
 use lib.ListN.{length}
 use Rattle.paper.specs.Plane.{Seg}
 use Rattle.overlay_cut.specs.Links.{pieced, Linked}
-use Rattle.overlay_cut.specs.Cutting.{puts, Cutting, cut-starts, cut-turns, cut-ends}
+use Rattle.overlay_cut.specs.Cutting.{puts, Cutting, cut_starts, cut_turns, cut_ends}
 use Rattle.overlay_cut.specs.Between.{EndsIn}
-use Rattle.overlay_cut.specs.Cuts.{cutEdge, cutRow, cutMap}
+use Rattle.overlay_cut.specs.Cuts.{cut_edge, cut_row, cut_map}
 use borrow.Author.Rules.{rules}
 use native.Mathlib.Omega.{arith}
 use Rattle.overlay_cut.proofs.cutting.cut_map.Statement.{statement}
@@ -15,7 +15,7 @@ use Rattle.overlay_cut.proofs.cutting.cut_map.Tie as tie
 abbrev invariant-loop : tie.invariant-loop
 invariant-loop points n carriers from e m rows₀ links₀ count room total₀ k₀ rows links total k =
     (k ≤ e) × (length rows ≡ length rows₀) × (length links ≡ length links₀) × Linked room rows links n total
-    × Cutting room (cutRow points n carriers from m) (puts room (pieced rows₀ count) (cutMap points n carriers from m e)) rows total k
+    × Cutting room (cut_row points n carriers from m) (puts room (pieced rows₀ count) (cut_map points n carriers from m e)) rows total k
 
 abbrev decreases-loop : tie.decreases-loop
 decreases-loop points n carriers from e m rows₀ links₀ count room total₀ k₀ rows links total k = k
@@ -23,7 +23,7 @@ decreases-loop points n carriers from e m rows₀ links₀ count room total₀ k
 loop-holds : tie.Need-loop-init invariant-loop decreases-loop
 loop-holds c =
     let start : tie.Start invariant-loop decreases-loop = search rules in
-    (search rules, refl, refl, start.pre.0, cut-starts _ _ _ _ _)
+    (search rules, refl, refl, start.pre.0, cut_starts _ _ _ _ _)
 
 carrier-at-requires : tie.Need-carrier-at-requires invariant-loop decreases-loop
 carrier-at-requires c κs =
@@ -35,7 +35,7 @@ cut-edge-requires c κs =
     let at-loop : tie.At-loop invariant-loop decreases-loop = search rules in
     let taken : tie.After-carrier-at invariant-loop decreases-loop = search rules in
     let s : tie.Start invariant-loop decreases-loop = search rules in
-    (at-loop.loop.inv.3, (s.pre.1.0, ((taken.carrier-at.ensures.1, subst (EndsIn s.args.points.now s.args.n) (sym taken.carrier-at.ensures.0) (s.pre.1.1.0.1.ends (s.args.from + (at-loop.loop.k - 1)) (omega arith))), (s.pre.1.1.1.0, omega arith))))
+    (at-loop.loop.inv.3, (s.pre.1.0, ((taken.carrier_at_lem.ensures.1, subst (EndsIn s.args.points.now s.args.n) (sym taken.carrier_at_lem.ensures.0) (s.pre.1.1.0.1.ends (s.args.from + (at-loop.loop.k - 1)) (omega arith))), (s.pre.1.1.1.0, omega arith))))
 
 loop-again : tie.Need-loop-preserved invariant-loop decreases-loop
 loop-again c =
@@ -50,12 +50,12 @@ loop-again c =
       r.kept.1.1.1.1.1.0 ∙ l.inv.1,
       r.kept.1.1.1.1.1.1.0 ∙ l.inv.2,
       r.ensures.0,
-      cut-turns _ (cutRow s.points.now s.n s.carriers.now s.from s.m) l.inv.4 r.last.1.1.1.1.1.0 r.result (search rules)
-          (r.ensures.1 ∙ ap (λ (q : Seg). puts s.room (pieced l.rows l.total) (cutEdge s.points.now s.n q s.m (l.k - 1))) after-carrier-at.carrier-at.ensures.0),
+      cut_turns _ (cut_row s.points.now s.n s.carriers.now s.from s.m) l.inv.4 r.last.1.1.1.1.1.0 r.result (search rules)
+          (r.ensures.1 ∙ ap (λ (q : Seg). puts s.room (pieced l.rows l.total) (cut_edge s.points.now s.n q s.m (l.k - 1))) after-carrier-at.carrier_at_lem.ensures.0),
     )
 
 returns : tie.Need-returns invariant-loop decreases-loop
-returns c = (c.before.loop.invariant.3, cut-ends _ _ c.before.loop.invariant.4 (search rules))
+returns c = (c.before.loop.invariant.3, cut_ends _ _ c.before.loop.invariant.4 (search rules))
 
 pub cut-map-spec : {M : Type 1} → statement M
 cut-map-spec =

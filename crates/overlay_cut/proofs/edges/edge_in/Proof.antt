@@ -1,7 +1,7 @@
 -- `overlay_cut::edges::edge_in` meets its contract. Assumes nothing.
 use mathlib.Core.Path.{◌∙◌}
 use Prim.Native.Nat.{◌+◌, ◌<◌}
-use Rattle.overlay_cut.specs.Cuts.{start_of, edgesFrom, part-carried}
+use Rattle.overlay_cut.specs.Cuts.{start_of, edges_from, part-carried}
 use Rattle.overlay_cut.specs.Laws.NetLaws.{edge-there, edge-absent}
 use native.Mathlib.Omega.{arith}
 use borrow.Author.Rules.{rules}
@@ -15,14 +15,14 @@ carrier-at-requires : tie.Need-carrier-at-requires
 carrier-at-requires c κs =
     let s : tie.Start = search rules in
     let r = part-carried s.pre.0 s.args.m s.pre.1.0 in
-    let l : start_of s.args.starts.now s.args.m + s.args.j < start_of s.args.starts.now s.args.m + edgesFrom s.args.starts.now s.args.m = omega arith in
+    let l : start_of s.args.starts.now s.args.m + s.args.j < start_of s.args.starts.now s.args.m + edges_from s.args.starts.now s.args.m = omega arith in
     record { row = omega (arith, r.long); near = r.near (start_of s.args.starts.now s.args.m + s.args.j) l }
 
 returns : tie.Need-returns
 returns c =
     let start : tie.Start = search rules in
     let a = start.args in
-    (c.carrier-at.ensures.0 ∙ edge-there a.carriers.now a.starts.now a.m a.j (omega arith), c.carrier-at.ensures.1)
+    (c.carrier_at_lem.ensures.0 ∙ edge-there a.carriers.now a.starts.now a.m a.j (omega arith), c.carrier_at_lem.ensures.1)
 
 returns-2 : tie.Need-returns-2
 returns-2 c =

@@ -4,15 +4,15 @@ use Prim.Native.Nat.{◌-◌}
 use borrow.Author.Tests.{lt-ltb, le-ltb}
 use lib.Dec.{ltb}
 use Rattle.paper.specs.Limits.{maps}
-use Rattle.overlay_cut.specs.Net.{sourceIn}
+use Rattle.overlay_cut.specs.Net.{the_source_in}
 use borrow.Author.Rules.{rules}
 use native.Mathlib.Omega.{arith}
 use Rattle.overlay_cut.proofs.edges.first_map.Statement.{statement}
 use Rattle.overlay_cut.proofs.edges.first_map.Tie as tie
-use Rattle.seq.specs.Loops.Searching.{Searching, search-starts, search-turns, search-finds, search-ends}
+use Rattle.seq.specs.Loops.Searching.{Searching, search_starts, search_turns, search_finds, search_ends}
 
 abbrev invariant-loop : tie.invariant-loop
-invariant-loop pieces k m₀ m = Searching (λ i. ltb 0 (sourceIn pieces k i)) maps m
+invariant-loop pieces k m₀ m = Searching (λ i. ltb 0 (the_source_in pieces k i)) maps m
 
 abbrev decreases-loop : tie.decreases-loop
 decreases-loop pieces k m₀ m = maps - m
@@ -20,12 +20,12 @@ decreases-loop pieces k m₀ m = maps - m
 returns : tie.Need-returns invariant-loop decreases-loop
 returns c =
     let at : tie.At-loop invariant-loop decreases-loop = search rules in
-    search-finds at.loop.inv (omega arith) (ap (ltb 0) (sym c.before.source_in.ensures) ∙ lt-ltb _ _ c.if1.true)
+    search_finds at.loop.inv (omega arith) (ap (ltb 0) (sym c.before.source_in.ensures) ∙ lt-ltb _ _ c.if1.true)
 
 loop-again : tie.Need-loop-preserved invariant-loop decreases-loop
 loop-again c =
     let at : tie.At-loop invariant-loop decreases-loop = search rules in
-    search-turns at.loop.inv (omega arith) (ap (ltb 0) (sym c.before.source_in.ensures) ∙ le-ltb _ _ c.if1.false)
+    search_turns at.loop.inv (omega arith) (ap (ltb 0) (sym c.before.source_in.ensures) ∙ le-ltb _ _ c.if1.false)
 
 pub first-map-spec : {M : Type 1} → statement M
 first-map-spec =
@@ -33,10 +33,10 @@ first-map-spec =
     (tie.spec
     invariant-loop
     decreases-loop
-    (λ c. search-starts)
+    (λ c. search_starts)
     (λ c κs. search rules)
     returns
     (λ c. search rules)
     (λ c. search rules)
     loop-again
-    (λ c. search-ends c.before.loop.invariant (omega arith)))
+    (λ c. search_ends c.before.loop.invariant (omega arith)))

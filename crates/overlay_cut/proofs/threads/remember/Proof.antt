@@ -5,7 +5,7 @@ use lib.ListN.{length-set}
 use native.Mathlib.Omega.{arith}
 use borrow.Author.Rules.{rules}
 use Rattle.overlay_cut.specs.Threads.{Chains}
-use Rattle.overlay_cut.specs.Laws.Remembering.{remembered-old, remembered-new}
+use Rattle.overlay_cut.specs.Laws.Remembering.{remembered_old, remembered_new}
 use Rattle.overlay_cut.proofs.threads.remember.Statement.{statement}
 use Rattle.overlay_cut.proofs.threads.remember.Tie as tie
 
@@ -49,7 +49,7 @@ returns-2 c =
     let start : tie.Start = search rules in
     let else1 : tie.Else1 = search rules in
     let a = start.args in
-    (record { was = λ h. h; now = λ h. remembered-old (kept else1) a.k a.v (sym c.before.is-of.ensures ∙ c.if2.true) }, omega (arith, start.pre.1.1.0))
+    (record { was = λ h. h; now = λ h. remembered_old (kept else1) a.k a.v (sym c.before.is-of.ensures ∙ c.if2.true) }, omega (arith, start.pre.1.1.0))
 
 mul-nodes : tie.Need-overflow-mul-nodes
 mul-nodes c =
@@ -77,7 +77,7 @@ returns-3 c =
     let a = start.args in (
       record {
         was = λ h. omega (arith, else1.if1.left);
-        now = λ h. remembered-new (kept else1) a.k a.v start.pre.1.1.1 (omega (arith, start.pre.0.edges, start.pre.1.1.1)) (omega (arith, start.pre.0.nodes, else1.if1.left))
+        now = λ h. remembered_new (kept else1) a.k a.v start.pre.1.1.1 (omega (arith, start.pre.0.edges, start.pre.1.1.1)) (omega (arith, start.pre.0.nodes, else1.if1.left))
             (sym else2.before.is-of.ensures ∙ else2.if2.left) _ _ refl refl;
       },
       omega (arith, else1.if1.left),

@@ -5,7 +5,7 @@ use lib.ListN.{length}
 use native.Mathlib.Omega.{arith}
 use borrow.Author.Rules.{rules}
 use Rattle.overlay_cut.specs.Threads.{named_in, RememberedIf}
-use Rattle.overlay_cut.specs.Laws.Remembering.{all-starts, all-turns}
+use Rattle.overlay_cut.specs.Laws.Remembering.{all_starts, all_turns}
 use Rattle.overlay_cut.proofs.threads.remember_all.Statement.{statement}
 use Rattle.overlay_cut.proofs.threads.remember_all.Tie as tie
 
@@ -20,7 +20,7 @@ loop-holds : tie.Need-loop-init invariant-loop decreases-loop
 loop-holds c =
     let start : tie.Start invariant-loop decreases-loop = search rules in
     let a = start.args in
-    (refl, refl, omega arith, start.pre.0.1, start.pre.1.1.1, all-starts a.e a.room a.v a.cells.now a.from a.last.now a.nodes.now a.t start.pre.1.1.0)
+    (refl, refl, omega arith, start.pre.0.1, start.pre.1.1.1, all_starts a.e a.room a.v a.cells.now a.from a.last.now a.nodes.now a.t start.pre.1.1.0)
 
 shared-slice-read-k : tie.Need-shared-slice-read-k invariant-loop decreases-loop
 shared-slice-read-k c =
@@ -51,7 +51,7 @@ loop-again c =
     let l = at-loop.loop in
     let a = start.args in
     let r = done.remember in
-    (r.kept.0 ∙ l.inv.0, r.kept.1.1.0 ∙ l.inv.1, omega (arith, l.inv.2), search rules, r.ensures.1, all-turns a.e a.room a.v a.cells.now a.from l.i l.inv.2 l.inv.5 r.ensures.0)
+    (r.kept.0 ∙ l.inv.0, r.kept.1.1.0 ∙ l.inv.1, omega (arith, l.inv.2), search rules, r.ensures.1, all_turns a.e a.room a.v a.cells.now a.from l.i l.inv.2 l.inv.5 r.ensures.0)
 
 returns : tie.Need-returns invariant-loop decreases-loop
 returns c =

@@ -15,7 +15,7 @@ fill-with-requires-2 c κs =
     let p = c.before.before.before.before.before.before.before.before.before.before.before.before.before.before.before.before.before.before.before.before.before.before.before.before.requires in
     let D = p.1.0 in
     let r = p.1.1.1.1 in
-    (p.0, (D, (p.1.1.0, (p.1.1.1.0, (r, omega (arith, D.few-edges), omega (arith, D.few-vertices), omega (arith, r), omega (arith, r), omega (arith, r))))))
+    (p.0, (D, (p.1.1.0, (p.1.1.1.0, (r, omega (arith, D.few_edges), omega (arith, D.few_vertices), omega (arith, r), omega (arith, r), omega (arith, r))))))
 
 pub fill_spec : {M : Type 1} → statement M
 fill_spec =

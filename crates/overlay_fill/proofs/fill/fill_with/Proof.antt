@@ -2,15 +2,15 @@
 use mathlib.Core.Path.{◌∙◌, ap}
 use Prim.Native.Nat.{◌≤◌}
 use native.Mathlib.Omega.{arith}
-use Rattle.paper.specs.Limits.{overlayVertices, overlayEdges}
+use Rattle.paper.specs.Limits.{overlay_vertices, overlay_edges}
 use Rattle.paper.specs.Refusal.{done}
-use Rattle.paper.specs.Lent.{Lengths, lengthsOf, paddedTables}
-use Rattle.tables.specs.Values.{tablesBy}
-use Rattle.overlay_maps.specs.Layers.{Layers, layersBy}
-use Rattle.overlay_maps.specs.Held.{heldMaps}
-use Rattle.overlay_graph.specs.Cut.{Cut, cutBy}
-use Rattle.overlay_graph.specs.Traced.{Traced, tracedBy, TracedOf}
-use Rattle.overlay_graph.specs.Laws.Backwards.{next-named, prev-by, least_by, face-long}
+use Rattle.paper.specs.Lent.{Lengths, lengths_of, padded_tables}
+use Rattle.tables.specs.Values.{tables_by}
+use Rattle.overlay_maps.specs.Layers.{Layers, layers_by}
+use Rattle.overlay_maps.specs.Held.{held_maps}
+use Rattle.overlay_graph.specs.Cut.{Cut, cut_by}
+use Rattle.overlay_graph.specs.Traced.{Traced, traced_by, TracedOf}
+use Rattle.overlay_graph.specs.Laws.Backwards.{next_named, prev_by, least_by, face_long}
 use Rattle.overlay_pairs.specs.Pairs.{Whole}
 use Rattle.overlay_fill.proofs.StoredLaws.{counts-are, stored_is}
 use Rattle.overlay_fill.proofs.fill.fill_with.Statement.{statement}
@@ -19,26 +19,26 @@ use Rattle.overlay_fill.proofs.fill.fill_with.Tie as tie
 -- ── the records ──
 
 abbrev L : tie.Start → Layers
-L s = let a = s.args in layersBy a.vstarts.now a.estarts.now a.corners.now a.origins.now a.carriers.now a.labels.now
+L s = let a = s.args in layers_by a.vstarts.now a.estarts.now a.corners.now a.origins.now a.carriers.now a.labels.now
 
 abbrev C : tie.Start → Cut
-C s = let a = s.args in cutBy a.nv a.points.now a.ne a.pieces.now
+C s = let a = s.args in cut_by a.nv a.points.now a.ne a.pieces.now
 
 abbrev lent : tie.Start → Lengths
-lent s = let a = s.args in lengthsOf (tablesBy a.vertices.now a.halves.now a.sources.now a.faces.now)
+lent s = let a = s.args in lengths_of (tables_by a.vertices.now a.halves.now a.sources.now a.faces.now)
 
-few : (s : tie.Start) → s.args.nv ≤ overlayVertices
-few s = s.requires.1.0.few-vertices
+few : (s : tie.Start) → s.args.nv ≤ overlay_vertices
+few s = s.requires.1.0.few_vertices
 
-short : (s : tie.Start) → s.args.ne ≤ overlayEdges
-short s = s.requires.1.0.few-edges
+short : (s : tie.Start) → s.args.ne ≤ overlay_edges
+short s = s.requires.1.0.few_edges
 
 whole : (s : tie.Start) → Whole (L s) (C s) s.args.ends.now s.args.lines.now s.args.next.now s.args.outers.now s.args.holes.now s.args.count
 whole s =
     let F = s.requires.1.1.1.0.1 in
     record {
-      outlined = record { held = s.requires.0; cut = s.requires.1.0; net-by = s.requires.1.1.1.0.0; next-is = F.next-is; outers-is = F.outers-is; count-is = F.count-is };
-      holes-is = F.holes-is;
+      outlined = record { held = s.requires.0; cut = s.requires.1.0; net_by = s.requires.1.1.1.0.0; next_is = F.next_is; outers_is = F.outers_is; count_is = F.count_is };
+      holes_is = F.holes_is;
     }
 
 -- ── what each call asks ──
@@ -53,7 +53,7 @@ first-places-requires : tie.Need-first-places-requires
 first-places-requires c κs =
     let s = c.before.before.before.before.before.before.before.before.before.before.before.before.before.before.before.before.before.before.before in
     let a = s.args in (
-      next-named (heldMaps (L s)) (C s) s.requires.1.0 a.ends.now a.lines.now s.requires.1.1.1.0.0 a.next.now a.face.now a.outers.now a.holes.now a.count s.requires.1.1.1.0.1,
+      next_named (held_maps (L s)) (C s) s.requires.1.0 a.ends.now a.lines.now s.requires.1.1.1.0.0 a.next.now a.face.now a.outers.now a.holes.now a.count s.requires.1.1.1.0.1,
       (omega (arith, short s), s.requires.1.1.1.1.1),
     )
 
@@ -95,13 +95,13 @@ store-halves-requires c κs =
       short s,
       omega (arith, s.requires.1.1.0.edges),
       N.flat.origins.long,
-      (next-named (heldMaps (L s)) (C s) s.requires.1.0 a.ends.now a.lines.now N a.next.now a.face.now a.outers.now a.holes.now a.count F).long,
+      (next_named (held_maps (L s)) (C s) s.requires.1.0 a.ends.now a.lines.now N a.next.now a.face.now a.outers.now a.holes.now a.count F).long,
       omega (arith, s.requires.1.1.1.1.1, c.before.before.before.before.before.before.before.before.before.before.before.before.before.before.before.before.before.before.before.before.before.before.first-places.auto.1.1.1.0),
-      face-long (heldMaps (L s)) (C s) s.requires.1.0 a.ends.now a.lines.now N a.next.now a.face.now a.outers.now a.holes.now a.count F,
+      face_long (held_maps (L s)) (C s) s.requires.1.0 a.ends.now a.lines.now N a.next.now a.face.now a.outers.now a.holes.now a.count F,
     )
 
 store-sources-requires : tie.Need-store-sources-requires
-store-sources-requires c κs = let s = c.before.before.before.before.before.before.before.before.before.before.before.before.before.before.before.before.before.before.before.before.before.before.before.before.before.before.before.before.before.before.before.before.before.before.before.before.before.before.before.before.before.before.before.before.before.before in (omega (arith, s.requires.1.1.0.edges), s.requires.1.0.pieces-long)
+store-sources-requires c κs = let s = c.before.before.before.before.before.before.before.before.before.before.before.before.before.before.before.before.before.before.before.before.before.before.before.before.before.before.before.before.before.before.before.before.before.before.before.before.before.before.before.before.before.before.before.before.before.before in (omega (arith, s.requires.1.1.0.edges), s.requires.1.0.pieces_long)
 
 store-faces-requires : tie.Need-store-faces-requires
 store-faces-requires c κs =
@@ -145,18 +145,18 @@ module _ (c : tie.After-rows-in) where
   abbrev T : Traced
   T =
       let a = s.args in
-      tracedBy a.ends.now a.lines.now a.next.now c.before.before.before.before.before.before.before.before.before.before.first-places.new.1.1.1.0 c.before.before.before.before.before.before.first-places2.new.1.1.1.0 a.face.now a.outers.now a.holes.now a.count
+      traced_by a.ends.now a.lines.now a.next.now c.before.before.before.before.before.before.before.before.before.before.first-places.new.1.1.1.0 c.before.before.before.before.before.before.first-places2.new.1.1.1.0 a.face.now a.outers.now a.holes.now a.count
 
-  traced : TracedOf (heldMaps (L s)) (C s) T
+  traced : TracedOf (held_maps (L s)) (C s) T
   traced =
       let a = s.args in
       let N = s.pre.1.1.1.0.0 in
       let F = s.pre.1.1.1.0.1 in
       record {
-        net-by = N;
-        faces-by = F;
-        prev-is = prev-by (heldMaps (L s)) (C s) s.pre.1.0 a.ends.now a.lines.now N a.next.now a.face.now a.outers.now a.holes.now a.count F _ _ c.before.before.before.before.before.before.before.before.before.before.first-places.ensures;
-        least-is = least_by (heldMaps (L s)) (C s) s.pre.1.0 a.ends.now a.lines.now N _ _ c.before.before.before.before.before.before.first-places2.ensures;
+        net_by = N;
+        faces_by = F;
+        prev_is = prev_by (held_maps (L s)) (C s) s.pre.1.0 a.ends.now a.lines.now N a.next.now a.face.now a.outers.now a.holes.now a.count F _ _ c.before.before.before.before.before.before.before.before.before.before.first-places.ensures;
+        least_is = least_by (held_maps (L s)) (C s) s.pre.1.0 a.ends.now a.lines.now N _ _ c.before.before.before.before.before.before.first-places2.ensures;
       }
 
 returns : tie.Need-returns
@@ -164,12 +164,12 @@ returns c =
     let r : tie.After-rows-in = c.before.before.before.before.before.before.before.before.before.before.before.before.before.before.before.before.before.before.before.before.before.before.before.before.before.before in
     let k = s r in
     let x = r.rows_in.new in
-    let ms = heldMaps (L k) in
+    let ms = held_maps (L k) in
     let counted = counts-are ms (C k) (T r) (traced r) x.1.1.1.1.1.1.1.1.1.1.1.1.1.1.1.1.0 x.1.1.1.1.1.1.1.1.1.1.1.1.1.1.1.1.1.0 x.1.1.1.1.1.1.1.1.1.1.1.1.1.1.1.1.1.1.0 r.rows_in.ensures in
     let stored = stored_is ms (C k) (T r) (traced r) x.1.1.1.1.1.1.1.1.1.1.1.1.1.1.1.1.0 x.1.1.1.1.1.1.1.1.1.1.1.1.1.1.1.1.1.0 x.1.1.1.1.1.1.1.1.1.1.1.1.1.1.1.1.1.1.0 r.rows_in.ensures in
     λ i. record {
       answer = done (counted i);
-      tables = ((λ j. tablesBy (c.before.before.before.before.before.before.before.before.before.before.before.before.before.before.before.before.before.store-vertices.ensures j) (c.before.before.before.before.before.before.before.before.before.before.before.before.before.store-halves.ensures j) (c.before.before.before.before.before.before.before.before.before.store-sources.ensures j) (c.before.before.store-faces.ensures j)) ∙ ap (paddedTables (lent k)) stored) i;
+      tables = ((λ j. tables_by (c.before.before.before.before.before.before.before.before.before.before.before.before.before.before.before.before.before.store-vertices.ensures j) (c.before.before.before.before.before.before.before.before.before.before.before.before.before.store-halves.ensures j) (c.before.before.before.before.before.before.before.before.before.store-sources.ensures j) (c.before.before.store-faces.ensures j)) ∙ ap (padded_tables (lent k)) stored) i;
     }
 
 pub fill-with-spec : {M : Type 1} → statement M

@@ -4,9 +4,9 @@ use Prim.Native.Nat.{◌≤◌}
 use native.Mathlib.Omega.{arith}
 use borrow.Author.Rules.{rules}
 use Rattle.seq.specs.Seq.{ℕ, suc, ◌+◌, ◌*◌, replicate}
-use Rattle.graph_faces.specs.Linked.{halfRows}
+use Rattle.graph_faces.specs.Linked.{half_rows}
 use Rattle.overlay_graph.specs.Traced.{Blank}
-use Rattle.graph.specs.Small.{smallEdges}
+use Rattle.graph.specs.Small.{small_edges}
 use Rattle.overlay_fill.proofs.laying.from_cut.Statement.{statement}
 use Rattle.overlay_fill.proofs.laying.from_cut.Tie as tie
 
@@ -17,13 +17,13 @@ from-cut-with-requires : tie.Need-from-cut-with-requires
 from-cut-with-requires c κs =
     let p = c.before.before.before.before.before.before.before.before.before.before.before.before.before.before.before.before.before.before.before.requires in
     let few = c.before.before.before.before.before.before.before.before.before.before.if1 in
-    (p.0, (p.1.0, (p.1.1, ((omega (arith, few), omega (arith, few)), (blank _ (2 * smallEdges) (omega (arith, few)), blank _ (2 * smallEdges) (omega (arith, few)), blank _ (2 * smallEdges) (omega (arith, few)), blank _ (2 * smallEdges + 1) (omega (arith, few)))))))
+    (p.0, (p.1.0, (p.1.1, ((omega (arith, few), omega (arith, few)), (blank _ (2 * small_edges) (omega (arith, few)), blank _ (2 * small_edges) (omega (arith, few)), blank _ (2 * small_edges) (omega (arith, few)), blank _ (2 * small_edges + 1) (omega (arith, few)))))))
 
 from-cut-with-requires-2 : tie.Need-from-cut-with-requires-2
 from-cut-with-requires-2 c κs =
     let p = c.before.before.before.before.before.before.before.before.before.before.before.before.before.before.before.before.before.before.before.requires in
-    let few = p.1.0.few-edges in
-    (p.0, (p.1.0, (p.1.1, ((omega (arith, few), omega (arith, few)), (blank _ halfRows (omega (arith, few)), blank _ halfRows (omega (arith, few)), blank _ halfRows (omega (arith, few)), blank _ (suc halfRows) (omega (arith, few)))))))
+    let few = p.1.0.few_edges in
+    (p.0, (p.1.0, (p.1.1, ((omega (arith, few), omega (arith, few)), (blank _ half_rows (omega (arith, few)), blank _ half_rows (omega (arith, few)), blank _ half_rows (omega (arith, few)), blank _ (suc half_rows) (omega (arith, few)))))))
 
 pub from-cut-spec : {M : Type 1} → statement M
 from-cut-spec =

@@ -1,13 +1,13 @@
 -- `overlay_fill::laying::refuse` meets its contract. Assumes nothing.
 use Rattle.paper.specs.Refusal.{refused}
-use Rattle.map_file.specs.Verdict.{refusalOf}
+use Rattle.map_file.specs.Verdict.{refusal_of}
 use borrow.Author.Rules.{rules}
 use Rattle.overlay_fill.proofs.laying.refuse.Statement.{statement}
 use Rattle.overlay_fill.proofs.laying.refuse.Tie as tie
 
 returns : tie.Need-returns
 returns c = λ i. record {
-  answer = refused (refusalOf c.before.before.before.before.before.before.before.before.before.before.before.before.before.before.before.args.r);
+  answer = refused (refusal_of c.before.before.before.before.before.before.before.before.before.before.before.before.before.before.before.args.r);
   tables =
       let after-wipe-all : tie.After-wipe-all = search rules in
       after-wipe-all.wipe-all.ensures i;

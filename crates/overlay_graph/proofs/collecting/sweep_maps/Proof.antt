@@ -1,13 +1,13 @@
 -- `overlay_graph::collecting::sweep_maps` meets its contract. Assumes nothing.
 use borrow.Author.Rules.{rules}
-use Rattle.overlay_maps.specs.Layers.{Layers, layersBy}
+use Rattle.overlay_maps.specs.Layers.{Layers, layers_by}
 use Rattle.overlay_graph.specs.Laws.Sweeping.{layers-given, layers-swept}
 use Rattle.overlay_graph.proofs.collecting.sweep_maps.Statement.{statement}
 use Rattle.overlay_graph.proofs.collecting.sweep_maps.Tie as tie
 
 -- the maps that are lent
 abbrev l : tie.Start → Layers
-l s = layersBy s.args.vertices.now s.args.edges.now s.args.corners.now s.args.origins.now s.args.carriers.now s.args.labels.now
+l s = layers_by s.args.vertices.now s.args.edges.now s.args.corners.now s.args.origins.now s.args.carriers.now s.args.labels.now
 
 sweep-requires : tie.Need-sweep-requires
 sweep-requires c κs =

@@ -3,20 +3,20 @@ use Prim.Native.Nat.{ℕ, ◌+◌, ◌-◌}
 use native.Mathlib.Omega.{arith}
 use borrow.Author.Rules.{rules}
 use Rattle.paper.specs.Limits.{maps}
-use Rattle.graph.specs.Small.{smallVertices, smallEdges}
-use Rattle.overlay_maps.specs.Layers.{Layers, layersBy}
+use Rattle.graph.specs.Small.{small_vertices, small_edges}
+use Rattle.overlay_maps.specs.Layers.{Layers, layers_by}
 use Rattle.overlay_graph.specs.Laws.Standing.{starts}
-use Rattle.overlay_graph.specs.Laws.CutLaws.{ordered-near, ordered-rise, ordered-ended, cut-is}
+use Rattle.overlay_graph.specs.Laws.CutLaws.{ordered-near, ordered-rise, ordered-ended, cut_is}
 use Rattle.overlay_graph.proofs.cutting.cut_few.Statement.{statement}
 use Rattle.overlay_graph.proofs.cutting.cut_few.Tie as tie
 
 -- the maps that are lent
 abbrev l : tie.Start → Layers
-l s = layersBy s.args.vertices.now s.args.edges.now s.args.corners.now s.args.origins.now s.args.carriers.now s.args.labels.now
+l s = layers_by s.args.vertices.now s.args.edges.now s.args.corners.now s.args.origins.now s.args.carriers.now s.args.labels.now
 
 -- the rows of the table of points
 abbrev room : ℕ
-room = smallVertices + 1
+room = small_vertices + 1
 
 collect-maps-requires : tie.Need-collect-maps-requires
 collect-maps-requires c κs = let s : tie.Start = search rules in (s.pre.0, s.pre.1.0)
@@ -36,7 +36,7 @@ pieces-requires c κs =
       (
         (starts (l s) s.pre.0, ordered-ended (l s) s.pre.0 room ps v.result v.ensures few),
         (
-          (record { edges = omega (arith, (s.pre.0.stands (maps - 1) (omega arith)).origins-in); nodes = omega arith; few = omega arith }, λ h. absurd (omega arith)),
+          (record { edges = omega (arith, (s.pre.0.stands (maps - 1) (omega arith)).origins_in); nodes = omega arith; few = omega arith }, λ h. absurd (omega arith)),
           (omega arith, s.pre.1.1),
         ),
       ),
@@ -50,7 +50,7 @@ returns-2 c =
     let laid : tie.After-pieces = search rules in
     let v = after.collect-maps in
     let p = laid.pieces in
-    λ _ few. cut-is (l s) s.pre.0 room v.last.1.1.1.1.1.1.0 v.result v.ensures else1.if1.left (smallEdges + 1) p.last.1.1.1.1.1.1.1.1.0 p.result p.ensures (λ h. absurd (omega arith))
+    λ _ few. cut_is (l s) s.pre.0 room v.last.1.1.1.1.1.1.0 v.result v.ensures else1.if1.left (small_edges + 1) p.last.1.1.1.1.1.1.1.1.0 p.result p.ensures (λ h. absurd (omega arith))
 
 pub cut-few-spec : {M : Type 1} → statement M
 cut-few-spec = tie.close (tie.spec collect-maps-requires (λ c. search rules) returns pieces-requires (λ c. search rules) (λ c. search rules) returns-2)

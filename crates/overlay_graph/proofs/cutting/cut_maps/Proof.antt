@@ -3,16 +3,16 @@ use native.Mathlib.Omega.{arith}
 use borrow.Author.Rules.{rules}
 use Prim.Native.Nat.{ℕ}
 use lib.ListN.{length-replicate, get_or-replicate}
-use Rattle.overlay_cut.specs.Rooms.{vertexRows, edgeRows}
-use Rattle.overlay_maps.specs.Layers.{Layers, layersBy}
+use Rattle.overlay_cut.specs.Rooms.{vertex_rows, edge_rows}
+use Rattle.overlay_maps.specs.Layers.{Layers, layers_by}
 use Rattle.overlay_graph.specs.Laws.Standing.{starts}
-use Rattle.overlay_graph.specs.Laws.CutLaws.{ordered-near, ordered-rise, ordered-ended, cut-is, cut-over}
+use Rattle.overlay_graph.specs.Laws.CutLaws.{ordered-near, ordered-rise, ordered-ended, cut_is, cut_over}
 use Rattle.overlay_graph.proofs.cutting.cut_maps.Statement.{statement}
 use Rattle.overlay_graph.proofs.cutting.cut_maps.Tie as tie
 
 -- the maps that are lent
 abbrev l : tie.Start → Layers
-l s = layersBy s.args.vertices.now s.args.edges.now s.args.corners.now s.args.origins.now s.args.carriers.now s.args.labels.now
+l s = layers_by s.args.vertices.now s.args.edges.now s.args.corners.now s.args.origins.now s.args.carriers.now s.args.labels.now
 
 vertices-by-requires : tie.Need-vertices-by-requires
 vertices-by-requires c κs =
@@ -32,22 +32,22 @@ returns : tie.Need-returns
 returns c =
     let s : tie.Start = search rules in
     let after : tie.After-vertices-by = search rules in
-    let v = after.vertices-by in
-    cut-over (l s) s.pre.0 vertexRows v.last.1.1.1.1.1.1.1.0 v.result.stops v.ensures.collected (omega arith) c.if1.true v.last.1.1.1.1.1.1.1.1.1.0 0
+    let v = after.vertices_by_lem in
+    cut_over (l s) s.pre.0 vertex_rows v.last.1.1.1.1.1.1.1.0 v.result.stops v.ensures.collected (omega arith) c.if1.true v.last.1.1.1.1.1.1.1.1.1.0 0
 
 pieces-requires : tie.Need-pieces-requires
 pieces-requires c κs =
     let s : tie.Start = search rules in
     let after : tie.After-vertices-by = search rules in
     let else1 : tie.Else1 = search rules in
-    let v = after.vertices-by in
+    let v = after.vertices_by_lem in
     let few = else1.if1.left in
     let ps = v.last.1.1.1.1.1.1.1.0 in
     let C = v.ensures.collected in
     let edges_few = s.pre.0.edges_few in (
-      (ordered-near (l s) s.pre.0 vertexRows ps v.result.stops C few (omega (arith, few, s.pre.1.0, v.kept.1.1.1.1.1.1.1.0)), omega (arith, few), ordered-rise (l s) s.pre.0 vertexRows ps v.result.stops C few),
+      (ordered-near (l s) s.pre.0 vertex_rows ps v.result.stops C few (omega (arith, few, s.pre.1.0, v.kept.1.1.1.1.1.1.1.0)), omega (arith, few), ordered-rise (l s) s.pre.0 vertex_rows ps v.result.stops C few),
       (
-        (starts (l s) s.pre.0, ordered-ended (l s) s.pre.0 vertexRows ps v.result.stops C few),
+        (starts (l s) s.pre.0, ordered-ended (l s) s.pre.0 vertex_rows ps v.result.stops C few),
         (
           (
             record {
@@ -68,9 +68,9 @@ returns-2 c =
     let after : tie.After-vertices-by = search rules in
     let else1 : tie.Else1 = search rules in
     let laid : tie.After-pieces = search rules in
-    let v = after.vertices-by in
+    let v = after.vertices_by_lem in
     let p = laid.pieces in
-    cut-is (l s) s.pre.0 vertexRows v.last.1.1.1.1.1.1.1.0 v.result.stops v.ensures.collected else1.if1.left edgeRows p.last.1.1.1.1.1.1.1.1.0 p.result p.ensures (λ h. omega arith)
+    cut_is (l s) s.pre.0 vertex_rows v.last.1.1.1.1.1.1.1.0 v.result.stops v.ensures.collected else1.if1.left edge_rows p.last.1.1.1.1.1.1.1.1.0 p.result p.ensures (λ h. omega arith)
 
 pub cut-maps-spec : {M : Type 1} → statement M
 cut-maps-spec = tie.close (tie.spec (λ c. search rules) vertices-by-requires (λ c. search rules) (λ c. search rules) returns (λ c. search rules) pieces-requires (λ c. search rules) (λ c. search rules) returns-2)

@@ -31,7 +31,7 @@ returns c =
     let b : tie.After-enclose = search rules in
     let k = (linked b).link.ensures in
     let f = b.enclose.ensures in
-    record { next-is = k.next-is; face-is = f.face-is; outers-is = f.outers-is; count-is = f.count-is; holes-is = f.holes-is }
+    record { next_is = k.next_is; face_is = f.face_is; outers_is = f.outers_is; count_is = f.count_is; holes_is = f.holes_is }
 
 pub walk-net-in-spec : {M : Type 1} → statement M
 walk-net-in-spec =

@@ -3,13 +3,13 @@ use mathlib.Core.Path.{ap, ◌∙◌}
 use native.Mathlib.Omega.{arith}
 use borrow.Author.Rules.{rules}
 use Rattle.seq.specs.Seq.{◌*◌}
-use Rattle.paper.specs.Refusal.{ofMap}
-use Rattle.paper.specs.Map.{vertexCount, edgesIn, fault}
+use Rattle.paper.specs.Refusal.{the_of_map}
+use Rattle.paper.specs.Map.{vertex_count, edges_in, fault}
 use Rattle.map_check.specs.Held.{stored}
-use Rattle.overlay_maps.specs.Refused.{refusedIn, refused-with}
-use Rattle.overlay_maps.specs.Layers.{cornersOf, originsOf, carriersOf, labelsOf}
-use Rattle.overlay_maps.proofs.PartLaws.{lent-long, part-stored}
-use Rattle.overlay_maps.proofs.StackLaws.{corners-long, origins-long, carriers-long, labels-long}
+use Rattle.overlay_maps.specs.Refused.{refused_in, refused_with_lem}
+use Rattle.overlay_maps.specs.Layers.{corners_of, origins_of, carriers_of, labels_of}
+use Rattle.overlay_maps.proofs.PartLaws.{lent_long, part-stored}
+use Rattle.overlay_maps.proofs.StackLaws.{corners_long, origins_long, carriers_long, labels_long}
 use Rattle.overlay_maps.proofs.HeldLaws.{stored_is}
 use Rattle.overlay_maps.proofs.stack.lay_behind.Statement.{statement}
 use Rattle.overlay_maps.proofs.stack.lay_behind.Tie as tie
@@ -21,10 +21,10 @@ lay-map-requires c κs =
     let room = start.requires in
     let s = a.file.now in
     record {
-      corners = lent-long a.corners.now (4 * a.v) (4 * stored vertexCount s) (omega (arith, room.corners));
-      origins = lent-long a.origins.now (2 * a.e) (2 * stored edgesIn s) (omega (arith, room.origins));
-      carriers = lent-long a.carriers.now (4 * a.e) (4 * stored edgesIn s) (omega (arith, room.carriers));
-      labels = lent-long a.labels.now (2 * a.e) (2 * stored edgesIn s) (omega (arith, room.labels));
+      corners = lent_long a.corners.now (4 * a.v) (4 * stored vertex_count s) (omega (arith, room.corners));
+      origins = lent_long a.origins.now (2 * a.e) (2 * stored edges_in s) (omega (arith, room.origins));
+      carriers = lent_long a.carriers.now (4 * a.e) (4 * stored edges_in s) (omega (arith, room.carriers));
+      labels = lent_long a.labels.now (2 * a.e) (2 * stored edges_in s) (omega (arith, room.labels));
     }
 
 returns : tie.Need-returns
@@ -34,16 +34,16 @@ returns c =
     let room = start.requires in
     let s = a.file.now in
     let laid = c.before.before.before.before.before.before.before.lay-map.ensures in (
-      c.of_map.ensures ∙ ap (ofMap a.map) (ap refusedIn laid.0 ∙ refused-with _ (fault s)),
+      c.of_map.ensures ∙ ap (the_of_map a.map) (ap refused_in laid.0 ∙ refused_with_lem _ (fault s)),
       λ q.
-          let v = stored_is s q vertexCount in
-          let e = stored_is s q edgesIn in
+          let v = stored_is s q vertex_count in
+          let e = stored_is s q edges_in in
           let m = laid.1 q in
           record {
-            corners-are = part-stored a.corners.now (4 * a.v) (cornersOf s) _ (omega (arith, room.corners, corners-long s, v)) m.corners-are;
-            origins-are = part-stored a.origins.now (2 * a.e) (originsOf s) _ (omega (arith, room.origins, origins-long s, e)) m.origins-are;
-            carriers-are = part-stored a.carriers.now (4 * a.e) (carriersOf s) _ (omega (arith, room.carriers, carriers-long s, e)) m.carriers-are;
-            labels-are = part-stored a.labels.now (2 * a.e) (labelsOf s) _ (omega (arith, room.labels, labels-long s, e)) m.labels-are;
+            corners-are = part-stored a.corners.now (4 * a.v) (corners_of s) _ (omega (arith, room.corners, corners_long s, v)) m.corners-are;
+            origins-are = part-stored a.origins.now (2 * a.e) (origins_of s) _ (omega (arith, room.origins, origins_long s, e)) m.origins-are;
+            carriers-are = part-stored a.carriers.now (4 * a.e) (carriers_of s) _ (omega (arith, room.carriers, carriers_long s, e)) m.carriers-are;
+            labels-are = part-stored a.labels.now (2 * a.e) (labels_of s) _ (omega (arith, room.labels, labels_long s, e)) m.labels-are;
           },
     )
 

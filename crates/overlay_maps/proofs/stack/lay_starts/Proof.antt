@@ -6,7 +6,7 @@ use native.Mathlib.Omega.{arith}
 use borrow.Author.Rules.{rules}
 use lib.ListN.{length-set}
 use Rattle.seq.specs.Seq.{◌+◌, sets}
-use Rattle.seq.specs.Over.{stored-first}
+use Rattle.seq.specs.Over.{stored_first}
 use Rattle.overlay_maps.proofs.stack.lay_starts.Statement.{statement}
 use Rattle.overlay_maps.proofs.stack.lay_starts.Tie as tie
 
@@ -31,8 +31,8 @@ returns c =
     let e = c.before.before.before.edge-count.ensures ∙ sym (zero-add _) in
     let f = c.before.before.edge-count2.ensures in
     let g = c.edge-count3.ensures in (
-      (λ i. sets s.args.vertices.now 0 (0 ∷ v i ∷ (v i + w i) ∷ (v i + w i + x i) ∷ [])) ∙ stored-first s.args.vertices.now _ (omega (arith, s.requires.0)),
-      (λ i. sets s.args.edges.now 0 (0 ∷ e i ∷ (e i + f i) ∷ (e i + f i + g i) ∷ [])) ∙ stored-first s.args.edges.now _ (omega (arith, s.requires.1)),
+      (λ i. sets s.args.vertices.now 0 (0 ∷ v i ∷ (v i + w i) ∷ (v i + w i + x i) ∷ [])) ∙ stored_first s.args.vertices.now _ (omega (arith, s.requires.0)),
+      (λ i. sets s.args.edges.now 0 (0 ∷ e i ∷ (e i + f i) ∷ (e i + f i + g i) ∷ [])) ∙ stored_first s.args.edges.now _ (omega (arith, s.requires.1)),
     )
 
 pub lay-starts-spec : {M : Type 1} → statement M

@@ -3,11 +3,11 @@ use mathlib.Core.Path.{sym, ap, ◌∙◌}
 use mathlib.Core.List.{[], ◌∷◌}
 use native.Mathlib.Omega.{arith}
 use borrow.Author.Rules.{rules}
-use Rattle.paper.specs.Map.{vertexCount, edgesIn}
-use Rattle.laws_refusals.specs.Refusals.{no-refusal}
+use Rattle.paper.specs.Map.{vertex_count, edges_in}
+use Rattle.laws_refusals.specs.Refusals.{no_refusal}
 use Rattle.map_file.specs.Verdict.{verdict}
 use Rattle.map_check.proofs.RoomLaws.{room_within}
-use Rattle.overlay_maps.proofs.StackLaws.{stack-more, before-refused, before-passes, all_pass}
+use Rattle.overlay_maps.proofs.StackLaws.{stack_more, before_refused, before_passes, all_pass}
 use Rattle.overlay_maps.proofs.HeldLaws.{stored_is}
 use Rattle.overlay_maps.proofs.stack.lay_tables.Statement.{statement}
 use Rattle.overlay_maps.proofs.stack.lay_tables.Tie as tie
@@ -30,10 +30,10 @@ lay-behind-requires c κs =
     let b = start.args.blocks.now in
     let pa = all_pass files none 0 (omega arith) in
     let pb = all_pass files none 1 (omega arith) in
-    let va = stored_is a pa vertexCount in
-    let ea = stored_is a pa edgesIn in
-    let vb = stored_is b pb vertexCount in
-    let eb = stored_is b pb edgesIn in
+    let va = stored_is a pa vertex_count in
+    let ea = stored_is a pa edges_in in
+    let vb = stored_is b pb vertex_count in
+    let eb = stored_is b pb edges_in in
     let kept = pair.auto in
     record {
       corners = omega (arith, room.corners, v, w, va, vb, kept.1.1.0);
@@ -46,8 +46,8 @@ returns : tie.Need-returns
 returns c =
     let a = c.before.before.before.before.before.before.before.before.before.before.before.before.before.before.before.before.before.before.args in
     let told = ap verdict c.enum_told.given.1 in
-    let refused = before-refused (a.zones.now ∷ a.blocks.now ∷ []) a.bed.now (sym c.before.before.before.before.before.before.before.before.lay-pair.ensures.0 ∙ told) in
-    (told ∙ sym refused, λ q. absurd (no-refusal (sym refused ∙ q)))
+    let refused = before_refused (a.zones.now ∷ a.blocks.now ∷ []) a.bed.now (sym c.before.before.before.before.before.before.before.before.lay-pair.ensures.0 ∙ told) in
+    (told ∙ sym refused, λ q. absurd (no_refusal (sym refused ∙ q)))
 
 returns-2 : tie.Need-returns-2
 returns-2 c =
@@ -66,16 +66,16 @@ returns-2 c =
     let b = start.args.blocks.now in
     let pa = all_pass files none 0 (omega arith) in
     let pb = all_pass files none 1 (omega arith) in
-    let va = stored_is a pa vertexCount in
-    let ea = stored_is a pa edgesIn in
-    let vb = stored_is b pb vertexCount in
-    let eb = stored_is b pb edgesIn in (
-      last.0 ∙ sym (before-passes files s none),
+    let va = stored_is a pa vertex_count in
+    let ea = stored_is a pa edges_in in
+    let vb = stored_is b pb vertex_count in
+    let eb = stored_is b pb edges_in in (
+      last.0 ∙ sym (before_passes files s none),
       λ q.
           let pass = all_pass (start.args.zones.now ∷ start.args.blocks.now ∷ s ∷ []) q 2 (omega arith) in
-          let vs = stored_is s pass vertexCount in
-          let es = stored_is s pass edgesIn in
-          stack-more files s _ _ (omega (arith, v, w)) (omega (arith, e, f)) (omega (arith, room.corners, v, w, va, vb, vs)) (omega (arith, room.origins, e, f, ea, eb, es)) (omega (arith, room.carriers, e, f, ea, eb, es)) (omega (arith, room.labels, e, f, ea, eb, es))
+          let vs = stored_is s pass vertex_count in
+          let es = stored_is s pass edges_in in
+          stack_more files s _ _ (omega (arith, v, w)) (omega (arith, e, f)) (omega (arith, room.corners, v, w, va, vb, vs)) (omega (arith, room.origins, e, f, ea, eb, es)) (omega (arith, room.carriers, e, f, ea, eb, es)) (omega (arith, room.labels, e, f, ea, eb, es))
           (pair.1 none) (last.1 pass),
     )
 

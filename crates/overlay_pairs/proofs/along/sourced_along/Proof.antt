@@ -3,7 +3,7 @@ use mathlib.Core.Path.{refl}
 use native.Mathlib.Omega.{arith}
 use borrow.Author.Rules.{rules}
 use lib.ListN.{get_or}
-use Rattle.overlay_pairs.specs.Labels.{OnWalk, walk-turns, sourced-itself}
+use Rattle.overlay_pairs.specs.Labels.{OnWalk, walk_turns, sourced-itself}
 use Rattle.overlay_pairs.proofs.along.sourced_along.Statement.{statement}
 use Rattle.overlay_pairs.proofs.along.sourced_along.Tie as tie
 
@@ -22,7 +22,7 @@ source-in-requires c κs =
 returns : tie.Need-returns invariant-loop decreases-loop
 returns c =
     let at : tie.At-loop invariant-loop decreases-loop = search rules in
-    record { on-walk = at.loop.inv; itself = λ none. absurd (omega (arith, c.if1.true, c.before.source_in.ensures, none)) }
+    record { on_walk = at.loop.inv; itself = λ none. absurd (omega (arith, c.if1.true, c.before.source_in.ensures, none)) }
 
 shared-slice-read-x : tie.Need-shared-slice-read-x invariant-loop decreases-loop
 shared-slice-read-x c =
@@ -41,13 +41,13 @@ cast-x c =
     let s : tie.Start invariant-loop decreases-loop = search rules in
     let at : tie.At-loop invariant-loop decreases-loop = search rules in
     let nx = s.args.next.now in
-    omega (arith, s.pre.1.follows (get_or nx at.loop.x 0) (walk-turns nx s.args.h at.loop.x at.loop.inv))
+    omega (arith, s.pre.1.follows (get_or nx at.loop.x 0) (walk_turns nx s.args.h at.loop.x at.loop.inv))
 
 loop-again : tie.Need-loop-preserved invariant-loop decreases-loop
 loop-again c =
     let s : tie.Start invariant-loop decreases-loop = search rules in
     let at : tie.At-loop invariant-loop decreases-loop = search rules in
-    walk-turns s.args.next.now s.args.h at.loop.x at.loop.inv
+    walk_turns s.args.next.now s.args.h at.loop.x at.loop.inv
 
 pub sourced-along-spec : {M : Type 1} → statement M
 sourced-along-spec =

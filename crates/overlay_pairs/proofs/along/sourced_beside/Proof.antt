@@ -17,12 +17,12 @@ source-in-requires : tie.Need-source-in-requires
 source-in-requires c κs =
     let s : tie.Start = search rules in
     let x : tie.After-sourced-along = search rules in
-    (s.pre.1.1.0.row x.sourced-along.result x.sourced-along.ensures.on-walk, s.pre.0)
+    (s.pre.1.1.0.row x.sourced-along.result x.sourced-along.ensures.on_walk, s.pre.0)
 
 returns : tie.Need-returns
 returns c =
     let x : tie.After-sourced-along = search rules in
-    inl x.sourced-along.ensures.on-walk
+    inl x.sourced-along.ensures.on_walk
 
 twin-requires : tie.Need-twin-requires
 twin-requires c κs =
@@ -44,7 +44,7 @@ returns-2 c =
     let t : tie.After-twin = search rules in
     let y = c.sourced-along2.result in
     beside-twin s.args.pieces.now s.args.next.now s.args.m s.args.h x.sourced-along.result y x.sourced-along.ensures (omega (arith, else.if1.left, k.source_in.ensures))
-    (subst (λ (z : ℕ). OnWalk s.args.next.now z y) t.twin.ensures c.sourced-along2.ensures.on-walk)
+    (subst (λ (z : ℕ). OnWalk s.args.next.now z y) t.twin.ensures c.sourced-along2.ensures.on_walk)
 
 pub sourced-beside-spec : {M : Type 1} → statement M
 sourced-beside-spec = tie.close (tie.spec sourced-along-requires source-in-requires returns twin-requires sourced-along-requires-2 returns-2)

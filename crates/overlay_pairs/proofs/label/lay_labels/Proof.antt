@@ -3,16 +3,16 @@ use Prim.Native.Nat.{◌*◌, ◌-◌}
 use native.Mathlib.Omega.{arith}
 use borrow.Author.Rules.{rules}
 use Rattle.seq.specs.Seq.{◌/◌, ◌%◌}
-use Rattle.seq.specs.Loops.Filling.{Filling, fill-starts, fill-turns, fill-ends}
+use Rattle.seq.specs.Loops.Filling.{Filling, fill_starts, fill_turns, fill_ends}
 use Rattle.paper.specs.Limits.{maps}
-use Rattle.overlay_maps.specs.Layers.{layersBy}
-use Rattle.overlay_pairs.specs.Labels.{labelCell}
+use Rattle.overlay_maps.specs.Layers.{layers_by}
+use Rattle.overlay_pairs.specs.Labels.{label_cell}
 use Rattle.overlay_pairs.proofs.label.lay_labels.Statement.{statement}
 use Rattle.overlay_pairs.proofs.label.lay_labels.Tie as tie
 
 abbrev invariant-loop : tie.invariant-loop
 invariant-loop vstarts estarts corners origins carriers labels points ends lines pieces next outers n out₀ cells j₀ out j =
-    Filling (labelCell (layersBy vstarts estarts corners origins carriers labels) points ends lines pieces outers) (maps * n) out₀ out j
+    Filling (label_cell (layers_by vstarts estarts corners origins carriers labels) points ends lines pieces outers) (maps * n) out₀ out j
 
 abbrev decreases-loop : tie.decreases-loop
 decreases-loop vstarts estarts corners origins carriers labels points ends lines pieces next outers n out₀ cells j₀ out j = cells - j
@@ -41,12 +41,12 @@ lay-labels-spec =
     invariant-loop
     decreases-loop
     mul-cells
-    (λ c. fill-starts c.before.before.before.before.before.before.before.before.before.requires.1.1)
+    (λ c. fill_starts c.before.before.before.before.before.before.before.before.before.requires.1.1)
     face-label-requires
     mul-out
     (λ c. search rules)
     add-j
     (λ c. search rules)
-    (λ c. fill-turns c.before.before.loop.invariant c.before.loop-test.true c.face-label.ensures)
+    (λ c. fill_turns c.before.before.loop.invariant c.before.loop-test.true c.face-label.ensures)
     (λ c. c.before.loop.invariant.kept)
-    (λ c. fill-ends c.before.loop.invariant (search rules)))
+    (λ c. fill_ends c.before.loop.invariant (search rules)))

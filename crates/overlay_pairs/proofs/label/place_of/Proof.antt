@@ -18,14 +18,14 @@ upward-requires c κs =
 source-in-requires : tie.Need-source-in-requires
 source-in-requires c κs =
     let start : tie.Start = search rules in
-    (start.pre.row, omega (arith, start.pre.of-maps))
+    (start.pre.row, omega (arith, start.pre.of_maps))
 
 returns : tie.Need-returns
 returns c =
     let after-start : tie.After-start = search rules in
     let low = after-start.start.ensures in
     let up = c.before.upward.ensures in
-    record { half_is = refl; source_is = c.source_in.ensures; low-is = low.0; up_is = up.0; near = low.1; direction = up.1 }
+    record { half_is = refl; source_is = c.source_in.ensures; low_is = low.0; up_is = up.0; near = low.1; direction = up.1 }
 
 pub place-of-spec : {M : Type 1} → statement M
 place-of-spec =

@@ -3,7 +3,7 @@ use mathlib.Core.Path.{refl}
 use Prim.Native.Nat.{ℕ, ◌-◌}
 use lib.ListN.{get_or}
 use borrow.Author.Rules.{rules}
-use Rattle.seq.specs.Loops.Filling.{Filling, fill-starts, fill-turns, fill-ends}
+use Rattle.seq.specs.Loops.Filling.{Filling, fill_starts, fill_turns, fill_ends}
 use Rattle.overlay_pairs.proofs.rows.lay_holes.Statement.{statement}
 use Rattle.overlay_pairs.proofs.rows.lay_holes.Tie as tie
 
@@ -19,13 +19,13 @@ lay-holes-spec =
     (tie.spec
     invariant-loop
     decreases-loop
-    (λ c. fill-starts (search rules))
+    (λ c. fill_starts (search rules))
     (λ c. search rules)
     (λ c. search rules)
     (λ c. search rules)
     (λ c. search rules)
     (λ c. search rules)
     (λ c. search rules)
-    (λ c. fill-turns c.before.before.loop.invariant c.before.loop-test.true refl)
+    (λ c. fill_turns c.before.before.loop.invariant c.before.loop-test.true refl)
     (λ c. search rules)
-    (λ c. fill-ends c.before.loop.invariant (search rules)))
+    (λ c. fill_ends c.before.loop.invariant (search rules)))

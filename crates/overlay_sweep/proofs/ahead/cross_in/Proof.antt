@@ -8,10 +8,10 @@ use Rattle.seq.specs.Kept.{kept}
 use Rattle.paper.specs.Limits.{denominators}
 use Rattle.paper.specs.Plane.{Pt, before}
 use Rattle.plane.specs.Bounds.{NearIf}
-use Rattle.plane.specs.Values.{ptOf, segOf, cross_of}
+use Rattle.plane.specs.Values.{pt_of, seg_of, cross_of}
 use Rattle.plane.specs.declared.crossings.Cross.{Cross}
-use Rattle.plane.proofs.Machine.{number-back}
-use Rattle.overlay_sweep.specs.Ahead.{queued-none, requeued, crossAhead}
+use Rattle.plane.proofs.Machine.{number_back}
+use Rattle.overlay_sweep.specs.Ahead.{queued_none, requeued, cross_ahead}
 use borrow.Author.Rules.{rules}
 use Rattle.overlay_sweep.proofs.ahead.cross_in.Statement.{statement}
 use Rattle.overlay_sweep.proofs.ahead.cross_in.Tie as tie
@@ -21,7 +21,7 @@ crossing-over-requires c κs =
     let start : tie.Start = search rules in
     let d : tie.After-over = search rules in
     let m = d.over in
-    let b = number-back m.result m.ensures.1 in
+    let b = number_back m.result m.ensures.1 in
     (start.pre.0.0, start.pre.0.1, b ∙ m.ensures.0.0, subst (λ (z : ℤ). nat_abs z ≤ denominators) (sym b) m.ensures.1)
 
 -- what the call of `crossing_over` told, of each way
@@ -29,8 +29,8 @@ module _ (c : tie.After-crossing-over) where
   abbrev start : tie.Start
   start = search rules
 
-  told : (r : Cross) → c.crossing-over.result ≡ r → kept (before (ptOf start.args.p)) (optional (cross_of r)) ≡ crossAhead (ptOf start.args.p) (segOf start.args.s) (segOf start.args.t)
-  told r e = ap (λ (o : Option Pt). kept (before (ptOf start.args.p)) (optional o)) (sym (ap cross_of e) ∙ c.crossing-over.ensures.0)
+  told : (r : Cross) → c.crossing-over.result ≡ r → kept (before (pt_of start.args.p)) (optional (cross_of r)) ≡ cross_ahead (pt_of start.args.p) (seg_of start.args.s) (seg_of start.args.t)
+  told r e = ap (λ (o : Option Pt). kept (before (pt_of start.args.p)) (optional o)) (sym (ap cross_of e) ∙ c.crossing-over.ensures.0)
 
   near : (r : Cross) → c.crossing-over.result ≡ r → NearIf (cross_of r)
   near r e = subst (λ (x : Cross). NearIf (cross_of x)) e c.crossing-over.ensures.1
@@ -45,7 +45,7 @@ returns : tie.Need-returns
 returns c =
     let met : tie.After-crossing-over = search rules in
     let s = start met in
-    requeued (told met _ c.enum_told.given.1) (queued-none s.args.points.now s.args.n s.pre.1.1)
+    requeued (told met _ c.enum_told.given.1) (queued_none s.args.points.now s.args.n s.pre.1.1)
 
 returns-2 : tie.Need-returns-2
 returns-2 c =

@@ -2,10 +2,10 @@
 use mathlib.Core.Path.{◌≡◌, sym, ◌∙◌, ap}
 use native.Mathlib.Omega.{arith}
 use Rattle.seq.specs.Seq.{ℕ, ◌+◌, ◌-◌, get_or}
-use Rattle.plane.specs.Values.{ptOf}
+use Rattle.plane.specs.Values.{pt_of}
 use Rattle.laws_sweep.specs.Sweep.{ahead}
-use Rattle.overlay_sweep.specs.Ahead.{strandAt, queued-none, requeued}
-use Rattle.overlay_sweep.specs.Neighbours.{joint-both, joint-left, joint-right}
+use Rattle.overlay_sweep.specs.Ahead.{strand_at, queued_none, requeued}
+use Rattle.overlay_sweep.specs.Neighbours.{joint_both, joint_left, joint_right}
 use borrow.Author.Rules.{rules}
 use Rattle.overlay_sweep.proofs.ahead.joined.Statement.{statement}
 use Rattle.overlay_sweep.proofs.ahead.joined.Tie as tie
@@ -19,21 +19,21 @@ returns c =
     let a = s.args in
     let e : a.j - 1 + 1 ≡ a.j = omega (arith, c.before.before.before.before.if1.true) in
     requeued
-    (ap (λ (k : ℕ). ahead (ptOf a.p) (strandAt a.carriers.now a.starts.now (get_or a.status.now (a.j - 1) 0)) (strandAt a.carriers.now a.starts.now (get_or a.status.now k 0))) e
-    ∙ sym (joint-both a.carriers.now a.starts.now (ptOf a.p) a.status.now a.from a.j a.c c.before.before.before.before.if1.true c.before.before.before.if2.true))
+    (ap (λ (k : ℕ). ahead (pt_of a.p) (strand_at a.carriers.now a.starts.now (get_or a.status.now (a.j - 1) 0)) (strand_at a.carriers.now a.starts.now (get_or a.status.now k 0))) e
+    ∙ sym (joint_both a.carriers.now a.starts.now (pt_of a.p) a.status.now a.from a.j a.c c.before.before.before.before.if1.true c.before.before.before.if2.true))
     c.before.tested.ensures
 
 returns-2 : tie.Need-returns-2
 returns-2 c =
     let s : tie.Start = search rules in
     let a = s.args in
-    requeued (sym (joint-right a.carriers.now a.starts.now (ptOf a.p) a.status.now a.from a.j a.c (omega (arith, c.if2.false)))) (queued-none a.points.now a.n s.pre.1.1.1)
+    requeued (sym (joint_right a.carriers.now a.starts.now (pt_of a.p) a.status.now a.from a.j a.c (omega (arith, c.if2.false)))) (queued_none a.points.now a.n s.pre.1.1.1)
 
 returns-3 : tie.Need-returns-3
 returns-3 c =
     let s : tie.Start = search rules in
     let a = s.args in
-    requeued (sym (joint-left a.carriers.now a.starts.now (ptOf a.p) a.status.now a.from a.j a.c (omega (arith, c.if1.false)))) (queued-none a.points.now a.n s.pre.1.1.1)
+    requeued (sym (joint_left a.carriers.now a.starts.now (pt_of a.p) a.status.now a.from a.j a.c (omega (arith, c.if1.false)))) (queued_none a.points.now a.n s.pre.1.1.1)
 
 pub joined-spec : {M : Type 1} → statement M
 joined-spec = tie.close (tie.spec (λ c. search rules) tested-requires (λ c. search rules) returns returns-2 returns-3)

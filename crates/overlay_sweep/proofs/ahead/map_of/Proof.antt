@@ -3,7 +3,7 @@ use Prim.Native.Nat.{◌+◌, ◌-◌}
 use borrow.Author.Tests.{lt-ltb, le-ltb}
 use lib.Dec.{ltb}
 use Rattle.paper.specs.Limits.{maps}
-use Rattle.seq.specs.Loops.Searching.{Searching, search-starts, search-turns, search-finds, search-ends}
+use Rattle.seq.specs.Loops.Searching.{Searching, search_starts, search_turns, search_finds, search_ends}
 use Rattle.overlay_cut.specs.Cuts.{start_of}
 use borrow.Author.Rules.{rules}
 use native.Mathlib.Omega.{arith}
@@ -19,12 +19,12 @@ decreases-loop starts k m₀ m = maps - m
 returns : tie.Need-returns invariant-loop decreases-loop
 returns c =
     let at : tie.At-loop invariant-loop decreases-loop = search rules in
-    search-finds at.loop.inv (omega arith) (lt-ltb _ _ c.if1.true)
+    search_finds at.loop.inv (omega arith) (lt-ltb _ _ c.if1.true)
 
 loop-again : tie.Need-loop-preserved invariant-loop decreases-loop
 loop-again c =
     let at : tie.At-loop invariant-loop decreases-loop = search rules in
-    search-turns at.loop.inv (omega arith) (le-ltb _ _ c.if1.false)
+    search_turns at.loop.inv (omega arith) (le-ltb _ _ c.if1.false)
 
 pub map-of-spec : {M : Type 1} → statement M
 map-of-spec =
@@ -32,7 +32,7 @@ map-of-spec =
     (tie.spec
     invariant-loop
     decreases-loop
-    (λ c. search-starts)
+    (λ c. search_starts)
     (λ c. search rules)
     (λ c. search rules)
     (λ c. search rules)
@@ -40,4 +40,4 @@ map-of-spec =
     (λ c. search rules)
     (λ c. search rules)
     loop-again
-    (λ c. search-ends c.before.loop.invariant (omega arith)))
+    (λ c. search_ends c.before.loop.invariant (omega arith)))

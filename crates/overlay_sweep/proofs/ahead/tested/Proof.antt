@@ -2,9 +2,9 @@
 use mathlib.Core.Path.{sym, ◌∙◌}
 use native.Mathlib.Omega.{arith}
 use Rattle.seq.specs.Seq.{◌+◌, get_or}
-use Rattle.plane.specs.Values.{ptOf}
+use Rattle.plane.specs.Values.{pt_of}
 use Rattle.keys.specs.Rows.{carried}
-use Rattle.overlay_sweep.specs.Ahead.{strandAt, queued-none, requeued, crossAhead, ahead-same, ahead-other}
+use Rattle.overlay_sweep.specs.Ahead.{strand_at, queued_none, requeued, cross_ahead, ahead_same, ahead_other}
 use borrow.Author.Rules.{rules}
 use Rattle.overlay_sweep.proofs.ahead.tested.Statement.{statement}
 use Rattle.overlay_sweep.proofs.ahead.tested.Tie as tie
@@ -26,8 +26,8 @@ returns c =
     let s : tie.Start = search rules in
     let a = s.args in
     requeued
-    (sym (ahead-same (ptOf a.p) (strandAt a.carriers.now a.starts.now (get_or a.status.now a.j 0)) (strandAt a.carriers.now a.starts.now (get_or a.status.now (a.j + 1) 0)) (sym c.before.one_map.ensures ∙ c.if1.true)))
-    (queued-none a.points.now a.n s.pre.1.1.1)
+    (sym (ahead_same (pt_of a.p) (strand_at a.carriers.now a.starts.now (get_or a.status.now a.j 0)) (strand_at a.carriers.now a.starts.now (get_or a.status.now (a.j + 1) 0)) (sym c.before.one_map.ensures ∙ c.if1.true)))
+    (queued_none a.points.now a.n s.pre.1.1.1)
 
 carrier-at-requires : tie.Need-carrier-at-requires
 carrier-at-requires c κs = let s : tie.Start = search rules in carried s.pre.0.0 (s.pre.1.0.0.named s.args.j (omega (arith, s.pre.1.0.1)))
@@ -40,7 +40,7 @@ cross-in-requires c κs =
     let s : tie.Start = search rules in
     let x : tie.After-carrier-at = search rules in
     let y : tie.After-carrier-at2 = search rules in
-    ((x.carrier-at.ensures.1, y.carrier-at2.ensures.1), (s.pre.1.1.0, s.pre.1.1.1))
+    ((x.carrier_at_lem.ensures.1, y.carrier-at2.ensures.1), (s.pre.1.1.0, s.pre.1.1.1))
 
 returns-2 : tie.Need-returns-2
 returns-2 c =
@@ -51,8 +51,8 @@ returns-2 c =
     let x : tie.After-carrier-at = search rules in
     let y : tie.After-carrier-at2 = search rules in
     let z : tie.After-cross-in = search rules in
-    let other = ahead-other (ptOf a.p) (strandAt a.carriers.now a.starts.now (get_or a.status.now a.j 0)) (strandAt a.carriers.now a.starts.now (get_or a.status.now (a.j + 1) 0)) (sym one.one_map.ensures ∙ else.if1.left) in
-    requeued ((λ i. crossAhead (ptOf a.p) (x.carrier-at.ensures.0 i) (y.carrier-at2.ensures.0 i)) ∙ sym other) z.cross-in.ensures
+    let other = ahead_other (pt_of a.p) (strand_at a.carriers.now a.starts.now (get_or a.status.now a.j 0)) (strand_at a.carriers.now a.starts.now (get_or a.status.now (a.j + 1) 0)) (sym one.one_map.ensures ∙ else.if1.left) in
+    requeued ((λ i. cross_ahead (pt_of a.p) (x.carrier_at_lem.ensures.0 i) (y.carrier-at2.ensures.0 i)) ∙ sym other) z.cross-in.ensures
 
 pub tested-spec : {M : Type 1} → statement M
 tested-spec =

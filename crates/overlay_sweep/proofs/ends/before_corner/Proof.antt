@@ -4,9 +4,9 @@ use lib.IntN.{◌*ℤ◌}
 use borrow.Author.Rules.{rules}
 use Rattle.exact.specs.Mach.{tr, fits, plain}
 use Rattle.paper.specs.Plane.{vec}
-use Rattle.plane.specs.Values.{ptOf}
+use Rattle.plane.specs.Values.{pt_of}
 use Rattle.plane.proofs.Machine.{back}
-use Rattle.overlay_sweep.specs.First.{first, of-point}
+use Rattle.overlay_sweep.specs.First.{first, of_point}
 use Rattle.overlay_sweep.proofs.ends.before_corner.Statement.{statement}
 use Rattle.overlay_sweep.proofs.ends.before_corner.Tie as tie
 
@@ -18,7 +18,7 @@ returns c =
     let y : back (back a.y *ℤ back a.p.d) ≡ a.y *ℤ a.p.d = plain (search tr depth 20) tt in
     let u : back a.p.x ≡ a.p.x = plain (search tr depth 20) tt in
     let v : back a.p.y ≡ a.p.y = plain (search tr depth 20) tt in
-    c.first_of.ensures ∙ (λ i. first (u i) (v i) (x i) (y i)) ∙ of-point (vec a.x a.y) (ptOf a.p)
+    c.first_of.ensures ∙ (λ i. first (u i) (v i) (x i) (y i)) ∙ of_point (vec a.x a.y) (pt_of a.p)
 
 pub before-corner-spec : {M : Type 1} → statement M
 before-corner-spec = tie.close (tie.spec (λ c. fits (search tr depth 20) tt) (λ c. fits (search tr depth 20) tt) (λ c κs. tt) returns)

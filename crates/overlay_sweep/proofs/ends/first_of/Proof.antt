@@ -4,7 +4,7 @@ use mathlib.Core.Bool.{true, false}
 use lib.Signed.{lt_z}
 use borrow.Author.Rules.{rules}
 use Rattle.exact.specs.Mach.{trbs, test}
-use Rattle.overlay_sweep.specs.First.{first_below, first_above, first-level}
+use Rattle.overlay_sweep.specs.First.{first_below, first_above, first_level}
 use Rattle.overlay_sweep.proofs.ends.first_of.Statement.{statement}
 use Rattle.overlay_sweep.proofs.ends.first_of.Tie as tie
 
@@ -28,7 +28,7 @@ returns-3 c =
     let a = s.args in
     let e : lt_z a.y a.v ≡ false = sym (test (search trbs depth 20) tt) ∙ c.before.if1.false in
     let f : lt_z a.v a.y ≡ false = sym (test (search trbs depth 20) tt) ∙ c.if2.false in
-    test (search trbs depth 20) tt ∙ first-level a.x a.y a.u a.v e f
+    test (search trbs depth 20) tt ∙ first_level a.x a.y a.u a.v e f
 
 pub first-of-spec : {M : Type 1} → statement M
 first-of-spec = tie.close (tie.spec returns returns-2 returns-3)

@@ -1,10 +1,10 @@
 -- `overlay_sweep::queue::corner_in` meets its contract: full, or put at its place. Assumes nothing.
 use native.Mathlib.Omega.{arith}
 use borrow.Author.Rules.{rules}
-use Rattle.plane.specs.Values.{ptOf}
-use Rattle.seq.specs.Halves.{halve-starts}
-use Rattle.overlay_cut.specs.Rooms.{vertexRows}
-use Rattle.overlay_sweep.specs.Queue.{queue-full}
+use Rattle.plane.specs.Values.{pt_of}
+use Rattle.seq.specs.Halves.{halve_starts}
+use Rattle.overlay_cut.specs.Rooms.{vertex_rows}
+use Rattle.overlay_sweep.specs.Queue.{queue_full}
 use Rattle.overlay_sweep.proofs.queue.corner_in.Statement.{statement}
 use Rattle.overlay_sweep.proofs.queue.corner_in.Tie as tie
 
@@ -12,10 +12,10 @@ returns : tie.Need-returns
 returns c =
     let s : tie.Start = search rules in
     let a = s.args in
-    queue-full vertexRows a.points.now a.n (ptOf a.p) (search rules)
+    queue_full vertex_rows a.points.now a.n (pt_of a.p) (search rules)
 
 place-in-requires : tie.Need-place-in-requires
-place-in-requires c κs = let s : tie.Start = search rules in (s.pre.0, (s.pre.1.0, (s.pre.1.1.0, halve-starts _ _)))
+place-in-requires c κs = let s : tie.Start = search rules in (s.pre.0, (s.pre.1.0, (s.pre.1.1.0, halve_starts _ _)))
 
 put-at-requires : tie.Need-put-at-requires
 put-at-requires c κs =

@@ -1,9 +1,9 @@
 -- `overlay_sweep::queue::crossing_in` meets its contract: full, or put at its place. Assumes nothing.
 use native.Mathlib.Omega.{arith}
 use borrow.Author.Rules.{rules}
-use Rattle.plane.specs.Values.{ptOf}
-use Rattle.overlay_cut.specs.Rooms.{vertexRows}
-use Rattle.overlay_sweep.specs.Queue.{queue-full}
+use Rattle.plane.specs.Values.{pt_of}
+use Rattle.overlay_cut.specs.Rooms.{vertex_rows}
+use Rattle.overlay_sweep.specs.Queue.{queue_full}
 use Rattle.overlay_sweep.proofs.queue.crossing_in.Statement.{statement}
 use Rattle.overlay_sweep.proofs.queue.crossing_in.Tie as tie
 
@@ -11,7 +11,7 @@ returns : tie.Need-returns
 returns c =
     let s : tie.Start = search rules in
     let a = s.args in
-    queue-full vertexRows a.points.now a.n (ptOf a.p) (search rules)
+    queue_full vertex_rows a.points.now a.n (pt_of a.p) (search rules)
 
 place-near-requires : tie.Need-place-near-requires
 place-near-requires c κs = let s : tie.Start = search rules in let else : tie.Else1 = search rules in ((s.pre.0, omega (arith, else.if1.left)), (s.pre.1.0, s.pre.1.1.0))

@@ -1,7 +1,7 @@
 -- `overlay_sweep::queue::lift_i64` meets its contract. Assumes nothing.
 use Prim.Native.Nat.{◌-◌}
 use lib.IntN.{pos}
-use Rattle.seq.specs.Loops.Lifting.{Lifting, lift-starts, lift-turns, lift-ends}
+use Rattle.seq.specs.Loops.Lifting.{Lifting, lift_starts, lift_turns, lift_ends}
 use borrow.Author.Rules.{rules}
 use Rattle.graph.proofs.Rows.{read}
 use Rattle.overlay_sweep.proofs.queue.lift_i64.Statement.{statement}
@@ -19,7 +19,7 @@ lift-i64-spec =
     (tie.spec
     invariant-loop
     decreases-loop
-    (λ c. lift-starts (search rules) (search rules))
+    (λ c. lift_starts (search rules) (search rules))
     (λ c. search rules)
     (λ c. search rules)
     (λ c. search rules)
@@ -27,6 +27,6 @@ lift-i64-spec =
     (λ c. search rules)
     (λ c. search rules)
     (λ c. search rules)
-    (λ c. lift-turns c.before.before.loop.invariant (pos 0) (search rules) (read c.before.before.loop.t (c.before.before.loop.i - 1) c.t.given))
+    (λ c. lift_turns c.before.before.loop.invariant (pos 0) (search rules) (read c.before.before.loop.t (c.before.before.loop.i - 1) c.t.given))
     (λ c. search rules)
-    (λ c. lift-ends c.before.loop.invariant (search rules)))
+    (λ c. lift_ends c.before.loop.invariant (search rules)))

@@ -6,14 +6,14 @@ use borrow.Author.Rules.{rules}
 use Rattle.seq.specs.Seq.{◌+◌, ◌/◌}
 use Rattle.paper.specs.Plane.{Pt, before}
 use Rattle.plane.specs.Bounds.{Near}
-use Rattle.plane.specs.Values.{ptOf}
-use Rattle.seq.specs.Halves.{Halving, halve-up, halve-down}
-use Rattle.overlay_sweep.specs.Queue.{beforeAt, place-by}
+use Rattle.plane.specs.Values.{pt_of}
+use Rattle.seq.specs.Halves.{Halving, halve_up, halve_down}
+use Rattle.overlay_sweep.specs.Queue.{the_before_at, place_by_lem}
 use Rattle.overlay_sweep.proofs.queue.place_in.Statement.{statement}
 use Rattle.overlay_sweep.proofs.queue.place_in.Tie as tie
 
 abbrev invariant-loop : tie.invariant-loop
-invariant-loop points n from to p a₀ b₀ a b = Halving (beforeAt points (ptOf p)) n a b
+invariant-loop points n from to p a₀ b₀ a b = Halving (the_before_at points (pt_of p)) n a b
 
 abbrev decreases-loop : tie.decreases-loop
 decreases-loop points n from to p a₀ b₀ a b = b - a
@@ -33,17 +33,17 @@ earlier-requires c κs =
 loop-again : tie.Need-loop-preserved invariant-loop decreases-loop
 loop-again c =
     let s : tie.Start invariant-loop decreases-loop = search rules in
-    halve-down _ c.before.before.before.before.loop.invariant _ (omega arith) (omega arith)
-    (sym (c.before.earlier.ensures ∙ ap (λ (q : Pt). before q (ptOf s.args.p)) c.before.before.point_at.ensures) ∙ c.if1.true)
+    halve_down _ c.before.before.before.before.loop.invariant _ (omega arith) (omega arith)
+    (sym (c.before.earlier.ensures ∙ ap (λ (q : Pt). before q (pt_of s.args.p)) c.before.before.point_at.ensures) ∙ c.if1.true)
 
 loop-again-2 : tie.Need-loop-preserved-2 invariant-loop decreases-loop
 loop-again-2 c =
     let s : tie.Start invariant-loop decreases-loop = search rules in
-    halve-up _ c.before.before.before.before.loop.invariant _ (omega arith) (omega arith) s.pre.1.1.0
-    (sym (c.before.earlier.ensures ∙ ap (λ (q : Pt). before q (ptOf s.args.p)) c.before.before.point_at.ensures) ∙ c.if1.false)
+    halve_up _ c.before.before.before.before.loop.invariant _ (omega arith) (omega arith) s.pre.1.1.0
+    (sym (c.before.earlier.ensures ∙ ap (λ (q : Pt). before q (pt_of s.args.p)) c.before.before.point_at.ensures) ∙ c.if1.false)
 
 returns : tie.Need-returns invariant-loop decreases-loop
-returns c = let s : tie.Start invariant-loop decreases-loop = search rules in place-by _ _ _ s.pre.1.1.0 c.before.loop.invariant (search rules)
+returns c = let s : tie.Start invariant-loop decreases-loop = search rules in place_by_lem _ _ _ s.pre.1.1.0 c.before.loop.invariant (search rules)
 
 pub place-in-spec : {M : Type 1} → statement M
 place-in-spec =

@@ -6,21 +6,21 @@ use borrow.Author.Rules.{rules}
 use Rattle.seq.specs.Seq.{◌*◌}
 use Rattle.paper.specs.Plane.{Pt, before}
 use Rattle.plane.specs.Bounds.{Near}
-use Rattle.plane.specs.Values.{ptOf}
-use Rattle.seq.specs.Halves.{Halving, halve-starts, halve-up, halve-down}
-use Rattle.overlay_cut.specs.Rooms.{vertexRows}
-use Rattle.overlay_sweep.specs.Queue.{beforeAt}
+use Rattle.plane.specs.Values.{pt_of}
+use Rattle.seq.specs.Halves.{Halving, halve_starts, halve_up, halve_down}
+use Rattle.overlay_cut.specs.Rooms.{vertex_rows}
+use Rattle.overlay_sweep.specs.Queue.{the_before_at}
 use Rattle.overlay_sweep.proofs.queue.place_near.Statement.{statement}
 use Rattle.overlay_sweep.proofs.queue.place_near.Tie as tie
 
 abbrev invariant-loop : tie.invariant-loop
-invariant-loop points n p b₀ s₀ b s = Halving (beforeAt points (ptOf p)) n 0 b × (1 ≤ s) × (s ≤ 2 * vertexRows)
+invariant-loop points n p b₀ s₀ b s = Halving (the_before_at points (pt_of p)) n 0 b × (1 ≤ s) × (s ≤ 2 * vertex_rows)
 
 abbrev decreases-loop : tie.decreases-loop
 decreases-loop points n p b₀ s₀ b s = b
 
 loop-holds : tie.Need-loop-init invariant-loop decreases-loop
-loop-holds c = (halve-starts _ _, omega arith, omega arith)
+loop-holds c = (halve_starts _ _, omega arith, omega arith)
 
 point-at-requires : tie.Need-point-at-requires invariant-loop decreases-loop
 point-at-requires c κs =
@@ -53,8 +53,8 @@ loop-again c =
     let then : tie.Then1 invariant-loop decreases-loop = search rules in
     let l = then.before.before.before.before.loop in
     let t = then.before.before.before.loop-test.taken in (
-      halve-down _ l.inv.0 (l.b - l.s) (omega (arith, l.inv.1, t)) (omega arith)
-          (sym (then.before.earlier.ensures ∙ ap (λ (q : Pt). before q (ptOf s.args.p)) then.before.before.point_at.ensures) ∙ then.if1.taken),
+      halve_down _ l.inv.0 (l.b - l.s) (omega (arith, l.inv.1, t)) (omega arith)
+          (sym (then.before.earlier.ensures ∙ ap (λ (q : Pt). before q (pt_of s.args.p)) then.before.before.point_at.ensures) ∙ then.if1.taken),
       omega (arith, l.inv.1),
       omega (arith, s.pre.0.1, l.inv.0.within, t),
     )
@@ -77,8 +77,8 @@ place-in-requires c κs =
         s.pre.1.0,
         (
           s.pre.1.1,
-          halve-up _ l.inv.0 (l.b - l.s) (omega (arith, l.inv.1, t)) (omega arith) s.pre.1.1
-              (sym (else.before.earlier.ensures ∙ ap (λ (q : Pt). before q (ptOf s.args.p)) else.before.before.point_at.ensures) ∙ else.if1.left),
+          halve_up _ l.inv.0 (l.b - l.s) (omega (arith, l.inv.1, t)) (omega arith) s.pre.1.1
+              (sym (else.before.earlier.ensures ∙ ap (λ (q : Pt). before q (pt_of s.args.p)) else.before.before.point_at.ensures) ∙ else.if1.left),
         ),
       ),
     )

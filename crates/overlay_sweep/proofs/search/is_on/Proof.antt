@@ -5,11 +5,11 @@ use native.Mathlib.Omega.{arith}
 use borrow.Author.Rules.{rules}
 use mir.Syntax.{w64}
 use Rattle.exact.specs.Mach.{trbits, eq_yes, eq_no}
-use Rattle.paper.specs.Plane.{Seg, leftBy}
+use Rattle.paper.specs.Plane.{Seg, the_left_by}
 use Rattle.seq.specs.Seq.{get_or}
-use Rattle.graph.specs.Flat.{carrierAt}
-use Rattle.plane.specs.Values.{ptOf}
-use Rattle.plane.proofs.Signs.{zer-yes, zer-no}
+use Rattle.graph.specs.Flat.{carrier_at}
+use Rattle.plane.specs.Values.{pt_of}
+use Rattle.plane.proofs.Signs.{zer_yes, zer_no}
 use Rattle.overlay_sweep.proofs.search.is_on.Statement.{statement}
 use Rattle.overlay_sweep.proofs.search.is_on.Tie as tie
 
@@ -23,21 +23,21 @@ carrier-at-requires c κs =
     record { row = omega (arith, k, s.requires.0.long); near = s.requires.0.near (get_or s.args.status.now s.args.i 0) k }
 
 left-by-requires : tie.Need-left-by-requires
-left-by-requires c κs = (c.carrier-at.ensures.1, c.before.before.before.requires.1.1.1)
+left-by-requires c κs = (c.carrier_at_lem.ensures.1, c.before.before.before.requires.1.1.1)
 
 returns : tie.Need-returns
 returns c =
     let a = c.before.before.before.before.before.args in
     let zero : c.before.left_by.result ≡ pos 0 = eq_yes w64 c.if1.true (search trbits depth 20) (search trbits depth 20) tt in
-    sym (zer-yes (leftBy (carrierAt a.carriers.now (get_or a.status.now a.i 0)) (ptOf a.p))
-    (ap (λ (t : Seg). leftBy t (ptOf a.p)) (sym c.before.before.carrier-at.ensures.0) ∙ sym c.before.left_by.ensures.0 ∙ zero))
+    sym (zer_yes (the_left_by (carrier_at a.carriers.now (get_or a.status.now a.i 0)) (pt_of a.p))
+    (ap (λ (t : Seg). the_left_by t (pt_of a.p)) (sym c.before.before.carrier_at_lem.ensures.0) ∙ sym c.before.left_by.ensures.0 ∙ zero))
 
 returns-2 : tie.Need-returns-2
 returns-2 c =
     let a = c.before.before.before.before.before.args in
     let off : c.before.left_by.result ≡ pos 0 → ⊥ = eq_no w64 c.if1.false (search trbits depth 20) (search trbits depth 20) tt in
-    sym (zer-no (leftBy (carrierAt a.carriers.now (get_or a.status.now a.i 0)) (ptOf a.p))
-    (λ z. off (c.before.left_by.ensures.0 ∙ ap (λ (t : Seg). leftBy t (ptOf a.p)) c.before.before.carrier-at.ensures.0 ∙ z)))
+    sym (zer_no (the_left_by (carrier_at a.carriers.now (get_or a.status.now a.i 0)) (pt_of a.p))
+    (λ z. off (c.before.left_by.ensures.0 ∙ ap (λ (t : Seg). the_left_by t (pt_of a.p)) c.before.before.carrier_at_lem.ensures.0 ∙ z)))
 
 pub is-on-spec : {M : Type 1} → statement M
 is-on-spec = tie.close (tie.spec (λ c. search rules) (λ c. search rules) cast-k carrier-at-requires left-by-requires returns returns-2)

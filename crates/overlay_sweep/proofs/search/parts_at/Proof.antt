@@ -3,8 +3,8 @@ use mathlib.Core.Path.{refl, sym, ◌∙◌}
 use native.Mathlib.Omega.{arith}
 use borrow.Author.Rules.{rules}
 use Rattle.seq.specs.Tests.{clash, was-false}
-use Rattle.plane.specs.Values.{ptOf}
-use Rattle.overlay_sweep.specs.Sides.{rightAt}
+use Rattle.plane.specs.Values.{pt_of}
+use Rattle.overlay_sweep.specs.Sides.{right_at}
 use Rattle.overlay_sweep.specs.Numbers.{stop-beside}
 use Rattle.overlay_sweep.proofs.search.parts_at.Statement.{statement}
 use Rattle.overlay_sweep.proofs.search.parts_at.Tie as tie
@@ -22,7 +22,7 @@ returns-3 c =
     let west : tie.After-is-right = search rules in
     let then : tie.Then3 = search rules in
     λ e.
-    stop-beside (rightAt a.carriers.now a.status.now (ptOf a.p)) a.n a.g s.pre.1.1.1 (omega arith) (omega arith) (sym west.is_right.ensures ∙ then.if3.taken) (sym c.is-right2.ensures ∙ was-false c.is-right2.result e)
+    stop-beside (right_at a.carriers.now a.status.now (pt_of a.p)) a.n a.g s.pre.1.1.1 (omega arith) (omega arith) (sym west.is_right.ensures ∙ then.if3.taken) (sym c.is-right2.ensures ∙ was-false c.is-right2.result e)
 
 pub parts-at-spec : {M : Type 1} → statement M
 parts-at-spec =

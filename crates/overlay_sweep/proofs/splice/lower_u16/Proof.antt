@@ -1,7 +1,7 @@
 -- `overlay_sweep::splice::lower_u16` meets its contract. Assumes nothing.
 use mathlib.Core.Path.{refl}
 use Prim.Native.Nat.{◌-◌}
-use Rattle.overlay_sweep.specs.Splice.{Lowering, lower-starts, lower-turns, lower-ends}
+use Rattle.overlay_sweep.specs.Splice.{Lowering, lower_starts, lower_turns, lower_ends}
 use borrow.Author.Rules.{rules}
 use Rattle.overlay_sweep.proofs.splice.lower_u16.Statement.{statement}
 use Rattle.overlay_sweep.proofs.splice.lower_u16.Tie as tie
@@ -13,13 +13,13 @@ abbrev decreases-loop : tie.decreases-loop
 decreases-loop t₀ from to by i₀ t i = to - i
 
 loop-holds : tie.Need-loop-init invariant-loop decreases-loop
-loop-holds c = lower-starts _ _ _ _ (search rules) (search rules) (search rules)
+loop-holds c = lower_starts _ _ _ _ (search rules) (search rules) (search rules)
 
 loop-again : tie.Need-loop-preserved invariant-loop decreases-loop
-loop-again c = lower-turns c.before.before.loop.invariant _ (search rules) refl
+loop-again c = lower_turns c.before.before.loop.invariant _ (search rules) refl
 
 returns : tie.Need-returns invariant-loop decreases-loop
-returns c = lower-ends c.before.loop.invariant (search rules)
+returns c = lower_ends c.before.loop.invariant (search rules)
 
 pub lower-u16-spec : {M : Type 1} → statement M
 lower-u16-spec =

@@ -1,6 +1,6 @@
 -- `overlay_sweep::splice::shift` meets its contract. Assumes nothing.
 use native.Mathlib.Omega.{arith}
-use Rattle.overlay_sweep.specs.Splice.{shift-up, shift-down, shift_none}
+use Rattle.overlay_sweep.specs.Splice.{shift_up, shift_down, shift_none}
 use borrow.Author.Rules.{rules}
 use Rattle.overlay_sweep.proofs.splice.shift.Statement.{statement}
 use Rattle.overlay_sweep.proofs.splice.shift.Tie as tie
@@ -9,13 +9,13 @@ returns : tie.Need-returns
 returns c =
     let s : tie.Start = search rules in
     let a = s.args in
-    shift-up a.n a.b a.c a.t.now _ (search rules) s.pre.0 (omega (arith, s.pre.0, s.pre.1.1)) c.before.before.lift-u16.ensures
+    shift_up a.n a.b a.c a.t.now _ (search rules) s.pre.0 (omega (arith, s.pre.0, s.pre.1.1)) c.before.before.lift-u16.ensures
 
 returns-2 : tie.Need-returns-2
 returns-2 c =
     let s : tie.Start = search rules in
     let a = s.args in
-    shift-down a.n a.b a.c a.t.now _ (search rules) s.pre.0 c.before.before.lower-u16.ensures
+    shift_down a.n a.b a.c a.t.now _ (search rules) s.pre.0 c.before.before.lower-u16.ensures
 
 returns-3 : tie.Need-returns-3
 returns-3 c =

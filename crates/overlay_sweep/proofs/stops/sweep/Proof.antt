@@ -10,7 +10,7 @@ use Rattle.overlay_sweep.proofs.stops.sweep.Tie as tie
 shared-slice-read-e : tie.Need-shared-slice-read-e
 shared-slice-read-e c =
     let start : tie.Start = search rules in
-    omega (arith, start.pre.0.starts-long)
+    omega (arith, start.pre.0.starts_long)
 
 slice-aggregate-by-lower-end : tie.Need-slice-aggregate-by-lower-end
 slice-aggregate-by-lower-end c = search rules
@@ -48,7 +48,7 @@ all-turns-requires c κs =
     )
 
 returns : tie.Need-returns
-returns c = let all : tie.After-all-turns = search rules in all.all-turns.ensures
+returns c = let all : tie.After-all-turns = search rules in all.all_turns.ensures
 
 pub sweep-spec : {M : Type 1} → statement M
 sweep-spec =

@@ -1,7 +1,7 @@
 -- `overlay_sweep::through::thread` meets its contract. Assumes nothing.
 use native.Mathlib.Omega.{arith}
 use borrow.Author.Rules.{rules}
-use Rattle.overlay_cut.specs.Laws.Remembering.{remembered-both-if}
+use Rattle.overlay_cut.specs.Laws.Remembering.{remembered_both_if}
 use Rattle.overlay_sweep.specs.Threading.{spools-kept}
 use Rattle.overlay_sweep.proofs.through.thread.Statement.{statement}
 use Rattle.overlay_sweep.proofs.through.thread.Tie as tie
@@ -24,7 +24,7 @@ returns : tie.Need-returns
 returns c =
     let first : tie.After-remember-all = search rules in
     let second : tie.After-remember-all2 = search rules in
-    (remembered-both-if first.remember-all.ensures.0 second.remember-all2.ensures.0, second.remember-all2.ensures.1)
+    (remembered_both_if first.remember-all.ensures.0 second.remember-all2.ensures.0, second.remember-all2.ensures.1)
 
 pub thread-spec : {M : Type 1} → statement M
 thread-spec = tie.close (tie.spec remember-all-requires remember-all-requires-2 (λ c. search rules) (λ c. search rules) returns)

@@ -1,6 +1,6 @@
 -- `overlay_sweep::turn::exchange` meets its contract. Assumes nothing.
 use native.Mathlib.Omega.{arith}
-use Rattle.plane.specs.Values.{ptOf}
+use Rattle.plane.specs.Values.{pt_of}
 use Rattle.graph.specs.Flat.{Numbers}
 use Rattle.overlay_sweep.specs.Turned.{numbers-fewer, cut_at, turn_at}
 use borrow.Author.Rules.{rules}
@@ -13,7 +13,7 @@ going-on-requires c κs =
     let r = start.pre.0 in
     let m = start.pre.1.1.1 in
     let b = m.through.scan in
-    (r.carriers, (numbers-fewer r.named b.within, (b.low, (start.pre.1.1.0, omega (arith, b.within, r.fewer, r.started, r.fan-room)))))
+    (r.carriers, (numbers-fewer r.named b.within, (b.low, (start.pre.1.1.0, omega (arith, b.within, r.fewer, r.started, r.fan_room_lem)))))
 
 -- the places before the fan is whole, and what is known there of the counts
 module _ (c : tie.After-going-on) where
@@ -28,7 +28,7 @@ starting-requires c κs =
     let b = m.through.scan.within in
     let g = l.Going-on.ensures in
     let s = m.starts.scan in
-    (r.carriers, (r.waits, ((omega (arith, g.1, b, r.fewer), s.low, s.within), (g.0.named, omega (arith, l.Going-on.kept, g.1, b, r.fewer, r.started, r.fan-room)))))
+    (r.carriers, (r.waits, ((omega (arith, g.1, b, r.fewer), s.low, s.within), (g.0.named, omega (arith, l.Going-on.kept, g.1, b, r.fewer, r.started, r.fan_room_lem)))))
 
 sub-m : tie.Need-overflow-sub-m
 sub-m c =
@@ -50,7 +50,7 @@ splice-requires c κs =
     let b = m.through.scan in
     let g = l.Going-on.ensures.1 in
     let s = m.starts.scan in
-    (b.low, (b.within, (r.named.long, (omega (arith, b.low, b.within, g, s.low, s.within, r.fewer, r.room), omega (arith, l.Going-on.kept, f.starting.kept, b.within, g, s.low, s.within, r.fewer, r.fan-room)))))
+    (b.low, (b.within, (r.named.long, (omega (arith, b.low, b.within, g, s.low, s.within, r.fewer, r.room), omega (arith, l.Going-on.kept, f.starting.kept, b.within, g, s.low, s.within, r.fewer, r.fan_room_lem)))))
 
 -- after the splice
 module _ (c : tie.After-splice) where
@@ -66,7 +66,7 @@ module _ (c : tie.After-splice) where
       let m = (start line).pre.1.1.1 in
       let g = line.Going-on in
       let x = c.splice in
-      cut_at a.carriers.now a.starts.now (ptOf a.p) a.status.now a.c a.at.from a.at.to m.west m.through
+      cut_at a.carriers.now a.starts.now (pt_of a.p) a.status.now a.c a.at.from a.at.to m.west m.through
       a.waits.now a.e a.w a.at.started m.starts _ _ g.result g.ensures.0 fan.starting.ensures x.new.0 x.ensures.1 (start line).pre.0 g.ensures.1 x.auto.0 x.result x.ensures.0
 
 add-joined : tie.Need-overflow-add-joined
@@ -80,14 +80,14 @@ joined-requires : tie.Need-joined-requires
 joined-requires c κs =
     let x : tie.After-splice = search rules in
     let s = start (line x) in
-    ((s.pre.0.carriers, s.pre.0.starts-long), (numbers x, (s.pre.1.1.0, s.pre.1.0)))
+    ((s.pre.0.carriers, s.pre.0.starts_long), (numbers x, (s.pre.1.1.0, s.pre.1.0)))
 
 joined-requires-2 : tie.Need-joined-requires-2
 joined-requires-2 c κs =
     let x : tie.After-splice = search rules in
     let east : tie.After-joined = search rules in
     let s = start (line x) in
-    ((s.pre.0.carriers, s.pre.0.starts-long), (numbers x, (s.pre.1.1.0, east.joined.ensures.rows)))
+    ((s.pre.0.carriers, s.pre.0.starts_long), (numbers x, (s.pre.1.1.0, east.joined.ensures.rows)))
 
 same_length : tie.Need-same-length
 same_length c =
@@ -103,7 +103,7 @@ returns c =
     let m = (start l).pre.1.1.1 in
     let g = l.Going-on in
     let x = z.splice in
-    turn_at a.carriers.now a.starts.now (ptOf a.p) a.status.now a.c a.at.from a.at.to m.west m.through
+    turn_at a.carriers.now a.starts.now (pt_of a.p) a.status.now a.c a.at.from a.at.to m.west m.through
     a.waits.now a.e a.w a.at.started m.starts _ _ g.result g.ensures.0 (fan z).starting.ensures x.last.0 x.ensures.1 (start l).pre.0 g.ensures.1 x.kept.0 x.result x.ensures.0
     east.joined.ensures c.before.joined2.ensures
 

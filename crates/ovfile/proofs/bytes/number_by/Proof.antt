@@ -2,7 +2,7 @@
 use mathlib.Core.Path.{sym}
 use native.Mathlib.Omega.{arith}
 use borrow.Author.Rules.{rules}
-use Rattle.ovfile.proofs.BytesLaws.{Reading, number_past, read-starts, read-turns, read-ends, read_small}
+use Rattle.ovfile.proofs.BytesLaws.{Reading, number_past, read_starts, read_turns, read_ends, read_small}
 use Rattle.ovfile.proofs.bytes.number_by.Statement.{statement}
 use Rattle.ovfile.proofs.bytes.number_by.Tie as tie
 
@@ -35,7 +35,7 @@ number-by-spec =
     invariant-loop
     decreases-loop
     returns
-    (λ c. read-starts)
+    (λ c. read_starts)
     (λ c. search rules)
     add-byte-at
     (λ c κs. search rules)
@@ -43,5 +43,5 @@ number-by-spec =
     mul-n
     add-n
     (λ c. search rules)
-    (λ c. read-turns c.before.before.loop.invariant c.byte_at.result c.before.loop-test.true c.byte_at.ensures)
-    (λ c. read-ends c.before.loop.invariant c.loop-test.false))
+    (λ c. read_turns c.before.before.loop.invariant c.byte_at.result c.before.loop-test.true c.byte_at.ensures)
+    (λ c. read_ends c.before.loop.invariant c.loop-test.false))

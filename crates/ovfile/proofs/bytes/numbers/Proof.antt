@@ -6,7 +6,7 @@ use native.Mathlib.Numerals.{add-one}
 use native.Mathlib.Omega.{arith}
 use borrow.Author.Rules.{rules}
 use Rattle.seq.specs.Seq.{ℕ, ◌*◌, ◌-◌, ◌^◌}
-use Rattle.ovfile.proofs.BytesLaws.{powers-fit}
+use Rattle.ovfile.proofs.BytesLaws.{powers_fit}
 use Rattle.ovfile.proofs.bytes.numbers.Statement.{statement}
 use Rattle.ovfile.proofs.bytes.numbers.Tie as tie
 
@@ -20,7 +20,7 @@ mul-n : tie.Need-overflow-mul-n invariant-loop decreases-loop
 mul-n c =
     let start : tie.Start invariant-loop decreases-loop = search rules in
     let at = c.before in
-    omega (arith, powers-fit at.loop.i start.args.width (omega arith) (omega arith))
+    omega (arith, powers_fit at.loop.i start.args.width (omega arith) (omega arith))
 
 loop-again : tie.Need-loop-preserved invariant-loop decreases-loop
 loop-again c =

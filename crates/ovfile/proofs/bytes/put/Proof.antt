@@ -1,7 +1,7 @@
 -- `ovfile::bytes::put` meets its contract: what is left of the number is still to be stored. Assumes nothing.
 use borrow.Author.Rules.{rules}
 use Rattle.seq.specs.Seq.{◌-◌}
-use Rattle.ovfile.proofs.BytesLaws.{Writing, write-starts, write-turns, write-ends}
+use Rattle.ovfile.proofs.BytesLaws.{Writing, write_starts, write_turns, write_ends}
 use Rattle.ovfile.proofs.bytes.put.Statement.{statement}
 use Rattle.ovfile.proofs.bytes.put.Tie as tie
 
@@ -17,12 +17,12 @@ put_spec =
     (tie.spec
     invariant-loop
     decreases-loop
-    (λ c. write-starts)
+    (λ c. write_starts)
     (λ c. search rules)
     (λ c. search rules)
     (λ c. search rules)
     (λ c. search rules)
     (λ c. search rules)
-    (λ c. write-turns c.before.loop.invariant c.loop-test.true)
+    (λ c. write_turns c.before.loop.invariant c.loop-test.true)
     (λ c. search rules)
-    (λ c. write-ends c.before.loop.invariant c.loop-test.false))
+    (λ c. write_ends c.before.loop.invariant c.loop-test.false))

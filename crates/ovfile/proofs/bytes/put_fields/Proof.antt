@@ -5,7 +5,7 @@ use borrow.Author.Rules.{rules}
 use Rattle.seq.specs.Seq.{List, ℕ, ◌-◌, length, get_or, sets}
 use Rattle.paper.specs.Bytes.{le}
 use Rattle.laws_file.specs.Bytes.{length-le}
-use Rattle.seq.specs.Loops.Storing.{Storing, store-starts, store-turns, store-ends}
+use Rattle.seq.specs.Loops.Storing.{Storing, store_starts, store_turns, store_ends}
 use Rattle.seq.specs.Rows.{gather-rows}
 use Rattle.ovfile.proofs.bytes.put_fields.Statement.{statement}
 use Rattle.ovfile.proofs.bytes.put_fields.Tie as tie
@@ -38,13 +38,13 @@ loop-again c =
     let at : tie.At-loop invariant-loop decreases-loop = search rules in
     let start : tie.Start invariant-loop decreases-loop = search rules in
     let fields = start.args.fields.now in
-    store-turns at.loop.inv (two fields) in-loop.loop-test.taken c.before.before.put.ensures
+    store_turns at.loop.inv (two fields) in-loop.loop-test.taken c.before.before.put.ensures
 
 returns : tie.Need-returns invariant-loop decreases-loop
 returns c =
     let start : tie.Start invariant-loop decreases-loop = search rules in
     let a = start.args in
-    store-ends c.before.loop.invariant c.loop-test.false
+    store_ends c.before.loop.invariant c.loop-test.false
     ∙ ap (sets a.buffer.now a.at) (gather-rows (le 2) a.fields.now)
 
 pub put-fields-spec : {M : Type 1} → statement M
@@ -53,7 +53,7 @@ put-fields-spec =
     (tie.spec
     invariant-loop
     decreases-loop
-    (λ c. store-starts (omega arith))
+    (λ c. store_starts (omega arith))
     (λ c. search rules)
     (λ c. search rules)
     (λ c. search rules)

@@ -6,8 +6,8 @@ use borrow.Author.Rules.{rules}
 use borrow.Author.Tests.{lt-ltb, le-ltb}
 use Rattle.seq.specs.Seq.{ℕ, true, false, ◌+◌, ◌/◌, ◌^◌, pos, ◌-ℤ◌}
 use Rattle.exact.specs.Mach.{trn, fits, plain}
-use Rattle.laws_file.specs.Bytes.{signed_by, number-below}
-use Rattle.ovfile.proofs.BytesLaws.{powers-small, number_small, below-zero}
+use Rattle.laws_file.specs.Bytes.{signed_by, number_below}
+use Rattle.ovfile.proofs.BytesLaws.{powers_small, number_small, below_zero}
 use Rattle.ovfile.proofs.bytes.signed_at.Statement.{statement}
 use Rattle.ovfile.proofs.bytes.signed_at.Tie as tie
 
@@ -21,11 +21,11 @@ module _ (c : tie.After-numbers) where
       omega (arith, number_small known.before.args.width known.before.args.file.now known.before.args.at (λ i. (known.shared-slice-known.given i).fits) (omega arith))
 
   numbers-are-small : c.numbers.result < 256 ^ 7 + 1
-  numbers-are-small = omega (arith, powers-small known.before.args.width (omega arith))
+  numbers-are-small = omega (arith, powers_small known.before.args.width (omega arith))
 
   number-is-below : c.before.number_at.result < c.numbers.result
   number-is-below =
-      omega (arith, number-below known.before.args.width known.before.args.file.now known.before.args.at (λ i. (known.shared-slice-known.given i).fits))
+      omega (arith, number_below known.before.args.width known.before.args.file.now known.before.args.at (λ i. (known.shared-slice-known.given i).fits))
 
 cast-result : tie.Need-overflow-cast-result
 cast-result c = omega (arith, number-is-small c.before)
@@ -60,7 +60,7 @@ returns-2 c =
     let g = numbers-are-small c.before in
     plain (search trn depth 20) tt
     ∙ ap (λ (p : ℕ). pos n.result -ℤ pos p) c.before.numbers.ensures
-    ∙ below-zero n.result (256 ^ a.width) (omega (arith, number-is-below c.before))
+    ∙ below_zero n.result (256 ^ a.width) (omega (arith, number-is-below c.before))
     ∙ sym (signed_by a.width a.file.now a.at n.result false (le-ltb n.result (256 ^ a.width / 2) (omega arith)) (sym n.ensures))
 
 pub signed-at-spec : {M : Type 1} → statement M

@@ -7,7 +7,7 @@ use mir.Syntax.{w64}
 use mir.ValLaws.{to_z-of_z}
 use Rattle.seq.specs.Seq.{◌-◌, nat_abs}
 use Rattle.exact.specs.Mach.{trbs, taken, left}
-use Rattle.ovfile.proofs.BytesLaws.{wrapped-low, wrapped-high}
+use Rattle.ovfile.proofs.BytesLaws.{wrapped_low, wrapped_high}
 use Rattle.ovfile.proofs.bytes.twos.Statement.{statement}
 use Rattle.ovfile.proofs.bytes.twos.Tie as tie
 
@@ -24,13 +24,13 @@ returns c =
     let start : tie.Start = search rules in
     let a = start.args in
     (λ i. c.before.numbers.ensures i - magnitude-is c i)
-    ∙ wrapped-high a.width a.z (lt_z_yes (taken c.before.before.if1.true (search trbs depth 20) tt))
+    ∙ wrapped_high a.width a.z (lt_z_yes (taken c.before.before.if1.true (search trbs depth 20) tt))
 
 returns-2 : tie.Need-returns-2
 returns-2 c =
     let s = c.before.before in
     c.magnitude2.ensures ∙ ap nat_abs (to_z-of_z w64 s.args.z s.ranges.z)
-    ∙ wrapped-low s.args.width s.args.z (lt_z_no (left c.before.if1.false (search trbs depth 20) tt))
+    ∙ wrapped_low s.args.width s.args.z (lt_z_no (left c.before.if1.false (search trbs depth 20) tt))
 
 pub twos-spec : {M : Type 1} → statement M
 twos-spec =

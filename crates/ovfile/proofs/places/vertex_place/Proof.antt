@@ -2,7 +2,7 @@
 use mathlib.Core.Path.{ap, ◌∙◌}
 use native.Mathlib.Omega.{arith}
 use Rattle.seq.specs.Seq.{ℕ, ◌+◌, ◌*◌}
-use Rattle.paper.specs.Limits.{overlayHead}
+use Rattle.paper.specs.Limits.{overlay_head}
 use borrow.Author.Rules.{rules}
 use Rattle.ovfile.proofs.places.vertex_place.Statement.{statement}
 use Rattle.ovfile.proofs.places.vertex_place.Tie as tie
@@ -15,7 +15,7 @@ row-at-requires c κs =
 returns : tie.Need-returns
 returns c =
     let start : tie.Start = search rules in
-    c.row_at.ensures ∙ ap (λ (n : ℕ). overlayHead + n * start.args.v) c.before.vertex-size.ensures
+    c.row_at.ensures ∙ ap (λ (n : ℕ). overlay_head + n * start.args.v) c.before.vertex-size.ensures
 
 pub vertex-place-spec : {M : Type 1} → statement M
 vertex-place-spec = tie.close (tie.spec (λ c κs. search rules) row-at-requires returns)

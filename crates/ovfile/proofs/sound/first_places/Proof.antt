@@ -4,7 +4,7 @@ use native.Mathlib.Omega.{arith}
 use lib.ListN.{set}
 use Rattle.seq.specs.Seq.{ℕ, ◌-◌}
 use Rattle.ovfile.specs.Firsts.{column}
-use Rattle.seq.specs.Loops.Placing.{Placing, place-starts, place-turns, place-ends}
+use Rattle.seq.specs.Loops.Placing.{Placing, place_starts, place_turns, place_ends}
 use borrow.Author.Rules.{rules}
 use Rattle.ovfile.proofs.sound.first_places.Statement.{statement}
 use Rattle.ovfile.proofs.sound.first_places.Tie as tie
@@ -25,7 +25,7 @@ loop-again c =
     let in-loop : tie.In-loop invariant-loop decreases-loop = search rules in
     let after-half-cell : tie.After-half-cell invariant-loop decreases-loop = search rules in
     let at : tie.At-loop invariant-loop decreases-loop = search rules in
-    place-turns at.loop.inv in-loop.loop-test.taken
+    place_turns at.loop.inv in-loop.loop-test.taken
     (c.before.before.store.ensures ∙ ap (λ (x : ℕ). set at.loop.out x (at.loop.h - 1)) after-half-cell.half-cell.ensures)
 
 pub first-places-spec : {M : Type 1} → statement M
@@ -34,7 +34,7 @@ first-places-spec =
     (tie.spec
     invariant-loop
     decreases-loop
-    (λ c. place-starts)
+    (λ c. place_starts)
     (λ c. search rules)
     (λ c κs. search rules)
     (λ c. search rules)
@@ -43,4 +43,4 @@ first-places-spec =
     (λ c. search rules)
     loop-again
     (λ c. c.before.loop.invariant.kept)
-    (λ c. record { is = place-ends c.before.loop.invariant c.loop-test.false }))
+    (λ c. record { is = place_ends c.before.loop.invariant c.loop-test.false }))

@@ -14,7 +14,7 @@ returns c =
     let left = d.before.before.half-cell3.ensures in
     let right = d.half-cell4.ensures in
     λ i. (ltb (lower i) (upper i) && ltb (upper i) a.c.vertices)
-    && (c.has-source.ensures i
+    && (c.has_source_lem.ensures i
     && ((ltb (left i) a.c.faces && ltb (right i) a.c.faces)
     && (c.before.before.sound-follower.ensures i && c.before.sound-follower2.ensures i)))
 

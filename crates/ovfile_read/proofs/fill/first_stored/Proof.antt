@@ -3,15 +3,15 @@ use mathlib.Core.Path.{ap, ◌∙◌}
 use native.Mathlib.Omega.{arith}
 use lib.ListN.{set}
 use Rattle.seq.specs.Seq.{ℕ, ◌-◌}
-use Rattle.ovfile.specs.Values.{layoutFrom}
-use Rattle.ovfile_read.specs.Filled.{storedField}
-use Rattle.seq.specs.Loops.Placing.{Placing, place-starts, place-turns, place-ends}
+use Rattle.ovfile.specs.Values.{layout_from}
+use Rattle.ovfile_read.specs.Filled.{stored_field}
+use Rattle.seq.specs.Loops.Placing.{Placing, place_starts, place_turns, place_ends}
 use borrow.Author.Rules.{rules}
 use Rattle.ovfile_read.proofs.fill.first_stored.Statement.{statement}
 use Rattle.ovfile_read.proofs.fill.first_stored.Tie as tie
 
 abbrev invariant-loop : tie.invariant-loop
-invariant-loop layout file start j n out₀ h₀ out h = Placing (storedField (layoutFrom layout) file j) n out₀ out h
+invariant-loop layout file start j n out₀ h₀ out h = Placing (stored_field (layout_from layout) file j) n out₀ out h
 
 abbrev decreases-loop : tie.decreases-loop
 decreases-loop layout file start j n out₀ h₀ out h = h
@@ -26,7 +26,7 @@ loop-again c =
     let in-loop : tie.In-loop invariant-loop decreases-loop = search rules in
     let after-edge-field : tie.After-edge-field invariant-loop decreases-loop = search rules in
     let at : tie.At-loop invariant-loop decreases-loop = search rules in
-    place-turns at.loop.inv in-loop.loop-test.taken
+    place_turns at.loop.inv in-loop.loop-test.taken
     (c.before.before.store.ensures ∙ ap (λ (x : ℕ). set at.loop.out x (at.loop.h - 1)) after-edge-field.edge-field.ensures)
 
 pub first-stored-spec : {M : Type 1} → statement M
@@ -35,7 +35,7 @@ first-stored-spec =
     (tie.spec
     invariant-loop
     decreases-loop
-    (λ c. place-starts)
+    (λ c. place_starts)
     (λ c. search rules)
     (λ c. search rules)
     (λ c κs. search rules)
@@ -45,4 +45,4 @@ first-stored-spec =
     (λ c. search rules)
     loop-again
     (λ c. c.before.loop.invariant.kept)
-    (λ c. record { is = place-ends c.before.loop.invariant c.loop-test.false }))
+    (λ c. record { is = place_ends c.before.loop.invariant c.loop-test.false }))

@@ -3,21 +3,21 @@ use mathlib.Core.Path.{◌≡◌, refl, ap}
 use native.Mathlib.Omega.{arith}
 use Rattle.seq.specs.Seq.{[], ◌∷◌, ◌-◌}
 use Rattle.paper.specs.Limits.{maps}
-use Rattle.paper.specs.Tables.{faceWidth, Counts}
-use Rattle.paper.specs.Reader.{countsIn, faceRead}
-use Rattle.ovfile.specs.Values.{layoutFrom}
-use Rattle.seq.specs.Loops.Storing.{Laying, lay-starts, lay-turns, store-ends}
+use Rattle.paper.specs.Tables.{face_width, Counts}
+use Rattle.paper.specs.Reader.{counts_in, face_read}
+use Rattle.ovfile.specs.Values.{layout_from}
+use Rattle.seq.specs.Loops.Storing.{Laying, lay_starts, lay_turns, store_ends}
 use borrow.Author.Rules.{rules}
 use Rattle.ovfile_read.proofs.fill.lay_faces.Statement.{statement}
 use Rattle.ovfile_read.proofs.fill.lay_faces.Tie as tie
 
 abbrev invariant-loop : tie.invariant-loop
-invariant-loop layout file faces₀ n start f₀ faces f = Laying (faceWidth maps) (faceRead maps (layoutFrom layout) file) (countsIn file).faces faces₀ faces f
+invariant-loop layout file faces₀ n start f₀ faces f = Laying (face_width maps) (face_read maps (layout_from layout) file) (counts_in file).faces faces₀ faces f
 
 abbrev decreases-loop : tie.decreases-loop
 decreases-loop layout file faces₀ n start f₀ faces f = n - f
 
-counted : (c : tie.After-counts invariant-loop decreases-loop) → c.counts.result.faces ≡ (countsIn c.before.before.before.args.file.now).faces
+counted : (c : tie.After-counts invariant-loop decreases-loop) → c.counts.result.faces ≡ (counts_in c.before.before.before.args.file.now).faces
 counted c = ap (λ (n : Counts). n.faces) c.counts.ensures
 
 store5-u16-requires : tie.Need-store5-u16-requires invariant-loop decreases-loop
@@ -44,13 +44,13 @@ loop-again c =
     let l : tie.After-label3 invariant-loop decreases-loop = d.before.before.before.before in
     let at : tie.At-loop invariant-loop decreases-loop = l.before.before.before.before.before in
     let after-counts : tie.After-counts invariant-loop decreases-loop = at.before.before.before in
-    lay-turns at.loop.invariant (λ k. refl) (omega (arith, counted after-counts)) c.before.before.store5-u16.ensures
+    lay_turns at.loop.invariant (λ k. refl) (omega (arith, counted after-counts)) c.before.before.store5-u16.ensures
     (λ i. l.before.before.label.ensures i ∷ l.before.label2.ensures i ∷ l.label3.ensures i ∷ d.before.before.face-field.ensures i ∷ d.face-field2.ensures i ∷ [])
 
 returns : tie.Need-returns invariant-loop decreases-loop
 returns c =
     let after-counts : tie.After-counts invariant-loop decreases-loop = search rules in
-    store-ends c.before.loop.invariant (omega (arith, counted after-counts))
+    store_ends c.before.loop.invariant (omega (arith, counted after-counts))
 
 pub lay-faces-spec : {M : Type 1} → statement M
 lay-faces-spec =
@@ -61,7 +61,7 @@ lay-faces-spec =
     (λ c κs. search rules)
     (λ c. search rules)
     (λ c κs. search rules)
-    (λ c. lay-starts (search rules))
+    (λ c. lay_starts (search rules))
     (λ c. search rules)
     (λ c κs. search rules)
     (λ c κs. search rules)

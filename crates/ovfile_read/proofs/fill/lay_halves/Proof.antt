@@ -5,26 +5,26 @@ use native.Mathlib.Omega.{arith}
 use Rattle.seq.specs.Seq.{List, [], ◌∷◌, ℕ, ◌*◌, ◌-◌}
 use Rattle.seq.specs.Table.{table_at}
 use Rattle.paper.specs.Tables.{Counts}
-use Rattle.paper.specs.Reader.{countsIn, storedFollower, halfRead}
+use Rattle.paper.specs.Reader.{counts_in, stored_follower, half_read}
 use Rattle.paper.specs.Ovfile.{Layout}
-use Rattle.ovfile.specs.Values.{layoutFrom}
-use Rattle.ovfile_read.specs.Filled.{followersIn}
-use Rattle.seq.specs.Loops.Storing.{Laying, lay-starts, lay-turns, store-ends}
+use Rattle.ovfile.specs.Values.{layout_from}
+use Rattle.ovfile_read.specs.Filled.{followers_in}
+use Rattle.seq.specs.Loops.Storing.{Laying, lay_starts, lay_turns, store_ends}
 use Rattle.ovfile.proofs.SoundLaws.{twin-le}
 use borrow.Author.Rules.{rules}
 use Rattle.ovfile_read.proofs.fill.lay_halves.Statement.{statement}
 use Rattle.ovfile_read.proofs.fill.lay_halves.Tie as tie
 
 abbrev row : Layout → List ℕ → ℕ → List ℕ
-row l s = halfRead l s (followersIn l s)
+row l s = half_read l s (followers_in l s)
 
 abbrev invariant-loop : tie.invariant-loop
-invariant-loop layout file first halves₀ n start h₀ halves h = Laying 5 (row (layoutFrom layout) file) (2 * (countsIn file).edges) halves₀ halves h
+invariant-loop layout file first halves₀ n start h₀ halves h = Laying 5 (row (layout_from layout) file) (2 * (counts_in file).edges) halves₀ halves h
 
 abbrev decreases-loop : tie.decreases-loop
 decreases-loop layout file first halves₀ n start h₀ halves h = n - h
 
-counted : (c : tie.After-counts invariant-loop decreases-loop) → c.counts.result.edges ≡ (countsIn c.before.before.before.before.args.file.now).edges
+counted : (c : tie.After-counts invariant-loop decreases-loop) → c.counts.result.edges ≡ (counts_in c.before.before.before.before.args.file.now).edges
 counted c = ap (λ (n : Counts). n.edges) c.counts.ensures
 
 cast-store5-u16-2 : tie.Need-overflow-cast-store5-u16-2 invariant-loop decreases-loop
@@ -51,11 +51,11 @@ loop-again c =
     let u16-at : tie.After-u16-at invariant-loop decreases-loop = search rules in
     let face : tie.After-face invariant-loop decreases-loop = search rules in
     let file = start.args.file.now in
-    let below : at.loop.h < 2 * (countsIn file).edges = omega (arith, counted after-counts) in
-    lay-turns at.loop.inv (λ k. refl) below c.before.before.store5-u16.ensures
+    let below : at.loop.h < 2 * (counts_in file).edges = omega (arith, counted after-counts) in
+    lay_turns at.loop.inv (λ k. refl) below c.before.before.store5-u16.ensures
     (λ i. origin.origin.ensures i
     ∷ twin.twin.ensures i
-    ∷ (follower.follower.ensures ∙ sym (table_at (storedFollower (layoutFrom start.args.layout) file) (2 * (countsIn file).edges) at.loop.h 0 below)) i
+    ∷ (follower.follower.ensures ∙ sym (table_at (stored_follower (layout_from start.args.layout) file) (2 * (counts_in file).edges) at.loop.h 0 below)) i
     ∷ (u16-at.u16-at.ensures ∙ start.pre.2.at at.loop.h below) i
     ∷ face.face.ensures i
     ∷ [])
@@ -63,7 +63,7 @@ loop-again c =
 returns : tie.Need-returns invariant-loop decreases-loop
 returns c =
     let after-counts : tie.After-counts invariant-loop decreases-loop = search rules in
-    store-ends c.before.loop.invariant (omega (arith, counted after-counts))
+    store_ends c.before.loop.invariant (omega (arith, counted after-counts))
 
 pub lay-halves-spec : {M : Type 1} → statement M
 lay-halves-spec =
@@ -75,7 +75,7 @@ lay-halves-spec =
     (λ c. search rules)
     (λ c. search rules)
     (λ c κs. search rules)
-    (λ c. lay-starts (search rules))
+    (λ c. lay_starts (search rules))
     (λ c. search rules)
     (λ c κs. search rules)
     (λ c κs. search rules)

@@ -5,14 +5,14 @@ use lib.ListN.{get_or-replicate}
 use Rattle.seq.specs.Seq.{ℕ, ◌*◌}
 use Rattle.paper.specs.Limits.{absent}
 use Rattle.paper.specs.Tables.{Counts}
-use Rattle.paper.specs.Reader.{countsIn}
-use Rattle.ovfile.specs.Values.{layoutFrom}
+use Rattle.paper.specs.Reader.{counts_in}
+use Rattle.ovfile.specs.Values.{layout_from}
 use Rattle.ovfile_read.proofs.FillLaws.{starts_by}
 use borrow.Author.Rules.{rules}
 use Rattle.ovfile_read.proofs.fill.least_starts.Statement.{statement}
 use Rattle.ovfile_read.proofs.fill.least_starts.Tie as tie
 
-counted : (c : tie.After-counts) → c.counts.result.edges ≡ (countsIn c.before.before.args.file.now).edges
+counted : (c : tie.After-counts) → c.counts.result.edges ≡ (counts_in c.before.before.args.file.now).edges
 counted c = ap (λ (n : Counts). n.edges) c.counts.ensures
 
 first-stored-requires : tie.Need-first-stored-requires
@@ -27,7 +27,7 @@ returns c =
     let after-counts : tie.After-counts = search rules in
     let start : tie.Start = search rules in
     let e = ap (λ (k : ℕ). 2 * k) (counted after-counts) in
-    starts_by (layoutFrom start.args.layout) start.args.file.now c.before.first-stored.ensures e (omega (arith, c.before.first-stored.auto.1.1.1.1.1.0, start.pre.1.vertices))
+    starts_by (layout_from start.args.layout) start.args.file.now c.before.first_stored.ensures e (omega (arith, c.before.first_stored.auto.1.1.1.1.1.0, start.pre.1.vertices))
     (λ v l. get_or-replicate 1000 v absent 0 (omega (arith, start.pre.1.vertices)))
 
 pub least-starts-spec : {M : Type 1} → statement M

@@ -4,14 +4,14 @@ use native.Mathlib.Omega.{arith}
 use lib.ListN.{get_or-replicate}
 use Rattle.seq.specs.Seq.{ℕ, ◌*◌}
 use Rattle.paper.specs.Tables.{Counts}
-use Rattle.paper.specs.Reader.{countsIn}
-use Rattle.ovfile.specs.Values.{layoutFrom}
-use Rattle.ovfile_read.proofs.FillLaws.{predecessors-by}
+use Rattle.paper.specs.Reader.{counts_in}
+use Rattle.ovfile.specs.Values.{layout_from}
+use Rattle.ovfile_read.proofs.FillLaws.{predecessors_by}
 use borrow.Author.Rules.{rules}
 use Rattle.ovfile_read.proofs.fill.predecessors.Statement.{statement}
 use Rattle.ovfile_read.proofs.fill.predecessors.Tie as tie
 
-counted : (c : tie.After-counts) → c.counts.result.edges ≡ (countsIn c.before.before.args.file.now).edges
+counted : (c : tie.After-counts) → c.counts.result.edges ≡ (counts_in c.before.before.args.file.now).edges
 counted c = ap (λ (n : Counts). n.edges) c.counts.ensures
 
 cast-first : tie.Need-overflow-cast-first
@@ -32,7 +32,7 @@ returns c =
     let start : tie.Start = search rules in
     let n = after-counts.counts.result.edges in
     let e = ap (λ (k : ℕ). 2 * k) (counted after-counts) in
-    predecessors-by (layoutFrom start.args.layout) start.args.file.now c.before.first-stored.ensures e (omega (arith, c.before.first-stored.auto.1.1.1.1.1.0, start.pre.1.edges))
+    predecessors_by (layout_from start.args.layout) start.args.file.now c.before.first_stored.ensures e (omega (arith, c.before.first_stored.auto.1.1.1.1.1.0, start.pre.1.edges))
     (λ h l. get_or-replicate 4000 h (2 * n) 0 (omega (arith, e, start.pre.1.edges)))
 
 pub predecessors-spec : {M : Type 1} → statement M

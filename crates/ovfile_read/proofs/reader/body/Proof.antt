@@ -3,10 +3,10 @@ use mathlib.Core.Path.{ap, ◌∙◌}
 use Rattle.seq.specs.Seq.{ltb}
 use Rattle.paper.specs.Refusal.{given}
 use Rattle.paper.specs.Tables.{Counts}
-use Rattle.paper.specs.Reader.{countsIn}
+use Rattle.paper.specs.Reader.{counts_in}
 use Rattle.map_file.proofs.VerdictLaws.{last, before, at_least}
-use Rattle.ovfile.specs.Values.{layoutFrom}
-use Rattle.ovfile_read.proofs.ReadLaws.{unsoundIn}
+use Rattle.ovfile.specs.Values.{layout_from}
+use Rattle.ovfile_read.proofs.ReadLaws.{unsound_in}
 use borrow.Author.Rules.{rules}
 use Rattle.ovfile_read.proofs.reader.body.Statement.{statement}
 use Rattle.ovfile_read.proofs.reader.body.Tie as tie
@@ -22,7 +22,7 @@ returns c =
     let s = a.file.now in
     let counted = e.before.before.counts.ensures in
     let roomed = e.before.room_in.ensures in
-    let k = at_least 21 (unsoundIn (layoutFrom a.layout) s) (countsIn s).edges _ _ _ after-given.given.ensures e.unsound.ensures (ap (λ (n : Counts). n.edges) counted) in
+    let k = at_least 21 (unsound_in (layout_from a.layout) s) (counts_in s).edges _ _ _ after-given.given.ensures e.unsound.ensures (ap (λ (n : Counts). n.edges) counted) in
     let place1 = after-given2.given2.ensures ∙ (λ i. given 11 1 (ltb (roomed i).vertices (counted i).vertices)) in
     let place2 = after-given3.given3.ensures ∙ (λ i. given 11 2 (ltb (roomed i).edges (counted i).edges)) in
     let place3 = after-given4.given4.ensures ∙ (λ i. given 11 3 (ltb (roomed i).faces (counted i).faces)) in

@@ -2,9 +2,9 @@
 use mathlib.Core.Path.{sym, ap, ◌∙◌}
 use Rattle.seq.specs.Seq.{length}
 use Rattle.paper.specs.Refusal.{given, done, refused}
-use Rattle.map_file.specs.Verdict.{verdict, refusalOf}
-use Rattle.tables.specs.Values.{lengthsBy}
-use Rattle.ovfile_read.proofs.ReadLaws.{right-counts, form-right, room-enough, read_done, read-refused}
+use Rattle.map_file.specs.Verdict.{verdict, refusal_of}
+use Rattle.tables.specs.Values.{lengths_by}
+use Rattle.ovfile_read.proofs.ReadLaws.{right_counts, form_right, room_enough, read_done, read-refused}
 use borrow.Author.Rules.{rules}
 use Rattle.ovfile_read.proofs.reader.read.Statement.{statement}
 use Rattle.ovfile_read.proofs.reader.read.Tie as tie
@@ -17,7 +17,7 @@ fill-requires c κs =
     let a = start.args in
     let s = a.file.now in
     let e = sym after-judge.judge.ensures ∙ ap verdict after-enum-told.enum_told.given.1 in
-    (c.before.before.before.before.layout-in.ensures.1, right-counts s (form-right s (lengthsBy (length a.vertices.now) (length a.halves.now) (length a.sources.now) (length a.faces.now)) e), room-enough s _ e)
+    (c.before.before.before.before.layout-in.ensures.1, right_counts s (form_right s (lengths_by (length a.vertices.now) (length a.halves.now) (length a.sources.now) (length a.faces.now)) e), room_enough s _ e)
 
 returns : tie.Need-returns
 returns c =
@@ -28,7 +28,7 @@ returns c =
     let a = start.args in
     let s = a.file.now in
     let told = after_check.check.given in
-    (λ i. record { answer = refused (refusalOf told.0.0); tables = after-wipe-all.wipe-all.ensures i })
+    (λ i. record { answer = refused (refusal_of told.0.0); tables = after-wipe-all.wipe-all.ensures i })
     ∙ read-refused s _ _ (sym after-judge.judge.ensures ∙ ap verdict told.1)
 
 returns-2 : tie.Need-returns-2

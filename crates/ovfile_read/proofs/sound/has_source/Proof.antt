@@ -3,11 +3,11 @@ use mathlib.Core.Path.{sym, ◌∙◌}
 use native.Mathlib.Omega.{arith}
 use Rattle.seq.specs.Seq.{not, ◌||◌, eqb}
 use Rattle.paper.specs.Limits.{maps}
-use Rattle.paper.specs.Tables.{sourceCell}
-use Rattle.paper.specs.Reader.{tablesIn}
+use Rattle.paper.specs.Tables.{source_cell}
+use Rattle.paper.specs.Reader.{tables_in}
 use Rattle.laws_roundtrip.specs.ReadCells.{source-cell}
-use Rattle.ovfile.specs.Values.{layoutFrom}
-use Rattle.ovfile.proofs.SoundLaws.{some-source}
+use Rattle.ovfile.specs.Values.{layout_from}
+use Rattle.ovfile.proofs.SoundLaws.{some_source}
 use borrow.Author.Rules.{rules}
 use Rattle.ovfile_read.proofs.sound.has_source.Statement.{statement}
 use Rattle.ovfile_read.proofs.sound.has_source.Tie as tie
@@ -16,13 +16,13 @@ returns : tie.Need-returns
 returns c =
     let start : tie.Start = search rules in
     let a = start.args in
-    let l = layoutFrom a.layout in
+    let l = layout_from a.layout in
     let s = a.file.now in
     let first = c.before.before.source.ensures ∙ sym (source-cell maps l s a.k 0 start.pre.1 (omega arith)) in
     let second = c.before.source2.ensures ∙ sym (source-cell maps l s a.k 1 start.pre.1 (omega arith)) in
     let third = c.source3.ensures ∙ sym (source-cell maps l s a.k 2 start.pre.1 (omega arith)) in
     (λ i. not (eqb (first i) 0) || (not (eqb (second i) 0) || not (eqb (third i) 0)))
-    ∙ some-source (λ i. not (eqb (sourceCell maps (tablesIn maps l s) a.k i) 0))
+    ∙ some_source (λ i. not (eqb (source_cell maps (tables_in maps l s) a.k i) 0))
 
 pub has-source-spec : {M : Type 1} → statement M
 has-source-spec = tie.close (tie.spec (λ c κs. search rules) (λ c κs. search rules) (λ c κs. search rules) returns)

@@ -3,8 +3,8 @@ use mathlib.Core.Path.{ap, ◌∙◌}
 use native.Mathlib.Omega.{arith}
 use Rattle.paper.specs.Tables.{Counts}
 use Rattle.paper.specs.Ovfile.{edges_at}
-use Rattle.tables.specs.Values.{countsOf}
-use Rattle.ovfile.specs.Values.{layoutFrom}
+use Rattle.tables.specs.Values.{counts_of}
+use Rattle.ovfile.specs.Values.{layout_from}
 use Rattle.ovfile.specs.Known.{edges-near}
 use borrow.Author.Rules.{rules}
 use Rattle.ovfile_read.proofs.stored.edges_start.Statement.{statement}
@@ -14,11 +14,11 @@ returns : tie.Need-returns
 returns c =
     let start : tie.Start = search rules in
     let counted : tie.After-counts = search rules in
-    let l = layoutFrom start.args.layout in
+    let l = layout_from start.args.layout in
     record {
       known = start.pre;
-      at = c.edges-at.ensures ∙ ap (λ (n : Counts). edges_at l n) counted.counts.ensures;
-      near = omega (arith, c.edges-at.ensures, edges-near l start.pre (countsOf counted.counts.result) (omega arith));
+      at = c.edges_at_lem.ensures ∙ ap (λ (n : Counts). edges_at l n) counted.counts.ensures;
+      near = omega (arith, c.edges_at_lem.ensures, edges-near l start.pre (counts_of counted.counts.result) (omega arith));
     }
 
 pub edges-start-spec : {M : Type 1} → statement M

@@ -2,9 +2,9 @@
 use mathlib.Core.Path.{ap, ◌∙◌}
 use native.Mathlib.Omega.{arith}
 use Rattle.paper.specs.Tables.{Counts}
-use Rattle.paper.specs.Ovfile.{facesAt}
-use Rattle.tables.specs.Values.{countsOf}
-use Rattle.ovfile.specs.Values.{layoutFrom}
+use Rattle.paper.specs.Ovfile.{faces_at}
+use Rattle.tables.specs.Values.{counts_of}
+use Rattle.ovfile.specs.Values.{layout_from}
 use Rattle.ovfile.specs.Known.{faces-near}
 use borrow.Author.Rules.{rules}
 use Rattle.ovfile_read.proofs.stored.faces_start.Statement.{statement}
@@ -14,11 +14,11 @@ returns : tie.Need-returns
 returns c =
     let start : tie.Start = search rules in
     let counted : tie.After-counts = search rules in
-    let l = layoutFrom start.args.layout in
+    let l = layout_from start.args.layout in
     record {
       known = start.pre;
-      at = c.faces-at.ensures ∙ ap (λ (n : Counts). facesAt l n) counted.counts.ensures;
-      near = omega (arith, c.faces-at.ensures, faces-near l start.pre (countsOf counted.counts.result) (omega arith) (omega (arith, counted.counts.ok)));
+      at = c.faces_at_lem.ensures ∙ ap (λ (n : Counts). faces_at l n) counted.counts.ensures;
+      near = omega (arith, c.faces_at_lem.ensures, faces-near l start.pre (counts_of counted.counts.result) (omega arith) (omega (arith, counted.counts.ok)));
     }
 
 pub faces-start-spec : {M : Type 1} → statement M

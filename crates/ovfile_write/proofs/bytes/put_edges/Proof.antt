@@ -1,17 +1,17 @@
 -- `ovfile_write::bytes::put_edges` meets its contract. Assumes nothing.
 use mathlib.Core.Path.{ap, ◌∙◌}
 use Rattle.seq.specs.Seq.{ℕ, ◌-◌, sets, rows}
-use Rattle.paper.specs.Ovfile.{edgeSize}
-use Rattle.ovfile.specs.Values.{edgeTables, layout}
-use Rattle.seq.specs.Loops.Storing.{Storing, store-starts, store-turns, store-ends}
-use Rattle.ovfile_write.proofs.PutLaws.{edgeBytes, edge-long}
+use Rattle.paper.specs.Ovfile.{edge_size}
+use Rattle.ovfile.specs.Values.{edge_tables, layout}
+use Rattle.seq.specs.Loops.Storing.{Storing, store_starts, store_turns, store_ends}
+use Rattle.ovfile_write.proofs.PutLaws.{edge_bytes, edge_long}
 use native.Mathlib.Omega.{arith}
 use borrow.Author.Rules.{rules}
 use Rattle.ovfile_write.proofs.bytes.put_edges.Statement.{statement}
 use Rattle.ovfile_write.proofs.bytes.put_edges.Tie as tie
 
 abbrev invariant-loop : tie.invariant-loop
-invariant-loop halves sources buffer₀ n start k₀ buffer k = Storing (edgeSize layout) (edgeBytes (edgeTables halves sources)) start n buffer₀ buffer k
+invariant-loop halves sources buffer₀ n start k₀ buffer k = Storing (edge_size layout) (edge_bytes (edge_tables halves sources)) start n buffer₀ buffer k
 
 abbrev decreases-loop : tie.decreases-loop
 decreases-loop halves sources buffer₀ n start k₀ buffer k = n - k
@@ -19,7 +19,7 @@ decreases-loop halves sources buffer₀ n start k₀ buffer k = n - k
 loop-holds : tie.Need-loop-init invariant-loop decreases-loop
 loop-holds c =
     let s : tie.Start invariant-loop decreases-loop = search rules in
-    store-starts (omega (arith, c.edges-at.ensures, s.pre))
+    store_starts (omega (arith, c.edges_at_lem.ensures, s.pre))
 
 put-edge-requires : tie.Need-put-edge-requires invariant-loop decreases-loop
 put-edge-requires c κs = let at = c.before.before in omega (arith, at.loop.invariant.room, at.loop.invariant.kept, c.before.loop-test.true)
@@ -30,16 +30,16 @@ loop-again c =
     let at : tie.At-loop invariant-loop decreases-loop = search rules in
     let start : tie.Start invariant-loop decreases-loop = search rules in
     let a = start.args in
-    let t = edgeTables a.halves.now a.sources.now in
-    store-turns at.loop.inv (edge-long t) in-loop.loop-test.taken c.before.before.put-edge.ensures
+    let t = edge_tables a.halves.now a.sources.now in
+    store_turns at.loop.inv (edge_long t) in-loop.loop-test.taken c.before.before.put-edge.ensures
 
 returns : tie.Need-returns invariant-loop decreases-loop
 returns c =
     let start : tie.Start invariant-loop decreases-loop = search rules in
     let a = start.args in
-    let t = edgeTables a.halves.now a.sources.now in
-    store-ends c.before.loop.invariant c.loop-test.false
-    ∙ ap (λ (p : ℕ). sets a.buffer.now p (rows (edgeBytes t) a.c.edges)) c.before.before.edges-at.ensures
+    let t = edge_tables a.halves.now a.sources.now in
+    store_ends c.before.loop.invariant c.loop-test.false
+    ∙ ap (λ (p : ℕ). sets a.buffer.now p (rows (edge_bytes t) a.c.edges)) c.before.before.edges_at_lem.ensures
 
 pub put-edges-spec : {M : Type 1} → statement M
 put-edges-spec =

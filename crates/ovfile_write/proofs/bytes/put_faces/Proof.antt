@@ -1,18 +1,18 @@
 -- `ovfile_write::bytes::put_faces` meets its contract. Assumes nothing.
 use mathlib.Core.Path.{ap, ◌∙◌}
 use Rattle.seq.specs.Seq.{[], ℕ, ◌-◌, sets, rows}
-use Rattle.paper.specs.Ovfile.{faceSize}
-use Rattle.tables.specs.Values.{tablesBy}
+use Rattle.paper.specs.Ovfile.{face_size}
+use Rattle.tables.specs.Values.{tables_by}
 use Rattle.ovfile.specs.Values.{layout}
-use Rattle.seq.specs.Loops.Storing.{Storing, store-starts, store-turns, store-ends}
-use Rattle.ovfile_write.proofs.PutLaws.{faceBytes, face-long}
+use Rattle.seq.specs.Loops.Storing.{Storing, store_starts, store_turns, store_ends}
+use Rattle.ovfile_write.proofs.PutLaws.{face_bytes, face_long}
 use native.Mathlib.Omega.{arith}
 use borrow.Author.Rules.{rules}
 use Rattle.ovfile_write.proofs.bytes.put_faces.Statement.{statement}
 use Rattle.ovfile_write.proofs.bytes.put_faces.Tie as tie
 
 abbrev invariant-loop : tie.invariant-loop
-invariant-loop faces buffer₀ n start f₀ buffer f = Storing (faceSize layout) (faceBytes (tablesBy [] [] [] faces)) start n buffer₀ buffer f
+invariant-loop faces buffer₀ n start f₀ buffer f = Storing (face_size layout) (face_bytes (tables_by [] [] [] faces)) start n buffer₀ buffer f
 
 abbrev decreases-loop : tie.decreases-loop
 decreases-loop faces buffer₀ n start f₀ buffer f = n - f
@@ -20,7 +20,7 @@ decreases-loop faces buffer₀ n start f₀ buffer f = n - f
 loop-holds : tie.Need-loop-init invariant-loop decreases-loop
 loop-holds c =
     let s : tie.Start invariant-loop decreases-loop = search rules in
-    store-starts (omega (arith, c.faces-at.ensures, s.pre))
+    store_starts (omega (arith, c.faces_at_lem.ensures, s.pre))
 
 put-face-requires : tie.Need-put-face-requires invariant-loop decreases-loop
 put-face-requires c κs = let at = c.before.before in omega (arith, at.loop.invariant.room, at.loop.invariant.kept, c.before.loop-test.true)
@@ -30,16 +30,16 @@ loop-again c =
     let in-loop : tie.In-loop invariant-loop decreases-loop = search rules in
     let at : tie.At-loop invariant-loop decreases-loop = search rules in
     let start : tie.Start invariant-loop decreases-loop = search rules in
-    let t = tablesBy [] [] [] start.args.faces.now in
-    store-turns at.loop.inv (face-long t) in-loop.loop-test.taken c.before.before.put-face.ensures
+    let t = tables_by [] [] [] start.args.faces.now in
+    store_turns at.loop.inv (face_long t) in-loop.loop-test.taken c.before.before.put-face.ensures
 
 returns : tie.Need-returns invariant-loop decreases-loop
 returns c =
     let start : tie.Start invariant-loop decreases-loop = search rules in
     let a = start.args in
-    let t = tablesBy [] [] [] a.faces.now in
-    store-ends c.before.loop.invariant c.loop-test.false
-    ∙ ap (λ (p : ℕ). sets a.buffer.now p (rows (faceBytes t) a.c.faces)) c.before.before.faces-at.ensures
+    let t = tables_by [] [] [] a.faces.now in
+    store_ends c.before.loop.invariant c.loop-test.false
+    ∙ ap (λ (p : ℕ). sets a.buffer.now p (rows (face_bytes t) a.c.faces)) c.before.before.faces_at_lem.ensures
 
 pub put-faces-spec : {M : Type 1} → statement M
 put-faces-spec =

@@ -2,8 +2,8 @@
 use mathlib.Core.Path.{refl}
 use Rattle.seq.specs.Seq.{gather}
 use Rattle.paper.specs.Bytes.{ascii, le}
-use Rattle.tables.specs.Values.{countsOf}
-use Rattle.ovfile_write.specs.Judged.{headFields}
+use Rattle.tables.specs.Values.{counts_of}
+use Rattle.ovfile_write.specs.Judged.{head_fields}
 use Rattle.ovfile_write.proofs.PutLaws.{then-behind}
 use borrow.Author.Rules.{rules}
 use Rattle.ovfile_write.proofs.bytes.put_head.Statement.{statement}
@@ -14,7 +14,7 @@ returns c =
     let start : tie.Start = search rules in
     let after-put-mark : tie.After-put-mark = search rules in
     let a = start.args in
-    then-behind a.buffer.now 0 (ascii "ZOV") (gather (le 2) (headFields (countsOf a.c))) _ _ 3 after-put-mark.put-mark.ensures c.before.before.put-fields.ensures refl
+    then-behind a.buffer.now 0 (ascii "ZOV") (gather (le 2) (head_fields (counts_of a.c))) _ _ 3 after-put-mark.put-mark.ensures c.before.before.put-fields.ensures refl
 
 pub put-head-spec : {M : Type 1} → statement M
 put-head-spec =

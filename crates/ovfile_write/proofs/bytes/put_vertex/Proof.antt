@@ -3,8 +3,8 @@ use mathlib.Core.Path.{ap, ◌∙◌}
 use mir.Syntax.{w64}
 use mir.ValLaws.{to_z-of_z}
 use Rattle.seq.specs.Seq.{[], ◌+◌, ◌*◌, nat_abs, sets}
-use Rattle.paper.specs.Limits.{coordinateBytes, denominatorBytes}
-use Rattle.tables.specs.Values.{tablesBy}
+use Rattle.paper.specs.Limits.{coordinate_bytes, denominator_bytes}
+use Rattle.tables.specs.Values.{tables_by}
 use Rattle.ovfile_write.proofs.PutLaws.{signed-bytes, vertex-put}
 use native.Mathlib.Omega.{arith}
 use borrow.Author.Rules.{rules}
@@ -24,13 +24,13 @@ returns : tie.Need-returns
 returns c =
     let s = c.before.before.before.before.before.before.before.before.before.before.before.before in
     let a = s.before.before.before.before.before.before.before.args in
-    let x = signed-bytes coordinateBytes _ _ _ s.before.before.before.before.twos.ensures (to_z-of_z w64 _ (record { sfits = s.before.before.before.before.before.vertex-cell.type-inv }) ∙ s.before.before.before.before.before.vertex-cell.ensures) in
-    let y = signed-bytes coordinateBytes _ _ _ s.before.before.twos2.ensures (to_z-of_z w64 _ (record { sfits = s.before.before.before.vertex-cell2.type-inv }) ∙ s.before.before.before.vertex-cell2.ensures) in
-    let d = signed-bytes denominatorBytes _ _ _ s.twos3.ensures (to_z-of_z w64 _ (record { sfits = s.before.vertex-cell3.type-inv }) ∙ s.before.vertex-cell3.ensures) in
-    vertex-put (tablesBy a.vertices.now [] [] []) a.v a.buffer.now _ _ _ a.at
+    let x = signed-bytes coordinate_bytes _ _ _ s.before.before.before.before.twos.ensures (to_z-of_z w64 _ (record { sfits = s.before.before.before.before.before.vertex-cell.type-inv }) ∙ s.before.before.before.before.before.vertex-cell.ensures) in
+    let y = signed-bytes coordinate_bytes _ _ _ s.before.before.twos2.ensures (to_z-of_z w64 _ (record { sfits = s.before.before.before.vertex-cell2.type-inv }) ∙ s.before.before.before.vertex-cell2.ensures) in
+    let d = signed-bytes denominator_bytes _ _ _ s.twos3.ensures (to_z-of_z w64 _ (record { sfits = s.before.vertex-cell3.type-inv }) ∙ s.before.vertex-cell3.ensures) in
+    vertex-put (tables_by a.vertices.now [] [] []) a.v a.buffer.now _ _ _ a.at
     (c.before.before.before.before.before.before.before.before.before.before.put.ensures ∙ ap (sets _ a.at) x)
-    (c.before.before.before.before.before.before.put2.ensures ∙ ap (sets _ (a.at + coordinateBytes)) y)
-    (c.before.before.put3.ensures ∙ ap (sets _ (a.at + 2 * coordinateBytes)) d)
+    (c.before.before.before.before.before.before.put2.ensures ∙ ap (sets _ (a.at + coordinate_bytes)) y)
+    (c.before.before.put3.ensures ∙ ap (sets _ (a.at + 2 * coordinate_bytes)) d)
 
 pub put-vertex-spec : {M : Type 1} → statement M
 put-vertex-spec =

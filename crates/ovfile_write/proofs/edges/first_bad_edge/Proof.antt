@@ -1,5 +1,5 @@
 -- `ovfile_write::edges::first_bad_edge` meets its contract. Assumes nothing.
-use Rattle.ovfile.proofs.SoundLaws.{followed-by}
+use Rattle.ovfile.proofs.SoundLaws.{followed_by}
 use native.Mathlib.Omega.{arith}
 use borrow.Author.Rules.{rules}
 use Rattle.ovfile_write.proofs.edges.first_bad_edge.Statement.{statement}
@@ -8,7 +8,7 @@ use Rattle.ovfile_write.proofs.edges.first_bad_edge.Tie as tie
 first-bad-edge-by-requires : tie.Need-first-bad-edge-by-requires
 first-bad-edge-by-requires c κs =
     let start : tie.Start = search rules in
-    followed-by start.args.halves.now c.before.before.first-places.ensures (omega (arith, c.before.before.first-places.auto.1.1.1.0))
+    followed_by start.args.halves.now c.before.before.first-places.ensures (omega (arith, c.before.before.first-places.auto.1.1.1.0))
 
 pub first-bad-edge-spec : {M : Type 1} → statement M
 first-bad-edge-spec =

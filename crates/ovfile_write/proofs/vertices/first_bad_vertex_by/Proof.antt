@@ -1,14 +1,14 @@
 -- `ovfile_write::vertices::first_bad_vertex_by` meets its contract: nothing below the counter has been found. Assumes nothing.
 use mathlib.Core.Path.{sym, ◌∙◌}
 use Rattle.seq.specs.Seq.{◌-◌}
-use Rattle.seq.specs.Loops.Searching.{Searching, search-starts, search-turns, search-finds, search-ends}
-use Rattle.ovfile_write.specs.Judged.{badVertexBy}
+use Rattle.seq.specs.Loops.Searching.{Searching, search_starts, search_turns, search_finds, search_ends}
+use Rattle.ovfile_write.specs.Judged.{bad_vertex_by}
 use borrow.Author.Rules.{rules}
 use Rattle.ovfile_write.proofs.vertices.first_bad_vertex_by.Statement.{statement}
 use Rattle.ovfile_write.proofs.vertices.first_bad_vertex_by.Tie as tie
 
 abbrev invariant-loop : tie.invariant-loop
-invariant-loop n vertices starts v₀ v = Searching (badVertexBy vertices starts) n v
+invariant-loop n vertices starts v₀ v = Searching (bad_vertex_by vertices starts) n v
 
 abbrev decreases-loop : tie.decreases-loop
 decreases-loop n vertices starts v₀ v = n - v
@@ -16,12 +16,12 @@ decreases-loop n vertices starts v₀ v = n - v
 returns : tie.Need-returns invariant-loop decreases-loop
 returns c =
     let at : tie.At-loop invariant-loop decreases-loop = search rules in
-    search-finds at.loop.inv c.before.before.loop-test.true (sym c.before.bad-vertex.ensures ∙ c.if1.true)
+    search_finds at.loop.inv c.before.before.loop-test.true (sym c.before.bad-vertex.ensures ∙ c.if1.true)
 
 loop-again : tie.Need-loop-preserved invariant-loop decreases-loop
 loop-again c =
     let at : tie.At-loop invariant-loop decreases-loop = search rules in
-    search-turns at.loop.inv c.before.before.loop-test.true (sym c.before.bad-vertex.ensures ∙ c.if1.false)
+    search_turns at.loop.inv c.before.before.loop-test.true (sym c.before.bad-vertex.ensures ∙ c.if1.false)
 
 pub first-bad-vertex-by-spec : {M : Type 1} → statement M
 first-bad-vertex-by-spec =
@@ -29,10 +29,10 @@ first-bad-vertex-by-spec =
     (tie.spec
     invariant-loop
     decreases-loop
-    (λ c. search-starts)
+    (λ c. search_starts)
     (λ c κs. search rules)
     returns
     (λ c. search rules)
     (λ c. search rules)
     loop-again
-    (λ c. search-ends c.before.loop.invariant c.loop-test.false))
+    (λ c. search_ends c.before.loop.invariant c.loop-test.false))

@@ -5,19 +5,19 @@ use lib.IntN.{ℤ, pos}
 use lib.Signed.{lt_z}
 use borrow.Author.Rules.{rules}
 use Rattle.exact.specs.Mach.{trb, test}
-use Rattle.exact.specs.Sign.{sgn, isPlus}
-use Rattle.paper.specs.Plane.{Vec, cross, rises, lessAngle}
+use Rattle.exact.specs.Sign.{sgn, is_plus}
+use Rattle.paper.specs.Plane.{Vec, cross, rises, less_angle}
 use Rattle.plane.specs.Values.{vec_of}
 use Rattle.plane.proofs.Signs.{plus-test}
 use Rattle.plane.proofs.angle.less_angle.Statement.{statement}
 use Rattle.plane.proofs.angle.less_angle.Tie as tie
 
 -- the definition, where it is known which of the two rise
-by : (u v : Vec) {p q : Bool} → rises u ≡ p → rises v ≡ q → let left = isPlus (sgn (cross u v)) in cond p (not q || left) (not q && left) ≡ lessAngle u v
-by u v e f = let left = isPlus (sgn (cross u v)) in λ i. cond (sym e i) (not (sym f i) || left) (not (sym f i) && left)
+by : (u v : Vec) {p q : Bool} → rises u ≡ p → rises v ≡ q → let left = is_plus (sgn (cross u v)) in cond p (not q || left) (not q && left) ≡ less_angle u v
+by u v e f = let left = is_plus (sgn (cross u v)) in λ i. cond (sym e i) (not (sym f i) || left) (not (sym f i) && left)
 
-left-of : (u v : Vec) (r : ℤ) → r ≡ cross u v → lt_z (pos 0) r ≡ isPlus (sgn (cross u v))
-left-of u v r e = (λ i. lt_z (pos 0) (e i)) ∙ plus-test (cross u v)
+left_of_lem : (u v : Vec) (r : ℤ) → r ≡ cross u v → lt_z (pos 0) r ≡ is_plus (sgn (cross u v))
+left_of_lem u v r e = (λ i. lt_z (pos 0) (e i)) ∙ plus-test (cross u v)
 
 returns : tie.Need-returns
 returns c =
@@ -27,7 +27,7 @@ returns c =
     let a = start.args in
     let u = vec_of a.u in
     let v = vec_of a.v in
-    test (search trb depth 20) tt ∙ left-of u v c.cross.result c.cross.ensures.0 ∙ by u v (sym after-rises.rises.ensures ∙ then1.if1.taken) (sym c.before.before.rises2.ensures ∙ c.before.if2.true)
+    test (search trb depth 20) tt ∙ left_of_lem u v c.cross.result c.cross.ensures.0 ∙ by u v (sym after-rises.rises.ensures ∙ then1.if1.taken) (sym c.before.before.rises2.ensures ∙ c.before.if2.true)
 
 returns-2 : tie.Need-returns-2
 returns-2 c =
@@ -51,7 +51,7 @@ returns-4 c =
     let a = start.args in
     let u = vec_of a.u in
     let v = vec_of a.v in
-    test (search trb depth 20) tt ∙ left-of u v c.cross2.result c.cross2.ensures.0 ∙ by u v (sym after-rises.rises.ensures ∙ else1.if1.left) (sym c.before.before.rises3.ensures ∙ c.before.if3.false)
+    test (search trb depth 20) tt ∙ left_of_lem u v c.cross2.result c.cross2.ensures.0 ∙ by u v (sym after-rises.rises.ensures ∙ else1.if1.left) (sym c.before.before.rises3.ensures ∙ c.before.if3.false)
 
 pub less-angle-spec : {M : Type 1} → statement M
 less-angle-spec =

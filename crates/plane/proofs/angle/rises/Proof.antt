@@ -5,7 +5,7 @@ use mir.Syntax.{w64}
 use mir.Val.{SFits}
 use borrow.Author.Rules.{rules}
 use Rattle.exact.specs.Mach.{trbs, trbits, test, eq_yes, eq_no}
-use Rattle.plane.proofs.Signs.{plus-test, plus-level, plus-not}
+use Rattle.plane.proofs.Signs.{plus-test, plus-level, plus_not}
 use Rattle.plane.proofs.angle.rises.Statement.{statement}
 use Rattle.plane.proofs.angle.rises.Tie as tie
 
@@ -24,7 +24,7 @@ returns-2 c =
     let u = start.args.u in
     let y : SFits w64 u.y = search rules in
     let not-level : u.y ≡ pos 0 → ⊥ = eq_no w64 c.before.before.if1.false (search trbits depth 20) (search trbits depth 20) tt in
-    test (search trbs depth 20) tt ∙ plus-test u.y ∙ plus-not u.y u.x not-level
+    test (search trbs depth 20) tt ∙ plus-test u.y ∙ plus_not u.y u.x not-level
 
 pub rises-spec : {M : Type 1} → statement M
 rises-spec = tie.close (tie.spec returns returns-2)

@@ -4,18 +4,18 @@ use lib.IntN.{pos, ◌+ℤ◌, ◌*ℤ◌}
 use lib.Signed.{le_z}
 use Rattle.exact.specs.Lowest.{pt}
 use Rattle.exact.specs.Mach.{tr, fits, plain}
-use Rattle.exact.specs.Tests.{and_parts, le-t}
+use Rattle.exact.specs.Tests.{and_parts, le_t}
 use Rattle.paper.specs.Limits.{reach, denominators}
-use Rattle.plane.specs.Values.{segOf}
+use Rattle.plane.specs.Values.{seg_of}
 use Rattle.plane.specs.Bounds.{Near}
-use Rattle.plane.specs.Parameters.{pointAlong}
+use Rattle.plane.specs.Parameters.{point_along}
 use Rattle.plane.proofs.Machine.{back}
-use Rattle.plane.proofs.Box.{weighed-below}
+use Rattle.plane.proofs.Box.{weighed_below}
 use Rattle.plane.proofs.crossings.along.Statement.{statement}
 use Rattle.plane.proofs.crossings.along.Tie as tie
 
 -- the point, before the machine has it
-near : (c : tie.Start) → Near (pointAlong (segOf c.args.s) c.args.n c.args.d)
+near : (c : tie.Start) → Near (point_along (seg_of c.args.s) c.args.n c.args.d)
 near c =
     let s = c.args.s in
     let n = c.args.n in
@@ -25,9 +25,9 @@ near c =
     let w = and_parts (le_z (pos 0) n) (le_z n d) c.requires.2 in
     record {
       positive = o.positive;
-      X-is = weighed-below s.x s.u n d reach denominators o.d-is e.foot-is.x-is e.head-is.x-is (le-t w.0) (le-t w.1);
-      Y-is = weighed-below s.y s.v n d reach denominators o.d-is e.foot-is.y-is e.head-is.y-is (le-t w.0) (le-t w.1);
-      D-is = o.d-is;
+      X-is = weighed_below s.x s.u n d reach denominators o.d_is e.foot_is.x_is e.head_is.x_is (le_t w.0) (le_t w.1);
+      Y-is = weighed_below s.y s.v n d reach denominators o.d_is e.foot_is.y_is e.head_is.y_is (le_t w.0) (le_t w.1);
+      D-is = o.d_is;
     }
 
 returns : tie.Need-returns
@@ -40,7 +40,7 @@ returns c =
     let x : back (back (back s.x *ℤ back d) +ℤ back (back n *ℤ back s.u)) ≡ s.x *ℤ d +ℤ n *ℤ s.u = plain (search tr depth 20) tt in
     let y : back (back (back s.y *ℤ back d) +ℤ back (back n *ℤ back s.v)) ≡ s.y *ℤ d +ℤ n *ℤ s.v = plain (search tr depth 20) tt in
     let z : back d ≡ d = plain (search tr depth 20) tt in
-    let is : pt (back (back (back s.x *ℤ back d) +ℤ back (back n *ℤ back s.u))) (back (back (back s.y *ℤ back d) +ℤ back (back n *ℤ back s.v))) (back d) ≡ pointAlong (segOf s) n d = λ i. pt (x i) (y i) (z i) in
+    let is : pt (back (back (back s.x *ℤ back d) +ℤ back (back n *ℤ back s.u))) (back (back (back s.y *ℤ back d) +ℤ back (back n *ℤ back s.v))) (back d) ≡ point_along (seg_of s) n d = λ i. pt (x i) (y i) (z i) in
     (is, subst Near (sym is) (near st))
 
 pub along-spec : {M : Type 1} → statement M

@@ -3,7 +3,7 @@ use mathlib.Core.Path.{◌≡◌, sym, ◌∙◌}
 use mathlib.Core.Bool.{cond}
 use borrow.Author.Rules.{rules}
 use Rattle.paper.specs.Plane.{whole, before}
-use Rattle.plane.specs.Values.{vec_of, fromTo}
+use Rattle.plane.specs.Values.{vec_of, from_to}
 use Rattle.plane.proofs.edge.between.Statement.{statement}
 use Rattle.plane.proofs.edge.between.Tie as tie
 
@@ -17,7 +17,7 @@ returns c =
     let a = vec_of start.args.a in
     let b = vec_of start.args.b in
     let first = sym c.before.if1.true ∙ told c.before.before in
-    (c.from-to.ensures.0 ∙ (λ i. cond (first i) (fromTo b a) (fromTo a b)), c.from-to.ensures.1)
+    (c.from-to.ensures.0 ∙ (λ i. cond (first i) (from_to b a) (from_to a b)), c.from-to.ensures.1)
 
 returns-2 : tie.Need-returns-2
 returns-2 c =
@@ -25,7 +25,7 @@ returns-2 c =
     let a = vec_of start.args.a in
     let b = vec_of start.args.b in
     let first = sym c.before.if1.false ∙ told c.before.before in
-    (c.from-to2.ensures.0 ∙ (λ i. cond (first i) (fromTo b a) (fromTo a b)), c.from-to2.ensures.1)
+    (c.from-to2.ensures.0 ∙ (λ i. cond (first i) (from_to b a) (from_to a b)), c.from-to2.ensures.1)
 
 pub between-spec : {M : Type 1} → statement M
 between-spec =

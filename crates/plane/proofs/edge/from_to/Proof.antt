@@ -2,10 +2,10 @@
 use mathlib.Core.Path.{◌≡◌, sym, subst}
 use lib.IntN.{◌-ℤ◌}
 use Rattle.exact.specs.Mach.{tr, fits, plain}
-use Rattle.plane.specs.Values.{seg, vec_of, fromTo}
+use Rattle.plane.specs.Values.{seg, vec_of, from_to}
 use Rattle.plane.specs.Bounds.{Edge}
 use Rattle.plane.proofs.Machine.{back}
-use Rattle.plane.proofs.Edges.{edge-from-to}
+use Rattle.plane.proofs.Edges.{edge_from_to}
 use Rattle.plane.proofs.edge.from_to.Statement.{statement}
 use Rattle.plane.proofs.edge.from_to.Tie as tie
 
@@ -20,8 +20,8 @@ returns c =
     let y : back a.y ≡ a.y = plain (search tr depth 20) tt in
     let u : back (back b.x -ℤ back a.x) ≡ b.x -ℤ a.x = plain (search tr depth 20) tt in
     let v : back (back b.y -ℤ back a.y) ≡ b.y -ℤ a.y = plain (search tr depth 20) tt in
-    let is : seg (back a.x) (back a.y) (back (back b.x -ℤ back a.x)) (back (back b.y -ℤ back a.y)) ≡ fromTo (vec_of a) (vec_of b) = λ i. seg (x i) (y i) (u i) (v i) in
-    (is, subst Edge (sym is) (edge-from-to (vec_of a) (vec_of b) h l))
+    let is : seg (back a.x) (back a.y) (back (back b.x -ℤ back a.x)) (back (back b.y -ℤ back a.y)) ≡ from_to (vec_of a) (vec_of b) = λ i. seg (x i) (y i) (u i) (v i) in
+    (is, subst Edge (sym is) (edge_from_to (vec_of a) (vec_of b) h l))
 
 pub from-to-spec : {M : Type 1} → statement M
 from-to-spec = tie.close (tie.spec (λ c. fits (search tr depth 20) tt) (λ c. fits (search tr depth 20) tt) returns)

@@ -5,46 +5,46 @@ use lib.IntN.{pos}
 use mir.Syntax.{w64}
 use borrow.Author.Rules.{rules}
 use Rattle.exact.specs.Mach.{trbits, eq_yes, eq_no}
-use Rattle.exact.specs.Sign.{sgn, isZer}
-use Rattle.paper.specs.Plane.{Seg, Pt, whole, head, leftBy, before, inside}
-use Rattle.plane.specs.Values.{segOf, ptOf}
-use Rattle.plane.proofs.Signs.{zer-yes, zer-no}
+use Rattle.exact.specs.Sign.{sgn, is_zer}
+use Rattle.paper.specs.Plane.{Seg, Pt, whole, head, the_left_by, before, inside}
+use Rattle.plane.specs.Values.{seg_of, pt_of}
+use Rattle.plane.proofs.Signs.{zer_yes, zer_no}
 use Rattle.plane.proofs.on_edge.inside.Statement.{statement}
 use Rattle.plane.proofs.on_edge.inside.Tie as tie
 
 -- the definition, where it is known of the line and of the lower end
-by : (s : Seg) (p : Pt) {a b : Bool} → a ≡ isZer (sgn (leftBy s p)) → b ≡ before (whole s.foot) p → (a && (b && before p (whole (head s)))) ≡ inside s p
+by : (s : Seg) (p : Pt) {a b : Bool} → a ≡ is_zer (sgn (the_left_by s p)) → b ≡ before (whole s.foot) p → (a && (b && before p (whole (head s)))) ≡ inside s p
 by s p e f = λ i. e i && (f i && before p (whole (head s)))
 
 returns : tie.Need-returns
 returns c =
-    let s = segOf c.before.before.before.before.before.before.before.args.s in
-    let p = ptOf c.before.before.before.before.before.before.before.args.p in
+    let s = seg_of c.before.before.before.before.before.before.before.args.s in
+    let p = pt_of c.before.before.before.before.before.before.before.args.p in
     let left = c.before.before.before.before.before.before.left_by in
     let on : left.result ≡ pos 0 = eq_yes w64 c.before.before.before.before.before.if1.true (search trbits depth 20) (search trbits depth 20) tt in
     let foot = ap (λ (q : Pt). before q p) c.before.before.before.before.foot.ensures.0 in
     let head = ap (before p) c.before.head.ensures.0 in
-    c.before3.ensures ∙ head ∙ by s p (sym (zer-yes (leftBy s p) (sym left.ensures.0 ∙ on))) (sym c.before.before.if2.true ∙ c.before.before.before.before2.ensures ∙ foot)
+    c.before3.ensures ∙ head ∙ by s p (sym (zer_yes (the_left_by s p) (sym left.ensures.0 ∙ on))) (sym c.before.before.if2.true ∙ c.before.before.before.before2.ensures ∙ foot)
 
 returns-2 : tie.Need-returns-2
 returns-2 c =
     let start : tie.Start = search rules in
     let after-left-by : tie.After-left-by = search rules in
     let then1 : tie.Then1 = search rules in
-    let s = segOf start.args.s in
-    let p = ptOf start.args.p in
+    let s = seg_of start.args.s in
+    let p = pt_of start.args.p in
     let left = after-left-by.left_by in
     let on : left.result ≡ pos 0 = eq_yes w64 then1.if1.taken (search trbits depth 20) (search trbits depth 20) tt in
     let foot = ap (λ (q : Pt). before q p) c.before.before.foot.ensures.0 in
-    by s p (sym (zer-yes (leftBy s p) (sym left.ensures.0 ∙ on))) (sym c.if2.false ∙ c.before.before2.ensures ∙ foot)
+    by s p (sym (zer_yes (the_left_by s p) (sym left.ensures.0 ∙ on))) (sym c.if2.false ∙ c.before.before2.ensures ∙ foot)
 
 returns-3 : tie.Need-returns-3
 returns-3 c =
-    let s = segOf c.before.before.args.s in
-    let p = ptOf c.before.before.args.p in
+    let s = seg_of c.before.before.args.s in
+    let p = pt_of c.before.before.args.p in
     let left = c.before.left_by in
     let off : left.result ≡ pos 0 → ⊥ = eq_no w64 c.if1.false (search trbits depth 20) (search trbits depth 20) tt in
-    by s p (sym (zer-no (leftBy s p) (λ e. off (left.ensures.0 ∙ e)))) refl
+    by s p (sym (zer_no (the_left_by s p) (λ e. off (left.ensures.0 ∙ e)))) refl
 
 pub inside-spec : {M : Type 1} → statement M
 inside-spec =

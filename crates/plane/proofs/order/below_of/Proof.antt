@@ -1,7 +1,7 @@
 -- `plane::order::below_of` meets its contract. Assumes nothing.
 use mathlib.Core.Path.{◌∙◌, ap}
-use Rattle.exact.specs.Sign.{sgn, isNeg}
-use Rattle.plane.proofs.Fractions.{ys, by-y}
+use Rattle.exact.specs.Sign.{sgn, is_neg}
+use Rattle.plane.proofs.Fractions.{ys, by_y}
 use Rattle.plane.proofs.order.below_of.Statement.{statement}
 use Rattle.plane.proofs.order.below_of.Tie as tie
 
@@ -12,7 +12,7 @@ returns : tie.Need-returns
 returns c =
     let s = c.before in
     let a = s.args in
-    c.lesser.ensures ∙ ap isNeg (ap sgn (by-y a.px a.py a.pd a.qx a.qy a.qd s.requires.0 s.requires.1))
+    c.lesser.ensures ∙ ap is_neg (ap sgn (by_y a.px a.py a.pd a.qx a.qy a.qd s.requires.0 s.requires.1))
 
 pub below-of-spec : {M : Type 1} → statement M
 below-of-spec = tie.close (tie.spec lesser-requires returns)

@@ -2,7 +2,7 @@
 use mathlib.Core.Path.{sym, ◌∙◌, ap}
 use borrow.Author.Rules.{rules}
 use Rattle.exact.specs.Exact.{sgn}
-use Rattle.plane.proofs.Fractions.{Short, short-of, first_fits, second_fits, short, factors, long}
+use Rattle.plane.proofs.Fractions.{Short, short_of, first_fits, second_fits, short, factors, long}
 use Rattle.plane.proofs.order.crosswise.Statement.{statement}
 use Rattle.plane.proofs.order.crosswise.Tie as tie
 
@@ -11,7 +11,7 @@ is-short : (c : tie.Then1) → let a = c.before.before.args in Short a.n a.d a.m
 is-short c =
     let s = c.before.before in
     let a = s.args in
-    short-of a.n a.d a.m a.e s.requires.0 s.requires.1 (sym c.before.short-way.ensures ∙ c.if1.true)
+    short_of a.n a.d a.m a.e s.requires.0 s.requires.1 (sym c.before.short-way.ensures ∙ c.if1.true)
 
 mul-order : tie.Need-overflow-mul-order
 mul-order c =

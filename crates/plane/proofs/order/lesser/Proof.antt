@@ -1,8 +1,8 @@
 -- `plane::order::lesser` meets its contract, by the short way and by the long one. Assumes nothing.
 use mathlib.Core.Path.{sym, ◌∙◌, ap}
 use borrow.Author.Rules.{rules}
-use Rattle.exact.specs.Sign.{sgn, isNeg}
-use Rattle.plane.proofs.Fractions.{Short, short-of, first_fits, second_fits, short-test, factors, long}
+use Rattle.exact.specs.Sign.{sgn, is_neg}
+use Rattle.plane.proofs.Fractions.{Short, short_of, first_fits, second_fits, short_test, factors, long}
 use Rattle.plane.proofs.order.lesser.Statement.{statement}
 use Rattle.plane.proofs.order.lesser.Tie as tie
 
@@ -11,7 +11,7 @@ is-short : (c : tie.Then1) → let a = c.before.before.args in Short a.n a.d a.m
 is-short c =
     let s = c.before.before in
     let a = s.args in
-    short-of a.n a.d a.m a.e s.requires.0 s.requires.1 (sym c.before.short-way.ensures ∙ c.if1.true)
+    short_of a.n a.d a.m a.e s.requires.0 s.requires.1 (sym c.before.short-way.ensures ∙ c.if1.true)
 
 mul-result : tie.Need-overflow-mul-result
 mul-result c =
@@ -32,13 +32,13 @@ returns : tie.Need-returns
 returns c =
     let s = c.before.before in
     let a = s.args in
-    short-test a.n a.d a.m a.e s.requires.0 s.requires.1 (is-short c)
+    short_test a.n a.d a.m a.e s.requires.0 s.requires.1 (is-short c)
 
 returns-2 : tie.Need-returns-2
 returns-2 c =
     let s = c.before.before.before.before in
     let a = s.args in
-    c.is-less.ensures ∙ ap isNeg (c.before.products.ensures ∙ ap sgn (long a.n a.d a.m a.e s.requires.0 s.requires.1))
+    c.is-less.ensures ∙ ap is_neg (c.before.products.ensures ∙ ap sgn (long a.n a.d a.m a.e s.requires.0 s.requires.1))
 
 pub lesser-spec : {M : Type 1} → statement M
 lesser-spec = tie.close (tie.spec (λ c κs. search rules) mul-result mul-result-2 products-requires (λ c κs. search rules) returns returns-2)

@@ -2,7 +2,7 @@
 use mathlib.Core.Path.{◌∙◌}
 use borrow.Author.Rules.{rules}
 use Rattle.paper.specs.Plane.{order}
-use Rattle.plane.proofs.Machine.{pt-back}
+use Rattle.plane.proofs.Machine.{pt_back}
 use Rattle.plane.proofs.order.order.Statement.{statement}
 use Rattle.plane.proofs.order.order.Tie as tie
 
@@ -11,7 +11,7 @@ returns c =
     let st : tie.Start = search rules in
     let p = st.args.p in
     let q = st.args.q in
-    c.order-of.ensures ∙ (λ i. order (pt-back p.x p.y p.d st.pre.0 i) (pt-back q.x q.y q.d st.pre.1 i))
+    c.order-of.ensures ∙ (λ i. order (pt_back p.x p.y p.d st.pre.0 i) (pt_back q.x q.y q.d st.pre.1 i))
 
 pub order-spec : {M : Type 1} → statement M
 order-spec = tie.close (tie.spec (λ c κs. search rules) returns)

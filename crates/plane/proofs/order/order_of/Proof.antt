@@ -4,7 +4,7 @@ use lib.IntN.{◌-ℤ◌, ◌*ℤ◌}
 use borrow.Author.Rules.{rules}
 use Rattle.exact.specs.Compare.{sign_of}
 use Rattle.exact.specs.Sign.{sgn, pick}
-use Rattle.plane.proofs.Fractions.{xs, ys, by-x, by-y}
+use Rattle.plane.proofs.Fractions.{xs, ys, by_x, by_y}
 use Rattle.plane.proofs.order.order_of.Statement.{statement}
 use Rattle.plane.proofs.order.order_of.Tie as tie
 
@@ -22,7 +22,7 @@ told : (c : tie.After-fractions) → let a = c.before.args in sign_of c.fraction
 told c =
     let s = c.before in
     let a = s.args in
-    c.fractions.ensures ∙ ap sgn (by-y a.px a.py a.pd a.qx a.qy a.qd s.requires.0 s.requires.1)
+    c.fractions.ensures ∙ ap sgn (by_y a.px a.py a.pd a.qx a.qy a.qd s.requires.0 s.requires.1)
 
 returns : tie.Need-returns
 returns c =
@@ -35,7 +35,7 @@ returns-2 c =
     let start : tie.Start = search rules in
     let after-fractions : tie.After-fractions = search rules in
     let a = start.args in
-    c.fractions2.ensures ∙ ap sgn (by-x a.px a.py a.pd a.qx a.qy a.qd start.pre.0 start.pre.1)
+    c.fractions2.ensures ∙ ap sgn (by_x a.px a.py a.pd a.qx a.qy a.qd start.pre.0 start.pre.1)
     ∙ (λ i. pick ((sym (ap sign_of c.before.enum-told2.given.1) ∙ told after-fractions) i) (sgn (a.px *ℤ a.qd -ℤ a.qx *ℤ a.pd)))
 
 returns-3 : tie.Need-returns-3

@@ -3,7 +3,7 @@ use Prim.Native.Nat.{◌-◌}
 use borrow.Author.Rules.{rules}
 use lib.ListN.{length}
 use lib.IntN.{pos}
-use Rattle.seq.specs.Loops.Wiping.{Wiping, wipe-starts, wipe-turns, wipe-ends}
+use Rattle.seq.specs.Loops.Wiping.{Wiping, wipe_starts, wipe_turns, wipe_ends}
 use Rattle.seq.proofs.i64s.wipe_from_i64.Statement.{statement}
 use Rattle.seq.proofs.i64s.wipe_from_i64.Tie as tie
 
@@ -14,4 +14,4 @@ abbrev decreases-loop : tie.decreases-loop
 decreases-loop t₀ n i₀ t i = length t₀ - i
 
 pub wipe-from-i64-spec : {M : Type 1} → statement M
-wipe-from-i64-spec = tie.close (tie.spec invariant-loop decreases-loop (λ c. wipe-starts (search rules)) (λ c. search rules) (λ c. search rules) (λ c. search rules) (λ c. search rules) (λ c. wipe-turns c.before.loop.invariant (search rules)) (λ c. search rules) (λ c. wipe-ends c.before.loop.invariant (search rules)))
+wipe-from-i64-spec = tie.close (tie.spec invariant-loop decreases-loop (λ c. wipe_starts (search rules)) (λ c. search rules) (λ c. search rules) (λ c. search rules) (λ c. search rules) (λ c. wipe_turns c.before.loop.invariant (search rules)) (λ c. search rules) (λ c. wipe_ends c.before.loop.invariant (search rules)))

@@ -2,7 +2,7 @@
 use Prim.Native.Nat.{◌-◌}
 use borrow.Author.Rules.{rules}
 use lib.ListN.{length}
-use Rattle.seq.specs.Loops.Wiping.{Wiping, wipe-starts, wipe-turns, wipe-ends}
+use Rattle.seq.specs.Loops.Wiping.{Wiping, wipe_starts, wipe_turns, wipe_ends}
 use Rattle.seq.proofs.u16s.wipe_from_u16.Statement.{statement}
 use Rattle.seq.proofs.u16s.wipe_from_u16.Tie as tie
 
@@ -13,4 +13,4 @@ abbrev decreases-loop : tie.decreases-loop
 decreases-loop t₀ n i₀ t i = length t₀ - i
 
 pub wipe-from-u16-spec : {M : Type 1} → statement M
-wipe-from-u16-spec = tie.close (tie.spec invariant-loop decreases-loop (λ c. wipe-starts (search rules)) (λ c. search rules) (λ c. search rules) (λ c. search rules) (λ c. search rules) (λ c. wipe-turns c.before.loop.invariant (search rules)) (λ c. search rules) (λ c. wipe-ends c.before.loop.invariant (search rules)))
+wipe-from-u16-spec = tie.close (tie.spec invariant-loop decreases-loop (λ c. wipe_starts (search rules)) (λ c. search rules) (λ c. search rules) (λ c. search rules) (λ c. search rules) (λ c. wipe_turns c.before.loop.invariant (search rules)) (λ c. search rules) (λ c. wipe_ends c.before.loop.invariant (search rules)))

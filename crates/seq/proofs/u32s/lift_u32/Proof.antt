@@ -1,6 +1,6 @@
 -- `lift_u32` meets its contract. Assumes nothing.
 use mathlib.Core.Path.{refl}
-use Rattle.seq.specs.Loops.Lifting.{Lifting, lift-starts, lift-turns, lift-ends}
+use Rattle.seq.specs.Loops.Lifting.{Lifting, lift_starts, lift_turns, lift_ends}
 use borrow.Author.Rules.{rules}
 use Rattle.seq.proofs.u32s.lift_u32.Statement.{statement}
 use Rattle.seq.proofs.u32s.lift_u32.Tie as tie
@@ -17,7 +17,7 @@ lift-u32-spec =
     (tie.spec
     invariant-loop
     decreases-loop
-    (λ c. lift-starts (search rules) (search rules))
+    (λ c. lift_starts (search rules) (search rules))
     (λ c. search rules)
     (λ c. search rules)
     (λ c. search rules)
@@ -25,6 +25,6 @@ lift-u32-spec =
     (λ c. search rules)
     (λ c. search rules)
     (λ c. search rules)
-    (λ c. lift-turns c.before.before.loop.invariant 0 (search rules) refl)
+    (λ c. lift_turns c.before.before.loop.invariant 0 (search rules) refl)
     (λ c. search rules)
-    (λ c. lift-ends c.before.loop.invariant (search rules)))
+    (λ c. lift_ends c.before.loop.invariant (search rules)))

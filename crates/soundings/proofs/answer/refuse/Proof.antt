@@ -1,9 +1,9 @@
 -- `soundings::answer::refuse` meets its contract. Assumes nothing.
 use mathlib.Core.Path.{sym, ◌∙◌}
 use lib.ListN.{length}
-use Rattle.seq.specs.Wiped.{padded-none}
+use Rattle.seq.specs.Wiped.{padded_none}
 use Rattle.paper.specs.Refusal.{refused}
-use Rattle.map_file.specs.Verdict.{refusalOf}
+use Rattle.map_file.specs.Verdict.{refusal_of}
 use native.Mathlib.Omega.{arith}
 use borrow.Author.Rules.{rules}
 use Rattle.soundings.proofs.answer.refuse.Statement.{statement}
@@ -16,9 +16,9 @@ returns c =
     let v : tie.After-wipe-u32 = search rules in
     let a = s.args in
     λ i. record {
-      answer = refused (refusalOf a.r);
-      labels = (u.wipe-u16.ensures ∙ sym (padded-none 0 (length a.labels.now))) i;
-      counts = (v.wipe-u32.ensures ∙ sym (padded-none 0 (length a.counts.now))) i;
+      answer = refused (refusal_of a.r);
+      labels = (u.wipe-u16.ensures ∙ sym (padded_none 0 (length a.labels.now))) i;
+      counts = (v.wipe-u32.ensures ∙ sym (padded_none 0 (length a.counts.now))) i;
     }
 
 pub refuse-spec : {M : Type 1} → statement M

@@ -2,7 +2,7 @@
 use mathlib.Core.Path.{sym, ◌∙◌}
 use borrow.Author.Tests.{not-true, not-false}
 use native.Mathlib.Omega.{arith}
-use Rattle.soundings.specs.Fits.{sound-rows, sound-fits, stays-bad, stays-unsound, goes_on}
+use Rattle.soundings.specs.Fits.{sound-rows, sound_fits, stays-bad, stays-unsound, goes_on}
 use borrow.Author.Rules.{rules}
 use Rattle.soundings.proofs.batch.add_tested.Statement.{statement}
 use Rattle.soundings.proofs.batch.add_tested.Tie as tie
@@ -26,7 +26,7 @@ add-bytes-requires c κs =
     let a = s.args in
     let h = sym c.before.before.before.before.sound.ensures ∙ not-false _ c.before.before.before.if2.false in
     let r = sound-rows a.rails.now a.easts.now a.e a.rails2.now a.easts2.now a.f a.labels.now a.counts.now a.p h s.requires.0 s.requires.1.0 in
-    (r.0, (r.1, (s.requires.1.1.0, (s.requires.1.1.1, sound-fits a.rails.now a.easts.now a.e a.rails2.now a.easts2.now a.f a.labels.now a.counts.now a.p a.bytes.now h r.0 r.1))))
+    (r.0, (r.1, (s.requires.1.1.0, (s.requires.1.1.1, sound_fits a.rails.now a.easts.now a.e a.rails2.now a.easts2.now a.f a.labels.now a.counts.now a.p a.bytes.now h r.0 r.1))))
 
 returns-3 : tie.Need-returns-3
 returns-3 c =
@@ -36,7 +36,7 @@ returns-3 c =
     let h = sym c.before.before.before.before.before.before.before.before.before.before.before.sound.ensures ∙ not-false _ c.before.before.before.before.before.before.before.before.before.before.if2.false in
     let r = sound-rows a.rails.now a.easts.now a.e a.rails2.now a.easts2.now a.f a.labels.now a.counts.now a.p h s.requires.0 s.requires.1.0 in
     goes_on a.rails.now a.easts.now a.e a.rails2.now a.easts2.now a.f a.bytes.now a.labels.now a.counts.now x.new.1.1.1.1.1.1.1.0 x.new.1.1.1.1.1.1.1.1.0 x.new.1.1.1.1.1.1.1.1.1.0 a.p x.result a.batch.now r.0 r.1 (omega (arith, x.auto.1.1.1.1.1.1.1.0, s.requires.1.1.0)) h
-    (sound-fits a.rails.now a.easts.now a.e a.rails2.now a.easts2.now a.f a.labels.now a.counts.now a.p a.bytes.now h r.0 r.1) x.ensures
+    (sound_fits a.rails.now a.easts.now a.e a.rails2.now a.easts2.now a.f a.labels.now a.counts.now a.p a.bytes.now h r.0 r.1) x.ensures
 
 pub add-tested-spec : {M : Type 1} → statement M
 add-tested-spec =

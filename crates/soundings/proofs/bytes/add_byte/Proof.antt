@@ -1,7 +1,7 @@
 -- `soundings::bytes::add_byte` meets its contract: it is refused already, or the byte waits, or a sounding is whole. Assumes nothing.
 use native.Mathlib.Omega.{arith}
-use Rattle.soundings.specs.Rows.{lookBy}
-use Rattle.soundings.specs.Step.{byte-bad, byte-rest, byte-countable, byte-waits, byte-sounding}
+use Rattle.soundings.specs.Rows.{look_by}
+use Rattle.soundings.specs.Step.{byte-bad, byte-rest, byte_countable, byte-waits, byte_sounding}
 use borrow.Author.Rules.{rules}
 use Rattle.soundings.proofs.bytes.add_byte.Statement.{statement}
 use Rattle.soundings.proofs.bytes.add_byte.Tie as tie
@@ -9,21 +9,21 @@ use Rattle.soundings.proofs.bytes.add_byte.Tie as tie
 returns : tie.Need-returns
 returns c =
     let a = c.before.before.before.before.before.before.before.args in
-    byte-bad (lookBy a.rails.now a.easts.now a.e a.rails2.now a.easts2.now a.f) a.bytes.now a.labels.now a.counts.now a.p a.b c.if1.true
+    byte-bad (look_by a.rails.now a.easts.now a.e a.rails2.now a.easts2.now a.f) a.bytes.now a.labels.now a.counts.now a.p a.b c.if1.true
 
 slice-write-bytes : tie.Need-slice-write-bytes
 slice-write-bytes c =
     let s = c.before.before.before.before.before.before.before in
     let a = s.args in
     let p = s.requires.1.1 in
-    omega (arith, p.0, byte-rest (lookBy a.rails.now a.easts.now a.e a.rails2.now a.easts2.now a.f) a.bytes.now a.labels.now a.counts.now a.p a.b c.if1.false p.1.1 p.0)
+    omega (arith, p.0, byte-rest (look_by a.rails.now a.easts.now a.e a.rails2.now a.easts2.now a.f) a.bytes.now a.labels.now a.counts.now a.p a.b c.if1.false p.1.1 p.0)
 
 add-if2 : tie.Need-overflow-add-if2
 add-if2 c =
     let s = c.before.before.before.before.before.before.before in
     let a = s.args in
     let p = s.requires.1.1 in
-    omega (arith, byte-rest (lookBy a.rails.now a.easts.now a.e a.rails2.now a.easts2.now a.f) a.bytes.now a.labels.now a.counts.now a.p a.b c.if1.false p.1.1 p.0)
+    omega (arith, byte-rest (look_by a.rails.now a.easts.now a.e a.rails2.now a.easts2.now a.f) a.bytes.now a.labels.now a.counts.now a.p a.b c.if1.false p.1.1 p.0)
 
 add-going : tie.Need-overflow-add-going
 add-going c = omega (arith, c.if2.true)
@@ -33,14 +33,14 @@ returns-2 c =
     let s = c.before.before.before.before.before.before.before.before.before in
     let a = s.args in
     let p = s.requires.1.1 in
-    byte-waits (lookBy a.rails.now a.easts.now a.e a.rails2.now a.easts2.now a.f) a.bytes.now a.labels.now a.counts.now a.p a.b c.before.before.if1.false p.1.1 p.0 _ c.going.ensures c.before.if2.true
+    byte-waits (look_by a.rails.now a.easts.now a.e a.rails2.now a.easts2.now a.f) a.bytes.now a.labels.now a.counts.now a.p a.b c.before.before.if1.false p.1.1 p.0 _ c.going.ensures c.before.if2.true
 
 add-sounding-requires : tie.Need-add-sounding-requires
 add-sounding-requires c κs =
     let s = c.before.before.before.before.before.before.before.before.before.before.before in
     let a = s.args in
     let p = s.requires.1.1 in
-    (s.requires.0, (s.requires.1.0, byte-countable (lookBy a.rails.now a.easts.now a.e a.rails2.now a.easts2.now a.f) a.bytes.now a.labels.now a.counts.now a.p a.b c.before.before.before.before.if1.false p.1.1 p.0 p.1.0))
+    (s.requires.0, (s.requires.1.0, byte_countable (look_by a.rails.now a.easts.now a.e a.rails2.now a.easts2.now a.f) a.bytes.now a.labels.now a.counts.now a.p a.b c.before.before.before.before.if1.false p.1.1 p.0 p.1.0))
 
 returns-3 : tie.Need-returns-3
 returns-3 c =
@@ -48,7 +48,7 @@ returns-3 c =
     let a = s.args in
     let p = s.requires.1.1 in
     let x = c.before.before.before.before.add-sounding in
-    byte-sounding (lookBy a.rails.now a.easts.now a.e a.rails2.now a.easts2.now a.f) a.bytes.now a.labels.now a.counts.now a.p a.b c.before.before.before.before.before.before.before.before.before.if1.false p.1.1 p.0 x.new.1.1.1.1.1.1.1.0 x.new.1.1.1.1.1.1.1.1.0 x.result c.before.before.before.before.before.before.before.before.if2.false x.ensures
+    byte_sounding (look_by a.rails.now a.easts.now a.e a.rails2.now a.easts2.now a.f) a.bytes.now a.labels.now a.counts.now a.p a.b c.before.before.before.before.before.before.before.before.before.if1.false p.1.1 p.0 x.new.1.1.1.1.1.1.1.0 x.new.1.1.1.1.1.1.1.1.0 x.result c.before.before.before.before.before.before.before.before.if2.false x.ensures
 
 pub add-byte-spec : {M : Type 1} → statement M
 add-byte-spec =

@@ -3,14 +3,14 @@ use mathlib.Core.Path.{◌∙◌}
 use Prim.Native.Nat.{◌-◌, ◌<◌}
 use native.Mathlib.Omega.{arith}
 use lib.ListN.{length}
-use Rattle.soundings.specs.Rows.{lookBy}
-use Rattle.soundings.specs.Step.{Adding, adding-starts, adding-fit, adding-room, adding-turns, adding-ends}
+use Rattle.soundings.specs.Rows.{look_by}
+use Rattle.soundings.specs.Step.{Adding, adding_starts, adding_fit, adding_room, adding_turns, adding_ends}
 use borrow.Author.Rules.{rules}
 use Rattle.soundings.proofs.bytes.add_bytes.Statement.{statement}
 use Rattle.soundings.proofs.bytes.add_bytes.Tie as tie
 
 abbrev invariant-loop : tie.invariant-loop
-invariant-loop rails easts e rails2 easts2 f batch bytes₀ labels₀ counts₀ p i₀ bytes labels counts q i = Adding (lookBy rails easts e rails2 easts2 f) batch bytes₀ labels₀ counts₀ p bytes labels counts q i
+invariant-loop rails easts e rails2 easts2 f batch bytes₀ labels₀ counts₀ p i₀ bytes labels counts q i = Adding (look_by rails easts e rails2 easts2 f) batch bytes₀ labels₀ counts₀ p bytes labels counts q i
 
 abbrev decreases-loop : tie.decreases-loop
 decreases-loop rails easts e rails2 easts2 f batch bytes₀ labels₀ counts₀ p i₀ bytes labels counts q i = length batch - i
@@ -27,12 +27,12 @@ add-byte-requires c κs =
     let s = c.before.before.before.before.before.before.before.before.before.before.before.before in
     let v = c.before.before.before.before.before.loop.invariant in
     let p = s.requires.1.1 in
-    (s.requires.0, (s.requires.1.0, (v.bytes-kept ∙ p.0, (adding-room v p.1.0, adding-fit v p.1.1))))
+    (s.requires.0, (s.requires.1.0, (v.bytes-kept ∙ p.0, (adding_room v p.1.0, adding_fit v p.1.1))))
 
 loop-again : tie.Need-loop-preserved invariant-loop decreases-loop
 loop-again c =
     let x = c.before.before.before.before.before.before.add-byte in
-    adding-turns c.before.before.before.before.before.before.before.before.before.before.before.before.loop.invariant _ _ _ _ c.before.before.before.before.before.before.before.before.before.before.before.loop-test.true x.auto.1.1.1.1.1.1.1.0 x.auto.1.1.1.1.1.1.1.1.0 x.auto.1.1.1.1.1.1.1.1.1.0 x.ensures
+    adding_turns c.before.before.before.before.before.before.before.before.before.before.before.before.loop.invariant _ _ _ _ c.before.before.before.before.before.before.before.before.before.before.before.loop-test.true x.auto.1.1.1.1.1.1.1.0 x.auto.1.1.1.1.1.1.1.1.0 x.auto.1.1.1.1.1.1.1.1.1.0 x.ensures
 
 pub add-bytes-spec : {M : Type 1} → statement M
 add-bytes-spec =
@@ -40,7 +40,7 @@ add-bytes-spec =
     (tie.spec
     invariant-loop
     decreases-loop
-    (λ c. adding-starts)
+    (λ c. adding_starts)
     (λ c. search rules)
     add-byte-requires
     add-i
@@ -49,4 +49,4 @@ add-bytes-spec =
     (λ c. c.before.loop.invariant.bytes-kept)
     (λ c. c.before.loop.invariant.labels-kept)
     (λ c. c.before.loop.invariant.counts-kept)
-    (λ c. adding-ends c.before.loop.invariant (search rules)))
+    (λ c. adding_ends c.before.loop.invariant (search rules)))

@@ -3,9 +3,9 @@ use mathlib.Core.Path.{sym, ◌∙◌, ap}
 use lib.ListN.{length}
 use Rattle.paper.specs.Soundings.{counted}
 use Rattle.map_file.specs.Verdict.{verdict}
-use Rattle.laws_soundings.specs.Run.{cellsBy}
-use Rattle.soundings_count.specs.Entries.{entriesIn}
-use Rattle.soundings.specs.Answer.{roomBy}
+use Rattle.laws_soundings.specs.Run.{cells_by}
+use Rattle.soundings_count.specs.Entries.{entries_in}
+use Rattle.soundings.specs.Answer.{room_by}
 use borrow.Author.Rules.{rules}
 use Rattle.soundings.proofs.closing.answer.Statement.{statement}
 use Rattle.soundings.proofs.closing.answer.Tie as tie
@@ -19,12 +19,12 @@ lay-pairs-requires c κs =
 returns : tie.Need-returns
 returns c =
     let a = c.before.before.before.before.before.before.before.before.before.before.before.before.before.before.args in
-    c.before.before.before.before.refuse.ensures ∙ sym (ap (counted (roomBy (length a.labels.now) (length a.counts.now)) (cellsBy a.p.entries a.p.soundings a.p.read) (entriesIn a.own.now a.times.now a.p.entries)) (ap verdict c.before.before.before.before.before.before.before.before.c.given.1))
+    c.before.before.before.before.refuse.ensures ∙ sym (ap (counted (room_by (length a.labels.now) (length a.counts.now)) (cells_by a.p.entries a.p.soundings a.p.read) (entries_in a.own.now a.times.now a.p.entries)) (ap verdict c.before.before.before.before.before.before.before.before.c.given.1))
 
 returns-2 : tie.Need-returns-2
 returns-2 c =
     let a = c.before.before.before.before.before.before.before.before.before.before.before.before.before.args in
-    c.before.before.before.before.lay-pairs.ensures ∙ sym (ap (counted (roomBy (length a.labels.now) (length a.counts.now)) (cellsBy a.p.entries a.p.soundings a.p.read) (entriesIn a.own.now a.times.now a.p.entries)) (ap verdict c.before.before.before.before.before.before.before.enum_told.given.1))
+    c.before.before.before.before.lay-pairs.ensures ∙ sym (ap (counted (room_by (length a.labels.now) (length a.counts.now)) (cells_by a.p.entries a.p.soundings a.p.read) (entries_in a.own.now a.times.now a.p.entries)) (ap verdict c.before.before.before.before.before.before.before.enum_told.given.1))
 
 pub answer-spec : {M : Type 1} → statement M
 answer-spec =

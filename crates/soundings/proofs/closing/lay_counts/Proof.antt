@@ -3,7 +3,7 @@ use mathlib.Core.Path.{refl}
 use Prim.Native.Nat.{◌-◌}
 use native.Mathlib.Omega.{arith}
 use lib.ListN.{get_or}
-use Rattle.seq.specs.Loops.Filling.{Filling, fill-starts, fill-turns, fill-ends}
+use Rattle.seq.specs.Loops.Filling.{Filling, fill_starts, fill_turns, fill_ends}
 use borrow.Author.Rules.{rules}
 use Rattle.soundings.proofs.closing.lay_counts.Statement.{statement}
 use Rattle.soundings.proofs.closing.lay_counts.Tie as tie
@@ -23,13 +23,13 @@ lay-counts-spec =
     (tie.spec
     invariant-loop
     decreases-loop
-    (λ c. fill-starts c.requires.1)
+    (λ c. fill_starts c.requires.1)
     (λ c. search rules)
     (λ c. search rules)
     (λ c. search rules)
     slice-write-to
     (λ c. search rules)
     (λ c. search rules)
-    (λ c. fill-turns c.before.before.loop.invariant (search rules) refl)
+    (λ c. fill_turns c.before.before.loop.invariant (search rules) refl)
     (λ c. c.before.loop.invariant.kept)
-    (λ c. fill-ends c.before.loop.invariant (search rules)))
+    (λ c. fill_ends c.before.loop.invariant (search rules)))

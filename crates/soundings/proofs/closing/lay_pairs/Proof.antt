@@ -3,8 +3,8 @@ use mathlib.Core.Path.{◌∙◌}
 use native.Mathlib.Omega.{arith}
 use Rattle.seq.specs.Seq.{none}
 use Rattle.paper.specs.Soundings.{counted}
-use Rattle.laws_soundings.specs.Run.{cellsBy}
-use Rattle.soundings.specs.Answer.{roomBy}
+use Rattle.laws_soundings.specs.Run.{cells_by}
+use Rattle.soundings.specs.Answer.{room_by}
 use Rattle.soundings.specs.Closing.{laid-entries}
 use borrow.Author.Rules.{rules}
 use Rattle.soundings.proofs.closing.lay_pairs.Statement.{statement}
@@ -30,7 +30,7 @@ returns c =
     let x = c.before.before.before.before.before.before.before.before.before.before.before.before.before.lay-labels in
     let y = c.before.before.before.before.before.before.before.before.before.lay-counts in
     c.before.before.before.before.finish.ensures
-    ∙ (λ i. counted (roomBy (x.auto.1.1.0 i) (y.auto.1.1.0 i)) (cellsBy a.p.entries a.p.soundings a.p.read) (laid-entries a.own.now a.times.now a.labels.now a.counts.now _ _ a.p.entries x.ensures y.ensures i) none)
+    ∙ (λ i. counted (room_by (x.auto.1.1.0 i) (y.auto.1.1.0 i)) (cells_by a.p.entries a.p.soundings a.p.read) (laid-entries a.own.now a.times.now a.labels.now a.counts.now _ _ a.p.entries x.ensures y.ensures i) none)
 
 pub lay-pairs-spec : {M : Type 1} → statement M
 lay-pairs-spec =

@@ -4,7 +4,7 @@ use mathlib.Core.List.{[], ◌∷◌}
 use borrow.Author.Rules.{rules}
 use Rattle.paper.specs.Refusal.{first_of}
 use Rattle.paper.specs.Map.{fault}
-use Rattle.soundings.specs.Laid.{both-none}
+use Rattle.soundings.specs.Laid.{both_none}
 use Rattle.soundings.proofs.lay.lay_both.Statement.{statement}
 use Rattle.soundings.proofs.lay.lay_both.Tie as tie
 
@@ -17,8 +17,8 @@ returns c =
     let b = fault s.args.blocks.now in
     let is = c.first.ensures ∙ (λ i. first_of (first.lay-one.ensures.0 i ∷ second.lay-one2.ensures.0 i ∷ [])) in (
       is,
-      λ q. first.lay-one.ensures.1 (both-none a b (sym is ∙ q)).0,
-      λ q. second.lay-one2.ensures.1 (both-none a b (sym is ∙ q)).1,
+      λ q. first.lay-one.ensures.1 (both_none a b (sym is ∙ q)).0,
+      λ q. second.lay-one2.ensures.1 (both_none a b (sym is ∙ q)).1,
     )
 
 pub lay-both-spec : {M : Type 1} → statement M

@@ -2,12 +2,12 @@
 use mathlib.Core.Path.{sym, ◌∙◌, ap, subst}
 use native.Mathlib.Omega.{arith}
 use borrow.Author.Rules.{rules}
-use Rattle.laws_refusals.specs.Refusals.{no-refusal}
+use Rattle.laws_refusals.specs.Refusals.{no_refusal}
 use Rattle.map_file.specs.Verdict.{verdict}
 use Rattle.graph.specs.Flat.{Carriers}
 use Rattle.looks.specs.Ordering.{EachEnds}
-use Rattle.looks.specs.Ordered.{flat-each}
-use Rattle.soundings.specs.Laid.{is-ready-by}
+use Rattle.looks.specs.Ordered.{flat_each}
+use Rattle.soundings.specs.Laid.{is_ready_by}
 use Rattle.soundings.proofs.lay.put_in_order.Statement.{statement}
 use Rattle.soundings.proofs.lay.put_in_order.Tie as tie
 
@@ -20,7 +20,7 @@ lay-order-requires c κs =
     let is = e.edge-count.ensures in
     let L = s.pre.0 (ap verdict fine.enum-told2.given.1) in
     let few = L.few in
-    (omega (arith, is, few), (subst (EachEnds a.corners.now a.origins.now) (sym is) (flat-each _ _ _ _ _ L.flat), search rules))
+    (omega (arith, is, few), (subst (EachEnds a.corners.now a.origins.now) (sym is) (flat_each _ _ _ _ _ L.flat), search rules))
 
 lay-rails-requires : tie.Need-lay-rails-requires
 lay-rails-requires c κs =
@@ -31,7 +31,7 @@ lay-rails-requires c κs =
     let a = s.args in
     let is = e.edge-count.ensures in
     let L = s.pre.0 (ap verdict fine.enum-told2.given.1) in (
-      (omega (arith, is, L.few), omega (arith, is, L.labels-long), subst (EachEnds a.corners.now a.origins.now) (sym is) (flat-each _ _ _ _ _ L.flat)),
+      (omega (arith, is, L.few), omega (arith, is, L.labels_long), subst (EachEnds a.corners.now a.origins.now) (sym is) (flat_each _ _ _ _ _ L.flat)),
       (
         subst (Carriers a.carriers.now) (sym is) L.flat.carriers,
         (o.lay-order.ensures.numbers, (omega (arith, is, L.few, s.pre.1.rows), omega (arith, is, L.few, s.pre.1.labels))),
@@ -39,7 +39,7 @@ lay-rails-requires c κs =
     )
 
 returns : tie.Need-returns
-returns c = λ q. absurd (no-refusal (sym (ap verdict c.enum_told.given.1) ∙ q))
+returns c = λ q. absurd (no_refusal (sym (ap verdict c.enum_told.given.1) ∙ q))
 
 returns-2 : tie.Need-returns-2
 returns-2 c =
@@ -47,7 +47,7 @@ returns-2 c =
     let e : tie.After-edge-count = search rules in
     let o : tie.After-lay-order = search rules in
     let r : tie.After-lay-rails = search rules in
-    λ q. is-ready-by e.edge-count.ensures (s.requires.0 q) o.lay-order.ensures s.requires.1 r.lay-rails.ensures.0 r.lay-rails.ensures.1
+    λ q. is_ready_by e.edge-count.ensures (s.requires.0 q) o.lay-order.ensures s.requires.1 r.lay-rails.ensures.0 r.lay-rails.ensures.1
 
 pub put-in-order-spec : {M : Type 1} → statement M
 put-in-order-spec =

@@ -2,8 +2,8 @@
 use mathlib.Core.Path.{sym, ◌∙◌}
 use borrow.Author.Tests.{not-true, not-false}
 use native.Mathlib.Omega.{arith}
-use Rattle.soundings.specs.Sound.{sound-numbers, sound-first, sound-second, sound-over, sound-table}
-use Rattle.soundings.specs.Fits.{numbers-few}
+use Rattle.soundings.specs.Sound.{sound-numbers, sound_first, sound-second, sound_over, sound-table}
+use Rattle.soundings.specs.Fits.{numbers_few}
 use borrow.Author.Rules.{rules}
 use Rattle.soundings.proofs.sound.sound.Statement.{statement}
 use Rattle.soundings.proofs.sound.sound.Tie as tie
@@ -22,7 +22,7 @@ returns-2 c =
     let n : tie.After-numbers-sound = search rules in
     let e : tie.Else1 = search rules in
     let r : tie.After-rows-sound = search rules in
-    sound-first a.rails.now a.e a.rails2.now a.f a.labels.now a.counts.now a.p (sym n.numbers-sound.ensures ∙ not-false _ e.if1.left) (sym r.rows-sound.ensures ∙ not-true _ c.if2.true)
+    sound_first a.rails.now a.e a.rails2.now a.f a.labels.now a.counts.now a.p (sym n.numbers-sound.ensures ∙ not-false _ e.if1.left) (sym r.rows-sound.ensures ∙ not-true _ c.if2.true)
 
 returns-3 : tie.Need-returns-3
 returns-3 c =
@@ -45,14 +45,14 @@ returns-4 c =
     let g : tie.Else2 = search rules in
     let q : tie.After-rows-sound2 = search rules in
     let h : tie.Else3 = search rules in
-    sound-over a.rails.now a.e a.rails2.now a.f a.labels.now a.counts.now a.p (sym n.numbers-sound.ensures ∙ not-false _ e.if1.left) (sym r.rows-sound.ensures ∙ not-false _ g.if2.left) (sym q.rows-sound2.ensures ∙ not-false _ h.if3.left) c.if4.true
+    sound_over a.rails.now a.e a.rails2.now a.f a.labels.now a.counts.now a.p (sym n.numbers-sound.ensures ∙ not-false _ e.if1.left) (sym r.rows-sound.ensures ∙ not-false _ g.if2.left) (sym q.rows-sound2.ensures ∙ not-false _ h.if3.left) c.if4.true
 
 table-sound-requires : tie.Need-table-sound-requires
 table-sound-requires c κs =
     let s : tie.Start = search rules in
     let n : tie.After-numbers-sound = search rules in
     let e : tie.Else1 = search rules in
-    (s.pre.1.1, (c.if4.false, numbers-few s.args.p (sym n.numbers-sound.ensures ∙ not-false _ e.if1.left)))
+    (s.pre.1.1, (c.if4.false, numbers_few s.args.p (sym n.numbers-sound.ensures ∙ not-false _ e.if1.left)))
 
 returns-5 : tie.Need-returns-5
 returns-5 c =

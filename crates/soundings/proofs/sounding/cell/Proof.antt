@@ -4,7 +4,7 @@ use Prim.Native.Nat.{◌+◌}
 use native.Mathlib.Omega.{arith}
 use borrow.Author.Rules.{rules}
 use Rattle.plane.specs.Values.{vec_of}
-use Rattle.soundings.specs.Rows.{look-few}
+use Rattle.soundings.specs.Rows.{look_few}
 use Rattle.soundings.proofs.sounding.cell.Statement.{statement}
 use Rattle.soundings.proofs.sounding.cell.Tie as tie
 
@@ -25,7 +25,7 @@ add-t10 c =
     let s : tie.Start = search rules in
     let a : tie.After-label-read = search rules in
     let b : tie.After-label-read2 = search rules in
-    omega (arith, a.label-read.ensures.1, b.label-read2.ensures.1, look-few s.pre.0 s.pre.1.0 (vec_of s.args.c))
+    omega (arith, a.label-read.ensures.1, b.label-read2.ensures.1, look_few s.pre.0 s.pre.1.0 (vec_of s.args.c))
 
 returns : tie.Need-returns
 returns c =

@@ -1,5 +1,5 @@
 -- `soundings_count::count::less` meets its contract. Assumes nothing.
-use Rattle.soundings_count.specs.PutCell.{less-level, less-apart}
+use Rattle.soundings_count.specs.PutCell.{less_level, less_apart}
 use borrow.Author.Rules.{rules}
 use Rattle.soundings_count.proofs.count.less.Statement.{statement}
 use Rattle.soundings_count.proofs.count.less.Tie as tie
@@ -23,10 +23,10 @@ shared-slice-read-result : tie.Need-shared-slice-read-result
 shared-slice-read-result c = search rules
 
 returns : tie.Need-returns
-returns c = let s = c.before.before.before.args in less-level s.labels.now s.r s.a s.b c.before.if1.true
+returns c = let s = c.before.before.before.args in less_level s.labels.now s.r s.a s.b c.before.if1.true
 
 returns-2 : tie.Need-returns-2
-returns-2 c = let s = c.before.before.args in less-apart s.labels.now s.r s.a s.b c.if1.false
+returns-2 c = let s = c.before.before.args in less_apart s.labels.now s.r s.a s.b c.if1.false
 
 pub less-spec : {M : Type 1} → statement M
 less-spec =

@@ -1,12 +1,12 @@
 -- `soundings_count::count::open_labels` meets its contract. Assumes nothing.
 use mathlib.Core.Path.{ap, ◌∙◌}
 use Prim.Native.Nat.{ℕ}
-use Rattle.seq.specs.Seq.{List, ◌∷◌, [], rowStored}
+use Rattle.seq.specs.Seq.{List, ◌∷◌, [], row_stored}
 use native.Mathlib.Omega.{arith}
 use borrow.Author.Rules.{rules}
 use Rattle.soundings_count.proofs.count.open_labels.Statement.{statement}
 use Rattle.soundings_count.proofs.count.open_labels.Tie as tie
-use Rattle.soundings_count.specs.Entries.{pairWidth}
+use Rattle.soundings_count.specs.Entries.{pair_width}
 
 mul-lift-u16 : tie.Need-overflow-mul-lift-u16
 mul-lift-u16 c = search rules
@@ -24,7 +24,7 @@ same_length : tie.Need-same-length
 same_length c = search rules
 
 returns : tie.Need-returns
-returns c = let a = c.before.before.before.before.before.before.before.before.before.args in c.before.before.store2-u16.ensures ∙ ap (λ (t : List ℕ). rowStored pairWidth t a.r (a.a ∷ a.b ∷ [])) c.before.before.before.before.before.before.lift-u16.ensures
+returns c = let a = c.before.before.before.before.before.before.before.before.before.args in c.before.before.store2-u16.ensures ∙ ap (λ (t : List ℕ). row_stored pair_width t a.r (a.a ∷ a.b ∷ [])) c.before.before.before.before.before.before.lift-u16.ensures
 
 pub open-labels-spec : {M : Type 1} → statement M
 open-labels-spec =

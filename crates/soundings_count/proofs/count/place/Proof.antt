@@ -1,18 +1,18 @@
 -- `soundings_count::count::place` meets its contract: all rows below `low` are less, and that at `high` is not. Assumes nothing.
 use mathlib.Core.Path.{sym, ◌∙◌, ap}
 use Prim.Native.Nat.{◌-◌}
-use Rattle.seq.specs.Halves.{Halving, halve-starts, halve-up, halve-down, halve-ends}
-use Rattle.soundings_count.specs.InOrder.{reachedAt, rows_last}
+use Rattle.seq.specs.Halves.{Halving, halve_starts, halve_up, halve_down, halve_ends}
+use Rattle.soundings_count.specs.InOrder.{reached_at, rows_last}
 use Rattle.seq.specs.Seq.{not, ◌∷◌, []}
-use Rattle.paper.specs.Soundings.{lessList}
-use Rattle.soundings_count.specs.Entries.{labelsAt}
+use Rattle.paper.specs.Soundings.{less_list}
+use Rattle.soundings_count.specs.Entries.{the_labels_at}
 use borrow.Author.Rules.{rules}
 use native.Mathlib.Omega.{arith}
 use Rattle.soundings_count.proofs.count.place.Statement.{statement}
 use Rattle.soundings_count.proofs.count.place.Tie as tie
 
 abbrev invariant-loop : tie.invariant-loop
-invariant-loop labels n a b low₀ high₀ low high = Halving (λ k. not (lessList (labelsAt labels k) (a ∷ b ∷ []))) n low high
+invariant-loop labels n a b low₀ high₀ low high = Halving (λ k. not (less_list (the_labels_at labels k) (a ∷ b ∷ []))) n low high
 
 abbrev decreases-loop : tie.decreases-loop
 decreases-loop labels n a b low₀ high₀ low high = high - low
@@ -35,14 +35,14 @@ loop-again c =
     let l : tie.At-loop invariant-loop decreases-loop = search rules in
     let t : tie.In-loop invariant-loop decreases-loop = search rules in
     let a = s.args in
-    halve-up (reachedAt a.labels.now a.n a.a a.b s.pre.1) l.loop.inv _ (omega arith) (omega arith) (rows_last a.labels.now a.n a.a a.b s.pre.1) (ap not (sym c.before.less.ensures ∙ c.if1.true))
+    halve_up (reached_at a.labels.now a.n a.a a.b s.pre.1) l.loop.inv _ (omega arith) (omega arith) (rows_last a.labels.now a.n a.a a.b s.pre.1) (ap not (sym c.before.less.ensures ∙ c.if1.true))
 
 loop-again-2 : tie.Need-loop-preserved-2 invariant-loop decreases-loop
 loop-again-2 c =
     let s : tie.Start invariant-loop decreases-loop = search rules in
     let l : tie.At-loop invariant-loop decreases-loop = search rules in
     let a = s.args in
-    halve-down (reachedAt a.labels.now a.n a.a a.b s.pre.1) l.loop.inv _ (omega arith) (omega arith) (ap not (sym c.before.less.ensures ∙ c.if1.false))
+    halve_down (reached_at a.labels.now a.n a.a a.b s.pre.1) l.loop.inv _ (omega arith) (omega arith) (ap not (sym c.before.less.ensures ∙ c.if1.false))
 
 pub place-spec : {M : Type 1} → statement M
 place-spec =
@@ -50,7 +50,7 @@ place-spec =
     (tie.spec
     invariant-loop
     decreases-loop
-    (λ c. halve-starts _ _)
+    (λ c. halve_starts _ _)
     (λ c. search rules)
     add-mid
     less-requires
@@ -59,4 +59,4 @@ place-spec =
     loop-again
     (λ c. search rules)
     loop-again-2
-    (λ c. halve-ends _ c.before.loop.invariant (search rules)))
+    (λ c. halve_ends _ c.before.loop.invariant (search rules)))

@@ -3,8 +3,8 @@ use mathlib.Core.Path.{refl}
 use Prim.Native.Nat.{◌≤◌, ◌<◌}
 use lib.ListN.{get_or}
 use Rattle.laws_soundings.specs.Tally.{total}
-use Rattle.soundings_count.specs.Entries.{entriesIn}
-use Rattle.soundings_count.specs.PutCell.{place-within, stands-there, count_most, count-grows, none-grows, row-grows}
+use Rattle.soundings_count.specs.Entries.{entries_in}
+use Rattle.soundings_count.specs.PutCell.{place_within, stands-there, count_most, count-grows, none_grows, row-grows}
 use Rattle.soundings_count.specs.InOrder.{ordered-rows}
 use native.Mathlib.Omega.{arith}
 use borrow.Author.Rules.{rules}
@@ -52,13 +52,13 @@ same-length-3 : tie.Need-same-length-3
 same-length-3 c = search rules
 
 returns-2 : tie.Need-returns-2
-returns-2 c = let a = c.before.before.before.before.before.before.before.before.args in none-grows a.labels.now a.counts.now a.n c.before.before.before.before.place.result a.a a.b c.before.before.before.before.place.ensures _ c.before.before.stands.ensures c.before.if1.false a.room _ _ (search rules)
+returns-2 c = let a = c.before.before.before.before.before.before.before.before.args in none_grows a.labels.now a.counts.now a.n c.before.before.before.before.place.result a.a a.b c.before.before.before.before.place.ensures _ c.before.before.stands.ensures c.before.if1.false a.room _ _ (search rules)
 
 open-labels-requires : tie.Need-open-labels-requires
-open-labels-requires c κs = let a = c.before.before.before.before.before.before.before.before.before.args in omega (arith, place-within a.labels.now a.counts.now a.n c.before.before.before.before.before.place.result a.a a.b c.before.before.before.before.before.place.ensures)
+open-labels-requires c κs = let a = c.before.before.before.before.before.before.before.before.before.args in omega (arith, place_within a.labels.now a.counts.now a.n c.before.before.before.before.before.place.result a.a a.b c.before.before.before.before.before.place.ensures)
 
 open-count-requires : tie.Need-open-count-requires
-open-count-requires c κs = let a = c.before.before.before.before.before.before.before.before.before.before.before.before.before.args in omega (arith, place-within a.labels.now a.counts.now a.n c.before.before.before.before.before.before.before.before.before.place.result a.a a.b c.before.before.before.before.before.before.before.before.before.place.ensures)
+open-count-requires c κs = let a = c.before.before.before.before.before.before.before.before.before.before.before.before.before.args in omega (arith, place_within a.labels.now a.counts.now a.n c.before.before.before.before.before.before.before.before.before.place.result a.a a.b c.before.before.before.before.before.before.before.before.before.place.ensures)
 
 add-result-2 : tie.Need-overflow-add-result-2
 add-result-2 c = search rules

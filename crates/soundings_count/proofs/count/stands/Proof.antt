@@ -1,11 +1,11 @@
 -- `soundings_count::count::stands` meets its contract. Assumes nothing.
-use Rattle.soundings_count.specs.PutCell.{stands-past, stands-level, stands-apart}
+use Rattle.soundings_count.specs.PutCell.{stands_past, stands-level, stands-apart}
 use borrow.Author.Rules.{rules}
 use Rattle.soundings_count.proofs.count.stands.Statement.{statement}
 use Rattle.soundings_count.proofs.count.stands.Tie as tie
 
 returns : tie.Need-returns
-returns c = let s = c.before.args in stands-past s.labels.now s.r s.a s.b s.n (search rules)
+returns c = let s = c.before.args in stands_past s.labels.now s.r s.a s.b s.n (search rules)
 
 mul_at : tie.Need-overflow-mul-at
 mul_at c = search rules

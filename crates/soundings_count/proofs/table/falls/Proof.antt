@@ -1,14 +1,14 @@
 -- `soundings_count::table::falls` meets its contract: none of the rows that the loop has passed falls. Assumes nothing.
 use mathlib.Core.Path.{sym, ◌∙◌}
 use Prim.Native.Nat.{◌-◌}
-use Rattle.seq.specs.Loops.Searching.{Searching, search-starts, search-turns, search-has, search-lacks}
-use Rattle.soundings_count.specs.Handed.{fallsAt}
+use Rattle.seq.specs.Loops.Searching.{Searching, search_starts, search_turns, search_has, search_lacks}
+use Rattle.soundings_count.specs.Handed.{falls_at}
 use borrow.Author.Rules.{rules}
 use Rattle.soundings_count.proofs.table.falls.Statement.{statement}
 use Rattle.soundings_count.proofs.table.falls.Tie as tie
 
 abbrev invariant-loop : tie.invariant-loop
-invariant-loop labels n i₀ i = Searching (fallsAt labels) n i
+invariant-loop labels n i₀ i = Searching (falls_at labels) n i
 
 abbrev decreases-loop : tie.decreases-loop
 decreases-loop labels n i₀ i = n - i
@@ -16,12 +16,12 @@ decreases-loop labels n i₀ i = n - i
 returns : tie.Need-returns invariant-loop decreases-loop
 returns c =
     let at : tie.At-loop invariant-loop decreases-loop = search rules in
-    search-has at.loop.inv (search rules) (sym c.before.falls_at.ensures ∙ c.if1.true)
+    search_has at.loop.inv (search rules) (sym c.before.falls_at.ensures ∙ c.if1.true)
 
 loop-again : tie.Need-loop-preserved invariant-loop decreases-loop
 loop-again c =
     let at : tie.At-loop invariant-loop decreases-loop = search rules in
-    search-turns at.loop.inv (search rules) (sym c.before.falls_at.ensures ∙ c.if1.false)
+    search_turns at.loop.inv (search rules) (sym c.before.falls_at.ensures ∙ c.if1.false)
 
 pub falls-spec : {M : Type 1} → statement M
 falls-spec =
@@ -29,10 +29,10 @@ falls-spec =
     (tie.spec
     invariant-loop
     decreases-loop
-    (λ c. search-starts)
+    (λ c. search_starts)
     (λ c κs. search rules)
     returns
     (λ c. search rules)
     (λ c. search rules)
     loop-again
-    (λ c. search-lacks c.before.loop.invariant (search rules)))
+    (λ c. search_lacks c.before.loop.invariant (search rules)))

@@ -1,8 +1,8 @@
 -- `soundings_count::table::sum` meets its contract: before turn i the first i counts are summed. Assumes nothing.
 use Prim.Native.Nat.{◌-◌, ◌≤◌}
 use native.Mathlib.Omega.{arith}
-use Rattle.soundings_count.specs.Entries.{mostTimes}
-use Rattle.soundings_count.specs.Handed.{Summing, sum-starts, sum-turns, sum-ends}
+use Rattle.soundings_count.specs.Entries.{most_times}
+use Rattle.soundings_count.specs.Handed.{Summing, sum_starts, sum_turns, sum_ends}
 use borrow.Author.Rules.{rules}
 use Rattle.soundings_count.proofs.table.sum.Statement.{statement}
 use Rattle.soundings_count.proofs.table.sum.Tie as tie
@@ -27,7 +27,7 @@ loop-again c =
     let at : tie.At-loop invariant-loop decreases-loop = search rules in
     let k : tie.After-shared-slice-known2 invariant-loop decreases-loop = search rules in
     let b = k.shared-slice-known2.given at.loop.i in
-    sum-turns at.loop.inv _ (search rules) c.wide.ensures (omega (arith, c.wide.ensures, b))
+    sum_turns at.loop.inv _ (search rules) c.wide.ensures (omega (arith, c.wide.ensures, b))
 
 pub sum-spec : {M : Type 1} → statement M
 sum-spec =
@@ -35,7 +35,7 @@ sum-spec =
     (tie.spec
     invariant-loop
     decreases-loop
-    (λ c. sum-starts _ _)
+    (λ c. sum_starts _ _)
     (λ c. search rules)
     (λ c. search rules)
     (λ c κs. search rules)
@@ -43,4 +43,4 @@ sum-spec =
     (λ c. search rules)
     (λ c. search rules)
     loop-again
-    (λ c. sum-ends c.before.loop.invariant (search rules)))
+    (λ c. sum_ends c.before.loop.invariant (search rules)))

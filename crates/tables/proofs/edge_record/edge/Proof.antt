@@ -4,32 +4,32 @@ use Prim.Native.Nat.{◌+◌, ◌*◌, ◌≤◌, ◌<◌}
 use native.Mathlib.Omega.{arith}
 use lib.ListN.{length}
 use Rattle.paper.specs.Limits.{maps}
-use Rattle.paper.specs.Tables.{halfWidth}
-use Rattle.paper.specs.Lent.{edgeRoom}
-use Rattle.tables.specs.Values.{lengthsBy}
-use Rattle.tables.proofs.FoundLaws.{room-halves, room-sources, record-there, record-not}
+use Rattle.paper.specs.Tables.{half_width}
+use Rattle.paper.specs.Lent.{edge_room}
+use Rattle.tables.specs.Values.{lengths_by}
+use Rattle.tables.proofs.FoundLaws.{room_halves, room_sources, record_there, record_not}
 use borrow.Author.Rules.{rules}
 use Rattle.tables.proofs.edge_record.edge.Statement.{statement}
 use Rattle.tables.proofs.edge_record.edge.Tie as tie
 
 -- the rows of edge k
-within : (c : tie.Else1) → c.before.before.before.before.args.k < edgeRoom maps (lengthsBy 0 (length c.before.before.before.before.args.halves.now) (length c.before.before.before.before.args.sources.now) 0)
+within : (c : tie.Else1) → c.before.before.before.before.args.k < edge_room maps (lengths_by 0 (length c.before.before.before.before.args.halves.now) (length c.before.before.before.before.args.sources.now) 0)
 within c = omega (arith, c.before.edge-room.ensures, c.if1.false)
 
-in_halves : (c : tie.Else1) → halfWidth * (2 * c.before.before.before.before.args.k) + 2 * halfWidth ≤ length c.before.before.before.before.args.halves.now
+in_halves : (c : tie.Else1) → half_width * (2 * c.before.before.before.before.args.k) + 2 * half_width ≤ length c.before.before.before.before.args.halves.now
 in_halves c = let a =
     let start : tie.Start = search rules in
-    start.args in room-halves a.halves.now a.sources.now a.k (within c)
+    start.args in room_halves a.halves.now a.sources.now a.k (within c)
 
 in-sources : (c : tie.Else1) → maps * c.before.before.before.before.args.k + maps ≤ length c.before.before.before.before.args.sources.now
 in-sources c = let a =
     let start : tie.Start = search rules in
-    start.args in room-sources a.halves.now a.sources.now a.k (within c)
+    start.args in room_sources a.halves.now a.sources.now a.k (within c)
 
 returns : tie.Need-returns
 returns c = let a =
     let start : tie.Start = search rules in
-    start.args in record-not a.halves.now a.sources.now a.k (omega (arith, c.before.edge-room.ensures, c.if1.true))
+    start.args in record_not a.halves.now a.sources.now a.k (omega (arith, c.before.edge-room.ensures, c.if1.true))
 
 mul_at : tie.Need-overflow-mul-at
 mul_at c = omega (arith, in_halves c)
@@ -100,7 +100,7 @@ returns-2 c =
     let start : tie.Start = search rules in
     let else1 : tie.Else1 = search rules in
     let a = start.args in
-    c.record-by.ensures ∙ record-there a.halves.now a.sources.now a.k (within else1)
+    c.record-by.ensures ∙ record_there a.halves.now a.sources.now a.k (within else1)
 
 pub edge-spec : {M : Type 1} → statement M
 edge-spec =

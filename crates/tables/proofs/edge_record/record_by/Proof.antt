@@ -5,8 +5,8 @@ use mathlib.Core.Option.{map}
 use Prim.Native.Nat.{ℕ}
 use borrow.Author.Rules.{rules}
 use borrow.Author.Tests.{not-true, not-false}
-use Rattle.tables.specs.Found.{allNumbers, edgeWith, recordBy}
-use Rattle.tables.proofs.FoundLaws.{sourceAs, from-large, small-first, small-second, small-third, by-which, from-none}
+use Rattle.tables.specs.Found.{all_numbers, edge_with, record_by}
+use Rattle.tables.proofs.FoundLaws.{source_as, from_large, small_first, small-second, small-third, by_which, from_none}
 use Rattle.tables.proofs.edge_record.record_by.Statement.{statement}
 use Rattle.tables.proofs.edge_record.record_by.Tie as tie
 
@@ -14,18 +14,18 @@ returns : tie.Need-returns
 returns c =
     let start : tie.Start = search rules in
     let a = start.args in
-    from-large a.lower a.upper a.a a.b a.c (not-true (allNumbers a.a a.b a.c) (ap not (sym c.before.numbered.ensures) ∙ c.if1.true))
+    from_large a.lower a.upper a.a a.b a.c (not-true (all_numbers a.a a.b a.c) (ap not (sym c.before.numbered.ensures) ∙ c.if1.true))
 
-good : (c : tie.Else1) → let a = c.before.before.args in allNumbers a.a a.b a.c ≡ true
+good : (c : tie.Else1) → let a = c.before.before.args in all_numbers a.a a.b a.c ≡ true
 good c =
     let a = c.before.before.args in
-    not-false (allNumbers a.a a.b a.c) (ap not (sym c.before.numbered.ensures) ∙ c.if1.false)
+    not-false (all_numbers a.a a.b a.c) (ap not (sym c.before.numbered.ensures) ∙ c.if1.false)
 
 number-requires : tie.Need-number-requires
 number-requires c κs =
     let start : tie.Start = search rules in
     let a = start.args in
-    small-first a.lower a.upper a.a a.b a.c (good c)
+    small_first a.lower a.upper a.a a.b a.c (good c)
 
 number-requires-2 : tie.Need-number-requires-2
 number-requires-2 c κs =
@@ -44,14 +44,14 @@ number-requires-3 c κs =
 -- what the three numbers say, where it is known which are there
 by : (c : tie.After-which) (n : ℕ) → c.which.result ≡ n
     → let a = c.before.before.before.before.before.before.args in
-    map (edgeWith a.lower a.upper) (sourceAs c.before.before.before.number.result c.before.before.number2.result c.before.number3.result n) ≡ recordBy a.lower a.upper a.a a.b a.c
+    map (edge_with a.lower a.upper) (source_as c.before.before.before.number.result c.before.before.number2.result c.before.number3.result n) ≡ record_by a.lower a.upper a.a a.b a.c
 by c n e =
     let else1 : tie.Else1 = search rules in
     let a = c.before.before.before.before.before.before.args in
     let x = c.before.before.before.number in
     let y = c.before.before.number2 in
     let z = c.before.number3 in
-    by-which a.lower a.upper a.a a.b a.c (good else1) x.result y.result z.result x.ensures y.ensures z.ensures c.which.result c.which.ensures n e
+    by_which a.lower a.upper a.a a.b a.c (good else1) x.result y.result z.result x.ensures y.ensures z.ensures c.which.result c.which.ensures n e
 
 returns-2 : tie.Need-returns-2
 returns-2 c =
@@ -97,7 +97,7 @@ returns-9 c =
     let y = w.before.before.number2 in
     let z = w.before.number3 in
     let r = c.match.rest in
-    from-none a.lower a.upper a.a a.b a.c (good else1) x.result y.result z.result x.ensures y.ensures z.ensures w.which.result w.which.ensures
+    from_none a.lower a.upper a.a a.b a.c (good else1) x.result y.result z.result x.ensures y.ensures z.ensures w.which.result w.which.ensures
     r.0.0.0.0.0.0.1 r.0.0.0.0.0.1 r.0.0.0.0.1 r.0.0.0.1 r.0.0.1 r.0.1 r.1
 
 pub record-by-spec : {M : Type 1} → statement M

@@ -2,8 +2,8 @@
 use mathlib.Core.Path.{refl}
 use borrow.Author.Rules.{rules}
 use Rattle.paper.specs.Limits.{maps}
-use Rattle.paper.specs.Tables.{faceWidth}
-use Rattle.tables.specs.Rows.{faceBy}
+use Rattle.paper.specs.Tables.{face_width}
+use Rattle.tables.specs.Rows.{face_by}
 use Rattle.tables.proofs.RowLaws.{laid-wiped}
 use Rattle.tables.proofs.face_rows.store_faces.Statement.{statement}
 use Rattle.tables.proofs.face_rows.store_faces.Tie as tie
@@ -13,7 +13,7 @@ returns c =
     let after-lay : tie.After-lay = search rules in
     let s : tie.Start = search rules in
     let a = s.args in
-    laid-wiped 0 (faceWidth maps) a.count (faceBy a.labels.now a.outer.now a.holes.now) a.faces.now (λ k. refl) s.pre.0 after-lay.lay.ensures c.before.before.wipe-from-u16.ensures
+    laid-wiped 0 (face_width maps) a.count (face_by a.labels.now a.outer.now a.holes.now) a.faces.now (λ k. refl) s.pre.0 after-lay.lay.ensures c.before.before.wipe-from-u16.ensures
 
 pub store-faces-spec : {M : Type 1} → statement M
 store-faces-spec =

@@ -4,7 +4,7 @@ use mathlib.Core.List.{[], ◌∷◌}
 use Prim.Native.Nat.{◌-◌}
 use native.Mathlib.Omega.{arith}
 use borrow.Author.Rules.{rules}
-use Rattle.seq.specs.Loops.Storing.{Laying, lay-starts, lay-turns, lay-ends}
+use Rattle.seq.specs.Loops.Storing.{Laying, lay_starts, lay_turns, lay_ends}
 use Rattle.seq.specs.Seq.{get_or}
 use Rattle.tables.specs.Rows.{half_of}
 use Rattle.tables.proofs.RowLaws.{twin-le}
@@ -20,7 +20,7 @@ decreases-loop halves₀ edges origins next prev face m h₀ halves h = m - h
 loop-holds : tie.Need-loop-init invariant-loop decreases-loop
 loop-holds c =
     let start : tie.Start invariant-loop decreases-loop = search rules in
-    lay-starts start.pre.1
+    lay_starts start.pre.1
 
 twin-requires : tie.Need-twin-requires invariant-loop decreases-loop
 twin-requires c κs =
@@ -37,7 +37,7 @@ loop-again c =
     let start : tie.Start invariant-loop decreases-loop = search rules in
     let a = start.args in
     let h = at.loop.h in
-    lay-turns at.loop.inv (λ k. refl) (omega arith) c.before.before.store5-u16.ensures
+    lay_turns at.loop.inv (λ k. refl) (omega arith) c.before.before.store5-u16.ensures
     (λ i. get_or a.origins.now h 0 ∷ after-twin.twin.ensures i ∷ get_or a.next.now h 0 ∷ get_or a.prev.now h 0 ∷ get_or a.face.now h 0 ∷ [])
 
 pub lay-spec : {M : Type 1} → statement M
@@ -63,4 +63,4 @@ lay-spec =
     (λ c. search rules)
     loop-again
     (λ c. search rules)
-    (λ c. lay-ends c.before.loop.invariant (λ k. refl) (omega arith)))
+    (λ c. lay_ends c.before.loop.invariant (λ k. refl) (omega arith)))

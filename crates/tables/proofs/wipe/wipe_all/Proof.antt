@@ -2,7 +2,7 @@
 use mathlib.Core.Path.{sym, ◌∙◌}
 use lib.ListN.{length}
 use Rattle.seq.specs.Seq.{pos}
-use Rattle.seq.specs.Wiped.{padded-none}
+use Rattle.seq.specs.Wiped.{padded_none}
 use borrow.Author.Rules.{rules}
 use Rattle.tables.proofs.wipe.wipe_all.Statement.{statement}
 use Rattle.tables.proofs.wipe.wipe_all.Tie as tie
@@ -33,10 +33,10 @@ returns c =
     let after-wipe-u32 : tie.After-wipe-u32 = search rules in
     let a = start.args in
     λ i. record {
-      vertices = (after-wipe-i64.wipe-i64.ensures ∙ sym (padded-none (pos 0) (length a.vertices.now))) i;
-      halves = (after-wipe-u16.wipe-u16.ensures ∙ sym (padded-none 0 (length a.halves.now))) i;
-      sources = (after-wipe-u32.wipe-u32.ensures ∙ sym (padded-none 0 (length a.sources.now))) i;
-      faces = (c.before.before.wipe-u162.ensures ∙ sym (padded-none 0 (length a.faces.now))) i;
+      vertices = (after-wipe-i64.wipe-i64.ensures ∙ sym (padded_none (pos 0) (length a.vertices.now))) i;
+      halves = (after-wipe-u16.wipe-u16.ensures ∙ sym (padded_none 0 (length a.halves.now))) i;
+      sources = (after-wipe-u32.wipe-u32.ensures ∙ sym (padded_none 0 (length a.sources.now))) i;
+      faces = (c.before.before.wipe-u162.ensures ∙ sym (padded_none 0 (length a.faces.now))) i;
     }
 
 pub wipe-all-spec : {M : Type 1} → statement M

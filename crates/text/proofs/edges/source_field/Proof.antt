@@ -4,14 +4,14 @@ use native.Mathlib.Omega.{arith}
 use borrow.Author.Rules.{rules}
 use Rattle.seq.specs.Seq.{List, ℕ}
 use Rattle.tables.specs.declared.edge_record.Source.{Source}
-use Rattle.tables.specs.Found.{sourceFrom}
-use Rattle.text.specs.Lines.{sourceText}
+use Rattle.tables.specs.Found.{source_from}
+use Rattle.text.specs.Lines.{source_text}
 use Rattle.text.proofs.LineLaws.{put_as}
 use Rattle.text.proofs.edges.source_field.Statement.{statement}
 use Rattle.text.proofs.edges.source_field.Tie as tie
 
 abbrev text_of : Source → List ℕ
-text_of s = sourceText (sourceFrom s)
+text_of s = source_text (source_from s)
 
 returns : tie.Need-returns
 returns c =

@@ -3,7 +3,7 @@ use borrow.Author.Rules.{rules}
 use native.Mathlib.Omega.{arith}
 use mathlib.Core.Path.{◌∙◌}
 use Rattle.text.proofs.LineLaws.{put_as}
-use Rattle.text.proofs.DigitsLaws.{fewest-decimal, fewest-five}
+use Rattle.text.proofs.DigitsLaws.{fewest_decimal, fewest_five}
 use Rattle.text.proofs.line.decimal.Statement.{statement}
 use Rattle.text.proofs.line.decimal.Tie as tie
 
@@ -11,7 +11,7 @@ words-requires : tie.Need-words-requires
 words-requires c κs =
     let start : tie.Start = search rules in
     let d = c.before.before.decimal in
-    omega (arith, fewest-five start.args.n d.result (omega arith) d.ensures.1.0, d.ensures.0.1)
+    omega (arith, fewest_five start.args.n d.result (omega arith) d.ensures.1.0, d.ensures.0.1)
 
 returns : tie.Need-returns
 returns c =
@@ -21,8 +21,8 @@ returns c =
     let n = start.args.n in
     put_as
     c.before.before.words.ensures
-    (d.ensures.1.1 ∙ fewest-decimal n d.result d.ensures.1.0)
-    (omega (arith, fewest-five n d.result (omega arith) d.ensures.1.0, d.ensures.0.1))
+    (d.ensures.1.1 ∙ fewest_decimal n d.result d.ensures.1.0)
+    (omega (arith, fewest_five n d.result (omega arith) d.ensures.1.0, d.ensures.0.1))
 
 pub decimal-spec : {M : Type 1} → statement M
 decimal-spec =

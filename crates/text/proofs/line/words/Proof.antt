@@ -3,7 +3,7 @@ use mathlib.Core.Path.{refl}
 use native.Mathlib.Omega.{arith}
 use borrow.Author.Rules.{rules}
 use Rattle.seq.specs.Seq.{◌-◌, length}
-use Rattle.seq.specs.Loops.Copying.{Copying, copy-starts, copy-turns, copy-ends}
+use Rattle.seq.specs.Loops.Copying.{Copying, copy_starts, copy_turns, copy_ends}
 use Rattle.text.proofs.line.words.Statement.{statement}
 use Rattle.text.proofs.line.words.Tie as tie
 
@@ -19,13 +19,13 @@ words-spec =
     (tie.spec
     invariant-loop
     decreases-loop
-    (λ c. copy-starts)
+    (λ c. copy_starts)
     (λ c. search rules)
     (λ c. search rules)
     (λ c. search rules)
     (λ c. search rules)
     (λ c. search rules)
-    (λ c. copy-turns c.before.before.loop.invariant 0 c.before.loop-test.true)
+    (λ c. copy_turns c.before.before.loop.invariant 0 c.before.loop-test.true)
     (λ c. search rules)
     (λ c. search rules)
-    (λ c. record { is = copy-ends c.before.loop.invariant c.loop-test.false; end = refl; kept = c.before.loop.invariant.kept; within = omega arith }))
+    (λ c. record { is = copy_ends c.before.loop.invariant c.loop-test.false; end = refl; kept = c.before.loop.invariant.kept; within = omega arith }))

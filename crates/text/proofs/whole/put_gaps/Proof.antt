@@ -2,7 +2,7 @@
 use mathlib.Core.Path.{ap}
 use native.Mathlib.Omega.{arith}
 use borrow.Author.Rules.{rules}
-use Rattle.text.specs.Lines.{gapsText}
+use Rattle.text.specs.Lines.{gaps_text}
 use Rattle.text.proofs.LineLaws.{put_as, put-lined}
 use Rattle.text.proofs.whole.put_gaps.Statement.{statement}
 use Rattle.text.proofs.whole.put_gaps.Tie as tie
@@ -16,7 +16,7 @@ returns c =
     let after-gaps : tie.After-gaps = search rules in
     put_as
     (put-lined after-gaps-line.gaps-line.ensures c.before.before.words.ensures)
-    (ap gapsText after-gaps.gaps.ensures)
+    (ap gaps_text after-gaps.gaps.ensures)
     (omega arith)
 
 pub put-gaps-spec : {M : Type 1} → statement M

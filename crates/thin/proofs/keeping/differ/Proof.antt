@@ -3,7 +3,7 @@ use mathlib.Core.Path.{ap}
 use Prim.Native.Nat.{◌-◌}
 use borrow.Author.Tests.{eq-eqb, ne_eqb}
 use Rattle.seq.specs.Seq.{not, eqb, cell}
-use Rattle.seq.specs.Loops.Searching.{Searching, search-starts, search-turns, search-has, search-lacks}
+use Rattle.seq.specs.Loops.Searching.{Searching, search_starts, search_turns, search_has, search_lacks}
 use Rattle.paper.specs.Limits.{maps}
 use borrow.Author.Rules.{rules}
 use native.Mathlib.Omega.{arith}
@@ -17,20 +17,20 @@ abbrev decreases-loop : tie.decreases-loop
 decreases-loop triples f g i₀ i = maps - i
 
 loop-holds : tie.Need-loop-init invariant-loop decreases-loop
-loop-holds c = search-starts
+loop-holds c = search_starts
 
 returns : tie.Need-returns invariant-loop decreases-loop
 returns c =
     let at : tie.At-loop invariant-loop decreases-loop = search rules in
-    search-has at.loop.inv (omega arith) (ap not (ne_eqb _ _ c.if1.true))
+    search_has at.loop.inv (omega arith) (ap not (ne_eqb _ _ c.if1.true))
 
 loop-again : tie.Need-loop-preserved invariant-loop decreases-loop
 loop-again c =
     let at : tie.At-loop invariant-loop decreases-loop = search rules in
-    search-turns at.loop.inv (omega arith) (ap not (eq-eqb _ _ c.if1.false))
+    search_turns at.loop.inv (omega arith) (ap not (eq-eqb _ _ c.if1.false))
 
 returns-2 : tie.Need-returns-2 invariant-loop decreases-loop
-returns-2 c = search-lacks c.before.loop.invariant (omega arith)
+returns-2 c = search_lacks c.before.loop.invariant (omega arith)
 
 pub differ-spec : {M : Type 1} → statement M
 differ-spec =

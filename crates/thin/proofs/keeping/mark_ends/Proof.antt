@@ -3,15 +3,15 @@ use mathlib.Core.Logic.{⊎_elim}
 use mathlib.Core.Path.{sym, ◌∙◌}
 use Prim.Native.Nat.{◌-◌}
 use Rattle.overlay_cut.specs.PieceRows.{piece_at}
-use Rattle.thin.specs.Thinned.{separatesIn}
-use Rattle.thin.specs.Laws.Marking.{Marking, mark-starts, mark-takes, mark-skips, mark-ends, ends_more}
+use Rattle.thin.specs.Thinned.{separates_in}
+use Rattle.thin.specs.Laws.Marking.{Marking, mark_starts, mark-takes, mark-skips, mark_ends, ends_more}
 use borrow.Author.Rules.{rules}
 use native.Mathlib.Omega.{arith}
 use Rattle.thin.proofs.keeping.mark_ends.Statement.{statement}
 use Rattle.thin.proofs.keeping.mark_ends.Tie as tie
 
 abbrev invariant-loop : tie.invariant-loop
-invariant-loop n e pieces face triples marks₀ k₀ marks k = Marking (separatesIn face triples) (piece_at pieces) n e marks₀ marks k
+invariant-loop n e pieces face triples marks₀ k₀ marks k = Marking (separates_in face triples) (piece_at pieces) n e marks₀ marks k
 
 abbrev decreases-loop : tie.decreases-loop
 decreases-loop n e pieces face triples marks₀ k₀ marks k = e - k
@@ -19,7 +19,7 @@ decreases-loop n e pieces face triples marks₀ k₀ marks k = e - k
 loop-holds : tie.Need-loop-init invariant-loop decreases-loop
 loop-holds c =
     let s : tie.Start invariant-loop decreases-loop = search rules in
-    mark-starts s.pre.1
+    mark_starts s.pre.1
 
 stays-requires : tie.Need-stays-requires invariant-loop decreases-loop
 stays-requires c κs =
@@ -48,7 +48,7 @@ same_length : tie.Need-same-length invariant-loop decreases-loop
 same_length c = c.before.loop.invariant.kept
 
 returns : tie.Need-returns invariant-loop decreases-loop
-returns c = mark-ends c.before.loop.invariant (omega arith)
+returns c = mark_ends c.before.loop.invariant (omega arith)
 
 pub mark-ends-spec : {M : Type 1} → statement M
 mark-ends-spec =

@@ -3,8 +3,8 @@ use mathlib.Core.Logic.{⊎_elim}
 use Prim.Native.Nat.{◌-◌}
 use borrow.Author.Tests.{lt-ltb, le-ltb}
 use Rattle.seq.specs.Seq.{count}
-use Rattle.seq.specs.Loops.Filling.{Filling, fill-starts, fill-turns, fill-ends}
-use Rattle.seq.specs.Loops.Selecting.{Counting, count-starts, count_most, count-takes, count-skips}
+use Rattle.seq.specs.Loops.Filling.{Filling, fill_starts, fill_turns, fill_ends}
+use Rattle.seq.specs.Loops.Selecting.{Counting, count_starts, count_most, count-takes, count-skips}
 use Rattle.thin.specs.Thinned.{marked}
 use borrow.Author.Rules.{rules}
 use native.Mathlib.Omega.{arith}
@@ -18,7 +18,7 @@ abbrev decreases-loop : tie.decreases-loop
 decreases-loop n marks numbers₀ c₀ v₀ numbers c v = n - v
 
 loop-holds : tie.Need-loop-init invariant-loop decreases-loop
-loop-holds c = (fill-starts (search rules), count-starts)
+loop-holds c = (fill_starts (search rules), count_starts)
 
 cast-numbers : tie.Need-overflow-cast-numbers invariant-loop decreases-loop
 cast-numbers c =
@@ -34,7 +34,7 @@ loop-again : tie.Need-loop-preserved invariant-loop decreases-loop
 loop-again c =
     let at : tie.At-loop invariant-loop decreases-loop = search rules in
     let r = at.loop.inv in (
-      fill-turns r.0 (omega arith) r.1.is,
+      fill_turns r.0 (omega arith) r.1.is,
       ⊎_elim (λ w. count-takes r.1 (omega arith) (lt-ltb _ _ w.0.taken) w.1) (λ w. count-skips r.1 (omega arith) (le-ltb _ _ w.0.left) w.1) c.if1.branch,
     )
 
@@ -42,7 +42,7 @@ same_length : tie.Need-same-length invariant-loop decreases-loop
 same_length c = c.before.loop.invariant.0.kept
 
 returns : tie.Need-returns invariant-loop decreases-loop
-returns c = fill-ends c.before.loop.invariant.0 (omega arith)
+returns c = fill_ends c.before.loop.invariant.0 (omega arith)
 
 pub number-spec : {M : Type 1} → statement M
 number-spec =

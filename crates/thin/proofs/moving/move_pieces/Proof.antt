@@ -5,21 +5,21 @@ use Prim.Native.Nat.{◌-◌}
 use lib.ListN.{length}
 use Rattle.seq.specs.Loops.Selecting.{count_most}
 use Rattle.overlay_cut.specs.PieceRows.{piece_at}
-use Rattle.thin.specs.Thinned.{separatesIn, movedPiece}
-use Rattle.thin.specs.Laws.Moving.{Moving, move-starts, move-takes, move-skips, move-ends, piece-kept, piece-stored}
+use Rattle.thin.specs.Thinned.{separates_in, moved_piece}
+use Rattle.thin.specs.Laws.Moving.{Moving, move_starts, move-takes, move-skips, move_ends, piece-kept, piece-stored}
 use borrow.Author.Rules.{rules}
 use native.Mathlib.Omega.{arith}
 use Rattle.thin.proofs.moving.move_pieces.Statement.{statement}
 use Rattle.thin.proofs.moving.move_pieces.Tie as tie
 
 abbrev invariant-loop : tie.invariant-loop
-invariant-loop e pieces face triples numbers out₀ c₀ k₀ out c k = (length out ≡ length out₀) × Moving (separatesIn face triples) (movedPiece pieces numbers) e (piece_at out) c k
+invariant-loop e pieces face triples numbers out₀ c₀ k₀ out c k = (length out ≡ length out₀) × Moving (separates_in face triples) (moved_piece pieces numbers) e (piece_at out) c k
 
 abbrev decreases-loop : tie.decreases-loop
 decreases-loop e pieces face triples numbers out₀ c₀ k₀ out c k = e - k
 
 loop-holds : tie.Need-loop-init invariant-loop decreases-loop
-loop-holds c = (refl, move-starts)
+loop-holds c = (refl, move_starts)
 
 stays-requires : tie.Need-stays-requires invariant-loop decreases-loop
 stays-requires c κs =
@@ -61,7 +61,7 @@ same_length : tie.Need-same-length invariant-loop decreases-loop
 same_length c = c.before.loop.invariant.0
 
 returns : tie.Need-returns invariant-loop decreases-loop
-returns c = move-ends c.before.loop.invariant.1 (omega arith)
+returns c = move_ends c.before.loop.invariant.1 (omega arith)
 
 pub move-pieces-spec : {M : Type 1} → statement M
 move-pieces-spec =

@@ -3,7 +3,7 @@ use mathlib.Core.Path.{◌∙◌, ap}
 use mathlib.Core.List.{[], ◌∷◌}
 use Prim.Native.Nat.{◌+◌, ◌*◌}
 use lib.IntN.{pos}
-use Rattle.seq.specs.Seq.{rowStored}
+use Rattle.seq.specs.Seq.{row_stored}
 use Rattle.graph.proofs.Rows.{read, read_first}
 use borrow.Author.Rules.{rules}
 use Rattle.thin.proofs.moving.move_point.Statement.{statement}
@@ -18,7 +18,7 @@ returns c =
     let points = s.args.points.now in
     let v = s.args.v in
     c.before.store4-i64.ensures
-    ∙ ap (rowStored 4 s.args.out.now s.args.c)
+    ∙ ap (row_stored 4 s.args.out.now s.args.c)
     (λ i. read_first 4 points v after-x.x.given i ∷ read points (4 * v + 1) after-y.y.given i ∷ read points (4 * v + 2) after-d.d.given i ∷ pos 0 ∷ [])
 
 pub move-point-spec : {M : Type 1} → statement M

@@ -5,22 +5,22 @@ use Prim.Native.Nat.{◌-◌}
 use lib.ListN.{length}
 use borrow.Author.Tests.{lt-ltb, le-ltb}
 use Rattle.seq.specs.Loops.Selecting.{count_most}
-use Rattle.graph.specs.Flat.{pointAt}
+use Rattle.graph.specs.Flat.{the_point_at}
 use Rattle.thin.specs.Thinned.{marked}
-use Rattle.thin.specs.Laws.Moving.{Moving, move-starts, move-takes, move-skips, move-ends, point-kept, point-stored}
+use Rattle.thin.specs.Laws.Moving.{Moving, move_starts, move-takes, move-skips, move_ends, point-kept, point-stored}
 use borrow.Author.Rules.{rules}
 use native.Mathlib.Omega.{arith}
 use Rattle.thin.proofs.moving.move_points.Statement.{statement}
 use Rattle.thin.proofs.moving.move_points.Tie as tie
 
 abbrev invariant-loop : tie.invariant-loop
-invariant-loop n points marks out₀ c₀ v₀ out c v = (length out ≡ length out₀) × Moving (marked marks) (pointAt points) n (pointAt out) c v
+invariant-loop n points marks out₀ c₀ v₀ out c v = (length out ≡ length out₀) × Moving (marked marks) (the_point_at points) n (the_point_at out) c v
 
 abbrev decreases-loop : tie.decreases-loop
 decreases-loop n points marks out₀ c₀ v₀ out c v = n - v
 
 loop-holds : tie.Need-loop-init invariant-loop decreases-loop
-loop-holds c = (refl, move-starts)
+loop-holds c = (refl, move_starts)
 
 move-point-requires : tie.Need-move-point-requires invariant-loop decreases-loop
 move-point-requires c κs =
@@ -51,7 +51,7 @@ same_length : tie.Need-same-length invariant-loop decreases-loop
 same_length c = c.before.loop.invariant.0
 
 returns : tie.Need-returns invariant-loop decreases-loop
-returns c = move-ends c.before.loop.invariant.1 (omega arith)
+returns c = move_ends c.before.loop.invariant.1 (omega arith)
 
 pub move-points-spec : {M : Type 1} → statement M
 move-points-spec =

@@ -7,7 +7,7 @@ use lib.IntN.{ℤ, pos, negsuc}
 use lib.Signed.{le_z}
 use borrow.Author.Rules.{rules}
 use Rattle.paper.specs.Tide.{readable}
-use Rattle.laws_tide.specs.Ends.{reach-first, reach-second}
+use Rattle.laws_tide.specs.Ends.{reach_first, reach-second}
 use Rattle.tide.specs.Answer.{reading_of}
 use Rattle.tide.proofs.judge.readable.Statement.{statement}
 use Rattle.tide.proofs.judge.readable.Tie as tie
@@ -35,7 +35,7 @@ returns-3 c =
     let z = c.before.before.r.given.0.0 in
     let f : SFits w32 z = search rules in
     c.if1.false
-    ∙ reach-first z (sym (ap (le_z (negsuc 19999)) (to_z-of_z w32 z f)) ∙ c.if1.false)
+    ∙ reach_first z (sym (ap (le_z (negsuc 19999)) (to_z-of_z w32 z f)) ∙ c.if1.false)
     ∙ sym (ap (λ r. readable (reading_of r)) c.before.before.r.given.1)
 
 pub readable-spec : {M : Type 1} → statement M

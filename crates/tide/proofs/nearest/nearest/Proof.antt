@@ -9,7 +9,7 @@ use lib.Signed.{mag}
 use native.Mathlib.Omega.{arith}
 use lib.Dec.{T}
 use lib.Ieee.{binary64, fits, to_bits}
-use Rattle.laws_tide.specs.Pattern.{whole_of, by-pattern, no_nan, whole-at-most, below-zero, above_zero}
+use Rattle.laws_tide.specs.Pattern.{whole_of, by_pattern, no_nan, whole_at_most, below_zero, above_zero}
 use Rattle.tide.proofs.nearest.nearest.Statement.{statement}
 use Rattle.tide.proofs.nearest.nearest.Tie as tie
 
@@ -20,11 +20,11 @@ float-to-bits-bits : tie.Need-float-to-bits-bits
 float-to-bits-bits c = no_nan 2147483647 c.args.x c.requires
 
 magnitude-requires : tie.Need-magnitude-requires
-magnitude-requires c κs = (by-pattern c.args.x (held c) c.requires).0
+magnitude-requires c κs = (by_pattern c.args.x (held c) c.requires).0
 
 -- what is called gives the pattern's whole number, which an i32 holds
 small : (c : tie.Start) (r : ℕ) → r ≡ whole_of (to_bits binary64 c.args.x) → r < 2 ^ 31
-small c r e = at_most r (subst (λ (k : ℕ). k ≤ 2147483647) (sym e) (whole-at-most c.args.x (held c) c.requires))
+small c r e = at_most r (subst (λ (k : ℕ). k ≤ 2147483647) (sym e) (whole_at_most c.args.x (held c) c.requires))
   where
     at_most : (r : ℕ) → r ≤ 2147483647 → r < 2 ^ 31
     at_most r h = omega arith
@@ -56,7 +56,7 @@ returns c =
     to_z-of_z w32 (pos 0 -ℤ to_z w32 m.result) (minus-fits m.result l)
     ∙ minus m.result l
     ∙ ap (λ (k : ℕ). neg_ℤ (pos k)) m.ensures
-    ∙ below-zero z.args.x (held z) z.requires c.if1.true
+    ∙ below_zero z.args.x (held z) z.requires c.if1.true
 
 returns-2 : tie.Need-returns-2
 returns-2 c =

@@ -1,5 +1,5 @@
 -- `year::answer::torn` meets its contract. Assumes nothing.
-use Rattle.year.specs.Closing.{torn-first, torn-second}
+use Rattle.year.specs.Closing.{torn_first, torn-second}
 use borrow.Author.Rules.{rules}
 use Rattle.year.proofs.answer.torn.Statement.{statement}
 use Rattle.year.proofs.answer.torn.Tie as tie
@@ -8,7 +8,7 @@ returns : tie.Need-returns
 returns c = let a = c.before.before.before.before.before.args in torn-second _ _ a.zones.now a.blocks.now c.before.before.whole.ensures c.whole2.ensures c.before.if1.true
 
 returns-2 : tie.Need-returns-2
-returns-2 c = let a = c.before.before.before.before.args in torn-first _ a.zones.now a.blocks.now c.before.whole.ensures c.if1.false
+returns-2 c = let a = c.before.before.before.before.args in torn_first _ a.zones.now a.blocks.now c.before.whole.ensures c.if1.false
 
 pub torn-spec : {M : Type 1} → statement M
 torn-spec = tie.close (tie.spec (λ c κs. search rules) (λ c κs. search rules) returns returns-2)

@@ -3,13 +3,13 @@ use native.Mathlib.Omega.{arith}
 use Prim.Native.Nat.{◌<◌}
 use Rattle.year.specs.Kept.{most, kept_low}
 use Rattle.year.specs.Risen.{kept-ordered}
-use Rattle.year.specs.FaceAdded.{kept-over, kept_there, kept-within, kept-counts, kept_full, kept-opens}
+use Rattle.year.specs.FaceAdded.{kept_over, kept_there, kept_within, kept-counts, kept_full, kept-opens}
 use borrow.Author.Rules.{rules}
 use Rattle.year.proofs.face.add_face.Statement.{statement}
 use Rattle.year.proofs.face.add_face.Tie as tie
 
 returns : tie.Need-returns
-returns c = let a = c.before.before.args in kept-over a.rows.now a.n a.file (a.zone, a.block) (search rules)
+returns c = let a = c.before.before.args in kept_over a.rows.now a.n a.file (a.zone, a.block) (search rules)
 
 place-requires : tie.Need-place-requires
 place-requires c κs =
@@ -41,7 +41,7 @@ open-row-requires : tie.Need-open-row-requires
 open-row-requires c κs =
     let s = c.before.before.before.before.before.before.before.before.before in
     let a = s.args in
-    (omega (arith, s.requires.0), kept-within a.rows.now a.n c.before.before.before.before.before.place.result a.zone a.block a.file (omega arith) c.before.before.before.before.before.place.ensures _ c.before.before.before.stands.ensures)
+    (omega (arith, s.requires.0), kept_within a.rows.now a.n c.before.before.before.before.before.place.result a.zone a.block a.file (omega arith) c.before.before.before.before.before.place.ensures _ c.before.before.before.stands.ensures)
 
 returns-4 : tie.Need-returns-4
 returns-4 c =

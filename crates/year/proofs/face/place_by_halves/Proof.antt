@@ -3,8 +3,8 @@ use mathlib.Core.Path.{sym, ◌∙◌, ap}
 use Prim.Native.Nat.{◌-◌}
 use native.Mathlib.Omega.{arith}
 use Rattle.seq.specs.Seq.{Bool, not, List, ℕ}
-use Rattle.seq.specs.PairOrder.{pairBefore}
-use Rattle.seq.specs.Halves.{Halving, halve-starts, halve-up, halve-down, halve-ends}
+use Rattle.seq.specs.PairOrder.{pair_before}
+use Rattle.seq.specs.Halves.{Halving, halve_starts, halve_up, halve_down, halve_ends}
 use Rattle.year.specs.TallyRows.{pair_at}
 use Rattle.year.specs.Risen.{rows_last}
 use borrow.Author.Rules.{rules}
@@ -12,7 +12,7 @@ use Rattle.year.proofs.face.place_by_halves.Statement.{statement}
 use Rattle.year.proofs.face.place_by_halves.Tie as tie
 
 abbrev reached : List ℕ → ℕ → ℕ → ℕ → Bool
-reached rows zone block k = not (pairBefore (pair_at rows k) (zone, block))
+reached rows zone block k = not (pair_before (pair_at rows k) (zone, block))
 
 abbrev invariant-loop : tie.invariant-loop
 invariant-loop rows n zone block low₀ high₀ low high = Halving (reached rows zone block) n low high
@@ -44,14 +44,14 @@ loop-again c =
     let l : tie.At-loop invariant-loop decreases-loop = search rules in
     let t : tie.In-loop invariant-loop decreases-loop = search rules in
     let a = s.args in
-    halve-up (reached a.rows.now a.zone a.block) l.loop.inv _ (omega arith) (omega arith) (rows_last a.rows.now a.n a.zone a.block s.pre.1) (ap not (sym c.before.earlier.ensures ∙ c.if1.true))
+    halve_up (reached a.rows.now a.zone a.block) l.loop.inv _ (omega arith) (omega arith) (rows_last a.rows.now a.n a.zone a.block s.pre.1) (ap not (sym c.before.earlier.ensures ∙ c.if1.true))
 
 loop-again-2 : tie.Need-loop-preserved-2 invariant-loop decreases-loop
 loop-again-2 c =
     let s : tie.Start invariant-loop decreases-loop = search rules in
     let l : tie.At-loop invariant-loop decreases-loop = search rules in
     let a = s.args in
-    halve-down (reached a.rows.now a.zone a.block) l.loop.inv _ (omega arith) (omega arith) (ap not (sym c.before.earlier.ensures ∙ c.if1.false))
+    halve_down (reached a.rows.now a.zone a.block) l.loop.inv _ (omega arith) (omega arith) (ap not (sym c.before.earlier.ensures ∙ c.if1.false))
 
 pub place-by-halves-spec : {M : Type 1} → statement M
 place-by-halves-spec =
@@ -59,7 +59,7 @@ place-by-halves-spec =
     (tie.spec
     invariant-loop
     decreases-loop
-    (λ c. halve-starts _ _)
+    (λ c. halve_starts _ _)
     (λ c. search rules)
     add-mid
     earlier-requires
@@ -68,4 +68,4 @@ place-by-halves-spec =
     loop-again
     (λ c. search rules)
     loop-again-2
-    (λ c. halve-ends _ c.before.loop.invariant (search rules)))
+    (λ c. halve_ends _ c.before.loop.invariant (search rules)))

@@ -3,8 +3,8 @@ use mathlib.Core.Path.{◌≡◌}
 use Prim.Native.Nat.{◌*◌, ◌≤◌}
 use native.Mathlib.Omega.{arith}
 use lib.ListN.{length}
-use Rattle.paper.specs.Limits.{yearPairs}
-use Rattle.year.specs.TallyRows.{tallyWidth}
+use Rattle.paper.specs.Limits.{year_pairs}
+use Rattle.year.specs.TallyRows.{tally_width}
 use native.Mathlib.Omega.{arith}
 use borrow.Author.Rules.{rules}
 use Rattle.year.proofs.next.add.Statement.{statement}
@@ -13,8 +13,8 @@ use Rattle.year.proofs.next.add.Tie as tie
 add-file-requires : tie.Need-add-file-requires
 add-file-requires c κs =
     let rows = c.before.before.before.args.year.rows in
-    let long : length rows ≡ tallyWidth * yearPairs = search rules in
-    let enough : tallyWidth * yearPairs ≤ length rows = omega (arith, long) in
+    let long : length rows ≡ tally_width * year_pairs = search rules in
+    let enough : tally_width * year_pairs ≤ length rows = omega (arith, long) in
     enough
 
 pub add_spec : {M : Type 1} → statement M

@@ -1,7 +1,7 @@
 -- `year::next::add_sheet` meets its contract. Assumes nothing.
 use native.Mathlib.Omega.{arith}
 use mathlib.Core.Path.{refl}
-use Rattle.ovfile.specs.Values.{layoutFrom}
+use Rattle.ovfile.specs.Values.{layout_from}
 use Rattle.year.specs.Risen.{ordered-kept}
 use Rattle.year.specs.OneFile.{gaps-small, sheet-added}
 use borrow.Author.Rules.{rules}
@@ -27,7 +27,7 @@ add-gaps : tie.Need-overflow-add-gaps
 add-gaps c =
     let s : tie.Start = search rules in
     let g : tie.After-gaps = search rules in
-    omega (arith, gaps-small s.args.rows.now s.args.sums (layoutFrom s.args.layout) s.args.file.now s.args.n g.gaps.result s.pre.1.1.0 s.pre.1.0 g.gaps.ensures)
+    omega (arith, gaps-small s.args.rows.now s.args.sums (layout_from s.args.layout) s.args.file.now s.args.n g.gaps.result s.pre.1.1.0 s.pre.1.0 g.gaps.ensures)
 
 returns : tie.Need-returns
 returns c =
@@ -35,7 +35,7 @@ returns c =
     let g : tie.After-gaps = search rules in
     let f : tie.After-add-faces = search rules in
     let a = s.args in
-    sheet-added a.rows.now a.sums f.add-faces.last.1.1.1.1.1.0 (layoutFrom a.layout) a.file.now a.n f.add-faces.result g.gaps.result _ f.add-faces.ensures g.gaps.ensures refl
+    sheet-added a.rows.now a.sums f.add-faces.last.1.1.1.1.1.0 (layout_from a.layout) a.file.now a.n f.add-faces.result g.gaps.result _ f.add-faces.ensures g.gaps.ensures refl
 
 pub add-sheet-spec : {M : Type 1} → statement M
 add-sheet-spec =
