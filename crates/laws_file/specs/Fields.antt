@@ -38,7 +38,7 @@ module _ (version : ℕ) (l : Layout) (c : Counts) (t : Tables) (s : List ℕ) (
   pub counts-read : c.vertices < 256 ^ 2 → c.edges < 256 ^ 2 → c.faces < 256 ^ 2 → counts_in s ≡ c
   counts-read v e f i = record {
     vertices = number_of 2 c.vertices s 5 v P.vertices_at i;
-    edges = number_of 2 c.edges s 7 e P.edges_at i;
+    edges = number_of 2 c.edges s 7 e P.edges_at_lem i;
     faces = number_of 2 c.faces s 9 f P.faces_at_lem i;
   }
 

@@ -1,7 +1,7 @@
 -- Where bytes stand in a list, both ways: a part of what stands there stands at its place, and parts that stand at their places stand there together.
 -- The parts are two lists end to end, rows of one width, and the fields of a record, all of w bytes. Assumes nothing.
 use Rattle.std.specs.Prelude.{◌≡◌, ◌<◌}
-use Rattle.std.proofs.Common.{sym, ◌∙◌, ap, suc-le-suc, add-zero, add-suc, suc-add, mul-zero, mul-suc, zero-add, not-suc-le-zero, le_of_suc-le-suc, add-one, arith, length-append, ext_get_or}
+use Rattle.std.proofs.Common.{subst, sym, ◌∙◌, ap, suc-le-suc, add-zero, add-suc, suc-add, mul-zero, mul-suc, zero-add, not-suc-le-zero, le_of_suc-le-suc, add-one, arith, length-append, ext_get_or}
 use Rattle.std.proofs.Math.Decide.{dec_lt}
 use Rattle.std.proofs.Math.Seq.{get_or-append_seam, append_snoc}
 use Rattle.seq.specs.Seq.{List, [], ◌∷◌, ◌++◌, ℕ, zero, suc, ◌+◌, ◌*◌, length, get_or, rows, gather}
@@ -71,7 +71,7 @@ module _ (s : List ℕ) where
 pub stands_after : (a s : List ℕ) → Stands (a ++ s) (length a) s
 stands_after a [] = tt
 stands_after a (x ∷ s) =
-    (get_or-append_seam a x s 0, rw (← append_snoc a x s, ← one_more) (stands_after (a ++ (x ∷ [])) s))
+    (get_or-append_seam a x s 0, rw (← append_snoc a x s) (subst (λ (k : ℕ). Stands ((a ++ (x ∷ [])) ++ s) k s) one_more (stands_after (a ++ (x ∷ [])) s)))
   where
     one_more : length (a ++ (x ∷ [])) ≡ suc (length a)
     one_more = rw (length-append a (x ∷ []), add-one (length a))

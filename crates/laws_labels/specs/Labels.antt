@@ -55,7 +55,7 @@ module _ (m : Map) (K : Lawful m) where
   -- ── it is the same at the follower, and at the twin ──
 
   along : (h : ℕ) → h < halves m → off (follower g h) ≡ off h
-  along h l = λ i. pos (K.one_Label h l i) -ℤ followed g m K (self-covers m K) h l i
+  along h l = λ i. pos (K.one_label h l i) -ℤ followed g m K (self-covers m K) h l i
 
   module _ (k : ℕ) (l : k < edges m) where
     pub west-pot : the_left_in m g (west_side g k) ≡ pot m (above false (lo (span m k)) (seg m k).up)

@@ -71,7 +71,7 @@ module _ (m : Map) (K : Lawful m) where
     leave-arrive : sum (upto (halves m)) (λ h. from h *ℤ lab m h) ≡ sum (upto (halves m)) (λ h. to h *ℤ lab m h)
     leave-arrive =
         sym (sum_perm (follower g) (halves m) following (λ h. from h *ℤ lab m h))
-        ∙ sum-ext (upto (halves m)) (λ h i. λ t. ind (eqb (follower-origin g K.plane h t) z) *ℤ pos (K.one_Label h (upto-< (halves m) i) t))
+        ∙ sum-ext (upto (halves m)) (λ h i. λ t. ind (eqb (follower-origin g K.plane h t) z) *ℤ pos (K.one_label h (upto-< (halves m) i) t))
 
     -- what leaves, and what arrives, along edge k
     abbrev out : ℕ → ℤ

@@ -171,6 +171,10 @@ module _ (e f : Seg) (ue : UpV e.up) (uf : UpV f.up) (r : Pt) where
   parted-gap (is_neg_lem h) (is_zer_lem k) right_on = up_by (second_0 l m e.up.x f.up.x k) (second_0 l m e.up.y f.up.y k) (up-* (0<-neg l h) uf)
   parted-gap (is_neg_lem h) (is_plus_lem k) right_left = up_by (terms l m e.up.x f.up.x) (terms l m e.up.y f.up.y) (up-+ (up-* k ue) (up-* (0<-neg l h) uf))
   parted-gap (is_zer_lem h) (is_plus_lem k) on_left = up_by (drop_first l f.up.x m e.up.x h) (drop_first l f.up.y m e.up.y h) (up-* k ue)
+  parted-gap (is_neg_lem h) (is_neg_lem _) w = elim w [ ]
+  parted-gap (is_zer_lem h) (is_neg_lem _) w = elim w [ ]
+  parted-gap (is_zer_lem h) (is_zer_lem k) w = elim w [ ]
+  parted-gap {t = t} (is_plus_lem _) _ w = elim w [ ]
 
 module _ (e f : Seg) (ue : UpV e.up) (uf : UpV f.up) (r : Pt) where
   no_east : Upto r e f → UpV (gap r f e) → ⊥

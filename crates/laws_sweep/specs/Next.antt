@@ -172,7 +172,7 @@ module _ (es : List Strand) (corners stops : List Pt) (S : Scene es corners stop
       go (inr ce) (inr cf) =
           ⊎_elim (λ (a, m, c, is). ⊎_elim (λ q. q) (λ z. absurd (no z)) (both e f a m c is le lf))
           (λ (a, m, c, is). ⊎_elim (λ q. q) (λ z. absurd (no (cross-swap_0 f.seg.up e.seg.up z))) (both f e a m c is lf le))
-          (apart_in s e f (I.cut_Has e ce) (I.cut_Has f cf) (λ h. x.differ (ap (λ (k : Strand). k.of) h)))
+          (apart_in s e f (I.cut_has e ce) (I.cut_has f cf) (λ h. x.differ (ap (λ (k : Strand). k.of) h)))
 
   pub next_queue : Among v queue
   next_queue = ⊎_elim (λ i. corner-queue v i refl) crossed-queue (S.from v v_stop)

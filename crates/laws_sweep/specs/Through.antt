@@ -56,7 +56,7 @@ module _ (es : List Strand) (corners stops : List Pt) (S : Scene es corners stop
       ⊎_elim (λ e. inl (subst (λ (q : Pt). same (lo z) q ≡ true) e (same_self (lo z)))) (λ c. inr c) (through-cut es corners stops S p v vs (v ∷ rest) s I z i o)
 
   pub on_through : (z : Strand) → Among z es → On z.seg v → (starts_at v z ≡ true) ⊎ Among z (through v s)
-  on_through z i o = ⊎_elim (λ b. inl b) (λ c. inr (middle (among-++ z (west_of v s) (through v s ++ east_of v s) (subst (Among z) (sym parts) (I.cut_Has z c))))) (on_next z i o)
+  on_through z i o = ⊎_elim (λ b. inl b) (λ c. inr (middle (among-++ z (west_of v s) (through v s ++ east_of v s) (subst (Among z) (sym parts) (I.cut_has z c))))) (on_next z i o)
     where
       middle : Among z (west_of v s) ⊎ Among z (through v s ++ east_of v s) → Among z (through v s)
       middle (inl j) = absurd (west_off z j o)
