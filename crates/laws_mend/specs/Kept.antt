@@ -97,7 +97,7 @@ module _ (s : List ℕ) where
     mended-vertices = number_of 2 (length vs) t 5 (omega (arith, few_vertices, vertex_limit)) P.vertices_at
 
     pub mended-edges : edges_in t ≡ length ks
-    mended-edges = number_of 2 (length ks) t 7 (omega (arith, few_edges, edge_limit)) P.edges_at
+    mended-edges = number_of 2 (length ks) t 7 (omega (arith, few_edges, edge_limit)) P.edges_at_lem
 
     pub vertices-now : vertices (map_of t) ≡ length vs
     vertices-now = points-count t ∙ mended-vertices
