@@ -5,7 +5,7 @@ ghost use Rattle.io.specs.Counts.{IsPrefixLen};
 use map_file::u16_at;
 
 // How many rows of each table are lent.
-#[derive(Drop)]
+#[derive(Clone, Copy)]
 pub struct Rows {
     pub vertices: u16,
     pub halves: u16,

@@ -1,5 +1,7 @@
 // Soundings by cell: cells ZONES BLOCKS LIST. A line `ZONE BLOCK COUNT` for each pair that occurs, sorted by pair, and then `read N`, the number of edges that the looks read; or the line of a refusal, and then a sentence. The list is read in batches
 // of at most 4,096 soundings; one that cannot be opened is a list of 0 bytes.
+#![tactic(auto)]
+
 mod words; // what is printed
 mod batches; // the list, batch by batch
 mod maps; // the two maps, and what is answered

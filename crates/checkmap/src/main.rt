@@ -1,4 +1,6 @@
 // Checks map files: a line for each file named as an argument, `ok V E` or `refused N map 0 place P`.
+#![tactic(auto)]
+
 ghost use Rattle.io.specs.Counts.{IsPrefixLen};
 
 use libc::STDOUT_FILENO;

@@ -1,5 +1,7 @@
 // What the programs share: files by name, lines on standard output, and the edges of an overlay file. No contract can say what is read or written; the texts and answers come from
 // proved functions on slices.
+#![tactic(auto)]
+
 mod clash; // refusal 8 in a sentence
 mod corner; // refusals 5, 6 and 9 in a sentence
 mod edges; // the edges of an overlay file

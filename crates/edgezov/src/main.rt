@@ -1,4 +1,6 @@
 // Lists the edges of overlay files: for each file named as an argument a line for each edge, or the line of what it is refused for.
+#![tactic(auto)]
+
 use console::load_arg;
 
 // The overlay file that an argument names.

@@ -6,7 +6,7 @@ use super::cast::{magnitude, of_u64};
 use super::gcd::gcd;
 
 // The point x/d, y/d.
-#[derive(Drop)]
+#[derive(Clone, Copy)]
 pub struct Point {
     pub x: i64,
     pub y: i64,

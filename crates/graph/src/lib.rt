@@ -1,4 +1,6 @@
 // Followers and looks of a graph in flat tables.
+#![tactic(auto)]
+
 mod places; // the first place of each number in a table
 mod heading; // which way a half-edge goes
 mod rising; // points in their order

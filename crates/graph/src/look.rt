@@ -15,14 +15,14 @@ use exact::{Ordering, products};
 use plane::{Point, Seg, Vector, below, cross_of, left_by, rises};
 
 // The nearest edge, or no candidate.
-#[derive(Drop)]
+#[derive(Clone, Copy)]
 pub enum Seen {
     Edge(u16),
     Nothing,
 }
 
 // "What is seen is the half-edge on its east side. With no candidate, the outside is seen."
-#[derive(Drop)]
+#[derive(Clone, Copy)]
 pub enum West {
     Half(u16),
     Outside,

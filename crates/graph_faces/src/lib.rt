@@ -1,4 +1,6 @@
 // Walks and faces of a graph in flat tables.
+#![tactic(auto)]
+
 mod walks; // the least half-edge of each walk, its smallest vertex, hole walk or outer walk
 mod links; // followers and walks, in tables that are lent
 mod linking; // all of it at once

@@ -1,1 +1,2 @@
 // The laws of the overlay file: everything is in specs/. No code.
+#![tactic(auto)]

@@ -1,1 +1,2 @@
 // Laws of the graph: everything is in specs/. No code.
+#![tactic(auto)]

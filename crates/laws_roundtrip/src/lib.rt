@@ -1,1 +1,2 @@
 // The overlay file both ways: everything is in specs/. No code.
+#![tactic(auto)]

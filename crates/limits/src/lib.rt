@@ -1,5 +1,6 @@
 // The numbers of document 01 that the code compares with, counts from, or makes its tables by, each once, and what follows from them. The proofs of the crates
 // that use them hold them to the definitions (paper, specs/Limits.antt): a wrong number here proves nothing there.
+#![tactic(auto)]
 
 // Maps.
 

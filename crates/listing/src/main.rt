@@ -1,5 +1,7 @@
 // The listing program (01, "Worked sheets"): reads `zones.zmp` and `blocks.zmp` in the folder that it is started in, and prints the listing of their overlay, or
 // what is refused. "The listing still reads its two files, with the third map empty" (02, Ask 13).
+#![tactic(auto)]
+
 use console::{load, say};
 use limits::LISTING;
 use overlay_maps::EMPTY;

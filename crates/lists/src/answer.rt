@@ -9,7 +9,7 @@ use limits::LISTING;
 use tables::Answer;
 
 // What is put into a text: its length, and the answer that it tells.
-#[derive(Drop)]
+#[derive(Clone, Copy)]
 pub struct Listed {
     pub length: usize,
     pub answer: Answer,

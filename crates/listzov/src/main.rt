@@ -1,4 +1,6 @@
 // Lists overlay files: for each file named as an argument its listing, or the line of what it is refused for.
+#![tactic(auto)]
+
 use console::{load_arg, say};
 use limits::LISTING;
 

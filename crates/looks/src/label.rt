@@ -11,7 +11,7 @@ use super::reading::look_read;
 use plane::Vector;
 
 // A label, and the edges read for it.
-#[derive(Drop)]
+#[derive(Clone, Copy)]
 pub struct Labelled {
     pub label: u16,
     pub read: u16,

@@ -14,7 +14,7 @@ use graph::carrier_at;
 use plane::{Seg, Vector, cross_of, rises};
 
 // The number of the nearest of the edges in their order, or as many as there are where none is seen; and how many were read.
-#[derive(Drop)]
+#[derive(Clone, Copy)]
 pub struct Looked {
     pub rail: usize,
     pub read: u16,

@@ -1,13 +1,13 @@
 // What the check of a map answers: "its vertex and edge counts or .. rules 1 to 10".
 use map_file::Refusal;
 
-#[derive(Drop)]
+#[derive(Clone, Copy)]
 pub struct Counts {
     pub vertices: u16,
     pub edges: u16,
 }
 
-#[derive(Drop)]
+#[derive(Clone, Copy)]
 pub enum Checked {
     Good(Counts),
     Bad(Refusal),

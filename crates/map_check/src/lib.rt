@@ -1,4 +1,6 @@
 // The check of one map (01, "When a map is refused"), and its tables: the file is decoded once, and rules 5 to 10 are found on what it was decoded into.
+#![tactic(auto)]
+
 mod parts; // rules 5 to 7, and the carriers
 mod edges; // rules 8 and 9
 mod pairs; // two edges that do not clash

@@ -1,6 +1,8 @@
 // Map files (01, "Map file"): the numbers in a file's bytes, the parts of the map that it holds, and refusals 1 to 4. These alone are found on the bytes: they are
 // what makes it safe to decode the map into tables of 200 vertices and 300 edges, and the other rules are tests of the tables.
 // Everything here takes arbitrary bytes: a byte past the end counts as 0, as in the definitions.
+#![tactic(auto)]
+
 mod refusal; // a refusal, and chains of checks
 mod bytes; // the mark and numbers in bytes, low byte first
 mod reader; // the reader that holds the file and its place: header, vertices, edges

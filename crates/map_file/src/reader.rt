@@ -17,7 +17,7 @@ const MARK: usize = 3;
 
 const WORD: usize = 2;
 
-#[derive(Drop)]
+#[derive(Clone, Copy)]
 pub struct Reader<'a> {
     pub file: &'a [u8],
     pub at: usize,
@@ -80,7 +80,7 @@ pub fn edges<'a>(r: Reader<'a>, n: u16, origins: &mut [u16], labels: &mut [u16])
 }
 
 // "Mark `ZMP`, then .. version (1), vertex count V, edge count E"
-#[derive(Drop)]
+#[derive(Clone, Copy)]
 pub struct Header {
     pub mark: bool,
     pub version: u16,

@@ -4,7 +4,7 @@ ghost use Rattle.paper.specs.Refusal.{beside, given, first_of};
 ghost use Rattle.map_file.specs.Verdict.{verdict};
 
 // "a refusal with number, map and place"; and beside it the other edge of refusal 8, otherwise 0.
-#[derive(Drop)]
+#[derive(Clone, Copy)]
 pub struct Refusal {
     pub number: u16,
     pub map: u16,
@@ -13,7 +13,7 @@ pub struct Refusal {
 }
 
 // What a check finds.
-#[derive(Drop)]
+#[derive(Clone, Copy)]
 pub enum Check {
     Fine,
     Bad(Refusal),

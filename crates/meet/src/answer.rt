@@ -2,7 +2,7 @@
 use map_file::Refusal;
 use plane::Meeting;
 
-#[derive(Drop)]
+#[derive(Clone, Copy)]
 pub enum MeetAnswer {
     Met(Meeting),
     Refused(Refusal),

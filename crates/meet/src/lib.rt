@@ -1,4 +1,6 @@
 // How two edges meet, asked by itself (02, Ask 2): of eight numbers, none of which is trusted.
+#![tactic(auto)]
+
 mod answer; // answer.rt: what is answered
 mod asked; // asked.rt: the corners, the refusals, and the answer for four corners
 

@@ -1,6 +1,8 @@
 // How two edges meet, of many pairs: a line for each 16 bytes of the file `pairs`, eight signed 16-bit numbers, low byte first: x and y of the ends of the first
 // edge, then of the second. A line is `apart`, `touching X Y D`, `crossing X Y D`, `sharing` or `refused N map M place P`, and `short` for fewer bytes at the end.
 // What is printed is held to the second program's answers.
+#![tactic(auto)]
+
 use libc::STDOUT_FILENO;
 use map_file::{Refusal, u16_at};
 use meet::MeetAnswer;

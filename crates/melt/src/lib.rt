@@ -1,4 +1,6 @@
 // Cells melted together (02, Ask 12): the overlay of three map files without the edges that have the same labels on both sides.
+#![tactic(auto)]
+
 mod left; // what is left of an overlay, laid out
 mod stages; // from layers to the melted tables
 

@@ -1,5 +1,7 @@
 // Mending digitised maps (02, Ask 9). The file is decoded once into tables of points, origins and labels; then the vertex into which each vertex is merged, the
 // ends of each edge afterwards, and the step that drops each edge and each vertex are each worked out once into a table.
+#![tactic(auto)]
+
 mod faults; // refusals 5 and 7 of a map in tables
 mod packed; // pairs of numbers as one number each
 mod merge; // step 1: into which vertex, and the ends afterwards

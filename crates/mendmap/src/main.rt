@@ -1,5 +1,7 @@
 // Mends a map file: mendmap IN OUT. A line for each thing done, then the check's line of the mended file. A refusal is the line of 01, and then a sentence; OUT
 // is not written then, and it may not be IN.
+#![tactic(auto)]
+
 mod words; // what is printed
 
 use mend::{MEND_FILE, MEND_LIST, Mended};

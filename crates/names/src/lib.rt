@@ -1,4 +1,6 @@
 // Lists of names (02, Ask 14), "label as unsigned 16-bit, low byte first, then length byte, name": the name for a label as a part of its list. Nothing is copied.
+#![tactic(auto)]
+
 ghost use Rattle.std.specs.Prelude.{◌≡◌, ◌≤◌, length};
 ghost use Rattle.paper.specs.Names.{whole_names, name_part, of_two, shown_part};
 ghost use Rattle.names.specs.Parts.{IsPart};

@@ -1,4 +1,6 @@
 // The overlay of three map files: "Two map files go in", and "Bed type comes as a third map" (02, Ask 13). "Out come three tables (vertices, half-edges, faces)".
+#![tactic(auto)]
+
 mod stages; // from layers to tables
 mod layers; // from files to layers
 

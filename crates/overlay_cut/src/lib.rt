@@ -1,4 +1,6 @@
 // The overlay's vertices, collected and ordered, and the pieces of the input edges, from all maps' edges in one table.
+#![tactic(auto)]
+
 mod collecting; // corners and crossings, each point once
 mod ordering; // points put in order, by halves
 mod between; // which vertices may be on an edge

@@ -1,4 +1,6 @@
 // The lent tables from points and pieces, the maps' own or what melting leaves of them: half-edges, walks, faces, labels; zeros past the counts, or a refusal.
+#![tactic(auto)]
+
 mod judge; // counts over the room
 mod fill; // the lent tables filled
 mod laying; // from points and pieces to tables

@@ -15,7 +15,7 @@ use overlay_sweep::{Swept, sweep};
 
 // The plain way tests each edge with all edges of the maps before its own, and puts the points in order at the end. The other is "a line that passes over the plane
 // from the smallest point upward" (02, Ask 10).
-#[derive(Drop)]
+#[derive(Clone, Copy)]
 pub enum Way {
     Plain,
     Swept,

@@ -20,7 +20,7 @@ const LAYER_EDGES: usize = MAPS * MAP_EDGES as usize;
 const NODES: usize = PIECE_CELLS / 2;
 
 // How many vertices and edges there are.
-#[derive(Drop)]
+#[derive(Clone, Copy)]
 pub struct CutCounts {
     pub vertices: usize,
     pub edges: usize,

@@ -1,4 +1,6 @@
 // The overlay's graph from the layers: vertices and edges, then walks and faces.
+#![tactic(auto)]
+
 mod collecting; // vertices, by either of two ways
 mod cutting; // vertices and edges
 mod tracing; // half-edges, walks, faces

@@ -17,7 +17,7 @@ use limits::{CARRIER_WIDTH, POINT_WIDTH};
 use plane::{Point, Seg, Vector};
 
 // Where a half-edge of the overlay lies: its number, the source + 1 or 0 that its piece has in the map, its lower end and its upward direction.
-#[derive(Drop)]
+#[derive(Clone, Copy)]
 pub struct Place {
     pub half: usize,
     pub source: u16,
@@ -26,7 +26,7 @@ pub struct Place {
 }
 
 // Where the map of this number stands: its vertices are the rows v to w of the corners, its edges the rows a to b of the carriers.
-#[derive(Drop)]
+#[derive(Clone, Copy)]
 pub struct Part {
     pub map: usize,
     pub v: usize,

@@ -1,4 +1,6 @@
 // All maps in one set of tables, and the label of a half-edge in each of them.
+#![tactic(auto)]
+
 mod stack; // all maps checked and laid in one set of tables
 mod west; // what is seen looking west in a map
 mod label; // the label of a half-edge in a map, and where the map stands

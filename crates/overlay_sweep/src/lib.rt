@@ -1,4 +1,6 @@
 // The overlay's vertices as a line meets them that passes over the plane from the smallest point upward (02, Ask 10).
+#![tactic(auto)]
+
 mod ends; // which of an edge's end and a point comes first
 mod search; // where the status has a point on its right, and where it goes through it
 mod slots; // edges put in their slots: in a fan by falling angle, waiting by lower end

@@ -17,7 +17,7 @@ use seq::store4_i64;
 const EDGES: usize = MAPS * MAP_EDGES as usize;
 
 // How many stops there are, or VERTEX_ROWS where there are more than the overlay may have; and how many nodes the threads have, or as many as there may be where they are not kept.
-#[derive(Drop)]
+#[derive(Clone, Copy)]
 pub struct Swept {
     pub stops: usize,
     pub nodes: usize,

@@ -15,7 +15,7 @@ use overlay_cut::remember_all;
 use plane::Point;
 
 // Those that the line cuts stand in the cells `from` to `to` of the status; those that start at the stop wait in the cells up to `started`.
-#[derive(Drop)]
+#[derive(Clone, Copy)]
 pub struct Through {
     pub from: usize,
     pub to: usize,

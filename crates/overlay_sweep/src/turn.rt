@@ -15,7 +15,7 @@ use crate::through::{Through, edges_through, thread};
 use plane::Point;
 
 // How many edges the line cuts, how many points are known.
-#[derive(Drop)]
+#[derive(Clone, Copy)]
 struct Exchanged {
     cut: usize,
     known: usize,
@@ -55,7 +55,7 @@ fn exchange(
 }
 
 // How many edges the line cuts, how many have started, how many points are known, how many nodes the threads have.
-#[derive(Drop)]
+#[derive(Clone, Copy)]
 pub struct Line {
     pub cut: usize,
     pub started: usize,

@@ -6,7 +6,7 @@ ghost use Rattle.ovfile.specs.Known.{Known};
 
 use limits::{COORDINATE_BYTES, FIRST_COORDINATE_BYTES, MAPS};
 
-#[derive(Drop)]
+#[derive(Clone, Copy)]
 pub struct Layout {
     pub coordinate: usize,
     pub maps: usize,

@@ -1,4 +1,6 @@
 // What the overlay file's reader and writer have in common (01, "Overlay file"): numbers in bytes, counts over their room, cells of tables, sound edge records.
+#![tactic(auto)]
+
 mod bytes; // numbers in bytes, low byte first, over the width
 mod room; // the numbers of 01 as counts, and what is over them
 mod layout; // the layout of a version

@@ -2,7 +2,7 @@
 use map_file::Refusal;
 
 // The file's length, or "a refusal with number, map and place".
-#[derive(Drop)]
+#[derive(Clone, Copy)]
 pub enum WriteAnswer {
     Done(usize),
     Refused(Refusal),

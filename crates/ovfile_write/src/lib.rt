@@ -1,4 +1,6 @@
 // The overlay file's writer (01, "Overlay file"): it "takes any counts and tables", of any lengths and contents, and a buffer of any length.
+#![tactic(auto)]
+
 mod answer; // the answer
 mod vertices; // refusal 5
 mod edges; // refusal 21

@@ -1,1 +1,2 @@
 // Document 01 as definitions: everything is in specs/. No code.
+#![tactic(auto)]

@@ -10,7 +10,7 @@ use super::angle::cross_of;
 use super::point::{Point, Seg};
 use exact::lowest;
 
-#[derive(Drop)]
+#[derive(Clone, Copy)]
 pub enum Cross {
     Nothing,
     At(Point),

@@ -1,7 +1,7 @@
 // "apart, touching at an end of either, crossing inside both, or sharing a stretch, with the point where there is one"
 use super::point::Point;
 
-#[derive(Drop)]
+#[derive(Clone, Copy)]
 pub enum Meeting {
     Apart,
     Touching(Point),

@@ -1,5 +1,7 @@
 // The plane in 64-bit code: points, sides, angles, how two edges meet. A function answers what the definition of the same name in document 01 (the crate
 // paper, specs/Plane.antt and specs/Meeting.antt) says of its values; specs/Values.antt says which value stands for which, and specs/Bounds.antt how large they may be.
+#![tactic(auto)]
+
 mod point; // point.rt: points, directions and edges by value
 mod order; // order.rt: which of two points comes first
 mod edge; // edge.rt: an edge's ends, and the edge between two corners

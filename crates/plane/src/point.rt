@@ -7,14 +7,14 @@ ghost use Rattle.plane.specs.Bounds.{Corner, Near};
 pub use exact::Point;
 
 // A direction, or a corner of a map.
-#[derive(Drop)]
+#[derive(Clone, Copy)]
 pub struct Vector {
     pub x: i64,
     pub y: i64,
 }
 
 // The edge from the corner x, y to x + u, y + v.
-#[derive(Drop)]
+#[derive(Clone, Copy)]
 pub struct Seg {
     pub x: i64,
     pub y: i64,

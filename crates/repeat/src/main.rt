@@ -1,5 +1,7 @@
 // repeat ZONES BLOCKS N: runs the overlay of two map files N times (at most 1,000,000) by either way to collect the vertices, and prints for each the seconds that one
 // run takes, then the answer.
+#![tactic(auto)]
+
 mod time; // seconds
 mod words; // the number of runs
 

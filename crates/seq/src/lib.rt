@@ -1,4 +1,6 @@
 // Lists, searches and tables: tables wiped, cells moved up, and rows stored in flat tables, for each type of cell. Everything else is in specs/.
+#![tactic(auto)]
+
 mod i64s;
 mod u16s;
 mod u32s;

@@ -13,14 +13,14 @@ use map_file::Refusal;
 use seq::{wipe_from_u16, wipe_from_u32, wipe_u16, wipe_u32};
 
 // How many different pairs occur, how many soundings there are, and how many edges their looks read.
-#[derive(Drop)]
+#[derive(Clone, Copy)]
 pub struct Cells {
     pub entries: u16,
     pub soundings: u16,
     pub read: u32,
 }
 
-#[derive(Drop)]
+#[derive(Clone, Copy)]
 pub enum Counted {
     Done(Cells),
     Refused(Refusal),

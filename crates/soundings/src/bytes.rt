@@ -17,7 +17,7 @@ use plane::Vector;
 use soundings_count::put_cell;
 
 // How many pairs there are after a sounding, and how many edges were read for it.
-#[derive(Drop)]
+#[derive(Clone, Copy)]
 pub struct Step {
     pub entries: usize,
     pub read: u32,

@@ -1,5 +1,7 @@
 // Soundings by cell (02, Ask 3): the labels of a sounding in each map, counted by pairs, and how many edges are read for them (Ask 8). `soundings` answers a whole list. In batches: `begin` checks the maps and lays
 // them for looks, once; then `add` for each batch, of any bytes; then `close`. None of them asks for anything, and whatever the cut, the answer is that of the whole list (specs/Unique.antt).
+#![tactic(auto)]
+
 mod sounding; // a sounding, and its labels in the maps
 mod lay; // the two maps checked and laid for looks
 mod state; // where a count stands, and its start

@@ -13,7 +13,7 @@ use map_file::i16_at;
 use plane::Vector;
 
 // The labels of a sounding, one for each map, and how many edges were read for them.
-#[derive(Drop)]
+#[derive(Clone, Copy)]
 pub struct Labels {
     pub first: u16,
     pub second: u16,

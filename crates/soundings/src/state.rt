@@ -11,7 +11,7 @@ use map_file::{Check, Refusal, edge_count};
 // How many soundings there are; the number of the first that is too far, or as many as there are; how many pairs there are, where a number over 1,334 says no more than that; how many bytes there are of
 // a sounding that is not whole yet; how many edges were read. Then 0, or another number where the count is refused whatever comes, and that refusal.
 #[repr(C)]
-#[derive(Drop)]
+#[derive(Clone, Copy)]
 pub struct Progress {
     pub soundings: usize,
     pub far: usize,

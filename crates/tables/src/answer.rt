@@ -2,7 +2,7 @@
 use crate::room::Counts;
 use map_file::Refusal;
 
-#[derive(Drop)]
+#[derive(Clone, Copy)]
 pub enum Answer {
     Done(Counts),
     Refused(Refusal),

@@ -12,7 +12,7 @@ use limits::{HALF_WIDTH, SOURCE_WIDTH};
 const NUMBERS: u32 = 65536;
 
 // "whether it came from the first map, the second or both, with the edge number in each"; of the third map too (02, Ask 13), "a piece may come from any of the three"
-#[derive(Drop)]
+#[derive(Clone, Copy)]
 pub enum Source {
     First(u16),
     Second(u16),
@@ -23,14 +23,14 @@ pub enum Source {
     All(u16, u16, u16),
 }
 
-#[derive(Drop)]
+#[derive(Clone, Copy)]
 pub struct OverlayEdge {
     pub lower: u16,
     pub upper: u16,
     pub source: Source,
 }
 
-#[derive(Drop)]
+#[derive(Clone, Copy)]
 pub enum Found {
     Edge(OverlayEdge),
     Absent,

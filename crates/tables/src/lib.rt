@@ -1,5 +1,7 @@
 // The lent tables (01, "Overlay tables" and "When a map is refused"): the three counts and the room for them, the rows that are stored with zeros past the
 // counts, all four tables wiped, and the overlay edge record.
+#![tactic(auto)]
+
 mod room; // the three counts, and room for them
 mod answer; // the three counts or a refusal
 mod vertex_rows; // rows of vertices

@@ -10,7 +10,7 @@ use limits::{
     VERTEX_WIDTH,
 };
 
-#[derive(Drop)]
+#[derive(Clone, Copy)]
 pub struct Counts {
     pub vertices: u16,
     pub edges: u16,

@@ -1,4 +1,6 @@
 // Height of tide for a zone (02, Ask 5).
+#![tactic(auto)]
+
 mod rule; // what is taken and answered
 mod judge; // ranges, and readings as floats
 mod nearest; // the nearest whole number from a float's bits

@@ -2,7 +2,7 @@
 use map_file::Refusal;
 
 // "none, a ratio of one gauge, or a pair of weights for two gauges"
-#[derive(Drop)]
+#[derive(Clone, Copy)]
 pub enum TideRule {
     Unset,
     Ratio(f64),
@@ -10,21 +10,21 @@ pub enum TideRule {
 }
 
 // "whole millimetres .., or missing"
-#[derive(Drop)]
+#[derive(Clone, Copy)]
 pub enum Reading {
     Missing,
     At(i32),
 }
 
 // "The rule used is returned with the height": before rounding, and in whole millimetres.
-#[derive(Drop)]
+#[derive(Clone, Copy)]
 pub struct Height {
     pub height: f64,
     pub millimetres: i32,
     pub rule: TideRule,
 }
 
-#[derive(Drop)]
+#[derive(Clone, Copy)]
 pub enum TideAnswer {
     Done(Height),
     Refused(Refusal),

@@ -1,5 +1,7 @@
 // tides FILE: heights of tide, a line for each record of the file, `height BITS MILLIMETRES RULE` or `refused N map 0 place 0`. BITS are the float's, in 16
 // hexadecimal digits; RULE is `ratio BITS` or `weights BITS BITS`. A record has 32 bytes (src/record.rt); a part of one at the end is left out.
+#![tactic(auto)]
+
 mod record; // a record's rule and readings
 mod line; // the line of an answer
 

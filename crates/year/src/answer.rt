@@ -13,13 +13,13 @@ use map_file::{Check, Refusal, first, given};
 use names::whole;
 
 // The pairs, as so many rows of the year's table, and the gaps.
-#[derive(Drop)]
+#[derive(Clone, Copy)]
 pub struct Totals {
     pub pairs: u16,
     pub gaps: u32,
 }
 
-#[derive(Drop)]
+#[derive(Clone, Copy)]
 pub enum Closed {
     Done(Totals),
     Refused(Refusal),

@@ -1,4 +1,6 @@
 // The year in whole numbers (02, Ask 14), file by file: the table of pairs with its counts, and what is refused so far.
+#![tactic(auto)]
+
 mod face; // one face more
 mod faces; // the faces of a file
 mod state; // the year so far

@@ -11,7 +11,7 @@ use limits::{OVERLAY_FACES, TALLY_CELLS, TALLY_WIDTH, YEAR_PAIRS};
 // How many pairs there are, where a number over 500 says no more than that; the gaps; the files, where 401 says that there are more than 400; and the
 // number of the first bad file + 1, or 0.
 #[repr(C)]
-#[derive(Drop)]
+#[derive(Clone, Copy)]
 pub struct Sums {
     pub pairs: usize,
     pub gaps: u32,

@@ -1,5 +1,7 @@
 // yearly ZONE-NAMES BLOCK-NAMES FILE...: the year in whole numbers. For each pair of zone and block that occurs on a face other than 0 of the overlay files a line `ZONE BLOCK SHEETS FACES NAME`,
 // sorted by pair, then `gaps N`; or the line of what is refused. A list of names that cannot be opened is an empty one. Every hundred files a line on standard error says how far it is.
+#![tactic(auto)]
+
 ghost use Rattle.std.specs.Prelude.{◌≡◌, ◌<◌, length};
 ghost use Rattle.paper.specs.Limits.{year_pairs};
 

@@ -7,6 +7,8 @@
 //   zov --check FILE...                checks map files, a line for each; of several, how many are good
 //   zov --help, zov --version          how to use it; its version
 // A refusal is the line of 01, and then a sentence; of a map that is checked in one line, behind its name.
+#![tactic(auto)]
+
 mod words; // the program's arguments
 mod maps; // map files
 mod overlays; // overlay files

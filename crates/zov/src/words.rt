@@ -4,7 +4,7 @@ ghost use Rattle.std.specs.Prelude.{◌≤◌};
 use console::{is_arg, same_args};
 
 // Whether the overlay is to be melted, and the words that name the maps and OUT; `bed` is 0 where there is no third map, and `out` where nothing is to be written.
-#[derive(Drop)]
+#[derive(Clone, Copy)]
 pub struct Maps {
     pub melts: bool,
     pub zones: usize,
@@ -13,7 +13,7 @@ pub struct Maps {
     pub out: usize,
 }
 
-#[derive(Drop)]
+#[derive(Clone, Copy)]
 pub enum Task {
     Usage,
     Help,
