@@ -1,7 +1,7 @@
 -- How two edges meet, for C: one number, and the point in a lent table of any length. Assumes nothing.
-use Rattle.std.specs.Prelude.{◌≡◌}
+use Rattle.std.specs.Prelude.{◌≡◌, ◌∷◌}
 use Rattle.std.proofs.Common.{sym, ◌∙◌, ap}
-use Rattle.seq.specs.Seq.{List, [], ◌∷◌, ℕ, ℤ, pos, table, get_or}
+use Rattle.seq.specs.Seq.{List, [], ℕ, ℤ, pos, table, get_or}
 use Rattle.exact.specs.Lowest.{pt}
 use Rattle.paper.specs.Plane.{Pt}
 use Rattle.paper.specs.Refusal.{Answer, done, refused}

@@ -1,7 +1,7 @@
 -- Soundings by cell, for C: one number, the lent tables of pairs and counts, and the edges that the looks read in a lent table of any length; and that in batches the same is told (`told_batches`). Assumes nothing.
-use Rattle.std.specs.Prelude.{◌≡◌, refl}
+use Rattle.std.specs.Prelude.{◌≡◌, refl, ◌∷◌}
 use Rattle.std.proofs.Common.{sym, ◌∙◌, ap, subst}
-use Rattle.seq.specs.Seq.{List, [], ◌∷◌, ℕ, table, get_or}
+use Rattle.seq.specs.Seq.{List, [], ℕ, table, get_or}
 use Rattle.paper.specs.Refusal.{Answer, done, refused}
 use Rattle.paper.specs.Soundings as paper
 use Rattle.laws_soundings.specs.Run.{closed}

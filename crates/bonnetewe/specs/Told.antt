@@ -1,7 +1,7 @@
 -- Answers as one number, for C: four numbers of 16 bits, the lowest first. Assumes nothing.
-use Rattle.std.specs.Prelude.{◌≡◌, ◌<◌}
+use Rattle.std.specs.Prelude.{◌≡◌, ◌<◌, ◌+◌, ◌*◌, ◌^◌}
 use Rattle.std.proofs.Common.{sym, ◌∙◌, ap, subst, arith}
-use Rattle.seq.specs.Seq.{List, Option, none, some, ℕ, ◌+◌, ◌*◌, ◌^◌, length}
+use Rattle.seq.specs.Seq.{List, Option, none, some, ℕ, length}
 use Rattle.paper.specs.Refusal.{Answer, done, refused, answer, Refusal}
 use Rattle.paper.specs.Tables.{Counts, Tables}
 use Rattle.paper.specs.Lent.{Outcome, lengths_of}

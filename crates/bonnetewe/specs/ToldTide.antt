@@ -1,10 +1,10 @@
 -- The height of tide for C: the rule and the readings as they are handed in, and the answer as one number and one float; that the number tells whether it is done (`done-apart`), and which
 -- millimetres (`millimetres-told`). The rule used is the one handed in, so it is not handed back. Assumes nothing.
-use Rattle.std.specs.Prelude.{◌≡◌, Float, ◌<◌}
+use Rattle.std.specs.Prelude.{◌≡◌, Float, ◌<◌, ◌+◌, ◌*◌}
 use Rattle.std.proofs.Common.{sym, ap, ◌∙◌, arith}
 use Rattle.std.specs.Float.{fin}
 use Rattle.exact.specs.Tests.{eq_z}
-use Rattle.seq.specs.Seq.{false, cond, ℕ, ◌+◌, ◌*◌, eqb, ℤ, pos, negsuc, nat_abs}
+use Rattle.seq.specs.Seq.{false, cond, ℕ, eqb, ℤ, pos, negsuc, nat_abs}
 use Rattle.paper.specs.Refusal.{Answer, done, refused, Refusal}
 use Rattle.paper.specs.Tide.{TideRule, unset, ratio, weights, Reading, missing, at, Height}
 use Rattle.bonnetewe.specs.Told.{four}

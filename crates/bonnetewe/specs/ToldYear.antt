@@ -1,7 +1,7 @@
 -- The year's answer as one number, for C: the pairs and the gaps above a 0, or the refusal. Assumes nothing.
-use Rattle.std.specs.Prelude.{◌≡◌, refl}
+use Rattle.std.specs.Prelude.{◌≡◌, refl, ◌∷◌, ◌+◌, ◌*◌}
 use Rattle.std.proofs.Common.{sym, ◌∙◌, ap}
-use Rattle.seq.specs.Seq.{List, [], ◌∷◌, map, ℕ, suc, ◌+◌, ◌*◌, length}
+use Rattle.seq.specs.Seq.{List, [], map, ℕ, suc, length}
 use Rattle.seq.specs.Table.{length-table}
 use Rattle.paper.specs.Refusal as refusal
 use Rattle.paper.specs.Year.{Row}

@@ -1,5 +1,6 @@
 -- What the machine reads of a row of a table of numbers is that row, of 64 bits or of 16, which it widens; what it narrows to 16 bits; and a number's negation, which it
 -- reckons from 0. Assumes nothing.
+use Rattle.std.specs.Prelude.{◌*◌, ◌^◌, ◌-ℤ◌}
 use mathlib.Core.Path.{◌≡◌, sym, ◌∙◌, ap}
 use mathlib.Core.List.{[], ◌∷◌}
 use Prim.Native.Nat.{◌<◌}
@@ -9,7 +10,7 @@ use mir.Val.{SFits, hbits, to_z, of_z}
 use mir.Facts.{sfits_widen, sfits_to_z, Fits-of_z}
 use lib.Signed.{mag}
 use mir.ValLaws.{to_z-of_z}
-use Rattle.seq.specs.Seq.{List, ℕ, ◌*◌, ◌^◌, get_or, ℤ, pos, neg_ℤ, ◌-ℤ◌, cell}
+use Rattle.seq.specs.Seq.{List, ℕ, get_or, ℤ, pos, neg_ℤ, cell}
 use Rattle.exact.specs.Solve.{ring, reify}
 use Rattle.plane.proofs.Machine.{back}
 

@@ -1,8 +1,8 @@
 -- A graph as the code holds it: flat tables of numbers, and the graph of document 01's definitions that they are. A point is a row of four
 -- numbers (X, Y, D and a spare cell), an origin one number for each half-edge, a carrier a row of four (foot and direction).
 -- Then how large the numbers are, by document 01's limits. Assumes nothing.
-use Rattle.std.specs.Prelude.{◌<◌, ◌≤◌}
-use Rattle.seq.specs.Seq.{List, ℕ, ◌+◌, ◌*◌, length, get_or, ℤ, pos, cell, table}
+use Rattle.std.specs.Prelude.{◌<◌, ◌≤◌, ◌+◌, ◌*◌}
+use Rattle.seq.specs.Seq.{List, ℕ, length, get_or, ℤ, pos, cell, table}
 use Rattle.exact.specs.Lowest.{pt}
 use Rattle.paper.specs.Plane.{Pt, Seg}
 use Rattle.paper.specs.Graph.{Graph, Edge}

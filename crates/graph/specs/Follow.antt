@@ -1,7 +1,7 @@
 -- Followers, from a table of origins and a table of headings: what the code computes, and that it is the definition's. Assumes nothing.
-use Rattle.std.specs.Prelude.{◌≡◌, refl, ◌≤◌, ◌<◌}
+use Rattle.std.specs.Prelude.{◌≡◌, refl, ◌≤◌, ◌<◌, ◌&&◌, ◌+◌, ◌*◌, ◌/◌}
 use Rattle.std.proofs.Common.{sym, ◌∙◌, ap, subst, arith}
-use Rattle.seq.specs.Seq.{Bool, true, false, cond, not, ◌&&◌, List, Option, Option·getD, ℕ, ◌+◌, ◌*◌, ◌/◌, eqb, length, get_or, ℤ, pos, best, cell, laid, filled}
+use Rattle.seq.specs.Seq.{Bool, true, false, cond, not, List, Option, Option·getD, ℕ, eqb, length, get_or, ℤ, pos, best, cell, laid, filled}
 use Rattle.exact.specs.Mach.{tru, atmost}
 use Rattle.seq.specs.BestLoop.{best-ext}
 use Rattle.seq.specs.Filled.{filled-ext}

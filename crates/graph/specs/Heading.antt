@@ -1,7 +1,7 @@
 -- Which way a half-edge goes, in flat tables: what the code computes, and that it is the definition's. Then a table of headings, rows of two. Assumes nothing.
-use Rattle.std.specs.Prelude.{◌≡◌, ◌<◌}
+use Rattle.std.specs.Prelude.{◌≡◌, ◌<◌, ◌∷◌, ◌+◌, ◌*◌, ◌/◌}
 use Rattle.std.proofs.Common.{arith}
-use Rattle.seq.specs.Seq.{Bool, cond, List, [], ◌∷◌, ℕ, ◌+◌, ◌*◌, ◌/◌, ℤ, pos, cell}
+use Rattle.seq.specs.Seq.{Bool, cond, List, [], ℕ, ℤ, pos, cell}
 use Rattle.paper.specs.Plane.{Vec, vec, opposite, before}
 use Rattle.paper.specs.Graph.{twin, goes_up, heading}
 use Rattle.laws_graph.specs.Halves.{twin_below}

@@ -1,7 +1,7 @@
 -- Looking west in flat tables: what the code computes, and that it is the definition's. What a look answers, in the definition's terms. Assumes nothing.
-use Rattle.std.specs.Prelude.{◌≡◌, ◌<◌, ◌<ℤ◌}
+use Rattle.std.specs.Prelude.{◌≡◌, ◌<◌, ◌<ℤ◌, ◌&&◌, ◌+◌, ◌*◌, ◌-ℤ◌, ◌*ℤ◌}
 use Rattle.std.proofs.Common.{sym, ◌∙◌, ap, arith}
-use Rattle.seq.specs.Seq.{Bool, cond, not, ◌&&◌, List, Option, none, some, Option·map, ℕ, ◌+◌, ◌*◌, ℤ, pos, neg_ℤ, ◌-ℤ◌, ◌*ℤ◌, best, get_or, or_zero}
+use Rattle.seq.specs.Seq.{Bool, cond, not, List, Option, none, some, Option·map, ℕ, ℤ, pos, neg_ℤ, best, get_or, or_zero}
 use Rattle.seq.specs.Best.{best_has}
 use Rattle.seq.specs.BestLoop.{best-ext}
 use Rattle.paper.specs.Plane.{Pt, Vec, Seg, vec, cross, rises, below, the_left_by}

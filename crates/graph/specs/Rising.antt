@@ -1,8 +1,8 @@
 -- Points in their order: where each vertex comes before the next, which of two comes first is told by their numbers (`number_before`). The loop that finds out, turn by turn. Assumes nothing.
-use Rattle.std.specs.Prelude.{◌≡◌, ◌≤◌, ◌<◌}
+use Rattle.std.specs.Prelude.{◌≡◌, ◌≤◌, ◌<◌, ◌+◌, ◌-◌}
 use Rattle.std.proofs.Common.{sym, ◌∙◌, ap, arith, lt-ltb, le-ltb}
 use Rattle.std.proofs.Math.Decide.{dec_lt, ℕ_discrete}
-use Rattle.seq.specs.Seq.{Bool, true, List, ℕ, ◌+◌, ◌-◌, ltb, ℤ}
+use Rattle.seq.specs.Seq.{Bool, true, List, ℕ, ltb, ℤ}
 use Rattle.paper.specs.Plane.{before}
 use Rattle.laws_plane.specs.Points.{before_irr, before_asym, before_trans}
 use Rattle.graph.specs.Flat.{the_point_at, Points}

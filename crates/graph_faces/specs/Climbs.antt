@@ -1,9 +1,9 @@
 -- Edges in the order of their lower ends, each from its lower end: then the smallest vertex of a walk is the lower end of the edge of its least half-edge (`climb-smallest`), and no search for it is needed. In order: the words
 -- of the contracts, the loop that finds out, the smallest vertex. Assumes nothing.
-use Rattle.std.specs.Prelude.{◌≡◌, ◌≤◌, ◌<◌}
+use Rattle.std.specs.Prelude.{◌≡◌, ◌≤◌, ◌<◌, ◌+◌, ◌*◌, ◌/◌}
 use Rattle.std.proofs.Common.{sym, ◌∙◌, ap, subst, arith, le-ltb}
 use Rattle.std.proofs.Math.Decide.{ℕ_discrete}
-use Rattle.seq.specs.Seq.{false, List, Option·getD, ℕ, ◌+◌, ◌*◌, ◌/◌, get_or, ℤ}
+use Rattle.seq.specs.Seq.{false, List, Option·getD, ℕ, get_or, ℤ}
 use Rattle.seq.specs.Filled.{Holds}
 use Rattle.paper.specs.Limits.{absent}
 use Rattle.paper.specs.Plane.{before}

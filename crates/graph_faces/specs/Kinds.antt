@@ -1,8 +1,8 @@
 -- Hole walks, outer walks and faces as the code finds them, over the tables of walks: ls the least half-edges, ts the half-edges of greatest angle out of smallest
 -- vertices, ks at least half-edges what is known of the walk: what a hole walk sees, the number of an outer walk. Assumes nothing.
-use Rattle.std.specs.Prelude.{◌≡◌, ◌≤◌, ◌<◌}
+use Rattle.std.specs.Prelude.{◌≡◌, ◌≤◌, ◌<◌, ◌&&◌, ◌-◌}
 use Rattle.std.proofs.Common.{sym, ◌∙◌, ap, arith, eq-eqb, ne_eqb}
-use Rattle.seq.specs.Seq.{Bool, true, false, cond, not, ◌&&◌, List, Option·getD, ℕ, zero, suc, ◌-◌, eqb, length, get_or, count, ℤ}
+use Rattle.seq.specs.Seq.{Bool, true, false, cond, not, List, Option·getD, ℕ, zero, suc, eqb, length, get_or, count, ℤ}
 use Rattle.paper.specs.Limits.{absent}
 use Rattle.paper.specs.Plane.{nowhere}
 use Rattle.paper.specs.Graph.{west}

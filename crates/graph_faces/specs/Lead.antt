@@ -1,9 +1,9 @@
 -- The least half-edge of each walk, as the code finds it: each walk is walked once, from its least half-edge, which is stored in each of its cells (`marks`).
 -- In order: one walk, turn by turn; then all of them. Assumes nothing.
-use Rattle.std.specs.Prelude.{◌≡◌, refl, ◌≤◌, ◌<◌, set}
+use Rattle.std.specs.Prelude.{◌≡◌, refl, ◌≤◌, ◌<◌, set, ◌∷◌, ◌+◌, ◌-◌}
 use Rattle.std.proofs.Common.{sym, ◌∙◌, ap, subst, inl, inr, arith, lt-ltb, le-ltb, ltb-true, ltb-false, length-set, get_or-set_same, get_or-set_other, get_or-take, length-take-le}
 use Rattle.std.proofs.Math.Decide.{ℕ_discrete}
-use Rattle.seq.specs.Seq.{Bool, true, false, cond, List, [], ◌∷◌, ℕ, suc, ◌+◌, ◌-◌, ltb, length, get_or, take, walk_from, walk, leader, filled}
+use Rattle.seq.specs.Seq.{Bool, true, false, cond, List, [], ℕ, suc, ltb, length, get_or, take, walk_from, walk, leader, filled}
 use Rattle.seq.specs.Terms.{Among, Injects, step}
 use Rattle.seq.specs.Tests.{bool-ext}
 use Rattle.seq.specs.Perm.{iter-into}

@@ -1,6 +1,6 @@
 -- The walks and faces of a graph in tables: laid over what stood there before. Assumes nothing.
-use Rattle.std.specs.Prelude.{◌≡◌}
-use Rattle.seq.specs.Seq.{List, [], ℕ, suc, ◌*◌, length, table, over}
+use Rattle.std.specs.Prelude.{◌≡◌, ◌*◌}
+use Rattle.seq.specs.Seq.{List, [], ℕ, suc, length, table, over}
 use Rattle.seq.specs.Filled.{Holds}
 use Rattle.paper.specs.Limits.{overlay_edges}
 use Rattle.paper.specs.Graph.{Graph, the_half_count, followers}

@@ -1,8 +1,8 @@
 -- An edge whose ends both come after a vertex, or neither does, is not strictly west of it: where the points rise this is told by vertex numbers (`one_side_none`). Assumes nothing.
-use Rattle.std.specs.Prelude.{◌≡◌, refl, ◌≤◌, ◌<◌}
+use Rattle.std.specs.Prelude.{◌≡◌, refl, ◌≤◌, ◌<◌, ◌&&◌, ◌+◌, ◌*◌}
 use Rattle.std.proofs.Common.{sym, ◌∙◌, ap, arith}
 use Rattle.std.specs.Int.Signed.{lt_z}
-use Rattle.seq.specs.Seq.{Bool, true, false, cond, not, ◌&&◌, List, ℕ, ◌+◌, ◌*◌, ltb, ℤ, pos}
+use Rattle.seq.specs.Seq.{Bool, true, false, cond, not, List, ℕ, ltb, ℤ, pos}
 use Rattle.seq.specs.Tests.{never}
 use Rattle.paper.specs.Limits.{absent}
 use Rattle.paper.specs.Plane.{Pt, nowhere, before, lower, upper}

@@ -1,9 +1,9 @@
 -- What the tables of walks are of a plane graph. In order: the followers' table permutes the half-edges; the leaders are the definition's; the half-edge of
 -- greatest angle out of each vertex; the low half-edge of a walk starts at its smallest vertex; so `top_of`, the half-edge of greatest angle out of the smallest
 -- vertex of h's walk, says what that vertex is, whether the walk is a hole walk and which half-edge makes it one. Assumes nothing.
-use Rattle.std.specs.Prelude.{◌≡◌, refl, ◌<◌, ◌<ℤ◌}
+use Rattle.std.specs.Prelude.{◌≡◌, refl, ◌<◌, ◌<ℤ◌, ◌∷◌, ◌*◌}
 use Rattle.std.proofs.Common.{sym, ◌∙◌, ap, subst, inl, arith, eqb-true, eq-eqb}
-use Rattle.seq.specs.Seq.{Bool, true, List, [], ◌∷◌, Option, none, some, Option·getD, ℕ, ◌*◌, eqb, length, get_or, take, among, leader, best, ℤ, pos}
+use Rattle.seq.specs.Seq.{Bool, true, List, [], Option, none, some, Option·getD, ℕ, eqb, length, get_or, take, among, leader, best, ℤ, pos}
 use Rattle.seq.specs.Terms.{Has, TopIs, BestIs, Strict, Injects, step}
 use Rattle.seq.specs.Tests.{bool-ext}
 use Rattle.seq.specs.Best.{best-top}

@@ -3,11 +3,11 @@
 -- the labels of a sounding are found by a look in each map, which knows nothing of an overlay (`cell_of`). From the overlay's promise alone (`Promised`, crates/tables/specs/Promise.antt), of any number of map
 -- files, whenever it is done: the labels of a sounding are those stored for the face that it lies in (`cell-stored`), for a list `cells-stored`; it lies in a face (`lies_somewhere`) and in no second (`lies-once`).
 -- Soundings are counted by two maps and the overlay has three: in some of its maps, `first_stored`; in two of three, `pair-stored`, `pairs-stored`, and the counts that come out, `times-stored`. Assumes nothing.
-use Rattle.std.specs.Prelude.{◌≡◌, refl, ◌<◌}
+use Rattle.std.specs.Prelude.{◌≡◌, refl, ◌<◌, ◌∷◌, ◌++◌, ◌*◌}
 use Rattle.std.proofs.Common.{sym, ◌∙◌, ap, subst, inl, arith, length-append}
 use Rattle.std.specs.Int.Signed.{≤ℤ_refl}
 use Rattle.std.proofs.Math.ListN.{get_or-append}
-use Rattle.seq.specs.Seq.{List, [], ◌∷◌, ◌++◌, Option, none, some, ℕ, ◌*◌, length, get_or, pos, replicate, table, or_zero}
+use Rattle.seq.specs.Seq.{List, [], Option, none, some, ℕ, length, get_or, pos, replicate, table, or_zero}
 use Rattle.seq.specs.Table.{table_at, table-ext}
 use Rattle.paper.specs.Limits.{maps}
 use Rattle.paper.specs.Plane.{Vec, whole}

@@ -1,10 +1,10 @@
 -- The vertices on an edge stand between its ends: in a table of points in strict order, with an edge's lower end in row a and its upper end in row z, none before row a is on it (`below_off`), none past row z
 -- (`along-upto`), and between them those that lie on its line (`within_on`). The rows of the overlay's vertices rise (`vertices-rise`). Assumes nothing.
-use Rattle.std.specs.Prelude.{◌≡◌, refl, ◌≤◌, ◌<◌}
+use Rattle.std.specs.Prelude.{◌≡◌, refl, ◌≤◌, ◌<◌, ◌&&◌}
 use Rattle.std.proofs.Common.{sym, subst, arith}
 use Rattle.std.proofs.Math.Decide.{dec_lt}
 use Rattle.exact.specs.Sign.{sgn, is_zer}
-use Rattle.seq.specs.Seq.{Bool, true, false, not, ◌&&◌, List, ℕ, suc, select, table}
+use Rattle.seq.specs.Seq.{Bool, true, false, not, List, ℕ, suc, select, table}
 use Rattle.seq.specs.Terms.{Rising}
 use Rattle.seq.specs.Tests.{clash, not-true}
 use Rattle.paper.specs.Plane.{Pt, Seg, whole, head, before, the_left_by, on_seg}

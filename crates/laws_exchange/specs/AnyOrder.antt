@@ -1,9 +1,9 @@
 -- Ask 11, "Which map comes first", from the overlay's promise alone (`Promised`, crates/tables/specs/Promise.antt), for any number of map files in any other order: file i of the one list is file `to i` of the other
 -- (`FilesRenumbered`). r and t come out of the one order, s and u of the other, in lent tables of the same lengths l. Of valid maps the answer is the same: `exchanged-answer`. Done: `exchanged-done`, and the labels of each half-edge `exchanged-labels`. Refused for room:
 -- `exchanged_room`. Bad maps: `exchanged-bad`, `first_handed_in`. The definition's side: Orders and Exchanged of laws_orders. Assumes nothing.
-use Rattle.std.specs.Prelude.{◌≡◌, ◌⊎◌, ◌<◌}
+use Rattle.std.specs.Prelude.{◌≡◌, ◌⊎◌, ◌<◌, ◌+◌, ◌*◌}
 use Rattle.std.proofs.Common.{sym, ◌∙◌, ap, subst, inl, inr, arith}
-use Rattle.seq.specs.Seq.{List, [], none, some, ℕ, suc, ◌+◌, ◌*◌, length, get_or}
+use Rattle.seq.specs.Seq.{List, [], none, some, ℕ, suc, length, get_or}
 use Rattle.paper.specs.Refusal.{Refusal, done, refused}
 use Rattle.paper.specs.Map.{check, fault, vertex_count, edges_in}
 use Rattle.paper.specs.Tables.{Counts, Tables, source_cell, face_cell}

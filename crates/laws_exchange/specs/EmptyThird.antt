@@ -1,8 +1,8 @@
 -- "The two-map overlay is the one with an empty third map, third labels all 0" (02, Ask 13), from the overlay's promise alone (`Promised`, crates/tables/specs/Promise.antt): what comes out for two files, r and t, and what
 -- comes out for the same two with the empty map third, q and u, in tables with the same room (`SameRoom`; for every lengths there are such, `narrower_room`). The definition's side: TwoMaps of laws_orders. Assumes nothing.
-use Rattle.std.specs.Prelude.{◌≡◌}
+use Rattle.std.specs.Prelude.{◌≡◌, ◌∷◌, ◌++◌}
 use Rattle.std.proofs.Common.{sym, ◌∙◌, ap, subst}
-use Rattle.seq.specs.Seq.{List, [], ◌∷◌, ◌++◌, ℕ}
+use Rattle.seq.specs.Seq.{List, [], ℕ}
 use Rattle.paper.specs.Refusal.{Refusal, done, refused}
 use Rattle.paper.specs.Sample.{empty_file}
 use Rattle.paper.specs.Tables.{Counts, Tables}

@@ -1,10 +1,10 @@
 -- "Laying the empty map over a map must give each half-edge that map's label and 0" (02, Ask 11), of what comes out: file i is a map and all others are the empty map (`OnlyMap`). Where the overlay is done each half-edge lies
 -- along an edge of that map, and what its face stores is the label of that edge on its side for the map, and 0 for every other (`OverEmpty`, `over_empty`); it is what `Defined` calls its labels. From `Defined`, so from
 -- the promise (`over_empty-done`). It is done wherever the map passes and there is room (`passes_is-defined`, as the empty map passes). Assumes nothing.
-use Rattle.std.specs.Prelude.{◌≡◌, refl, ◌⊎◌, ◌<◌}
+use Rattle.std.specs.Prelude.{◌≡◌, refl, ◌⊎◌, ◌<◌, ◌∷◌, ◌+◌, ◌*◌, ◌/◌}
 use Rattle.std.proofs.Common.{sym, ◌∙◌, ap, subst, inl, inr, not-suc-le-zero, arith}
 use Rattle.std.proofs.Math.Decide.{ℕ_discrete}
-use Rattle.seq.specs.Seq.{List, [], ◌∷◌, Option, none, some, ℕ, zero, suc, ◌+◌, ◌*◌, ◌/◌, length, get_or, or_zero}
+use Rattle.seq.specs.Seq.{List, [], Option, none, some, ℕ, zero, suc, length, get_or, or_zero}
 use Rattle.seq.specs.Table.{table_at}
 use Rattle.paper.specs.Limits.{maps}
 use Rattle.paper.specs.Refusal.{done}

@@ -1,8 +1,8 @@
 -- "Ask 11 then holds for every order of the maps" (02, Ask 13): the six orders of three map files (`Order`, `arranged`), each an order as AnyOrder asks for it (`six-orders`), so that everything there holds of each (`ThreeExchanged`, `every-order`). Then two maps
 -- handed in the other way round, with the empty map third, in the customer's words (`TwoExchanged`, `two_exchanged`). Assumes nothing.
-use Rattle.std.specs.Prelude.{◌≡◌, refl, ◌<◌}
+use Rattle.std.specs.Prelude.{◌≡◌, refl, ◌<◌, ◌∷◌}
 use Rattle.std.proofs.Common.{arith}
-use Rattle.seq.specs.Seq.{List, [], ◌∷◌, ℕ, zero, suc, length, get_or}
+use Rattle.seq.specs.Seq.{List, [], ℕ, zero, suc, length, get_or}
 use Rattle.paper.specs.Limits.{maps}
 use Rattle.paper.specs.Refusal.{Refusal, done, refused}
 use Rattle.paper.specs.Map.{check}

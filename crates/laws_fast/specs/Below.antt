@@ -1,8 +1,8 @@
 -- Edges whose boxes lie side by side: from which x to which an edge reaches (`Box`), and that two of which the one ends west of where the other starts have no common point (`aside_disjoint`). Assumes nothing.
-use Rattle.std.specs.Prelude.{[], ◌∷◌, ◌≤◌, ◌<◌, ◌≤ℤ◌, ◌<ℤ◌}
+use Rattle.std.specs.Prelude.{[], ◌∷◌, ◌≤◌, ◌<◌, ◌≤ℤ◌, ◌<ℤ◌, ◌+ℤ◌}
 use Rattle.std.proofs.Common.{arith}
 use Rattle.exact.specs.Order.{zomega, sq}
-use Rattle.seq.specs.Seq.{ℤ, pos, ◌+ℤ◌}
+use Rattle.seq.specs.Seq.{ℤ, pos}
 use Rattle.paper.specs.Plane.{Seg, head}
 use Rattle.laws_plane.specs.Cone.{UpV}
 use Rattle.laws_plane.specs.Extent.{on_west, on_east, no_room}

@@ -1,9 +1,9 @@
 -- Rule 8 in any order of the edges in which no edge clashes with a later one: then no two clash (`order_no_clash`), so the search for the least edge that clashes finds nothing (`order_least`). The edges are
 -- given by their segments: carriers in a table, or of a graph. Assumes nothing.
-use Rattle.std.specs.Prelude.{◌≡◌, ◌<◌}
+use Rattle.std.specs.Prelude.{◌≡◌, ◌<◌, ◌&&◌}
 use Rattle.std.proofs.Common.{sym, ◌∙◌, ap, arith, eq-eqb, ne_eqb}
 use Rattle.std.proofs.Math.Decide.{dec_lt, ℕ_discrete}
-use Rattle.seq.specs.Seq.{Bool, false, not, ◌&&◌, ℕ, eqb, least, the_some_below}
+use Rattle.seq.specs.Seq.{Bool, false, not, ℕ, eqb, least, the_some_below}
 use Rattle.seq.specs.Terms.{Injects}
 use Rattle.seq.specs.Least.{least_none, no_some}
 use Rattle.seq.specs.Perm.{onto}

@@ -1,11 +1,11 @@
 -- Looks that count only edges strictly west, in a plane graph in which no two edges share a stretch: a candidate is an edge strictly west whose lower end is not after the point, in point order, and whose upper
 -- end is (`order-candidate`), so that vertex numbers in point order do for heights. Assumes nothing.
-use Rattle.std.specs.Prelude.{◌≡◌, [], ◌∷◌, ◌≤◌, ◌<◌, ◌≤ℤ◌, ◌<ℤ◌}
+use Rattle.std.specs.Prelude.{◌≡◌, [], ◌∷◌, ◌≤◌, ◌<◌, ◌≤ℤ◌, ◌<ℤ◌, ◌&&◌, ◌-ℤ◌, ◌*ℤ◌}
 use Rattle.std.proofs.Common.{ap, arith}
 use Rattle.std.specs.Int.Signed.{lt_z}
 use Rattle.exact.specs.Order.{zomega, sq, 0≤-*, 0<-*, <→≤, 0<-neg}
 use Rattle.exact.specs.Tests.{lt_t, t_lt}
-use Rattle.seq.specs.Seq.{Bool, true, not, ◌&&◌, ℕ, ℤ, pos, neg_ℤ, ◌-ℤ◌, ◌*ℤ◌}
+use Rattle.seq.specs.Seq.{Bool, true, not, ℕ, ℤ, pos, neg_ℤ}
 use Rattle.seq.specs.Tests.{bool-ext, clash, not-true, and_parts, and_both, was-false}
 use Rattle.paper.specs.Plane.{Pt, Vec, nowhere, dir, before, below}
 use Rattle.paper.specs.Graph.{Graph, edge_count, edge, low, high, upward, left_of, at_height, westward}

@@ -1,13 +1,13 @@
 -- Rule 8 for two edges with each side reckoned once: reasons why two edges that go up do not clash. The ends of the one lie strictly on one side of the other (`one_side`); the one ends where the other starts, or
 -- before (`end_to_end`); they start together, or end together, and go different ways (`common-foot`, `common-head`). Assumes nothing.
-use Rattle.std.specs.Prelude.{◌≡◌, [], ◌∷◌, ◌⊎◌, ◌≤◌, ◌<◌, ◌≤ℤ◌, ◌<ℤ◌}
+use Rattle.std.specs.Prelude.{◌≡◌, [], ◌∷◌, ◌⊎◌, ◌≤◌, ◌<◌, ◌≤ℤ◌, ◌<ℤ◌, ◌||◌, ◌&&◌, ◌+ℤ◌, ◌-ℤ◌, ◌*ℤ◌}
 use Rattle.std.proofs.Common.{sym, ◌∙◌, ap, subst, inl, inr, ⊎_elim, arith}
 use Rattle.std.specs.Int.Signed.{lt_z}
 use Rattle.exact.specs.Solve.{ring, reify}
 use Rattle.exact.specs.Order.{zomega, sq, 0≤-*, 0<-*, ≤→0≤}
 use Rattle.exact.specs.Mul.{≡-by₂}
 use Rattle.exact.specs.Tests.{lt_t}
-use Rattle.seq.specs.Seq.{◌||◌, Bool, true, false, ◌&&◌, ℤ, pos, neg_ℤ, ◌+ℤ◌, ◌-ℤ◌, ◌*ℤ◌}
+use Rattle.seq.specs.Seq.{Bool, true, false, ℤ, pos, neg_ℤ}
 use Rattle.seq.specs.Tests.{not-true, and_parts, or_cases}
 use Rattle.paper.specs.Plane.{Pt, Vec, Seg, cross, head, whole, before, same, the_left_by, clash}
 use Rattle.laws_plane.specs.Cone.{UpV}

@@ -1,12 +1,12 @@
 -- Tables that agree on the counted rows: they have the same sound edge records, the same refusals, and the same file. Then what agrees: a table and the same
 -- table with zeros past it. Assumes nothing.
-use Rattle.std.specs.Prelude.{◌≡◌, refl, ◌≤◌, ◌<◌}
+use Rattle.std.specs.Prelude.{◌≡◌, refl, ◌≤◌, ◌<◌, ◌&&◌, ◌||◌, ◌∷◌, ◌++◌, ◌+◌, ◌*◌, ◌-◌, ◌%◌, ◌^◌, ◌-ℤ◌}
 use Rattle.std.proofs.Common.{sym, ◌∙◌, ap, arith, ltb-true, eqb-true, length-append, get_or-append-add}
 use Rattle.std.proofs.Math.Decide.{dec_lt}
 use Rattle.std.proofs.lemmas.Bool.{eqb-false}
 use Rattle.std.proofs.Math.ListN.{get_or-append, get_or-eq_default}
 use Rattle.std.proofs.lemmas.List.{get_or-replicate, length-replicate}
-use Rattle.seq.specs.Seq.{Bool, true, false, cond, not, ◌&&◌, ◌||◌, List, [], ◌∷◌, ◌++◌, ℕ, ◌+◌, ◌*◌, ◌-◌, ◌%◌, ◌^◌, leb, ltb, eqb, length, get_or, replicate, pos, ◌-ℤ◌, the_some_below, gather, padded}
+use Rattle.seq.specs.Seq.{Bool, true, false, cond, not, List, [], ℕ, leb, ltb, eqb, length, get_or, replicate, pos, the_some_below, gather, padded}
 use Rattle.seq.specs.Least.{some_ext, least-ext}
 use Rattle.seq.specs.Table.{table-ext}
 use Rattle.seq.specs.Rows.{rows_ext}

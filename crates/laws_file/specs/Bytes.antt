@@ -1,9 +1,9 @@
 -- Numbers in bytes, "low byte first", over any width: what is written is read back, signed and unsigned, and what is read is written back byte for byte.
 -- `Stands s i bs` is that the bytes bs stand in s from place i on, where a byte past the end counts as 0, as everywhere in the definitions. Assumes nothing.
-use Rattle.std.specs.Prelude.{◌≡◌, refl, ◌<◌}
+use Rattle.std.specs.Prelude.{◌≡◌, refl, ◌<◌, ◌∷◌, ◌+◌, ◌*◌, ◌-◌, ◌/◌, ◌%◌, ◌^◌}
 use Rattle.std.proofs.Common.{sym, ◌∙◌, ap, arith, ltb-true, ltb-false, lt-ltb, le-ltb}
 use Rattle.std.proofs.Math.Nat.{one-le-pow}
-use Rattle.seq.specs.Seq.{Bool, true, false, cond, List, [], ◌∷◌, ℕ, zero, suc, ◌+◌, ◌*◌, ◌-◌, ◌/◌, ◌%◌, ◌^◌, ltb, length, ℤ, pos, negsuc}
+use Rattle.seq.specs.Seq.{Bool, true, false, cond, List, [], ℕ, zero, suc, ltb, length, ℤ, pos, negsuc}
 use Rattle.paper.specs.Bytes.{byte_at, number, signed_at, le, le_signed, the_fits_signed}
 
 -- every cell is a byte

@@ -1,10 +1,10 @@
 -- The fields of an edge record, by name: origins, sources, followers and faces, each at its place among the 16-bit numbers of the record. Of n maps, with b the
 -- lower (0) or the upper (1) half-edge. Assumes nothing.
-use Rattle.std.specs.Prelude.{◌≡◌, refl, ◌<◌}
+use Rattle.std.specs.Prelude.{◌≡◌, refl, ◌<◌, ◌∷◌, ◌++◌, ◌+◌, ◌*◌, ◌-◌}
 use Rattle.std.proofs.Common.{sym, ◌∙◌, ap, add-zero, arith, get_or-append-add}
 use Rattle.std.proofs.Math.Decide.{dec_lt}
 use Rattle.std.proofs.Math.ListN.{get_or-append}
-use Rattle.seq.specs.Seq.{List, [], ◌∷◌, ◌++◌, ℕ, zero, suc, ◌+◌, ◌*◌, ◌-◌, length, get_or, table}
+use Rattle.seq.specs.Seq.{List, [], ℕ, zero, suc, length, get_or, table}
 use Rattle.seq.specs.Table.{length-table, table_at}
 use Rattle.paper.specs.Tables.{origin_of, follower_of, face_of, source_cell, Tables}
 use Rattle.paper.specs.Ovfile.{edge_fields}

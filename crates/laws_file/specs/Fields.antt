@@ -1,7 +1,7 @@
 -- What the reader's fields give of bytes in which an overlay file stands: each number that fits its bytes, as it was written. Over any version's layout. Assumes nothing.
-use Rattle.std.specs.Prelude.{◌≡◌, refl, ◌<◌}
+use Rattle.std.specs.Prelude.{◌≡◌, refl, ◌<◌, ◌∷◌, ◌+◌, ◌*◌, ◌/◌, ◌%◌, ◌^◌}
 use Rattle.std.proofs.Common.{◌∙◌, ap, arith, ltb-true, lt-ltb, eq-eqb, eqb-true}
-use Rattle.seq.specs.Seq.{Bool, true, cond, List, [], ◌∷◌, ℕ, suc, ◌+◌, ◌*◌, ◌/◌, ◌%◌, ◌^◌, eqb, get_or, ℤ, pos, negsuc}
+use Rattle.seq.specs.Seq.{Bool, true, cond, List, [], ℕ, suc, eqb, get_or, ℤ, pos, negsuc}
 use Rattle.seq.specs.Tests.{and_both, and_parts, never}
 use Rattle.paper.specs.Limits.{denominator_bytes}
 use Rattle.paper.specs.Bytes.{ascii, byte_at, marked, number, u16, signed_at, le_signed, the_fits_signed, fits_unsigned}

@@ -1,9 +1,9 @@
 -- Where each number of an overlay file stands, over any version's layout: the file stands at the start of a list of bytes exactly where its mark, its counts and the
 -- fields of every vertex, edge and face stand at their places (`file-placed`, `placed-file`). And how long it is. Assumes nothing.
-use Rattle.std.specs.Prelude.{◌≡◌, ◌<◌}
+use Rattle.std.specs.Prelude.{◌≡◌, ◌<◌, ◌∷◌, ◌++◌, ◌+◌, ◌*◌}
 use Rattle.std.proofs.Common.{◌∙◌, arith}
 use Rattle.std.proofs.Math.ListN.{length-append}
-use Rattle.seq.specs.Seq.{List, [], ◌∷◌, ◌++◌, ℕ, zero, suc, ◌+◌, ◌*◌, length, get_or, rows, table, gather}
+use Rattle.seq.specs.Seq.{List, [], ℕ, zero, suc, length, get_or, rows, table, gather}
 use Rattle.seq.specs.Rows.{length-rows}
 use Rattle.seq.specs.Table.{length-table, table_at}
 use Rattle.paper.specs.Limits.{overlay_head, denominator_bytes}

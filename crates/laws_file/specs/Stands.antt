@@ -1,10 +1,10 @@
 -- Where bytes stand in a list, both ways: a part of what stands there stands at its place, and parts that stand at their places stand there together.
 -- The parts are two lists end to end, rows of one width, and the fields of a record, all of w bytes. Assumes nothing.
-use Rattle.std.specs.Prelude.{◌≡◌, ◌<◌}
+use Rattle.std.specs.Prelude.{◌≡◌, ◌<◌, ◌∷◌, ◌++◌, ◌+◌, ◌*◌}
 use Rattle.std.proofs.Common.{subst, sym, ◌∙◌, ap, suc-le-suc, add-zero, add-suc, suc-add, mul-zero, mul-suc, zero-add, not-suc-le-zero, le_of_suc-le-suc, add-one, arith, length-append, ext_get_or}
 use Rattle.std.proofs.Math.Decide.{dec_lt}
 use Rattle.std.proofs.Math.Seq.{get_or-append_seam, append_snoc}
-use Rattle.seq.specs.Seq.{List, [], ◌∷◌, ◌++◌, ℕ, zero, suc, ◌+◌, ◌*◌, length, get_or, rows, gather}
+use Rattle.seq.specs.Seq.{List, [], ℕ, zero, suc, length, get_or, rows, gather}
 use Rattle.seq.specs.Rows.{length-rows}
 use Rattle.paper.specs.Bytes.{byte_at, le}
 use Rattle.laws_file.specs.Bytes.{Stands, length-le}

@@ -2,9 +2,9 @@
 -- above p and the other is not; the point of an edge at that height (`across`) is on the edge's line; `westward` is "lie west of p, or go through or start at
 -- p with an upward direction of greater angle", and `nearer` is "the greatest x at that height; among equals, the smallest upward angle", said of these
 -- points. Assumes nothing.
-use Rattle.std.specs.Prelude.{◌≡◌, refl, ◌<ℤ◌}
+use Rattle.std.specs.Prelude.{◌≡◌, refl, ◌<ℤ◌, ◌&&◌, ◌||◌, ◌∷◌, ◌+◌, ◌*◌, ◌+ℤ◌, ◌-ℤ◌, ◌*ℤ◌}
 use Rattle.std.proofs.Common.{sym, ◌∙◌, ap}
-use Rattle.seq.specs.Seq.{Bool, true, false, cond, not, ◌&&◌, ◌||◌, [], ◌∷◌, ℕ, ◌+◌, ◌*◌, ℤ, pos, neg_ℤ, ◌+ℤ◌, ◌-ℤ◌, ◌*ℤ◌}
+use Rattle.seq.specs.Seq.{Bool, true, false, cond, not, [], ℕ, ℤ, pos, neg_ℤ}
 use Rattle.seq.specs.Tests.{clash, not-true}
 use Rattle.exact.specs.Solve.{ring, reify}
 use Rattle.exact.specs.Order.{0<-*}

@@ -1,9 +1,9 @@
 -- Graphs in whole numbers in which no two edges clash (`Corners`: what rules 6, 7 and 8 leave). Such a graph is a plane graph (`corners-plane`), and no two edges of it share a stretch
 -- (`corners-clear`). Assumes nothing.
-use Rattle.std.specs.Prelude.{◌≡◌, refl, ◌<◌, ◌<ℤ◌}
+use Rattle.std.specs.Prelude.{◌≡◌, refl, ◌<◌, ◌<ℤ◌, ◌+◌, ◌*◌, ◌/◌}
 use Rattle.std.proofs.Common.{sym, ◌∙◌, ap, subst, arith}
 use Rattle.std.proofs.Math.Decide.{ℕ_discrete}
-use Rattle.seq.specs.Seq.{Bool, true, false, cond, not, ℕ, ◌+◌, ◌*◌, ◌/◌, pos}
+use Rattle.seq.specs.Seq.{Bool, true, false, cond, not, ℕ, pos}
 use Rattle.seq.specs.Tests.{clash as no_both}
 use Rattle.paper.specs.Plane.{Pt, whole, head, cross, opposite, rises, before, same, the_left_by, clash}
 use Rattle.paper.specs.Graph.{Graph, edge_count, the_half_count, point, edge, twin, origin, low, high, goes_up, upward, heading, left_of}

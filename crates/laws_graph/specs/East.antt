@@ -1,7 +1,7 @@
 -- The half-edges on the two sides of an edge of a plane graph: on its east side is the one that goes down, from the upper end to the lower; on its west side the one that goes up. Assumes nothing.
-use Rattle.std.specs.Prelude.{◌≡◌, refl, ◌<◌}
+use Rattle.std.specs.Prelude.{◌≡◌, refl, ◌<◌, ◌+◌, ◌*◌, ◌/◌}
 use Rattle.std.proofs.Common.{sym, ◌∙◌, ap, arith}
-use Rattle.seq.specs.Seq.{Bool, true, false, cond, not, ℕ, ◌+◌, ◌*◌, ◌/◌}
+use Rattle.seq.specs.Seq.{Bool, true, false, cond, not, ℕ}
 use Rattle.seq.specs.Tests.{clash}
 use Rattle.paper.specs.Plane.{opposite}
 use Rattle.paper.specs.Graph.{Graph, edge_count, the_half_count, twin, start, low, high, goes_up, upward, heading, east_side}

@@ -1,8 +1,8 @@
 -- The numbering of half-edges: 2k and 2k + 1 are the two of edge k, and each is the other's twin. Assumes nothing.
-use Rattle.std.specs.Prelude.{◌≡◌, refl, ◌<◌}
+use Rattle.std.specs.Prelude.{◌≡◌, refl, ◌<◌, ◌+◌, ◌*◌, ◌-◌, ◌/◌, ◌%◌}
 use Rattle.std.proofs.Common.{sym, ◌∙◌, ap, arith, eqb-true, eq-eqb, ne_eqb}
 use Rattle.std.proofs.lemmas.Bool.{eqb-false}
-use Rattle.seq.specs.Seq.{Bool, true, false, cond, not, ℕ, ◌+◌, ◌*◌, ◌-◌, ◌/◌, ◌%◌}
+use Rattle.seq.specs.Seq.{Bool, true, false, cond, not, ℕ}
 use Rattle.paper.specs.Graph.{Graph, edge_count, the_half_count, edge, even, twin, origin}
 
 -- ── twins ──

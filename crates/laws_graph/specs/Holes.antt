@@ -1,9 +1,9 @@
 -- The smallest vertex and the kind of a walk of a plane graph: both are the same all along it. In order: the smallest vertex is where a half-edge of the
 -- walk starts, and none of it starts at a smaller; hole walk or outer walk; and in a hole walk exactly one half-edge makes it one: that of greatest angle
 -- out of the smallest vertex. Assumes nothing.
-use Rattle.std.specs.Prelude.{◌≡◌, refl, ◌<◌}
+use Rattle.std.specs.Prelude.{◌≡◌, refl, ◌<◌, ◌∷◌}
 use Rattle.std.proofs.Common.{sym, ◌∙◌, ap, subst, inl, inr}
-use Rattle.seq.specs.Seq.{Bool, true, false, List, [], ◌∷◌, Option, some, ℕ, length, best_of, among}
+use Rattle.seq.specs.Seq.{Bool, true, false, List, [], Option, some, ℕ, length, best_of, among}
 use Rattle.seq.specs.Terms.{Among, Best, BestIs}
 use Rattle.seq.specs.Tests.{bool-ext}
 use Rattle.seq.specs.Members.{among_one, in_every}

@@ -1,10 +1,10 @@
 -- Graphs in whole numbers, as maps are: each vertex is a corner, no two of them one point, and each edge is its own carrier between two of them (`Laid`: what rules 6 and 7 leave). In order:
 -- the carrier of an edge goes up, from its lower end to its upper (`carrier_up`, `foot_low`, `head_high`); half-edges start at the ends of their edge (`starts`, `moves`, `on_line`, `down_start`).
 -- Assumes nothing.
-use Rattle.std.specs.Prelude.{◌≡◌, refl, ◌⊎◌, ◌<◌}
+use Rattle.std.specs.Prelude.{◌≡◌, refl, ◌⊎◌, ◌<◌, ◌+◌, ◌*◌, ◌/◌}
 use Rattle.std.proofs.Common.{sym, ◌∙◌, ap, subst, inl, inr, ⊎_elim}
 use Rattle.std.proofs.Math.ListN.{get_or-map}
-use Rattle.seq.specs.Seq.{Bool, true, false, List, map, ℕ, ◌+◌, ◌*◌, ◌/◌, length, get_or, pos}
+use Rattle.seq.specs.Seq.{Bool, true, false, List, map, ℕ, length, get_or, pos}
 use Rattle.seq.specs.Tests.{not-false}
 use Rattle.paper.specs.Plane.{Pt, Vec, whole, nowhere, head, between, before, same, lower, upper}
 use Rattle.paper.specs.Graph.{Graph, edge_count, the_half_count, point, edge, twin, origin, start, low, high, goes_up, upward, left_of}

@@ -1,8 +1,8 @@
 -- Where no two edges of a plane graph share a stretch, any two edges at one height differ in `nearer`: two that do not are on one line, and overlap at that
 -- height. So what a look sees is the one edge that is nearer than every other candidate (`west-nearest`), whatever the numbers of the edges. Assumes nothing.
-use Rattle.std.specs.Prelude.{◌≡◌, refl, ◌<◌, ◌<ℤ◌}
+use Rattle.std.specs.Prelude.{◌≡◌, refl, ◌<◌, ◌<ℤ◌, ◌∷◌, ◌+ℤ◌, ◌-ℤ◌, ◌*ℤ◌}
 use Rattle.std.proofs.Common.{sym, ◌∙◌}
-use Rattle.seq.specs.Seq.{true, false, [], ◌∷◌, Option, none, some, Option·map, ℕ, ℤ, pos, ◌+ℤ◌, ◌-ℤ◌, ◌*ℤ◌, best}
+use Rattle.seq.specs.Seq.{true, false, [], Option, none, some, Option·map, ℕ, ℤ, pos, best}
 use Rattle.seq.specs.Terms.{Has, Order, Best, BestIs}
 use Rattle.seq.specs.Tests.{clash, and_parts}
 use Rattle.seq.specs.Best.{best_is}

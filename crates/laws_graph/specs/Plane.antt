@@ -1,11 +1,11 @@
 -- What the laws of a graph ask of it (`Plane`), and what follows for one edge: one of its half-edges goes up, the other down; where they start and
 -- end; and that a half-edge's heading is the direction from its start to its end. A map in which rules 6 to 8 find nothing is such a graph: Corners
 -- and Rules. Assumes nothing.
-use Rattle.std.specs.Prelude.{◌≡◌, refl, ◌⊎◌, ◌<◌, ◌<ℤ◌}
+use Rattle.std.specs.Prelude.{◌≡◌, refl, ◌⊎◌, ◌<◌, ◌<ℤ◌, ◌+◌, ◌*◌, ◌/◌}
 use Rattle.std.proofs.Common.{sym, ◌∙◌, ap, subst, inl, inr, ⊎_elim, arith}
 use Rattle.std.proofs.Math.Decide.{dec_lt}
 use Rattle.std.proofs.Math.ListN.{get_or-eq_default}
-use Rattle.seq.specs.Seq.{Bool, true, false, cond, not, ℕ, ◌+◌, ◌*◌, ◌/◌, length, pos, neg_ℤ}
+use Rattle.seq.specs.Seq.{Bool, true, false, cond, not, ℕ, length, pos, neg_ℤ}
 use Rattle.seq.specs.Tests.{clash, not-true, not-false, way}
 use Rattle.paper.specs.Plane.{Pt, whole, nowhere, dir, cross, opposite, rises, before, same, lower, upper}
 use Rattle.paper.specs.Graph.{Graph, edge_count, the_half_count, point, edge, twin, origin, start, low, high, goes_up, upward, heading, left_of}

@@ -1,11 +1,11 @@
 -- The map of a file, read back: its counts are those of the file, and each point, edge, origin and label below them is what the bytes say. The lists of `map_of` are tables, so that each law
 -- is a cell of a table. Assumes nothing.
-use Rattle.std.specs.Prelude.{◌≡◌, refl, ◌<◌}
+use Rattle.std.specs.Prelude.{◌≡◌, refl, ◌<◌, ◌+◌, ◌*◌, ◌/◌, ◌%◌}
 use Rattle.std.proofs.Common.{ap, ◌∙◌, arith, eqb-true}
 use Rattle.std.proofs.lemmas.Bool.{eqb-false}
 use Rattle.std.proofs.lemmas.List.{length-map}
 use Rattle.std.proofs.Math.ListN.{get_or-map}
-use Rattle.seq.specs.Seq.{Bool, true, false, cond, List, ℕ, ◌+◌, ◌*◌, ◌/◌, ◌%◌, length, table}
+use Rattle.seq.specs.Seq.{Bool, true, false, cond, List, ℕ, length, table}
 use Rattle.seq.specs.Table.{length-table, table_at}
 use Rattle.paper.specs.Plane.{Vec, nowhere, whole, between}
 use Rattle.paper.specs.Graph.{Edge, edge_count, point, edge, even, no_edge, origin}

@@ -1,11 +1,11 @@
 -- Rules 6, 7 and 8 of a map as facts of its graph, where their tests find nothing: `single_is`, `ends_are`, `clear_is`. Then the map that a file's bytes hold: whatever the bytes, its vertices
 -- are corners and its edges are their own carriers, so that where rules 6 and 7 find nothing it is laid in corners (`file-laid`, `tests-laid`) and every edge goes up (`file_up`), and where 8 finds nothing too no two edges
 -- clash (`tests-corners`). Assumes nothing.
-use Rattle.std.specs.Prelude.{◌≡◌, refl, ◌<◌}
+use Rattle.std.specs.Prelude.{◌≡◌, refl, ◌<◌, ◌&&◌, ◌||◌}
 use Rattle.std.proofs.Common.{sym, subst, arith, leb-false, ne_eqb}
 use Rattle.std.proofs.Math.Decide.{dec_lt}
 use Rattle.std.proofs.lemmas.Bool.{eqb-false}
-use Rattle.seq.specs.Seq.{Bool, true, false, not, ◌&&◌, ◌||◌, List, ℕ, leb, eqb, length}
+use Rattle.seq.specs.Seq.{Bool, true, false, not, List, ℕ, leb, eqb, length}
 use Rattle.seq.specs.Tests.{clash as no_both, or_false}
 use Rattle.seq.specs.Least.{no_some_is}
 use Rattle.paper.specs.Plane.{between, same, clash}

@@ -1,8 +1,8 @@
 -- What a hole walk sees. Strictly west of p an edge's lower end is before p; what is seen arrives there; so its walk has a smaller smallest vertex than the
 -- hole walk, and following what is seen comes to an end. Assumes nothing.
-use Rattle.std.specs.Prelude.{◌≡◌, ◌<◌, ◌<ℤ◌}
+use Rattle.std.specs.Prelude.{◌≡◌, ◌<◌, ◌<ℤ◌, ◌∷◌, ◌-ℤ◌, ◌*ℤ◌}
 use Rattle.std.proofs.Common.{sym, ◌∙◌, ap, subst}
-use Rattle.seq.specs.Seq.{true, false, [], ◌∷◌, some, ℕ, ℤ, pos, negsuc, neg_ℤ, ◌-ℤ◌, ◌*ℤ◌}
+use Rattle.seq.specs.Seq.{true, false, [], some, ℕ, ℤ, pos, negsuc, neg_ℤ}
 use Rattle.seq.specs.Tests.{never, and_parts}
 use Rattle.exact.specs.Solve.{ring, reify}
 use Rattle.exact.specs.Order.{0<-*, 0<-neg}

@@ -1,10 +1,10 @@
 -- Walks of a plane graph. In order: what following comes to (`Along`), which goes both ways; a walk closes, holds what following comes to and nothing
 -- twice; its least half-edge (`lead_at`) is the same all along it, and different on different walks. So each half-edge is in exactly one closed walk
 -- (`one_walk`). Assumes nothing.
-use Rattle.std.specs.Prelude.{◌≡◌, refl, ◌≤◌, ◌<◌}
+use Rattle.std.specs.Prelude.{◌≡◌, refl, ◌≤◌, ◌<◌, ◌+◌, ◌-◌}
 use Rattle.std.proofs.Common.{sym, ◌∙◌, ap, subst, arith}
 use Rattle.std.proofs.Math.Decide.{dec_lt}
-use Rattle.seq.specs.Seq.{false, ℕ, zero, suc, ◌+◌, ◌-◌, length, leader}
+use Rattle.seq.specs.Seq.{false, ℕ, zero, suc, length, leader}
 use Rattle.seq.specs.Terms.{Among, iter, orbit, Reach, step, turns}
 use Rattle.seq.specs.Table.{table_at}
 use Rattle.seq.specs.Perm.{iter-+, reach-trans, iter-into, iter-once, comes_back, not_before, reach_sym}

@@ -3,8 +3,8 @@
 -- which none is nearer, and it sees nothing only where there is no candidate (`west-sees`). Assumes nothing.
 use Rattle.std.proofs.Common.{arith, sym, ap, subst, inl, inr, ⊎_elim}
 use Rattle.std.proofs.Math.IntN.{+ℤ_invr}
-use Rattle.std.specs.Prelude.{◌≡◌, refl, ◌⊎◌, ◌<◌, ◌<ℤ◌}
-use Rattle.seq.specs.Seq.{Bool, true, false, not, ◌&&◌, [], ◌∷◌, Option, none, some, Option·map, ℕ, ℤ, pos, neg_ℤ, ◌-ℤ◌, ◌*ℤ◌, best}
+use Rattle.std.specs.Prelude.{◌≡◌, refl, ◌⊎◌, ◌<◌, ◌<ℤ◌, ◌&&◌, ◌∷◌, ◌-ℤ◌, ◌*ℤ◌}
+use Rattle.seq.specs.Seq.{Bool, true, false, not, [], Option, none, some, Option·map, ℕ, ℤ, pos, neg_ℤ, best}
 use Rattle.seq.specs.Terms.{Has, Strict, Top, TopIs}
 use Rattle.seq.specs.Tests.{not-true, and_parts, was-false}
 use Rattle.seq.specs.Best.{best-top, best_has}

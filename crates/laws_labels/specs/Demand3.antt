@@ -8,10 +8,10 @@
 -- edge that it lies along or by looking west, and from no other half-edge, walk or face. And which half-edges, followers and faces there are is the defined overlay's too. So this can't be met by
 -- tables that are empty or made up. No file is left out: where one does not pass, or there is no room, the overlay is refused (`done-passes`, `done_fits` of Done).
 -- In order: what is said (`Agrees`), of any number of maps; tables that hold the overlay's rows; the theorem, for any number of files (`labels-agree`, `passes-agree`) and for three. Assumes nothing.
-use Rattle.std.specs.Prelude.{◌≡◌, refl, ◌<◌, ◌*◌}
+use Rattle.std.specs.Prelude.{◌≡◌, refl, ◌<◌, ◌*◌, ◌∷◌}
 use Rattle.std.proofs.Common.{sym, ◌∙◌, ap, subst, arith}
 use Rattle.std.proofs.lemmas.List.{length-map, length-replicate}
-use Rattle.seq.specs.Seq.{List, [], ◌∷◌, none, ℕ, suc, length, get_or, table, replicate, leader, walk}
+use Rattle.seq.specs.Seq.{List, [], none, ℕ, suc, length, get_or, table, replicate, leader, walk}
 use Rattle.seq.specs.Terms.{Among, iter, orbit, step, turns}
 use Rattle.seq.specs.Table.{length-table, table-ext, table_of}
 use Rattle.paper.specs.Graph.{Graph, the_half_count, followers, follower}

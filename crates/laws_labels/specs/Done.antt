@@ -1,8 +1,8 @@
 -- When the overlay of a list of map files is done: exactly where each file passes rules 1 to 10 and there is room (`done-passes`, `done_fits`, `passes-done`). Then the counts
 -- are those of the defined overlay (`done-counts`), and the lent tables hold its tables, with zeros past them (`done-tables`). Three files that pass are a list that passes (`three_pass`). Assumes nothing.
-use Rattle.std.specs.Prelude.{◌≡◌}
+use Rattle.std.specs.Prelude.{◌≡◌, ◌∷◌, ◌++◌}
 use Rattle.std.proofs.Common.{sym, ◌∙◌, ap, inl, inr, ⊎_elim, arith}
-use Rattle.seq.specs.Seq.{List, [], ◌∷◌, ◌++◌, Option, none, ℕ, zero, suc, length, get_or}
+use Rattle.seq.specs.Seq.{List, [], Option, none, ℕ, zero, suc, length, get_or}
 use Rattle.seq.specs.Terms.{Among}
 use Rattle.seq.specs.Members.{among-++, ++-among, every_in, in_every}
 use Rattle.seq.specs.Table.{among-table, table-among}

@@ -2,10 +2,10 @@
 -- source in a map is what it lies along there. The overlay of the maps is such, and so are the melted tables. Then the label of a half-edge in a map is the map's potential at its left,
 -- half-edges of one walk and of one face have the same labels, those of the face, and the labels of what is seen looking west from any point are those of what is seen in
 -- each map (`drawn-seen`). Assumes nothing.
-use Rattle.std.specs.Prelude.{◌≡◌, refl, ◌<◌, ◌≤ℤ◌, ◌<ℤ◌}
+use Rattle.std.specs.Prelude.{◌≡◌, refl, ◌<◌, ◌≤ℤ◌, ◌<ℤ◌, ◌/◌}
 use Rattle.std.proofs.Common.{sym, ◌∙◌, ap, subst, arith}
 use Rattle.exact.specs.Order.{pos-once}
-use Rattle.seq.specs.Seq.{List, Option, none, some, ℕ, zero, suc, ◌/◌, length, get_or, replicate, table, or_zero, pos}
+use Rattle.seq.specs.Seq.{List, Option, none, some, ℕ, zero, suc, length, get_or, replicate, table, or_zero, pos}
 use Rattle.seq.specs.Table.{table-ext, table_const}
 use Rattle.paper.specs.Plane.{Pt, Vec}
 use Rattle.paper.specs.Graph.{Graph, edge_count, the_half_count, even, goes_up, west, east_side}

@@ -1,8 +1,8 @@
 -- The theorems at one file, so that no premise of them is empty: a square of side 4 with label 7 within. What is seen looking west along east from (1, 1) has label
 -- 7, and from (9, 1), beyond the square, 0; so these are the potentials there, by the theorem, and the sum itself says so too. Then the last theorem at S11. Assumes nothing.
-use Rattle.std.specs.Prelude.{◌≡◌, refl}
+use Rattle.std.specs.Prelude.{◌≡◌, refl, ◌∷◌}
 use Rattle.exact.specs.Exact.{gcd_of}
-use Rattle.seq.specs.Seq.{List, [], ◌∷◌, false, none, ℕ, pos}
+use Rattle.seq.specs.Seq.{List, [], false, none, ℕ, pos}
 use Rattle.seq.specs.Terms.{sum, upto}
 use Rattle.paper.specs.Limits.{maps}
 use Rattle.paper.specs.Plane.{Vec, vec, whole}

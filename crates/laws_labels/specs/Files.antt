@@ -3,11 +3,11 @@
 --     file-seen        what is seen from any point along any direction that rises has the label of the potential there, 0 where nothing is seen
 --     file-seen-west   the same of the look that counts only what is strictly west
 -- Assumes nothing.
-use Rattle.std.specs.Prelude.{◌≡◌, ◌<◌, ◌≤ℤ◌, ◌<ℤ◌}
+use Rattle.std.specs.Prelude.{◌≡◌, ◌<◌, ◌≤ℤ◌, ◌<ℤ◌, ◌/◌}
 use Rattle.std.proofs.Common.{sym}
 use Rattle.std.specs.Int.Signed.{≤ℤ_refl}
 use Rattle.exact.specs.Order.{<→≤, ≤-of-≡}
-use Rattle.seq.specs.Seq.{List, true, false, none, ℕ, ◌/◌, pos, or_zero}
+use Rattle.seq.specs.Seq.{List, true, false, none, ℕ, pos, or_zero}
 use Rattle.paper.specs.Plane.{Pt, Vec, nowhere, rises}
 use Rattle.paper.specs.Graph.{Graph, the_half_count, start, goes_up, upward, west}
 use Rattle.paper.specs.Map.{Map, label, fault, map_of}

@@ -1,9 +1,9 @@
 -- A file passes exactly if it keeps the rules: `passes-form` and `passes-rules`, and back, `rules-pass`. In order: each test as the fact that it
 -- stands for, and back (6 to 8 are in laws_graph' Rules); rules 1 to 4 (`nothing-form`, `form-nothing`); the ten of them in the chain. Assumes nothing.
-use Rattle.std.specs.Prelude.{◌≡◌, refl, ◌≤◌, ◌<◌}
+use Rattle.std.specs.Prelude.{◌≡◌, refl, ◌≤◌, ◌<◌, ◌&&◌, ◌||◌, ◌++◌}
 use Rattle.std.proofs.Common.{sym, ap, ltb-false, le-ltb, eqb-true, eq-eqb, ne_eqb}
 use Rattle.std.proofs.lemmas.Bool.{lt-leb, eqb-false}
-use Rattle.seq.specs.Seq.{Bool, true, false, not, ◌&&◌, ◌||◌, List, ◌++◌, Option, none, ℕ, ltb, eqb, length, get_or, nat_abs, the_some_below, or_zero}
+use Rattle.seq.specs.Seq.{Bool, true, false, not, List, Option, none, ℕ, ltb, eqb, length, get_or, nat_abs, the_some_below, or_zero}
 use Rattle.seq.specs.Tests.{clash as both, never, not-false, or_false, was-true, false_or}
 use Rattle.seq.specs.Least.{no_some, no_some_is, some_has, some_witness}
 use Rattle.paper.specs.Limits.{map_vertices, map_edges, reach, map_head}

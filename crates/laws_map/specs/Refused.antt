@@ -1,8 +1,8 @@
 -- Which refusals the check of a map file gives: what is true of rules 1 to 10 with any place and no other edge, and of rule 8 with its place and its other edge, is true of what the file is refused with
 -- (`fault-keeps`). Assumes nothing.
-use Rattle.std.specs.Prelude.{◌≡◌, ◌≤◌}
+use Rattle.std.specs.Prelude.{◌≡◌, ◌≤◌, ◌||◌, ◌++◌}
 use Rattle.std.proofs.Common.{arith}
-use Rattle.seq.specs.Seq.{Bool, not, ◌||◌, List, ◌++◌, some, ℕ, ltb, eqb, length, least, the_some_below}
+use Rattle.seq.specs.Seq.{Bool, not, List, some, ℕ, ltb, eqb, length, least, the_some_below}
 use Rattle.paper.specs.Limits.{map_vertices, map_edges, map_head}
 use Rattle.paper.specs.Bytes.{ascii, marked, u16}
 use Rattle.paper.specs.Graph.{Graph, edge_count, the_half_count, followers}

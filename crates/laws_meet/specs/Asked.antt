@@ -1,8 +1,8 @@
 -- How two edges meet, asked by itself (02, Ask 2): the whole operation on eight numbers. In order: each refusal where it is given; done exactly where nothing is refused, and then the answer is the meaning of
 -- `Means`; which end, and which edge, is named first. Assumes nothing.
-use Rattle.std.specs.Prelude.{◌≡◌, refl, ◌⊎◌, ◌≤◌}
+use Rattle.std.specs.Prelude.{◌≡◌, refl, ◌⊎◌, ◌≤◌, ◌||◌, ◌∷◌}
 use Rattle.std.proofs.Common.{sym, ◌∙◌, ap, subst, inl, inr, arith, ltb-false, le-ltb}
-use Rattle.seq.specs.Seq.{Bool, true, false, ◌||◌, [], ◌∷◌, ℕ, ltb, nat_abs}
+use Rattle.seq.specs.Seq.{Bool, true, false, [], ℕ, ltb, nat_abs}
 use Rattle.seq.specs.Tests.{false_or}
 use Rattle.exact.specs.Tests.{clash as no_both, not-true, or_false}
 use Rattle.paper.specs.Limits.{reach}

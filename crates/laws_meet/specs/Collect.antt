@@ -1,8 +1,8 @@
 -- "The map check and the collecting of vertices follow; the overlay tables stay the same" (02, Ask 2). Rule 8 by the meeting of two edges is rule 8 (`clashes_by_lem`); the vertices collected as the points of
 -- all meetings, those of parallel edges that touch end to end too, are the overlay's vertices (`vertices_by_lem`): such a point is a corner already. Assumes nothing.
-use Rattle.std.specs.Prelude.{◌≡◌, refl, ◌⊎◌, ◌<◌}
+use Rattle.std.specs.Prelude.{◌≡◌, refl, ◌⊎◌, ◌<◌, ◌&&◌, ◌++◌}
 use Rattle.std.proofs.Common.{sym, ◌∙◌, ap, subst, inl, inr, arith}
-use Rattle.seq.specs.Seq.{Bool, true, false, cond, not, ◌&&◌, List, ◌++◌, none, some, ℕ, eqb, length, pos, rows, optional}
+use Rattle.seq.specs.Seq.{Bool, true, false, cond, not, List, none, some, ℕ, eqb, length, pos, rows, optional}
 use Rattle.seq.specs.Terms.{Among}
 use Rattle.seq.specs.Members.{++-among}
 use Rattle.seq.specs.Rows.{among-rows, rows-among}

@@ -1,8 +1,8 @@
 -- `meeting s t` means what it says, of two edges that go up: `Means s t m` says of each answer m what it stands for, by points on the edges alone, and it holds of `meeting s t` (`meeting-means`).
 -- Parallel edges touch at an end of both, so at a point that is an input vertex already (`parallel_ends`), and do not cross (`parallel-crossed`). Assumes nothing.
-use Rattle.std.specs.Prelude.{◌≡◌, refl, ◌⊎◌, ◌<ℤ◌}
+use Rattle.std.specs.Prelude.{◌≡◌, refl, ◌⊎◌, ◌<ℤ◌, ◌&&◌}
 use Rattle.std.proofs.Common.{sym, ◌∙◌, ap, subst, inl, inr, arith}
-use Rattle.seq.specs.Seq.{Bool, true, false, cond, ◌&&◌, Option, none, some, ℕ, ℤ, pos}
+use Rattle.seq.specs.Seq.{Bool, true, false, cond, Option, none, some, ℕ, ℤ, pos}
 use Rattle.exact.specs.Sign.{Sign, neg, zer, plus, sgn, is_zer, is_neg, is_plus}
 use Rattle.exact.specs.Lowest.{Pt}
 use Rattle.exact.specs.Tests.{clash as no_both, and_both, and_parts}

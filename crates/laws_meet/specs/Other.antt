@@ -1,11 +1,11 @@
 -- Refusal 8's other edge (02, Ask 2): "the other edge's number, the least one that clashes with it". Of a graph whose carriers go up: where an edge clashes, the least that does is the place, the other is an
 -- edge, clashes with it, is the least that does, and is greater than the place: a lesser one would itself clash, and be the place (`other_edge`). Then the file that is refused: with 8 it is so of the map that
 -- the file holds (`refused_8`), and with any other number there is no other edge (`other_none`). Assumes nothing.
-use Rattle.std.specs.Prelude.{◌≡◌, refl, ◌⊎◌, ◌<◌}
+use Rattle.std.specs.Prelude.{◌≡◌, refl, ◌⊎◌, ◌<◌, ◌||◌, ◌∷◌, ◌++◌}
 use Rattle.std.proofs.Common.{sym, ◌∙◌, ap, subst, inl, inr, arith, ne_eqb}
 use Rattle.std.proofs.Math.Decide.{dec_lt}
 use Rattle.std.proofs.lemmas.Bool.{eqb-false}
-use Rattle.seq.specs.Seq.{true, false, not, ◌||◌, List, [], ◌∷◌, ◌++◌, Option, some, ℕ, eqb, ltb, length, least, the_some_below}
+use Rattle.seq.specs.Seq.{true, false, not, List, [], Option, some, ℕ, eqb, ltb, length, least, the_some_below}
 use Rattle.seq.specs.Least.{least-holds, least_min, least_below, some_has, some_witness, no_some_is}
 use Rattle.seq.specs.Options.{none_some}
 use Rattle.seq.specs.Tests.{was-false}

@@ -1,9 +1,9 @@
 -- What is taken from `meeting`, of two edges that go up: `clash s t` (refusal 8) is exactly that they cross, share, or touch at a point that is not an end of both
 -- (`clash-meeting`); `crossing s t` (the overlay's vertices) is the point of the meeting where they are not parallel, and none where they are (`crossing-meeting`). Then the
 -- four answers one by one, each given exactly where it holds. Assumes nothing.
-use Rattle.std.specs.Prelude.{◌≡◌, refl, ◌⊎◌, ◌<ℤ◌}
+use Rattle.std.specs.Prelude.{◌≡◌, refl, ◌⊎◌, ◌<ℤ◌, ◌&&◌}
 use Rattle.std.proofs.Common.{sym, ◌∙◌, subst, inl, inr, arith}
-use Rattle.seq.specs.Seq.{Bool, true, false, cond, not, ◌&&◌, Option, none, some, ℕ, pos}
+use Rattle.seq.specs.Seq.{Bool, true, false, cond, not, Option, none, some, ℕ, pos}
 use Rattle.exact.specs.Order.{Tri, lt, eq, gt, tri, <→≢}
 use Rattle.exact.specs.Sign.{sgn, is_zer}
 use Rattle.exact.specs.Lowest.{Pt}

@@ -1,14 +1,14 @@
 -- Dropping edges makes no more faces. A plane graph whose half-edges are labelled by their faces keeps rule 10 (`faced-lawful`), so its face numbers are potentials. Where s is a part of a neat graph g, g covers s
 -- with these labels (`faced-covers`); so half-edges of s that lie in one face of g lie in one face of s, and in face 0 of s if they do in g (`faces-refine`). So s has no more faces than g (`fewer-faces`),
 -- and the melted tables fit wherever the overlay's do (`melted-faces`). Ask 12 leans on it. Assumes nothing.
-use Rattle.std.specs.Prelude.{◌≡◌, ◌<◌, ◌≤◌}
+use Rattle.std.specs.Prelude.{◌≡◌, ◌<◌, ◌≤◌, ◌+◌, ◌*◌, ◌-◌, ◌||◌}
 use Rattle.std.proofs.Math.Path.{refl}
 use Rattle.std.proofs.Common.{sym, ◌∙◌, ap, subst, ⊎_elim, arith, eqb-true}
 use Rattle.std.proofs.Math.Decide.{dec_lt}
 use Rattle.exact.specs.Sign.{is_zer}
 use Rattle.exact.specs.Signs.{zero_is}
 use Rattle.exact.specs.Order.{pos-once}
-use Rattle.seq.specs.Seq.{Bool, true, false, List, Option, none, some, ℕ, zero, suc, ◌+◌, ◌*◌, ◌-◌, ◌||◌, eqb, length, get_or, count, table, or_zero, pos}
+use Rattle.seq.specs.Seq.{Bool, true, false, List, Option, none, some, ℕ, zero, suc, eqb, length, get_or, count, table, or_zero, pos}
 use Rattle.seq.specs.Table.{table_at}
 use Rattle.seq.specs.Perm.{pigeon}
 use Rattle.seq.specs.Tests.{or_cases}

@@ -1,11 +1,11 @@
 -- Melting with an empty map put anywhere into the list: the same edges and vertices are kept, and the melted tables are the same but for one source more, none, at its place (`melted-empty`). So the two maps' melted
 -- tables are those of three with an empty third (02, Ask 13). Of any list of maps. Assumes nothing.
 use Rattle.std.proofs.lemmas.Simd.{map-map}
-use Rattle.std.specs.Prelude.{◌≡◌, ◌<◌, ◌≤◌}
+use Rattle.std.specs.Prelude.{◌≡◌, ◌<◌, ◌≤◌, ◌||◌, ◌*◌, ◌+◌}
 use Rattle.std.proofs.Common.{sym, ◌∙◌, ap, not-suc-le-zero, arith}
 use Rattle.std.proofs.Math.Decide.{dec_lt, ℕ_discrete}
 use Rattle.std.proofs.lemmas.List.{length-map}
-use Rattle.seq.specs.Seq.{Bool, true, false, not, ◌||◌, List, map, none, ℕ, zero, suc, ◌*◌, ◌+◌, eqb, length, get_or, select, the_some_below}
+use Rattle.seq.specs.Seq.{Bool, true, false, not, List, map, none, ℕ, zero, suc, eqb, length, get_or, select, the_some_below}
 use Rattle.seq.specs.Tests.{bool-ext, clash}
 use Rattle.seq.specs.Least.{some_has, some_witness, some_ext}
 use Rattle.seq.specs.Count.{count-ext}

@@ -5,12 +5,12 @@
 --     melted-seen       what is seen looking west from any point along any direction that does not fall has the labels that the maps give there; so has the face that is stored for it (`melted-cell`)
 -- A dropped piece that lies along an edge of a map has the same label of that map on both sides, so that edge has no jump and counts in no potential: the melted graph covers every map
 -- (`melted-covers`), and all that is proved of a covering graph holds in it. No geometry is here. Assumes nothing.
-use Rattle.std.specs.Prelude.{◌≡◌, ◌<◌, pos, ◌-ℤ◌, ◌≤ℤ◌, ◌<ℤ◌}
+use Rattle.std.specs.Prelude.{◌≡◌, ◌<◌, pos, ◌-ℤ◌, ◌≤ℤ◌, ◌<ℤ◌, ◌+◌, ◌*◌, ◌/◌}
 use Rattle.std.proofs.Math.Path.{refl, sym, ap}
 use Rattle.std.proofs.Common.{◌∙◌, subst, arith, eq-eqb, ne_eqb}
 use Rattle.std.proofs.Math.IntN.{+ℤ_invr}
 use Rattle.std.proofs.lemmas.List.{length-map}
-use Rattle.seq.specs.Seq.{Bool, true, cond, not, List, Option, none, some, ℕ, ◌+◌, ◌*◌, ◌/◌, eqb, length, get_or, or_zero}
+use Rattle.seq.specs.Seq.{Bool, true, cond, not, List, Option, none, some, ℕ, eqb, length, get_or, or_zero}
 use Rattle.seq.specs.Tests.{clash}
 use Rattle.seq.specs.Least.{some_has, some_witness}
 use Rattle.seq.specs.Table.{table_at, table-ext}

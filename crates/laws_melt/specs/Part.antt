@@ -1,10 +1,10 @@
 -- A part of a plane graph: some of its edges, and some of its vertices, with all ends of those edges, under other numbers (`Part`). It is a plane graph (`part-plane`), no two of
 -- its edges share a stretch where no two of the whole do (`part-clear`), and it covers a map where it has each piece that lies along an edge of the map on which the labels jump (`part-covers`).
 -- Ask 12 leans on it. Assumes nothing.
-use Rattle.std.specs.Prelude.{◌≡◌, refl, ◌<◌, ◌<ℤ◌}
+use Rattle.std.specs.Prelude.{◌≡◌, refl, ◌<◌, ◌<ℤ◌, ◌+◌, ◌*◌, ◌/◌, ◌%◌}
 use Rattle.std.proofs.Common.{sym, ◌∙◌, ap, subst, subst₂, arith, eqb-true}
 use Rattle.std.proofs.lemmas.Bool.{eqb-false}
-use Rattle.seq.specs.Seq.{Bool, true, false, cond, not, ℕ, ◌+◌, ◌*◌, ◌/◌, ◌%◌, length, pos}
+use Rattle.seq.specs.Seq.{Bool, true, false, cond, not, ℕ, length, pos}
 use Rattle.paper.specs.Plane.{Pt, Vec, Seg, opposite, cross, rises, before, same, lower, upper, the_left_by}
 use Rattle.paper.specs.Graph.{Graph, edge_count, the_half_count, point, edge, even, twin, origin, start, low, high, goes_up, upward, heading}
 use Rattle.paper.specs.Map.{Map}

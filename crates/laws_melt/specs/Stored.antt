@@ -1,9 +1,9 @@
 -- Ask 12 in the rows of the melted tables: the labels stored for the face of a kept half-edge are those that the half-edge had in the overlay (`stored-pair`); counts (`melted-counts`: no more vertices and
 -- edges than the overlay has); vertices and edges stand in 01's order (`melted-vertices`, `melted-pieces`). Assumes nothing.
-use Rattle.std.specs.Prelude.{◌≡◌, ◌<◌, ◌≤◌}
+use Rattle.std.specs.Prelude.{◌≡◌, ◌<◌, ◌≤◌, ◌*◌, ◌/◌, ◌&&◌}
 use Rattle.std.proofs.Math.Path.{refl}
 use Rattle.std.proofs.Common.{sym, ◌∙◌, ap, ⊎_elim, arith, lt-ltb, eq-eqb, ltb-true, eqb-true}
-use Rattle.seq.specs.Seq.{Bool, true, List, none, ℕ, ◌*◌, ◌/◌, ◌&&◌, ltb, eqb, length, get_or, count}
+use Rattle.seq.specs.Seq.{Bool, true, List, none, ℕ, ltb, eqb, length, get_or, count}
 use Rattle.seq.specs.Tests.{or_l, or_r, or_cases, and_both, and_parts}
 use Rattle.seq.specs.Table.{table_at, table_is, length-table}
 use Rattle.seq.specs.Count.{count-le, count_below, count_before}

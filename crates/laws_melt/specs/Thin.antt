@@ -1,9 +1,9 @@
 -- The melted graph is a part of the overlay's graph (`melted-part`): its edges are the kept ones, in their order, its vertices the ends of those; and what that says of pieces, sources and numbers.
 -- Of any list of maps that keep the rules. Assumes nothing.
-use Rattle.std.specs.Prelude.{◌≡◌, ◌<◌}
+use Rattle.std.specs.Prelude.{◌≡◌, ◌<◌, ◌||◌}
 use Rattle.std.proofs.Common.{sym, ◌∙◌, ap, subst, arith, eq-eqb}
 use Rattle.std.proofs.lemmas.List.{length-map}
-use Rattle.seq.specs.Seq.{Bool, true, List, map, ℕ, ◌||◌, eqb, length, get_or, count, select}
+use Rattle.seq.specs.Seq.{Bool, true, List, map, ℕ, eqb, length, get_or, count, select}
 use Rattle.seq.specs.Tests.{or_l, or_r}
 use Rattle.seq.specs.Count.{count_below}
 use Rattle.seq.specs.Select.{length-select, select_at, select-nth}

@@ -1,9 +1,9 @@
 -- Demand 3 over any graph in which maps are drawn (`Drawn`), in tables that hold its rows: each half-edge lies in exactly one closed walk, stepping back undoes stepping forward, half-edges of one walk and of one
 -- face have the same labels, and they are what is stored for the face (`rows_agree`). So of the melted tables (`melted-agree`). Assumes nothing.
-use Rattle.std.specs.Prelude.{◌≡◌, refl, ◌<◌}
+use Rattle.std.specs.Prelude.{◌≡◌, refl, ◌<◌, ◌*◌}
 use Rattle.std.proofs.Common.{sym, ◌∙◌, ap, subst, arith}
 use Rattle.std.proofs.lemmas.List.{length-replicate}
-use Rattle.seq.specs.Seq.{List, ℕ, ◌*◌, length, get_or, replicate, table, walk}
+use Rattle.seq.specs.Seq.{List, ℕ, length, get_or, replicate, table, walk}
 use Rattle.seq.specs.Terms.{Among, iter, step, turns}
 use Rattle.seq.specs.Table.{length-table, table-ext, table_of}
 use Rattle.paper.specs.Graph.{Graph, the_half_count, followers, follower}

@@ -2,9 +2,9 @@
 -- done, `Melted` (`melted-passes`). "Refusals: the overlay's, 11 included, which is judged on the overlay before melting" (02, Ask 12): it is refused exactly where the overlay is, with the same refusal, and done exactly
 -- where the overlay is (`melted-refused`, `refused-melted`, `melted-done`, `done-melted`), for there is room for the melted tables wherever there is for the overlay's. No second outcome keeps the promise
 -- (`melted-once`). Assumes nothing.
-use Rattle.std.specs.Prelude.{◌≡◌, ◌<◌}
+use Rattle.std.specs.Prelude.{◌≡◌, ◌<◌, ◌++◌}
 use Rattle.std.proofs.Common.{sym, ◌∙◌, ap, subst}
-use Rattle.seq.specs.Seq.{List, [], ◌++◌, Option, none, some, ℕ, length, get_or}
+use Rattle.seq.specs.Seq.{List, [], Option, none, some, ℕ, length, get_or}
 use Rattle.seq.specs.Unique.{determined}
 use Rattle.paper.specs.Refusal.{Refusal, done, refused, first_of, answer, unless_refused}
 use Rattle.paper.specs.Map.{Map, fault}

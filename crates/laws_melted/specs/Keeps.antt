@@ -2,10 +2,10 @@
 -- both done. Each kept half-edge keeps its pair, no edge is left with the same pair on both sides, and none else is missing (`melted-keeps`, said in Kept); no more vertices, edges and faces than the overlay's
 -- (`melted-fewer`). Numbered afresh by 01's rules: vertices and edges (`melted-numbered`, said in Order), followers and faces as Defined of laws_promise says them of
 -- the overlay's tables (`melted-half-rows`, `melted-face-rows`, `melted-labelled`). Assumes nothing.
-use Rattle.std.specs.Prelude.{◌≡◌, ◌<◌}
+use Rattle.std.specs.Prelude.{◌≡◌, ◌<◌, ◌*◌}
 use Rattle.std.proofs.Common.{sym, ap, subst, arith}
 use Rattle.std.proofs.lemmas.List.{length-map}
-use Rattle.seq.specs.Seq.{List, ℕ, ◌*◌, length, get_or}
+use Rattle.seq.specs.Seq.{List, ℕ, length, get_or}
 use Rattle.paper.specs.Refusal.{done}
 use Rattle.paper.specs.Map.{Map}
 use Rattle.paper.specs.Pieces.{vertices_of, edges_of, edge_of}

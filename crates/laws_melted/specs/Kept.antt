@@ -1,9 +1,9 @@
 -- Ask 12 in the lent tables, beside those of the overlay of the same files: what stands in the melted tables, and that nothing is missing (`Kept`). A half-edge is told by its place: where it starts, where it ends, its
 -- sources (`SamePlace`). An edge of the overlay stays exactly if the labels stored for its two faces differ (`OneSide`). From the rows of both tables; from the two promises: Keeps. Assumes nothing.
-use Rattle.std.specs.Prelude.{◌≡◌, ◌<◌, ◌≤◌}
+use Rattle.std.specs.Prelude.{◌≡◌, ◌<◌, ◌≤◌, ◌+◌, ◌*◌, ◌/◌}
 use Rattle.std.proofs.Common.{sym, ◌∙◌, ap, subst, arith, eqb-true}
 use Rattle.std.proofs.Math.Decide.{dec_lt}
-use Rattle.seq.specs.Seq.{Bool, true, false, not, cond, List, ℕ, ◌+◌, ◌*◌, ◌/◌, eqb, length, get_or, table}
+use Rattle.seq.specs.Seq.{Bool, true, false, not, cond, List, ℕ, eqb, length, get_or, table}
 use Rattle.seq.specs.Tests.{not-false, was-true}
 use Rattle.seq.specs.Least.{no_some_is}
 use Rattle.seq.specs.Count.{count_before}

@@ -3,11 +3,11 @@
 -- the face of the melted tables that it lies in (`melted-cell-stored`), for a list `melted-cells-stored`; it lies in a face (`melted-lies_somewhere`) and in no second (`melted-lies-once`). In some of the maps:
 -- `melted_first_stored`; in the first two of three, the pair (`melted-pair-stored`), and the counts by pair that come out (`melted-times-stored`). And it is what the overlay's tables store for it
 -- (`melted_as_overlay`). Assumes nothing.
-use Rattle.std.specs.Prelude.{◌≡◌, refl, ◌<◌}
+use Rattle.std.specs.Prelude.{◌≡◌, refl, ◌<◌, ◌∷◌, ◌++◌, ◌*◌}
 use Rattle.std.proofs.Common.{sym, ◌∙◌, ap, subst, inl, arith, length-append}
 use Rattle.std.specs.Int.Signed.{≤ℤ_refl}
 use Rattle.std.proofs.Math.ListN.{get_or-append}
-use Rattle.seq.specs.Seq.{List, [], ◌∷◌, ◌++◌, Option, none, some, ℕ, ◌*◌, length, get_or, pos, replicate, table, or_zero}
+use Rattle.seq.specs.Seq.{List, [], Option, none, some, ℕ, length, get_or, pos, replicate, table, or_zero}
 use Rattle.seq.specs.Table.{table_at, table-ext}
 use Rattle.paper.specs.Plane.{Vec, whole}
 use Rattle.paper.specs.Graph.{Graph, west}

@@ -3,10 +3,10 @@
 -- source more and each face one label more, 0, and nothing else changes; where it is refused all tables are zero (`melted_last`). So melting two maps is melting three with an empty third (`melted-third`). From the promise
 -- alone. Assumes nothing.
 use Rattle.std.proofs.lemmas.List.{map-append, get_or-replicate}
-use Rattle.std.specs.Prelude.{◌≡◌, refl, ◌<◌}
+use Rattle.std.specs.Prelude.{◌≡◌, refl, ◌<◌, ◌∷◌, ◌+◌, ◌/◌}
 use Rattle.std.proofs.Common.{sym, ◌∙◌, subst, le_refl, arith, length-append}
 use Rattle.std.proofs.Math.Path.{ap}
-use Rattle.seq.specs.Seq.{List, [], ◌∷◌, map, Option, none, some, ℕ, zero, suc, ◌+◌, ◌/◌, length, get_or, pos, padded}
+use Rattle.seq.specs.Seq.{List, [], map, Option, none, some, ℕ, zero, suc, length, get_or, pos, padded}
 use Rattle.seq.specs.Table.{table_at}
 use Rattle.seq.specs.Put.{put_before, put-default, put-end}
 use Rattle.paper.specs.Refusal.{Refusal, done, refused, answer, unless_refused}

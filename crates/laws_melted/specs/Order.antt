@@ -1,8 +1,8 @@
 -- The melted tables are "numbered afresh by 01's rules" (02, Ask 12): vertices in point order, each once, in lowest terms and within 01's bounds, each with its least outgoing half-edge, which it has (`melted-used`);
 -- edges by lower, then upper number (`Ordered`, `melted-ordered`). From the rows; from the promise: Keeps. Assumes nothing.
-use Rattle.std.specs.Prelude.{◌≡◌, ◌⊎◌, ◌<◌, ◌≤◌}
+use Rattle.std.specs.Prelude.{◌≡◌, ◌⊎◌, ◌<◌, ◌≤◌, ◌&&◌, ◌||◌, ◌+◌, ◌*◌}
 use Rattle.std.proofs.Common.{sym, ◌∙◌, ap, subst, inl, inr, ⊎_elim, arith, eq-eqb, eqb-true, ltb-true, lt-ltb}
-use Rattle.seq.specs.Seq.{Bool, true, cond, ◌&&◌, ◌||◌, List, ℕ, ◌+◌, ◌*◌, eqb, ltb, length, pos, count, least}
+use Rattle.seq.specs.Seq.{Bool, true, cond, List, ℕ, eqb, ltb, length, pos, count, least}
 use Rattle.seq.specs.Terms.{Every}
 use Rattle.seq.specs.Tests.{or_cases, and_parts}
 use Rattle.seq.specs.Least.{some_witness, least_below, least-holds, least_at_most}

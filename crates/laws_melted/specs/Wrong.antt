@@ -1,11 +1,11 @@
 -- Wrong meltings, each shut out by the promise: one that leaves the overlay as it is, one whose vertices keep their numbers, one that compares zones alone, one that drops vertices with two edges, one that judges
 -- room on what is left, one that refuses everything. An operation `f` that keeps the promise (`PromisedMelted`, the contract's) keeps it for all lent tables and files; each of these does not, at the sheet `merged`
 -- (crates/paper/specs/MeltSample.antt). Assumes nothing.
-use Rattle.std.specs.Prelude.{◌≡◌, refl, ◌<◌}
+use Rattle.std.specs.Prelude.{◌≡◌, refl, ◌<◌, ◌∷◌, ◌+◌, ◌*◌}
 use Rattle.std.proofs.Common.{sym, ◌∙◌, ap, subst, arith}
 use Rattle.exact.specs.Exact.{gcd_of}
 use Rattle.exact.specs.Order.{pos-once}
-use Rattle.seq.specs.Seq.{List, [], ◌∷◌, ℕ, ℤ, ◌+◌, ◌*◌, pos}
+use Rattle.seq.specs.Seq.{List, [], ℕ, ℤ, pos}
 use Rattle.seq.specs.Wiped.{length-padded}
 use Rattle.paper.specs.Limits.{maps}
 use Rattle.paper.specs.Refusal.{Refusal, Answer, done, refused}

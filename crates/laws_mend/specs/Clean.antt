@@ -1,8 +1,8 @@
 -- A file can be mended where it keeps rules 1 to 5 and its edges end at vertices (`Mendable`). A clean file keeps rules 1 to 7 and 9, and no two of its edges join the same two vertices: there is nothing to mend. A file that passes is clean (`passes-clean`), and a
 -- clean file is refused with 8 or 10 or not at all (`clean-fault`, `clean-refusal`). Assumes nothing.
-use Rattle.std.specs.Prelude.{◌≡◌, refl, ◌⊎◌, ◌≤◌, ◌<◌}
+use Rattle.std.specs.Prelude.{◌≡◌, refl, ◌⊎◌, ◌≤◌, ◌<◌, ◌∷◌, ◌+◌, ◌*◌, ◌/◌, ◌%◌, ◌++◌}
 use Rattle.std.proofs.Common.{sym, ◌∙◌, ap, subst, inl, inr, arith, eq-eqb}
-use Rattle.seq.specs.Seq.{Bool, true, false, cond, not, List, [], ◌∷◌, Option, none, some, ℕ, ◌+◌, ◌*◌, ◌/◌, ◌%◌, nat_abs, least, the_some_below, ◌++◌}
+use Rattle.seq.specs.Seq.{Bool, true, false, cond, not, List, [], Option, none, some, ℕ, nat_abs, least, the_some_below}
 use Rattle.seq.specs.Least.{no_some, some_has}
 use Rattle.paper.specs.Limits.{reach}
 use Rattle.paper.specs.Plane.{Pt, whole, before, same, between}

@@ -1,9 +1,9 @@
 -- Where `mend` is done: exactly where the file can be mended (`Mendable`) and there is room for the mended file and its list (`Room`): `fault_is`, `is_fault`. Assumes nothing.
-use Rattle.std.specs.Prelude.{◌≡◌, ◌≤◌, ◌<◌}
+use Rattle.std.specs.Prelude.{◌≡◌, ◌≤◌, ◌<◌, ◌||◌, ◌∷◌, ◌/◌}
 use Rattle.std.proofs.Common.{ltb-false, leb-false, le-ltb}
 use Rattle.std.proofs.lemmas.Bool.{lt-leb}
 use borrow.Author.Tests as Not
-use Rattle.seq.specs.Seq.{Bool, false, not, ◌||◌, List, [], ◌∷◌, Option, none, ℕ, ◌/◌, eqb, leb, ltb, length, nat_abs}
+use Rattle.seq.specs.Seq.{Bool, false, not, List, [], Option, none, ℕ, eqb, leb, ltb, length, nat_abs}
 use Rattle.seq.specs.Tests.{or_false}
 use Rattle.paper.specs.Limits.{map_vertices, map_edges, map_head, reach}
 use Rattle.paper.specs.Graph.{Graph, point, edge}

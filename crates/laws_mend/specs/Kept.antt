@@ -1,9 +1,9 @@
 -- What the mended file holds, of a file that can be mended: its counts, each kept vertex at its corner, each kept edge with its labels and between the same two points,
 -- and nothing else. Then that it is clean. Assumes nothing.
-use Rattle.std.specs.Prelude.{◌≡◌, refl, ◌⊎◌, ◌≤◌, ◌<◌}
+use Rattle.std.specs.Prelude.{◌≡◌, refl, ◌⊎◌, ◌≤◌, ◌<◌, ◌+◌, ◌*◌, ◌^◌}
 use Rattle.std.proofs.Common.{sym, ◌∙◌, ap, subst, inl, inr, ⊎_elim, arith, lt-ltb}
 use Rattle.std.proofs.Math.Decide.{dec_lt}
-use Rattle.seq.specs.Seq.{Bool, true, List, ℕ, ◌+◌, ◌*◌, ◌^◌, length, get_or, count, position, nat_abs, ℤ, pos, negsuc}
+use Rattle.seq.specs.Seq.{Bool, true, List, ℕ, length, get_or, count, position, nat_abs, ℤ, pos, negsuc}
 use Rattle.seq.specs.Terms.{Among}
 use Rattle.seq.specs.Tests.{clash, not-true}
 use Rattle.seq.specs.Count.{count-le, count-rises, count_below}

@@ -1,9 +1,9 @@
 -- The list of what was done: an entry is there exactly where its step was taken (`entry_is`, `is_entry`), entries stand by step, then number (`entries-rise`), and they account for
 -- every vertex and edge that is not kept (`vertex-balance`, `edge-balance`). An edge that is dropped in step 3 has an earlier one that is kept. Assumes nothing.
-use Rattle.std.specs.Prelude.{◌≡◌, refl, ◌⊎◌, ◌<◌}
+use Rattle.std.specs.Prelude.{◌≡◌, refl, ◌⊎◌, ◌<◌, ◌&&◌, ◌∷◌, ◌++◌, ◌+◌}
 use Rattle.std.proofs.Common.{sym, ◌∙◌, ap, subst, inl, inr, ⊎_elim, arith, length-append, eq-eqb, ne_eqb, lt-ltb, ltb-true}
 use Rattle.std.proofs.lemmas.Bool.{eqb-false}
-use Rattle.seq.specs.Seq.{true, false, not, ◌&&◌, List, [], ◌∷◌, ◌++◌, ℕ, ◌+◌, length, eqb, ltb, least, the_some_below, count, select}
+use Rattle.seq.specs.Seq.{true, false, not, List, [], ℕ, length, eqb, ltb, least, the_some_below, count, select}
 use Rattle.seq.specs.Terms.{Among, Asc, Rising}
 use Rattle.seq.specs.Tests.{clash, not-true, or_l, and_parts, was-false}
 use Rattle.seq.specs.Members.{among-++, ++-among, among-map, map-among, length-map}

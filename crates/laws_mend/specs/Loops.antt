@@ -1,9 +1,9 @@
 -- The definitions as simple loops compute them: rows appended where a test holds (`rows-select` of seq), new numbers by a running count, an earlier edge looked for among those that are kept, vertices marked by
 -- the edges that are kept. Assumes nothing.
-use Rattle.std.specs.Prelude.{◌≡◌, refl, ◌<◌}
+use Rattle.std.specs.Prelude.{◌≡◌, refl, ◌<◌, ◌&&◌, ◌∷◌, ◌++◌, ◌+◌, ◌*◌}
 use Rattle.std.proofs.Common.{sym, ◌∙◌, ap, inl, inr, append-nil, arith}
 use Rattle.std.proofs.lemmas.List.{map-append}
-use Rattle.seq.specs.Seq.{Bool, true, false, cond, not, ◌&&◌, List, [], ◌∷◌, ◌++◌, ℕ, zero, suc, ◌+◌, ◌*◌, length, the_some_below, count, select, rows, gather}
+use Rattle.seq.specs.Seq.{Bool, true, false, cond, not, List, [], ℕ, zero, suc, length, the_some_below, count, select, rows, gather}
 use Rattle.seq.specs.Tests.{never, and_both, and_parts, bool-ext}
 use Rattle.seq.specs.Least.{some_has, some_witness}
 use Rattle.seq.specs.Rows.{rows_ext}

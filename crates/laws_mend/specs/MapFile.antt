@@ -1,10 +1,10 @@
 -- Where each number of a map file stands: the file stands at the start of a list of bytes exactly where its mark, its counts and the fields of every vertex and edge
 -- stand at their places (`map-placed`, `placed-map`). How long it is, and that its cells are bytes. Assumes nothing.
-use Rattle.std.specs.Prelude.{◌≡◌, ◌<◌}
+use Rattle.std.specs.Prelude.{◌≡◌, ◌<◌, ◌∷◌, ◌++◌, ◌+◌, ◌*◌, ◌/◌}
 use Rattle.std.proofs.Common.{◌∙◌, inl, inr, ⊎_elim, arith}
 use Rattle.std.proofs.Math.Decide.{dec_lt}
 use Rattle.std.proofs.Math.ListN.{length-append, get_or-eq_default}
-use Rattle.seq.specs.Seq.{List, [], ◌∷◌, ◌++◌, ℕ, zero, suc, ◌+◌, ◌*◌, ◌/◌, length, get_or, rows, gather, ℤ}
+use Rattle.seq.specs.Seq.{List, [], ℕ, zero, suc, length, get_or, rows, gather, ℤ}
 use Rattle.seq.specs.Terms.{Among}
 use Rattle.seq.specs.Members.{among-++, at_among, gather-among}
 use Rattle.seq.specs.Rows.{length-rows, rows-among}

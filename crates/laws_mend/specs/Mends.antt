@@ -1,9 +1,9 @@
 -- What is kept and what is listed, as 02 says (`Mends`): of a file that can be mended, the mended file and its list are such (`mends`). Assumes nothing.
-use Rattle.std.specs.Prelude.{◌≡◌, refl, ◌⊎◌, ◌<◌}
+use Rattle.std.specs.Prelude.{◌≡◌, refl, ◌⊎◌, ◌<◌, ◌+◌, ◌*◌}
 use Rattle.std.proofs.Common.{inl, inr, ⊎_elim, arith}
 use Rattle.std.proofs.Math.Decide.{dec_lt}
 use borrow.Author.Tests as Not
-use Rattle.seq.specs.Seq.{Bool, true, false, List, ℕ, ◌+◌, ◌*◌, length, get_or, count}
+use Rattle.seq.specs.Seq.{Bool, true, false, List, ℕ, length, get_or, count}
 use Rattle.seq.specs.Terms.{Among, Rising}
 use Rattle.seq.specs.Tests.{never}
 use Rattle.seq.specs.Count.{count-rises, one_of}

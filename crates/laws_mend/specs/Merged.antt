@@ -1,10 +1,10 @@
 -- The four steps over a graph whose points are equal where they are the same: `into` finds one vertex for each point, each edge is shrunk, repeated or kept, and each vertex
 -- merged, bare or kept, one of the three. Assumes nothing.
-use Rattle.std.specs.Prelude.{◌≡◌, refl, ◌⊎◌, ◌≤◌, ◌<◌}
+use Rattle.std.specs.Prelude.{◌≡◌, refl, ◌⊎◌, ◌≤◌, ◌<◌, ◌&&◌, ◌||◌}
 use Rattle.std.proofs.Common.{sym, ◌∙◌, ap, inl, inr, ⊎_elim, arith, ltb-false, le-ltb, eqb-true, eq-eqb}
 use Rattle.std.proofs.Math.Decide.{dec_lt}
 use Rattle.std.proofs.lemmas.Bool.{eqb-false}
-use Rattle.seq.specs.Seq.{Bool, true, false, not, ◌&&◌, ◌||◌, ℕ, eqb, the_some_below}
+use Rattle.seq.specs.Seq.{Bool, true, false, not, ℕ, eqb, the_some_below}
 use Rattle.seq.specs.Tests.{never, or_l, or_r, or_cases, and_both, and_parts}
 use Rattle.seq.specs.Least.{least-le, least-holds, least_min, least_by, no_some, no_some_is}
 use Rattle.seq.specs.Count.{one_of}

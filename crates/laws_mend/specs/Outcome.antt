@@ -2,9 +2,9 @@
 -- at all, and mending it again changes nothing (`done-clean`, `done-refusal`, `mend-again`); what is kept and what is listed is as 02 says (`done-mends`); what is refused is all zero; and how much
 -- room is always enough. Assumes nothing.
 use Rattle.std.proofs.Math.Seq.{take-append_seam}
-use Rattle.std.specs.Prelude.{◌≡◌, refl, ◌⊎◌, ◌≤◌}
+use Rattle.std.specs.Prelude.{◌≡◌, refl, ◌⊎◌, ◌≤◌, ◌∷◌, ◌+◌, ◌-◌, ◌++◌}
 use Rattle.std.proofs.Common.{sym, ◌∙◌, ap, arith}
-use Rattle.seq.specs.Seq.{List, [], ◌∷◌, Option, none, some, ℕ, ◌+◌, ◌-◌, length, get_or, take, replicate, gather, padded, ◌++◌}
+use Rattle.seq.specs.Seq.{List, [], Option, none, some, ℕ, length, get_or, take, replicate, gather, padded}
 use Rattle.paper.specs.Limits.{map_vertices, map_edges}
 use Rattle.paper.specs.Graph.{Graph}
 use Rattle.paper.specs.Refusal.{Refusal, done, refused, answer}

@@ -1,7 +1,7 @@
 -- A clean file comes out of mending byte for byte the same (`clean_same`), with an empty list (`clean-entries`). Assumes nothing.
-use Rattle.std.specs.Prelude.{◌≡◌, refl, ◌⊎◌, ◌<◌}
+use Rattle.std.specs.Prelude.{◌≡◌, refl, ◌⊎◌, ◌<◌, ◌||◌, ◌&&◌, ◌+◌, ◌*◌}
 use Rattle.std.proofs.Common.{sym, ◌∙◌, ap, subst, inl, inr, ⊎_elim, arith, ne_eqb}
-use Rattle.seq.specs.Seq.{Bool, true, false, not, ◌||◌, ◌&&◌, List, [], ℕ, zero, suc, ◌+◌, ◌*◌, length, get_or, position, the_some_below}
+use Rattle.seq.specs.Seq.{Bool, true, false, not, List, [], ℕ, zero, suc, length, get_or, position, the_some_below}
 use Rattle.seq.specs.Tests.{not-true}
 use Rattle.seq.specs.Least.{no_some}
 use Rattle.seq.specs.Count.{count_all}

@@ -1,8 +1,8 @@
 -- "Laying the empty map over a map must give each half-edge that map's label and 0": each half-edge lies along an edge of the map, and has that edge's label on that side, and 0 (`empty-gives`). Assumes nothing.
-use Rattle.std.specs.Prelude.{◌≡◌, ◌<◌}
+use Rattle.std.specs.Prelude.{◌≡◌, ◌<◌, ◌∷◌, ◌/◌}
 use Rattle.std.proofs.Common.{sym, ◌∙◌, arith}
 use Rattle.std.proofs.Math.Path.{ap}
-use Rattle.seq.specs.Seq.{cond, ◌∷◌, Option, some, ℕ, zero, suc, ◌/◌, []}
+use Rattle.seq.specs.Seq.{cond, Option, some, ℕ, zero, suc, []}
 use Rattle.seq.specs.Put.{put}
 use Rattle.paper.specs.Graph.{edge_count, the_half_count, even, twin, east_side}
 use Rattle.paper.specs.Map.{Map, label, empty}

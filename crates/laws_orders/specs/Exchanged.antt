@@ -1,9 +1,9 @@
 -- Ask 11 in the lent tables: map files in another order, all of which pass, with the same room. Whenever the overlay is done, so is that of the other order, with the same counts; vertices and half-edges are the same,
 -- cell by cell; a face has the same least half-edge and hole count; and the sources of an edge and the labels of a face go with the maps (`exchanged-tables`). For two files: `exchanged` of Orders. Assumes nothing.
-use Rattle.std.specs.Prelude.{◌≡◌, ◌<◌}
+use Rattle.std.specs.Prelude.{◌≡◌, ◌<◌, ◌+◌}
 use Rattle.std.proofs.Common.{sym, ◌∙◌, ap, subst, arith}
 use Rattle.std.proofs.lemmas.List.{length-map}
-use Rattle.seq.specs.Seq.{List, ℕ, ◌+◌, length}
+use Rattle.seq.specs.Seq.{List, ℕ, length}
 use Rattle.paper.specs.Refusal.{done}
 use Rattle.paper.specs.Map.{Map, map_of}
 use Rattle.paper.specs.Faces.{overlay_of}

@@ -1,10 +1,10 @@
 -- The rows of the defined tables with an empty map after the others, of maps that keep the rules: the sources of an edge are those that it had, and 0 (`source_before`, `source_last`); the labels of a face are
 -- those that it had, and 0, and then its least half-edge and holes (`face_before`, `face_last`, `face_past`). Assumes nothing.
-use Rattle.std.specs.Prelude.{◌≡◌, ◌<◌, ◌≤◌}
+use Rattle.std.specs.Prelude.{◌≡◌, ◌<◌, ◌≤◌, ◌∷◌, ◌+◌}
 use Rattle.std.proofs.Math.Path.{sym}
 use Rattle.std.proofs.Common.{◌∙◌, ap, le_refl, arith, length-append}
 use Rattle.std.proofs.lemmas.List.{length-map, length-replicate}
-use Rattle.seq.specs.Seq.{List, [], ◌∷◌, ℕ, zero, suc, ◌+◌, length, get_or, replicate}
+use Rattle.seq.specs.Seq.{List, [], ℕ, zero, suc, length, get_or, replicate}
 use Rattle.seq.specs.Rows.{cell-rows}
 use Rattle.seq.specs.Table.{length-table}
 use Rattle.seq.specs.Put.{put, length-put, put_before, put-own, put_past}

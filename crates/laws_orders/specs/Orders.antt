@@ -2,9 +2,9 @@
 -- are the lent vertices and half-edges, whole (`orders-done`); sources and labels go with the maps (`orders-source`, and laws_overlay' `renumber_face`). Where one file alone is bad both
 -- refuse for it, each under its own map number, and all tables are zero (`orders-bad`). Where several are bad the first handed in is named (`first_named`). Two files exchanged are `exchanged`.
 -- Assumes nothing.
-use Rattle.std.specs.Prelude.{◌≡◌, refl, ◌<◌}
+use Rattle.std.specs.Prelude.{◌≡◌, refl, ◌<◌, ◌∷◌, ◌++◌, ◌-◌}
 use Rattle.std.proofs.Common.{sym, ◌∙◌, ap, subst, arith}
-use Rattle.seq.specs.Seq.{List, ◌∷◌, ◌++◌, map, Option, none, some, ℕ, zero, suc, ◌-◌, length, get_or, pos, padded, []}
+use Rattle.seq.specs.Seq.{List, map, Option, none, some, ℕ, zero, suc, length, get_or, pos, padded, []}
 use Rattle.paper.specs.Refusal.{Refusal, refused, the_of_map, first_of, answer, unless_refused}
 use Rattle.paper.specs.Map.{Map, map_of, fault}
 use Rattle.paper.specs.Faces.{overlay_of}

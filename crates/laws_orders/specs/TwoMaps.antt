@@ -2,12 +2,12 @@
 -- the same, every refusal too, and so are the lent vertices and half-edges, whole (`last_empty`); each half-edge has one label more, 0 (`last_labels`); where it is done each edge has one source more and each
 -- face one label more, 0, and nothing else changes (`last_cells`); where it is refused all tables are zero. For every lengths there are such with the same room (`narrower`, `narrower_room`). Of two files, with
 -- the empty map third: `two_maps`. Assumes nothing.
-use Rattle.std.specs.Prelude.{◌≡◌, refl, ◌<◌}
+use Rattle.std.specs.Prelude.{◌≡◌, refl, ◌<◌, ◌∷◌, ◌++◌, ◌+◌, ◌*◌, ◌/◌}
 use Rattle.std.proofs.Common.{sym, ◌∙◌, ap, subst, le_refl, add-zero, mul-div_cancel, arith, length-append, get_or-append-add}
 use Rattle.std.proofs.lemmas.List.{map-append}
 use Rattle.std.proofs.Math.Decide.{dec_lt}
 use Rattle.std.proofs.Math.ListN.{get_or-append}
-use Rattle.seq.specs.Seq.{List, [], ◌∷◌, ◌++◌, Option, none, some, ℕ, suc, ◌+◌, ◌*◌, ◌/◌, min, length, get_or, table, pos, padded}
+use Rattle.seq.specs.Seq.{List, [], Option, none, some, ℕ, suc, min, length, get_or, table, pos, padded}
 use Rattle.seq.specs.Table.{length-table, table-ext}
 use Rattle.seq.specs.Put.{put, put-end}
 use Rattle.paper.specs.Limits.{overlay_edges, overlay_faces}

@@ -1,9 +1,9 @@
 -- Two graphs that differ only in their carriers, which lie on one line for each edge (`Alike`): followers, walks, what a look sees, hole walks and faces are the same, as the
 -- definitions ask only for signs. So it does not matter which of several input edges carries a piece. Assumes nothing.
-use Rattle.std.specs.Prelude.{◌≡◌, refl, ◌<◌, neg_ℤ}
+use Rattle.std.specs.Prelude.{◌≡◌, refl, ◌<◌, neg_ℤ, ◌&&◌, ◌+◌, ◌*◌, ◌/◌}
 use Rattle.std.proofs.Common.{sym, ◌∙◌, ap, arith}
 use Rattle.exact.specs.Sign.{sgn, is_plus, pick, neg_s, sgn-negℤ}
-use Rattle.seq.specs.Seq.{Bool, true, false, cond, not, ◌&&◌, List, Option, Option·getD, Option·map, ℕ, zero, suc, ◌+◌, ◌*◌, ◌/◌, eqb, get_or, count, table, best, best_of, among, leader, or_zero}
+use Rattle.seq.specs.Seq.{Bool, true, false, cond, not, List, Option, Option·getD, Option·map, ℕ, zero, suc, eqb, get_or, count, table, best, best_of, among, leader, or_zero}
 use Rattle.seq.specs.Table.{table-ext}
 use Rattle.seq.specs.BestLoop.{best-ext}
 use Rattle.paper.specs.Plane.{Pt, Vec, nowhere, opposite, cross, before, below, lower, upper, less_angle, the_left_by}

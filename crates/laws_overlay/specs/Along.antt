@@ -1,9 +1,9 @@
 -- What a piece's sources say of the piece. Where it has a source in a map: it lies on the line of that edge, from its lower end to its upper (`source-line`, `source-span`), and
 -- every point of that edge is on such a piece (`piece-through`). Where it has none: no edge of that map leaves its lower end the way that it goes (`source_none`). Assumes
 -- nothing.
-use Rattle.std.specs.Prelude.{◌≡◌, ◌<◌}
+use Rattle.std.specs.Prelude.{◌≡◌, ◌<◌, ◌*◌, ◌/◌}
 use Rattle.std.proofs.Common.{sym, ◌∙◌, ap, subst, arith}
-use Rattle.seq.specs.Seq.{Bool, true, false, cond, List, Option, none, some, ℕ, ◌*◌, ◌/◌, length, pos}
+use Rattle.seq.specs.Seq.{Bool, true, false, cond, List, Option, none, some, ℕ, length, pos}
 use Rattle.seq.specs.Options.{none_some}
 use Rattle.paper.specs.Plane.{Pt, Seg, Vec, whole, head, opposite, cross, before, the_left_by}
 use Rattle.paper.specs.Graph.{Graph, edge_count, point_in, edge, goes_up, upward, heading}

@@ -1,10 +1,10 @@
 -- The cells of the overlay's tables, by name: what stands in the row of a vertex, a half-edge, an edge's sources and a face, and how many cells there are. Assumes nothing.
-use Rattle.std.specs.Prelude.{◌≡◌, refl, ◌<◌}
+use Rattle.std.specs.Prelude.{◌≡◌, refl, ◌<◌, ◌∷◌, ◌++◌, ◌+◌, ◌*◌, ◌/◌}
 use Rattle.std.proofs.Common.{sym, ◌∙◌, add-zero, arith, length-append, get_or-append-add}
 use Rattle.std.proofs.Math.Path.{ap}
 use Rattle.std.proofs.lemmas.List.{length-replicate, length-map}
 use Rattle.std.proofs.Math.ListN.{get_or-append, get_or-map}
-use Rattle.seq.specs.Seq.{List, [], ◌∷◌, ◌++◌, ℕ, zero, suc, ◌+◌, ◌*◌, ◌/◌, length, get_or, replicate, pos, none}
+use Rattle.seq.specs.Seq.{List, [], ℕ, zero, suc, length, get_or, replicate, pos, none}
 use Rattle.seq.specs.Rows.{length-rows, cell-rows}
 use Rattle.seq.specs.Table.{length-table}
 use Rattle.paper.specs.Limits.{absent}

@@ -1,9 +1,9 @@
 -- Points collected in any order and in any way are the overlay's vertices if they are the corners and the crossings (`Vertex`): in strict order they are the vertices; in no
 -- order, the vertices are what sorting them gives (`vertices-ordered`, `vertices-sorted`); and if each stands once, and all are vertices, the overlay has as many or more. The corners may be
 -- taken as they come, and only the crossings collected in another way (`with_corners`). Assumes nothing.
-use Rattle.std.specs.Prelude.{◌≡◌, refl, ◌≤◌, ◌<◌}
+use Rattle.std.specs.Prelude.{◌≡◌, refl, ◌≤◌, ◌<◌, ◌++◌}
 use Rattle.std.proofs.Common.{sym, inl, inr, ⊎_elim, arith}
-use Rattle.seq.specs.Seq.{List, ◌++◌, ℕ, length, rows}
+use Rattle.seq.specs.Seq.{List, ℕ, length, rows}
 use Rattle.seq.specs.Terms.{Among, Rising}
 use Rattle.seq.specs.Members.{among-++, ++-among, every_in, in_every}
 use Rattle.seq.specs.Sorted.{rising-unique}

@@ -1,8 +1,8 @@
 -- An empty map put anywhere into the list of maps changes no vertex (`empty-vertices`) and no edge of the overlay's graph (`empty-graph`), and so no follower, walk or face; each
 -- piece has one source more, none, at its place (`empty-pieces`). Of any list of maps, whether they keep the rules or not. Assumes nothing.
-use Rattle.std.specs.Prelude.{◌≡◌, refl, ◌<◌, ◌≤◌}
+use Rattle.std.specs.Prelude.{◌≡◌, refl, ◌<◌, ◌≤◌, ◌∷◌, ◌++◌}
 use Rattle.std.proofs.Common.{sym, ◌∙◌, ap, arith, ne_eqb}
-use Rattle.seq.specs.Seq.{Bool, true, false, cond, List, [], ◌∷◌, ◌++◌, map, Option, none, some, ℕ, zero, suc, eqb, length, rows, insert_by}
+use Rattle.seq.specs.Seq.{Bool, true, false, cond, List, [], map, Option, none, some, ℕ, zero, suc, eqb, length, rows, insert_by}
 use Rattle.seq.specs.Tests.{eqb_iff}
 use Rattle.seq.specs.Rows.{rows_ext, rows_none, map_rows}
 use Rattle.seq.specs.Put.{put, length-put, put_before, put-own, put_past, table-put, rows-put}

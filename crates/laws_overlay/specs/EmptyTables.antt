@@ -1,11 +1,11 @@
 -- An empty map put anywhere into the list of maps: the overlay has the same walks, faces and outer walks (`empty-overlay`); each half-edge has one label more, 0, at its place
 -- (`empty-labels`); and the tables have the same counts, vertices and half-edges, with one source more, 0, in each edge's row and one label more, 0, in each face's
 -- (`empty-tables`). Asks 11 and 13 lean on it. Assumes nothing.
-use Rattle.std.specs.Prelude.{◌≡◌, refl, ◌<◌, ◌≤◌}
+use Rattle.std.specs.Prelude.{◌≡◌, refl, ◌<◌, ◌≤◌, ◌∷◌, ◌++◌, ◌*◌, ◌/◌}
 use Rattle.std.proofs.Common.{sym, ◌∙◌, ap, not-suc-le-zero, le_of_suc-le-suc, arith}
 use Rattle.std.proofs.Math.ListN.{length-map}
 use Rattle.std.proofs.lemmas.List.{length-replicate}
-use Rattle.seq.specs.Seq.{List, [], ◌∷◌, ◌++◌, map, none, ℕ, zero, suc, ◌*◌, ◌/◌, length, get_or, replicate, rows, table}
+use Rattle.seq.specs.Seq.{List, [], map, none, ℕ, zero, suc, length, get_or, replicate, rows, table}
 use Rattle.seq.specs.Rows.{rows_ext}
 use Rattle.seq.specs.Table.{length-table}
 use Rattle.seq.specs.Put.{put, put_before, put-default, put_past, put_map, put-++, put-replicate, table-put}

@@ -1,11 +1,11 @@
 -- The maps of a list in another order give the same overlay, up to the order of sources and labels: the same counts, vertices and half-edges, cell by cell (`renumber_tables`), the same
 -- least half-edge and hole count of each face, and labels and sources that go with the maps (`renumber_label`, `renumber_sources`, `renumber_face`). For two maps exchanged: `exchange`. Ask 11
 -- leans on it. Assumes nothing.
-use Rattle.std.specs.Prelude.{◌≡◌, refl, ◌<◌, ◌-◌, pos, neg_ℤ}
+use Rattle.std.specs.Prelude.{◌≡◌, refl, ◌<◌, ◌-◌, pos, neg_ℤ, ◌&&◌, ◌∷◌, ◌+◌, ◌*◌, ◌/◌}
 use Rattle.std.proofs.Common.{sym, ◌∙◌, ap, subst, arith}
 use Rattle.std.proofs.lemmas.List.{get_or-replicate}
 use Rattle.exact.specs.Sign.{sgn, is_plus, pick}
-use Rattle.seq.specs.Seq.{◌&&◌, List, [], ◌∷◌, Option, none, some, Option·map, ℕ, zero, suc, ◌+◌, ◌*◌, ◌/◌, eqb, length, get_or, count, select, table, rows, best, or_zero, position}
+use Rattle.seq.specs.Seq.{List, [], Option, none, some, Option·map, ℕ, zero, suc, eqb, length, get_or, count, select, table, rows, best, or_zero, position}
 use Rattle.seq.specs.Table.{table_at}
 use Rattle.seq.specs.Select.{length-select, select-nth}
 use Rattle.paper.specs.Plane.{Pt, Vec}

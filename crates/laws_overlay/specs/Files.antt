@@ -1,11 +1,11 @@
 -- The maps in a list of files that each pass keep the rules (`files-keep`) and are within 01's reach (`files-reach`), so that all laws of this crate hold of their overlay, and its
 -- vertices are within 01's bounds (`files-bounded`). Labels in files of bytes fit 16 bits. Assumes nothing.
-use Rattle.std.specs.Prelude.{◌≡◌, ◌<◌}
+use Rattle.std.specs.Prelude.{◌≡◌, ◌<◌, ◌+◌, ◌*◌, ◌^◌}
 use Rattle.std.proofs.Common.{sym, subst, arith}
 use Rattle.std.proofs.Math.Decide.{dec_lt}
 use Rattle.std.proofs.lemmas.List.{length-map}
 use Rattle.std.proofs.Math.ListN.{get_or-map, get_or-eq_default}
-use Rattle.seq.specs.Seq.{List, [], map, none, ℕ, suc, ◌+◌, ◌*◌, ◌^◌, length, get_or, table}
+use Rattle.seq.specs.Seq.{List, [], map, none, ℕ, suc, length, get_or, table}
 use Rattle.seq.specs.Terms.{Every}
 use Rattle.seq.specs.Table.{length-table, table_at}
 use Rattle.paper.specs.Bytes.{byte_at}

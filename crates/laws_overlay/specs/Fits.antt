@@ -1,9 +1,9 @@
 -- The numbers in the overlay's tables fit 16 bits, given 01's limits on vertices and edges: origins, twins, followers, predecessors, faces, least half-edges and hole counts are
 -- below 65,535, which stands for none. A face's labels are labels of the maps, or 0, and fit where those do. Assumes nothing.
 use Rattle.std.proofs.Common.{sym, subst, arith}
-use Rattle.std.specs.Prelude.{◌<◌, ◌≤◌}
+use Rattle.std.specs.Prelude.{◌<◌, ◌≤◌, ◌&&◌, ◌+◌, ◌*◌, ◌/◌}
 use Rattle.std.proofs.lemmas.List.{get_or-replicate}
-use Rattle.seq.specs.Seq.{cond, ◌&&◌, List, Option, none, some, ℕ, zero, suc, ◌+◌, ◌*◌, ◌/◌, eqb, length, get_or, or_zero}
+use Rattle.seq.specs.Seq.{cond, List, Option, none, some, ℕ, zero, suc, eqb, length, get_or, or_zero}
 use Rattle.seq.specs.Count.{count-le}
 use Rattle.seq.specs.Select.{length-select}
 use Rattle.seq.specs.Table.{table_at}

@@ -1,8 +1,8 @@
 -- The pieces of one edge: they go between neighbours among the vertices on it, and every two neighbours have one. First the links between neighbours of a rising list of
 -- numbers; then of the list of vertices on an edge; then the pieces of all edges of all maps, before they are put in order. Assumes nothing.
-use Rattle.std.specs.Prelude.{◌≡◌, refl, ◌⊎◌, ◌<◌}
+use Rattle.std.specs.Prelude.{◌≡◌, refl, ◌⊎◌, ◌<◌, ◌∷◌}
 use Rattle.std.proofs.Common.{sym, subst, inl, inr, ⊎_elim, arith}
-use Rattle.seq.specs.Seq.{Bool, List, [], ◌∷◌, Option, ℕ, length, rows}
+use Rattle.seq.specs.Seq.{Bool, List, [], Option, ℕ, length, rows}
 use Rattle.seq.specs.Terms.{Among, Asc}
 use Rattle.seq.specs.Select.{select_from_lem, select_has, select_asc}
 use Rattle.seq.specs.Rows.{among-rows, rows-among}

@@ -1,9 +1,9 @@
 -- What the overlay uses of a map that keeps the rules: its edges go up; its vertices are corners, each the end of an edge, and an edge's ends are vertices; and two
 -- edges with two points in common are one (rule 8). The laws of the overlay are over a list of such maps (`AllKeep`). Assumes nothing.
-use Rattle.std.specs.Prelude.{◌≡◌, refl, ◌⊎◌, ◌<◌, ◌<ℤ◌}
+use Rattle.std.specs.Prelude.{◌≡◌, refl, ◌⊎◌, ◌<◌, ◌<ℤ◌, ◌+◌, ◌*◌, ◌/◌}
 use Rattle.std.proofs.Common.{sym, ◌∙◌, ap, subst, inl, inr, ⊎_elim}
 use Rattle.std.proofs.Math.Decide.{ℕ_discrete}
-use Rattle.seq.specs.Seq.{Bool, true, false, List, ℕ, ◌+◌, ◌*◌, ◌/◌, length, pos}
+use Rattle.seq.specs.Seq.{Bool, true, false, List, ℕ, length, pos}
 use Rattle.seq.specs.Terms.{Among, Every}
 use Rattle.seq.specs.Tests.{clash}
 use Rattle.seq.specs.Members.{at_among, among_at, in_every}

@@ -1,10 +1,10 @@
 -- The numbers in the overlay's tables name what is there, and the tables are sound as 01 says of an overlay file ("An edge record is sound if"): origins below the vertex
 -- count, twins, followers, predecessors and least half-edges below the half-edge count, faces below the face count; lower below upper, a source to each edge; a
 -- follower starts where its half-edge ends and follows no other; the predecessor is the inverse. Assumes nothing.
-use Rattle.std.specs.Prelude.{◌≡◌, refl, ◌<◌, ◌≤◌}
+use Rattle.std.specs.Prelude.{◌≡◌, refl, ◌<◌, ◌≤◌, ◌+◌, ◌*◌}
 use Rattle.std.proofs.Common.{sym, ◌∙◌, subst, subst₂, arith, eq-eqb, eqb-true, lt-ltb}
 use Rattle.std.proofs.Math.Path.{ap}
-use Rattle.seq.specs.Seq.{Bool, cond, List, Option, none, some, ℕ, suc, ◌+◌, ◌*◌, length, get_or, pos, least, select}
+use Rattle.seq.specs.Seq.{Bool, cond, List, Option, none, some, ℕ, suc, length, get_or, pos, least, select}
 use Rattle.seq.specs.Least.{least_below, least-holds}
 use Rattle.paper.specs.Limits.{absent}
 use Rattle.paper.specs.Graph.{Graph, edge_count, the_half_count, twin, origin, leaves, follower}

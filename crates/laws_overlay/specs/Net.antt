@@ -1,10 +1,10 @@
 -- The graph of the overlay, edge by edge: edge k joins the ends of piece k and lies along an edge of an input map, its carrier, on which they are neighbours (`Lies`). So
 -- half-edge 2k goes up, 2k + 1 goes down, and lower and upper end are the vertices of lesser and greater number. Assumes nothing.
-use Rattle.std.specs.Prelude.{◌≡◌, refl, ◌<◌}
+use Rattle.std.specs.Prelude.{◌≡◌, refl, ◌<◌, ◌∷◌, ◌+◌, ◌*◌, ◌/◌}
 use Rattle.std.proofs.Common.{sym, ◌∙◌, ap, subst, arith}
 use Rattle.std.proofs.lemmas.List.{length-map}
 use Rattle.std.proofs.Math.ListN.{get_or-map}
-use Rattle.seq.specs.Seq.{true, false, List, [], ◌∷◌, map, Option, none, some, ℕ, zero, suc, ◌+◌, ◌*◌, ◌/◌, length, get_or}
+use Rattle.seq.specs.Seq.{true, false, List, [], map, Option, none, some, ℕ, zero, suc, length, get_or}
 use Rattle.seq.specs.Options.{none_some}
 use Rattle.paper.specs.Plane.{Pt, Seg, before, lower, upper}
 use Rattle.paper.specs.Graph.{Graph, Edge, no_edge, edge_count, the_half_count, point_in, edge, even, twin, origin, start, low, high, goes_up, upward}

@@ -1,9 +1,9 @@
 -- The graph of the overlay is a plane graph (`net-plane`), in which no two edges share a stretch (`net-clear`): no two half-edges with one origin have the same angle, as two
 -- pieces on one line with one end in common have the other in common, and pieces with the same ends stand once. So all laws of `laws_graph` hold of the overlay:
 -- followers are a permutation, walks close, faces obey their recursion. Assumes nothing.
-use Rattle.std.specs.Prelude.{◌≡◌, ◌<◌}
+use Rattle.std.specs.Prelude.{◌≡◌, ◌<◌, ◌/◌}
 use Rattle.std.proofs.Common.{sym, ◌∙◌, ap, subst, arith}
-use Rattle.seq.specs.Seq.{Bool, true, false, cond, not, List, ℕ, ◌/◌, length, pos}
+use Rattle.seq.specs.Seq.{Bool, true, false, cond, not, List, ℕ, length, pos}
 use Rattle.seq.specs.Tests.{clash}
 use Rattle.paper.specs.Plane.{Pt, Vec, opposite, cross, rises, before, the_left_by}
 use Rattle.paper.specs.Graph.{Graph, edge_count, the_half_count, point_in, edge, twin, origin, start, low, high, goes_up, upward, heading, left_of}

@@ -1,8 +1,8 @@
 -- The lent tables hold the overlay's rows, with zeros past them: up to the counts each cell is that of the defined tables (`padded-vertex`, `padded-half`, `padded-source`, `padded-face`). The
 -- maps keep the rules, so that every row of sources is as wide as the maps are many. Assumes nothing.
-use Rattle.std.specs.Prelude.{◌≡◌, ◌<◌}
+use Rattle.std.specs.Prelude.{◌≡◌, ◌<◌, ◌+◌, ◌*◌}
 use Rattle.std.proofs.Common.{sym, subst, mul-suc, mul-le-mul_left, arith}
-use Rattle.seq.specs.Seq.{List, ℕ, ◌+◌, ◌*◌, length, pos}
+use Rattle.seq.specs.Seq.{List, ℕ, length, pos}
 use Rattle.seq.specs.Wiped.{padded_at}
 use Rattle.paper.specs.Map.{Map}
 use Rattle.paper.specs.Faces.{overlay_of}

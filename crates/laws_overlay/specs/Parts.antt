@@ -1,8 +1,8 @@
 -- The parts of the overlay of a list of maps, and the cells of its tables, by the overlay's graph: counts, pieces, followers, faces. Assumes nothing.
-use Rattle.std.specs.Prelude.{◌≡◌, ◌<◌}
+use Rattle.std.specs.Prelude.{◌≡◌, ◌<◌, ◌*◌}
 use Rattle.std.proofs.Math.Path.{refl}
 use Rattle.std.proofs.Common.{sym, ◌∙◌, ap, subst, arith}
-use Rattle.seq.specs.Seq.{List, ℕ, suc, ◌*◌, length, get_or, select, position}
+use Rattle.seq.specs.Seq.{List, ℕ, suc, length, get_or, select, position}
 use Rattle.seq.specs.Table.{table_at}
 use Rattle.paper.specs.Graph.{edge_count, the_half_count, twin, origin, follower, followers}
 use Rattle.paper.specs.Map.{Map}

@@ -1,10 +1,10 @@
 -- The maps of a list in another order (`Renumbers`): the overlay has the same vertices (`renumber_vertices`), pieces with the same ends in the same order, whose sources go with the
 -- maps (`renumber_source`), and a graph that differs only in which input edge carries a piece (`renumber_alike`). Assumes nothing.
-use Rattle.std.specs.Prelude.{◌≡◌, refl, ◌⊎◌, ◌<◌}
+use Rattle.std.specs.Prelude.{◌≡◌, refl, ◌⊎◌, ◌<◌, ◌∷◌}
 use Rattle.std.proofs.Common.{sym, ◌∙◌, ap, subst, subst₂, inl, inr}
 use Rattle.std.proofs.lemmas.List.{length-map}
 use Rattle.std.proofs.Math.ListN.{get_or-map}
-use Rattle.seq.specs.Seq.{true, List, [], ◌∷◌, map, none, some, ℕ, length, get_or}
+use Rattle.seq.specs.Seq.{true, List, [], map, none, some, ℕ, length, get_or}
 use Rattle.seq.specs.Terms.{Among, Rising, Asymmetric}
 use Rattle.seq.specs.Members.{at_among, among-map, map-among}
 use Rattle.seq.specs.Sorted.{rising-unique}

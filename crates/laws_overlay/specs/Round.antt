@@ -1,9 +1,9 @@
 -- Round a vertex of the overlay: an edge of a map that leaves it, up or down, goes the way of an overlay half-edge that leaves it (`out`), whose piece comes from that edge.
 -- So no edge of a map leaves it strictly between a half-edge and the next one clockwise (`sector`); and every vertex is left by one (`vertex_left`). Assumes nothing.
-use Rattle.std.specs.Prelude.{◌≡◌, refl, ◌<◌, ◌-◌}
+use Rattle.std.specs.Prelude.{◌≡◌, refl, ◌<◌, ◌-◌, ◌+◌, ◌*◌, ◌/◌}
 use Rattle.std.proofs.Common.{sym, ◌∙◌, ap, subst, inl, inr, ⊎_elim, arith}
 use Rattle.std.proofs.Math.Decide.{ℕ_discrete}
-use Rattle.seq.specs.Seq.{Bool, true, false, cond, List, some, ℕ, zero, suc, ◌+◌, ◌*◌, ◌/◌, length, get_or, pos}
+use Rattle.seq.specs.Seq.{Bool, true, false, cond, List, some, ℕ, zero, suc, length, get_or, pos}
 use Rattle.seq.specs.Tests.{clash}
 use Rattle.seq.specs.Members.{at_among, among_at}
 use Rattle.seq.specs.Downward.{inner as inside, wrap as round}

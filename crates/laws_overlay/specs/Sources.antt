@@ -1,9 +1,9 @@
 -- Sources of pieces as lists, one place for each map: of a piece from one edge alone, and of two pieces merged. A place that is filled stays filled. Assumes nothing.
-use Rattle.std.specs.Prelude.{◌≡◌, refl, ◌⊎◌, ◌<◌}
+use Rattle.std.specs.Prelude.{◌≡◌, refl, ◌⊎◌, ◌<◌, ◌∷◌}
 use Rattle.std.proofs.Common.{sym, ◌∙◌, ap, inl, inr, arith, eq-eqb, ne_eqb}
 use Rattle.std.proofs.Math.Decide.{ℕ_discrete, dec_lt}
 use Rattle.std.proofs.Math.ListN.{get_or-eq_default}
-use Rattle.seq.specs.Seq.{Bool, cond, List, [], ◌∷◌, Option, none, some, ℕ, zero, suc, eqb, length, get_or}
+use Rattle.seq.specs.Seq.{Bool, cond, List, [], Option, none, some, ℕ, zero, suc, eqb, length, get_or}
 use Rattle.seq.specs.Table.{length-table, table_at}
 use Rattle.seq.specs.Options.{none_some, some_once}
 use Rattle.paper.specs.Pieces.{only, merged}

@@ -1,10 +1,10 @@
 -- The vertices of the overlay of a list of maps that keep the rules (01, "Overlay tables"): a point is one exactly if it is a corner of a map or the single point where
 -- edges of two different maps meet (`vertex_from`, `vertex_has`); each is in lowest terms, and they rise strictly in point order, so that each stands once. No corner is
 -- moved: a corner (x, y) is the vertex (x, y, 1). Then how large their numbers are. Assumes nothing.
-use Rattle.std.specs.Prelude.{◌≡◌, refl, ◌⊎◌, ◌<◌, ◌≤◌}
+use Rattle.std.specs.Prelude.{◌≡◌, refl, ◌⊎◌, ◌<◌, ◌≤◌, ◌++◌}
 use Rattle.std.proofs.Common.{sym, ◌∙◌, subst, inl, inr, ⊎_elim, arith}
 use Rattle.std.proofs.Math.Decide.{dec_lt}
-use Rattle.seq.specs.Seq.{List, ◌++◌, ℕ, length, nat_abs, rows, optional}
+use Rattle.seq.specs.Seq.{List, ℕ, length, nat_abs, rows, optional}
 use Rattle.seq.specs.Terms.{Among, Every, Rising}
 use Rattle.seq.specs.Members.{among-++, ++-among, at_among, among_at, every_in, in_every}
 use Rattle.seq.specs.Rows.{among-rows, rows-among}

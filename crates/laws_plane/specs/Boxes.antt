@@ -1,10 +1,10 @@
 -- Edges whose boxes are apart, by height or by width, have no point in common: so they do not cross, and do not clash. The tests: with numbers that bound the boxes; of the four ends; and, as edges go up, of one head against one foot. Assumes nothing.
-use Rattle.std.specs.Prelude.{◌≡◌, refl, [], ◌∷◌, ◌⊎◌, ◌≤ℤ◌, ◌<ℤ◌}
+use Rattle.std.specs.Prelude.{◌≡◌, refl, [], ◌∷◌, ◌⊎◌, ◌≤ℤ◌, ◌<ℤ◌, ◌&&◌, ◌||◌, ◌+ℤ◌}
 use Rattle.std.proofs.Common.{inl, inr, arith}
 use Rattle.std.specs.Int.Signed.{lt_z}
 use Rattle.exact.specs.Order.{zomega, sq, <→≤, ≤-or-<, ≤-of-≡, <-≤-trans}
 use Rattle.exact.specs.Tests.{lt_t}
-use Rattle.seq.specs.Seq.{Bool, true, false, ◌&&◌, ◌||◌, none, ℤ, pos, ◌+ℤ◌}
+use Rattle.seq.specs.Seq.{Bool, true, false, none, ℤ, pos}
 use Rattle.seq.specs.Tests.{or_cases, and_parts}
 use Rattle.paper.specs.Plane.{Seg, head, crossing, clash}
 use Rattle.laws_plane.specs.Cone.{UpV, above, level}

@@ -1,8 +1,8 @@
 -- Demand 2 in the customer's words: what the lent tables hold after an overlay that is done (`Defined`), said of the tables' cells, the maps, and points on edges; nothing of how it is found. Over any number
 -- of maps. Reading the tables; then (a) vertices, (b) edges and their sources, (c) half-edges, (d) faces, (e) zeros. The edge record (`EdgeRecords`) is of three maps; with it and the overlay file: Delivered. The
 -- proof: Promised. Assumes nothing.
-use Rattle.std.specs.Prelude.{◌≡◌, ◌⊎◌, ◌<◌, ◌≤◌, ◌-◌}
-use Rattle.seq.specs.Seq.{Bool, true, false, cond, ◌&&◌, ◌||◌, List, [], map, Option, none, some, ℕ, zero, suc, ◌+◌, ◌*◌, ◌/◌, length, get_or, pos, table, or_zero}
+use Rattle.std.specs.Prelude.{◌≡◌, ◌⊎◌, ◌<◌, ◌≤◌, ◌-◌, ◌&&◌, ◌||◌, ◌+◌, ◌*◌, ◌/◌}
+use Rattle.seq.specs.Seq.{Bool, true, false, cond, List, [], map, Option, none, some, ℕ, zero, suc, length, get_or, pos, table, or_zero}
 use Rattle.seq.specs.Terms.{Among, Asc}
 use Rattle.paper.specs.Limits.{absent}
 use Rattle.paper.specs.Plane.{Pt, Vec, whole, nowhere, head, dir, before, less_angle}

@@ -1,11 +1,11 @@
 -- Demand 2 and 3 of three maps as one record (`Delivered`): the tables are as `Defined` says, the edge record answers from them, and the overlay file of these tables is written and reading it gives them back. The
 -- edge record and the file are of three maps. From `Defined` alone (`defined_delivered`), so from the overlay's promise whenever it is done (`done_is_delivered`), and wherever all three files pass and there is room
 -- (`passes_is_delivered`); and back (`delivered_overlay`). The files are of bytes, as every `&[u8]` is. Assumes nothing.
-use Rattle.std.specs.Prelude.{◌≡◌, refl, ◌<◌, ◌≤◌}
+use Rattle.std.specs.Prelude.{◌≡◌, refl, ◌<◌, ◌≤◌, ◌∷◌, ◌+◌, ◌*◌, ◌^◌}
 use Rattle.std.proofs.Common.{sym, subst, arith}
 use Rattle.std.proofs.Math.Nat.{min-le_right}
 use Rattle.exact.specs.Digits.{past_rows}
-use Rattle.seq.specs.Seq.{List, [], ◌∷◌, none, ℕ, zero, suc, ◌+◌, ◌*◌, ◌^◌, take}
+use Rattle.seq.specs.Seq.{List, [], none, ℕ, zero, suc, take}
 use Rattle.paper.specs.Limits.{maps, overlay_edges}
 use Rattle.paper.specs.Refusal.{done}
 use Rattle.paper.specs.Map.{map_of, fault}

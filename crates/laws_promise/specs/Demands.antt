@@ -1,8 +1,8 @@
 -- What is in the lent tables after the overlay of any number of map files, from its promise alone (`Promised`, crates/tables/specs/Promise.antt): r is what it answers, t what the
 -- tables hold, l the tables' lengths. In order: whenever it answers `Done` (demands 2 and 3); where all files pass and there is room; whenever it answers `Refused`. Assumes nothing.
-use Rattle.std.specs.Prelude.{◌≡◌, ◌<◌}
+use Rattle.std.specs.Prelude.{◌≡◌, ◌<◌, ◌++◌}
 use Rattle.std.proofs.Common.{sym, ◌∙◌, ap, subst, arith}
-use Rattle.seq.specs.Seq.{List, [], ◌++◌, Option, none, some, ℕ, length, get_or}
+use Rattle.seq.specs.Seq.{List, [], Option, none, some, ℕ, length, get_or}
 use Rattle.paper.specs.Refusal.{Refusal, done, refused, first_of, answer, unless_refused}
 use Rattle.paper.specs.Map.{fault}
 use Rattle.paper.specs.Faces.{overlay_of, labels_of}

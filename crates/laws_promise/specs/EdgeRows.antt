@@ -1,7 +1,7 @@
 -- (b) and (e) of Defined: the edges, their sources, and the edge record. Assumes nothing.
-use Rattle.std.specs.Prelude.{◌≡◌, ◌⊎◌, ◌<◌, ◌-◌}
+use Rattle.std.specs.Prelude.{◌≡◌, ◌⊎◌, ◌<◌, ◌-◌, ◌&&◌, ◌+◌, ◌*◌}
 use Rattle.std.proofs.Common.{sym, ◌∙◌, ap, subst, inl, inr, arith, eqb-true, ltb-true}
-use Rattle.seq.specs.Seq.{true, ◌&&◌, List, ℕ, ◌+◌, ◌*◌, ltb, eqb, length, get_or}
+use Rattle.seq.specs.Seq.{true, List, ℕ, ltb, eqb, length, get_or}
 use Rattle.seq.specs.Tests.{or_cases, and_parts}
 use Rattle.seq.specs.Members.{at_among}
 use Rattle.seq.specs.Pairs.{rising_at}

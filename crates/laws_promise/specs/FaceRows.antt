@@ -1,8 +1,8 @@
 -- (d) of Defined: the rows of the face table, in tables that hold a graph of pieces. Assumes nothing.
-use Rattle.std.specs.Prelude.{◌≡◌, refl, ◌<◌}
+use Rattle.std.specs.Prelude.{◌≡◌, refl, ◌<◌, ◌&&◌, ◌*◌, ◌/◌}
 use Rattle.std.proofs.Common.{sym, ◌∙◌, ap, subst, inr, not-suc-le-zero, arith, eq-eqb, eqb-true}
 use Rattle.std.proofs.lemmas.List.{get_or-replicate}
-use Rattle.seq.specs.Seq.{Bool, true, false, not, ◌&&◌, List, Option, none, some, ℕ, zero, suc, ◌*◌, ◌/◌, eqb, length, get_or, count, select, or_zero}
+use Rattle.seq.specs.Seq.{Bool, true, false, not, List, Option, none, some, ℕ, zero, suc, eqb, length, get_or, count, select, or_zero}
 use Rattle.seq.specs.Tests.{clash, and_both, and_parts, was-false}
 use Rattle.seq.specs.Count.{count-ext}
 use Rattle.seq.specs.Select.{select_from_lem, select_has, select_asc, select-nth, length-select}

@@ -1,10 +1,10 @@
 -- The tables of an overlay are what the overlay file's writer asks for: every edge record is sound, twins, predecessors and least outgoing half-edges are those worked out, and
 -- every number fits its bytes. Of any list of maps that keep the rules; the bounds on numbers where the maps are within 01's limits. Assumes nothing.
-use Rattle.std.specs.Prelude.{◌≡◌, ◌<◌, ◌≤◌, ◌<ℤ◌}
+use Rattle.std.specs.Prelude.{◌≡◌, ◌<◌, ◌≤◌, ◌<ℤ◌, ◌+◌, ◌*◌, ◌/◌, ◌^◌}
 use Rattle.std.proofs.Common.{sym, ◌∙◌, ap, subst, arith, lt-ltb}
 use Rattle.std.proofs.Math.Decide.{dec_lt}
 use Rattle.std.specs.Int.Signed.{mag}
-use Rattle.seq.specs.Seq.{true, cond, List, ℕ, zero, suc, ◌+◌, ◌*◌, ◌/◌, ◌^◌, ltb, eqb, length, ℤ, pos, negsuc, nat_abs}
+use Rattle.seq.specs.Seq.{true, cond, List, ℕ, zero, suc, ltb, eqb, length, ℤ, pos, negsuc, nat_abs}
 use Rattle.seq.specs.Terms.{Every}
 use Rattle.seq.specs.Least.{least-ext}
 use Rattle.seq.specs.Members.{at_among, every_in}

@@ -1,9 +1,9 @@
 -- The graph that is read from tables which hold a graph of pieces is that graph (`graph_is`), its followers are that graph's (`followers-are`), and so are its walks; a hole walk by the tables' points is a hole walk of the
 -- definition (`hole-held`, `is_hole`). Assumes nothing.
-use Rattle.std.specs.Prelude.{◌≡◌, refl, ◌<◌, ◌≤◌}
+use Rattle.std.specs.Prelude.{◌≡◌, refl, ◌<◌, ◌≤◌, ◌*◌}
 use Rattle.std.proofs.Common.{sym, ◌∙◌, ap, subst, arith, eq-eqb, eqb-true}
 use Rattle.std.proofs.Math.Decide.{ℕ_discrete}
-use Rattle.seq.specs.Seq.{true, false, List, Option, none, some, ℕ, ◌*◌, length, table, among}
+use Rattle.seq.specs.Seq.{true, false, List, Option, none, some, ℕ, length, table, among}
 use Rattle.seq.specs.Terms.{Among, Best, BestIs}
 use Rattle.seq.specs.Tests.{clash, not-true}
 use Rattle.seq.specs.Table.{table-ext, table_of}

@@ -1,7 +1,7 @@
 -- (c) of Defined: the rows of the half-edge table, in tables that hold a graph of pieces. Assumes nothing.
-use Rattle.std.specs.Prelude.{◌≡◌, refl, ◌⊎◌, ◌<◌}
+use Rattle.std.specs.Prelude.{◌≡◌, refl, ◌⊎◌, ◌<◌, ◌&&◌, ◌||◌, ◌+◌, ◌*◌}
 use Rattle.std.proofs.Common.{sym, ◌∙◌, ap, subst, inl, inr, arith}
-use Rattle.seq.specs.Seq.{Bool, true, false, cond, ◌&&◌, ◌||◌, List, ℕ, ◌+◌, ◌*◌}
+use Rattle.seq.specs.Seq.{Bool, true, false, cond, List, ℕ}
 use Rattle.seq.specs.Tests.{clash, not-true, and_parts, or_cases}
 use Rattle.seq.specs.Downward.{inner, wrap}
 use Rattle.paper.specs.Plane.{less_angle}

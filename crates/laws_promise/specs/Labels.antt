@@ -1,8 +1,8 @@
 -- The label of a half-edge in a map in 01's words (`Labelled` of Defined): the definition's label has them, in tables that hold a graph of pieces (`label-found`), and no second label does, in tables that keep (b) of
 -- Defined (`labelled-once`). Assumes nothing.
-use Rattle.std.specs.Prelude.{◌≡◌, refl, ◌<◌}
+use Rattle.std.specs.Prelude.{◌≡◌, refl, ◌<◌, ◌+◌, ◌*◌, ◌/◌}
 use Rattle.std.proofs.Common.{sym, ◌∙◌, ap, subst, inl, inr, arith}
-use Rattle.seq.specs.Seq.{Bool, true, false, cond, not, List, Option, none, some, ℕ, ◌+◌, ◌*◌, ◌/◌, length, or_zero}
+use Rattle.seq.specs.Seq.{Bool, true, false, cond, not, List, Option, none, some, ℕ, length, or_zero}
 use Rattle.seq.specs.Tests.{clash}
 use Rattle.paper.specs.Plane.{Pt, Vec, dir, opposite}
 use Rattle.paper.specs.Graph.{Graph, edge_count, the_half_count, even, twin, start, low, goes_up, upward, heading, east_side, west}

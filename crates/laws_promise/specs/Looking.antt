@@ -1,7 +1,7 @@
 -- Looking west in 01's words, with no algorithm: which edges go past a height (`Passes`), which of them count (`Candidate`), which of them is seen (`Nearest`), what is answered (`Looks`). An edge is compared by its point at the height of the point that is
 -- looked from. That there is one answer and no second, and that it is the definition's: Looks. Assumes nothing.
-use Rattle.std.specs.Prelude.{◌≡◌, ◌⊎◌, ◌<◌, ◌<ℤ◌}
-use Rattle.seq.specs.Seq.{true, false, Option, none, some, ℕ, pos, ◌*ℤ◌}
+use Rattle.std.specs.Prelude.{◌≡◌, ◌⊎◌, ◌<◌, ◌<ℤ◌, ◌*ℤ◌}
+use Rattle.seq.specs.Seq.{true, false, Option, none, some, ℕ, pos}
 use Rattle.paper.specs.Plane.{Pt, Vec, before, same, below, less_angle}
 use Rattle.paper.specs.Graph.{Graph, edge_count, low, high, upward, left_of, east_side}
 

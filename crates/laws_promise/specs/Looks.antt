@@ -1,10 +1,10 @@
 -- What a look sees by 01's words (`Looks`): no second answer has them (`looks-once`), and the definition's answer does (`west-looks`), in a plane graph in which no two edges share a stretch. In order: no second
 -- answer; an edge's point at a height; the tests by points; the definition's answer; along directions of one way the same is seen (`looks-along`). Assumes nothing.
-use Rattle.std.specs.Prelude.{◌≡◌, refl, ◌⊎◌, ◌<ℤ◌}
+use Rattle.std.specs.Prelude.{◌≡◌, refl, ◌⊎◌, ◌<ℤ◌, ◌∷◌, ◌+ℤ◌, ◌-ℤ◌, ◌*ℤ◌}
 use Rattle.std.proofs.Common.{sym, ◌∙◌, ap, inl, inr}
 use Rattle.std.proofs.Math.Decide.{ℕ_discrete}
 use Rattle.std.proofs.Math.IntN.{+ℤ_invr}
-use Rattle.seq.specs.Seq.{Bool, true, false, not, [], ◌∷◌, Option, none, some, ℕ, ℤ, pos, neg_ℤ, ◌+ℤ◌, ◌-ℤ◌, ◌*ℤ◌}
+use Rattle.seq.specs.Seq.{Bool, true, false, not, [], Option, none, some, ℕ, ℤ, pos, neg_ℤ}
 use Rattle.seq.specs.Terms.{Has}
 use Rattle.seq.specs.Tests.{clash, and_both, and_parts}
 use Rattle.exact.specs.Solve.{ring, reify}

@@ -1,8 +1,8 @@
 -- The ends of an edge, as the tables say them, and the edges of maps that it runs along, in tables that hold a graph of pieces: by the tables' own points (`Near` of Defined) they are its sources (`cell-near`, `near-cell`).
 -- Assumes nothing.
-use Rattle.std.specs.Prelude.{◌≡◌, ◌<◌}
+use Rattle.std.specs.Prelude.{◌≡◌, ◌<◌, ◌+◌, ◌*◌}
 use Rattle.std.proofs.Common.{sym, ◌∙◌, ap, subst, arith}
-use Rattle.seq.specs.Seq.{List, Option, none, some, ℕ, suc, ◌+◌, ◌*◌, length}
+use Rattle.seq.specs.Seq.{List, Option, none, some, ℕ, suc, length}
 use Rattle.paper.specs.Graph.{Graph, Edge, edge_count}
 use Rattle.paper.specs.Map.{Map}
 use Rattle.paper.specs.Pieces.{layer, Piece}

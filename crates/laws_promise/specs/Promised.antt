@@ -1,8 +1,8 @@
 -- The overlay's promise gives what `Defined` says, of any number of map files, whenever it is done (`done_is-defined`), and it is done wherever all maps pass and there is room (`passes_is-defined`). From the
 -- promise alone (`Promised`, crates/tables/specs/Promise.antt): r is what it answers, t what the tables hold, l their lengths. Assumes nothing.
-use Rattle.std.specs.Prelude.{◌≡◌, ◌<◌}
+use Rattle.std.specs.Prelude.{◌≡◌, ◌<◌, ◌*◌}
 use Rattle.std.proofs.Common.{sym, ◌∙◌, ap, subst}
-use Rattle.seq.specs.Seq.{List, ℕ, ◌*◌, length, get_or}
+use Rattle.seq.specs.Seq.{List, ℕ, length, get_or}
 use Rattle.paper.specs.Refusal.{done}
 use Rattle.paper.specs.Map.{Map}
 use Rattle.paper.specs.Pieces.{Piece, vertices_of, edges_of}

@@ -1,7 +1,7 @@
 -- The edge record of Defined. Over three maps, of tables with whole rows for all edges, in which an edge number + 1 fits. Assumes nothing.
-use Rattle.std.specs.Prelude.{◌≡◌, refl, ◌<◌, ◌≤◌}
+use Rattle.std.specs.Prelude.{◌≡◌, refl, ◌<◌, ◌≤◌, ◌∷◌, ◌+◌, ◌*◌, ◌^◌}
 use Rattle.std.proofs.Common.{◌∙◌, arith, lt-ltb, le-leb}
-use Rattle.seq.specs.Seq.{Bool, true, false, cond, List, [], ◌∷◌, Option, none, some, Option·map, ℕ, zero, suc, ◌+◌, ◌*◌, ◌^◌, ltb, leb, all_below}
+use Rattle.seq.specs.Seq.{Bool, true, false, cond, List, [], Option, none, some, Option·map, ℕ, zero, suc, ltb, leb, all_below}
 use Rattle.seq.specs.Tests.{and_both}
 use Rattle.seq.specs.Least.{all_has}
 use Rattle.paper.specs.Limits.{maps}

@@ -1,11 +1,11 @@
 -- A plane graph of pieces of maps (`Pieced`): the overlay's graph is one, and so is what is left of it when cells are melted together (02, Ask 12). And what lent tables hold of it, cell by cell (`Rows`): from the tables
 -- of the definition with zeros past them (`padded-rows`, `rows-zeros`). What Promised says of half-edges and faces is proved from this, so that it holds of melted tables too. Assumes nothing.
-use Rattle.std.specs.Prelude.{◌≡◌, refl, ◌<◌, ◌≤◌}
+use Rattle.std.specs.Prelude.{◌≡◌, refl, ◌<◌, ◌≤◌, ◌+◌, ◌*◌, ◌-◌}
 use Rattle.std.proofs.Common.{sym, ◌∙◌, subst, mul-suc, mul-le-mul_left, arith, length-append}
 use Rattle.std.proofs.Math.Decide.{dec_lt}
 use Rattle.std.proofs.Math.ListN.{get_or-eq_default}
 use Rattle.std.proofs.lemmas.List.{length-replicate}
-use Rattle.seq.specs.Seq.{List, ℕ, suc, ◌+◌, ◌*◌, ◌-◌, length, get_or, pos, select, replicate, position, padded}
+use Rattle.seq.specs.Seq.{List, ℕ, suc, length, get_or, pos, select, replicate, position, padded}
 use Rattle.seq.specs.Table.{table_at}
 use Rattle.seq.specs.Wiped.{padded_at, padded_past}
 use Rattle.paper.specs.Graph.{Graph, point, edge_count, the_half_count, edge, even, goes_up, twin, origin, leaves, follower, followers}

@@ -1,8 +1,8 @@
 -- Tables that keep (a) to (c) of Defined, side by side (c, t and d, u): the same vertices, edges, sources, twins, followers and predecessors. Nothing but those rows is used. Assumes nothing.
-use Rattle.std.specs.Prelude.{◌≡◌, refl, ◌⊎◌, ◌<◌, ◌≤◌}
+use Rattle.std.specs.Prelude.{◌≡◌, refl, ◌⊎◌, ◌<◌, ◌≤◌, ◌&&◌, ◌||◌, ◌+◌, ◌*◌, ◌/◌}
 use Rattle.std.proofs.Common.{sym, ◌∙◌, ap, subst, inl, inr, arith}
 use Rattle.std.proofs.Math.Decide.{ℕ_discrete}
-use Rattle.seq.specs.Seq.{Bool, true, false, cond, ◌&&◌, ◌||◌, List, ℕ, zero, suc, ◌+◌, ◌*◌, ◌/◌, length, pos, table}
+use Rattle.seq.specs.Seq.{Bool, true, false, cond, List, ℕ, zero, suc, length, pos, table}
 use Rattle.seq.specs.Tests.{clash}
 use Rattle.seq.specs.Table.{table-ext}
 use Rattle.seq.specs.SameRows.{same_count, same_at}

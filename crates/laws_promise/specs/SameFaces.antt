@@ -1,8 +1,8 @@
 -- Tables that keep (a) to (d) of Defined (c, t), beside those that hold the defined overlay (d, u): the same walks, hole walks, faces, and rows of faces. Assumes nothing.
-use Rattle.std.specs.Prelude.{◌≡◌, ◌<◌, ◌≤◌, ◌-◌}
+use Rattle.std.specs.Prelude.{◌≡◌, ◌<◌, ◌≤◌, ◌-◌, ◌+◌, ◌*◌, ◌/◌}
 use Rattle.std.proofs.Math.Path.{refl}
 use Rattle.std.proofs.Common.{sym, ◌∙◌, ap, subst, inl, inr, arith}
-use Rattle.seq.specs.Seq.{Bool, true, false, cond, List, ℕ, zero, suc, ◌+◌, ◌*◌, ◌/◌, length, get_or, or_zero}
+use Rattle.seq.specs.Seq.{Bool, true, false, cond, List, ℕ, zero, suc, length, get_or, or_zero}
 use Rattle.seq.specs.Terms.{Among}
 use Rattle.seq.specs.Tests.{clash}
 use Rattle.seq.specs.Members.{at_among, among_at}

@@ -1,9 +1,9 @@
 -- What Defined says leaves one outcome, of any number of maps: counts and tables that keep it are those of the defined overlay (`defined_is`), every cell of every table. So no second counts and tables keep it
 -- (`defined-unique`), and the operation's promise and the customer's words say the same (`defined-overlay`). Assumes nothing.
-use Rattle.std.specs.Prelude.{◌≡◌, ◌<◌, ◌≤◌}
+use Rattle.std.specs.Prelude.{◌≡◌, ◌<◌, ◌≤◌, ◌+◌, ◌*◌}
 use Rattle.std.proofs.Common.{sym, ◌∙◌, ap, subst, arith, ext_get_or, get_or-take}
 use Rattle.std.proofs.Math.Decide.{dec_lt, ℕ_discrete}
-use Rattle.seq.specs.Seq.{List, ℕ, zero, suc, ◌+◌, ◌*◌, length, get_or, pos, cell}
+use Rattle.seq.specs.Seq.{List, ℕ, zero, suc, length, get_or, pos, cell}
 use Rattle.paper.specs.Refusal.{done}
 use Rattle.paper.specs.Graph.{Graph}
 use Rattle.paper.specs.Map.{Map}

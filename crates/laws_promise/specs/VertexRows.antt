@@ -1,7 +1,7 @@
 -- (a) of Defined: the rows of the vertex table. Assumes nothing.
-use Rattle.std.specs.Prelude.{◌≡◌, ◌<◌, ◌≤◌}
+use Rattle.std.specs.Prelude.{◌≡◌, ◌<◌, ◌≤◌, ◌*◌}
 use Rattle.std.proofs.Common.{sym, ◌∙◌, ap, subst, arith, eq-eqb, eqb-true, lt-ltb}
-use Rattle.seq.specs.Seq.{Bool, cond, List, ℕ, ◌*◌, length, pos, least}
+use Rattle.seq.specs.Seq.{Bool, cond, List, ℕ, length, pos, least}
 use Rattle.seq.specs.Members.{at_among, every_in}
 use Rattle.seq.specs.Least.{least_below, least-holds, least_at_most}
 use Rattle.paper.specs.Limits.{absent}

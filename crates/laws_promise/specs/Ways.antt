@@ -1,8 +1,8 @@
 -- The direction of a half-edge as the tables say it, from the point where it starts to the point where it ends, has the angle of its heading in the graph that they hold (`way_less`): so what the laws say of
 -- followers by headings holds by the tables' points. Assumes nothing.
-use Rattle.std.specs.Prelude.{◌≡◌, ◌<◌}
+use Rattle.std.specs.Prelude.{◌≡◌, ◌<◌, ◌*◌}
 use Rattle.std.proofs.Common.{sym, ◌∙◌, ap, subst, arith}
-use Rattle.seq.specs.Seq.{true, false, List, ℕ, ◌*◌, length}
+use Rattle.seq.specs.Seq.{true, false, List, ℕ, length}
 use Rattle.seq.specs.Tests.{clash, bool-ext}
 use Rattle.exact.specs.Sign.{is_zer}
 use Rattle.paper.specs.Plane.{Pt, Vec, dir, same, less_angle}

@@ -1,9 +1,9 @@
 -- The overlay's file: the writer accepts the tables of every overlay, answers the file's length and has the file in the buffer (`tables-written`), and reading that file gives
 -- the overlay's counts and tables (`tables-read`). Of a list of files of bytes that pass, and of any version with bytes enough for a coordinate. Then for the operations as they
 -- stand, from the overlay's promise (`Promised`): where it is done its tables are written, and reading the file gives all that came out of it (`overlay-written`, `overlay_read`). Assumes nothing.
-use Rattle.std.specs.Prelude.{◌≡◌, refl, ◌<◌, ◌≤◌}
+use Rattle.std.specs.Prelude.{◌≡◌, refl, ◌<◌, ◌≤◌, ◌∷◌, ◌*◌, ◌/◌, ◌^◌}
 use Rattle.std.proofs.Common.{sym, ◌∙◌, ap, subst, le_refl, arith}
-use Rattle.seq.specs.Seq.{List, [], ◌∷◌, none, ℕ, zero, suc, ◌*◌, ◌/◌, ◌^◌, length, get_or, take, padded}
+use Rattle.seq.specs.Seq.{List, [], none, ℕ, zero, suc, length, get_or, take, padded}
 use Rattle.paper.specs.Limits.{reach, denominators, maps}
 use Rattle.paper.specs.Refusal.{done}
 use Rattle.paper.specs.Map.{Map}

@@ -1,9 +1,9 @@
 -- 01's four wrong overlays, each shut out by the promise: "an overlay that refuses everything, one that returns S12 for all files, one that returns zero counts and touches nothing, one that makes up the
 -- vertex count". An operation `f` that keeps the promise (`Promised`, the contract's) keeps it for all lent tables and files; each of the four does not, at three small files. Assumes nothing.
-use Rattle.std.specs.Prelude.{◌≡◌, refl}
+use Rattle.std.specs.Prelude.{◌≡◌, refl, ◌∷◌, ◌+◌}
 use Rattle.std.proofs.Common.{sym, ◌∙◌, ap, subst, arith}
 use Rattle.exact.specs.Exact.{gcd_of}
-use Rattle.seq.specs.Seq.{List, [], ◌∷◌, ℕ, ◌+◌, pos}
+use Rattle.seq.specs.Seq.{List, [], ℕ, pos}
 use Rattle.seq.specs.Wiped.{length-padded}
 use Rattle.paper.specs.Limits.{maps}
 use Rattle.paper.specs.Refusal.{Refusal, done, refused}

@@ -1,9 +1,9 @@
 -- Which refusal is given: of a list of rules the first that is broken. In order: a list that gives none, rule by rule (`nothing`, `is_nothing`); one rule (`given_none`, `least_none_is`, and
 -- back); lists put together; what every refusal of a list keeps (`first_keeps`); tables of rules; a refusal of a map; what an answer says of the refusal. Assumes nothing.
-use Rattle.std.specs.Prelude.{◌≡◌, refl, ◌⊎◌, ◌<◌}
+use Rattle.std.specs.Prelude.{◌≡◌, refl, ◌⊎◌, ◌<◌, ◌∷◌, ◌++◌}
 use Rattle.std.proofs.Common.{sym, ◌∙◌, ap, subst, inl, inr, not-suc-le-zero, arith}
 use Rattle.std.proofs.Math.Decide.{ℕ_discrete}
-use Rattle.seq.specs.Seq.{Bool, true, false, List, [], ◌∷◌, ◌++◌, Option, none, some, ℕ, zero, suc, least, the_some_below, table}
+use Rattle.seq.specs.Seq.{Bool, true, false, List, [], Option, none, some, ℕ, zero, suc, least, the_some_below, table}
 use Rattle.seq.specs.Terms.{Every}
 use Rattle.seq.specs.Least.{no_some, no_some_is}
 use Rattle.paper.specs.Refusal.{Refusal, done, refused, beside, given, first_at, first_of, the_of_map, answer}

@@ -1,7 +1,7 @@
 -- Counts within a room: `Fits`, and that nothing is refused for room exactly there, by one test (`not_over`, `over_not`) or place by place (`room_none`, `none_room`). Assumes nothing.
-use Rattle.std.specs.Prelude.{◌≡◌, ◌≤◌}
+use Rattle.std.specs.Prelude.{◌≡◌, ◌≤◌, ◌||◌}
 use Rattle.std.proofs.Common.{ltb-false, le-ltb}
-use Rattle.seq.specs.Seq.{Bool, false, ◌||◌, none, ℕ, ltb}
+use Rattle.seq.specs.Seq.{Bool, false, none, ℕ, ltb}
 use Rattle.seq.specs.Tests.{or_false}
 use Rattle.paper.specs.Refusal.{given}
 use Rattle.paper.specs.Tables.{Counts}

@@ -1,9 +1,9 @@
 -- What the writer and the reader accept, as facts: false-or refuses exactly where these hold (`write_is`, `is_write`, `read_is`, `is_read`). Of a version's layout, and of
 -- tables of n maps. Assumes nothing.
-use Rattle.std.specs.Prelude.{◌≡◌, ◌<◌, ◌≤◌}
+use Rattle.std.specs.Prelude.{◌≡◌, ◌<◌, ◌≤◌, ◌||◌, ◌∷◌, ◌++◌}
 use Rattle.std.proofs.Common.{ap, arith, ltb-false, le-ltb, eqb-true, eq-eqb, ne_eqb}
 use Rattle.std.proofs.lemmas.Bool.{eqb-false}
-use Rattle.seq.specs.Seq.{Bool, true, not, ◌||◌, List, [], ◌∷◌, ◌++◌, Option, none, ℕ, length, ltb, eqb}
+use Rattle.seq.specs.Seq.{Bool, true, not, List, [], Option, none, ℕ, length, ltb, eqb}
 use Rattle.seq.specs.Tests.{or_false, false_or, was-true}
 use Rattle.paper.specs.Limits.{overlay_head}
 use Rattle.paper.specs.Bytes.{ascii, marked, u16}

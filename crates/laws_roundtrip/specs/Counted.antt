@@ -1,9 +1,9 @@
 -- The counted rows of tables, without what stands past them: tables that agree on them are one there (`agree-counted`), and tables with room
 -- for the counts have them (`room_rows`). Assumes nothing.
-use Rattle.std.specs.Prelude.{◌≡◌, ◌<◌, ◌≤◌}
+use Rattle.std.specs.Prelude.{◌≡◌, ◌<◌, ◌≤◌, ◌++◌, ◌+◌, ◌*◌}
 use Rattle.std.proofs.Common.{sym, ◌∙◌, ap, mul-zero, mul-suc, arith, length-drop, length-take-le, take_all, take-add, get_or-take, get_or-drop}
 use Rattle.exact.specs.Digits.{rows_fit}
-use Rattle.seq.specs.Seq.{List, ◌++◌, ℕ, zero, suc, ◌+◌, ◌*◌, length, take, drop, pos, table, cell}
+use Rattle.seq.specs.Seq.{List, ℕ, zero, suc, length, take, drop, pos, table, cell}
 use Rattle.seq.specs.Table.{table_is, table-ext}
 use Rattle.paper.specs.Tables.{vertex_width, half_width, face_width, Counts, Tables}
 use Rattle.paper.specs.Lent.{Lengths, room_in, lengths_of}

@@ -1,9 +1,9 @@
 -- Half-edges of tables whose edge records are all sound: origins and faces are below their counts, followers are below the half-edge count and none is taken twice. So each
 -- half-edge is followed from exactly one, which is where it stands in the list of followers. Assumes nothing.
-use Rattle.std.specs.Prelude.{◌≡◌, ◌<◌}
+use Rattle.std.specs.Prelude.{◌≡◌, ◌<◌, ◌+◌, ◌*◌, ◌/◌, ◌%◌}
 use Rattle.std.proofs.Common.{sym, ◌∙◌, ap, subst, arith}
 use Rattle.std.proofs.Math.Decide.{dec_lt}
-use Rattle.seq.specs.Seq.{List, ℕ, ◌+◌, ◌*◌, ◌/◌, ◌%◌, get_or, table, position}
+use Rattle.seq.specs.Seq.{List, ℕ, get_or, table, position}
 use Rattle.seq.specs.Terms.{Injects}
 use Rattle.seq.specs.Perm.{onto}
 use Rattle.seq.specs.Position.{position_is}

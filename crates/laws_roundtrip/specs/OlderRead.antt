@@ -1,9 +1,9 @@
 -- "writing what was read gives the same bytes only for the newest version" (02, Ask 7); "The writer writes 3, the reader takes all three versions (a missing third source or label is 0)" (02, Ask 13). Of a file of any known version, an older one too: the tables
 -- that were read are written in the newest, and reading that file gives what was read. First over any list of known versions, the newest of which has no fewer bytes for a coordinate (`any_read`), then for
 -- the reader and the writer as they stand (`older-read`). Assumes nothing.
-use Rattle.std.specs.Prelude.{◌≡◌, ◌<◌, ◌≤◌}
+use Rattle.std.specs.Prelude.{◌≡◌, ◌<◌, ◌≤◌, ◌-◌, ◌^◌}
 use Rattle.std.proofs.Common.{sym, ◌∙◌, ap, subst, le_refl, not-suc-le-zero, le_of_suc-le-suc, arith}
-use Rattle.seq.specs.Seq.{List, none, ℕ, zero, suc, ◌-◌, ◌^◌, length, take}
+use Rattle.seq.specs.Seq.{List, none, ℕ, zero, suc, length, take}
 use Rattle.paper.specs.Limits.{coordinate_bytes, maps}
 use Rattle.paper.specs.Bytes.{u16}
 use Rattle.paper.specs.Refusal.{done}

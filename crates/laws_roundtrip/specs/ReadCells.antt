@@ -1,9 +1,9 @@
 -- The cells of the tables that the reader makes of a list of bytes, by name, and how many there are. Into tables of n maps, of any version's layout. Assumes nothing.
-use Rattle.std.specs.Prelude.{◌≡◌, refl, ◌<◌}
+use Rattle.std.specs.Prelude.{◌≡◌, refl, ◌<◌, ◌∷◌, ◌++◌, ◌+◌, ◌*◌}
 use Rattle.std.proofs.Common.{sym, ◌∙◌, ap, add-zero, arith, lt-ltb, length-append, get_or-append-add}
 use Rattle.std.proofs.Math.Decide.{dec_lt}
 use Rattle.std.proofs.Math.ListN.{get_or-append}
-use Rattle.seq.specs.Seq.{Bool, cond, List, [], ◌∷◌, ◌++◌, ℕ, ◌+◌, ◌*◌, length, get_or, pos, table}
+use Rattle.seq.specs.Seq.{Bool, cond, List, [], ℕ, length, get_or, pos, table}
 use Rattle.seq.specs.Table.{length-table, table_at}
 use Rattle.seq.specs.Rows.{length-rows, cell-rows}
 use Rattle.paper.specs.Tables.{vertex_width, half_width, face_width, vertex_cell, half_cell, source_cell, face_cell, Counts, Tables}

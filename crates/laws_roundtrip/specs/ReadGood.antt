@@ -1,11 +1,11 @@
 -- What was read is good to write: the vertices and edges of the tables that the reader makes keep what the writer asks (`good-vertex`, `good-edge`), and the faces hold 16-bit numbers (`read-faces-fit`). Into
 -- tables of n maps, from a file of any layout; a vertex is good in every layout with at least as many bytes for a coordinate. Assumes nothing.
-use Rattle.std.specs.Prelude.{◌≡◌, ◌<◌, ◌≤◌}
+use Rattle.std.specs.Prelude.{◌≡◌, ◌<◌, ◌≤◌, ◌+◌, ◌*◌, ◌/◌, ◌^◌}
 use Rattle.std.proofs.Common.{sym, ◌∙◌, ap, subst, not-suc-le-zero, arith, lt-ltb, ltb-true}
 use Rattle.std.proofs.Math.Nat.{pow-le-pow_right}
 use Rattle.std.proofs.Math.Decide.{dec_lt}
 use Rattle.std.specs.Int.Signed.{mag}
-use Rattle.seq.specs.Seq.{Bool, true, false, cond, List, ℕ, zero, suc, ◌+◌, ◌*◌, ◌/◌, ◌^◌, ltb, eqb, ℤ, pos, table, position}
+use Rattle.seq.specs.Seq.{Bool, true, false, cond, List, ℕ, zero, suc, ltb, eqb, ℤ, pos, table, position}
 use Rattle.seq.specs.Least.{least-ext}
 use Rattle.seq.specs.Table.{table_at, table-ext}
 use Rattle.paper.specs.Limits.{absent, denominator_bytes}

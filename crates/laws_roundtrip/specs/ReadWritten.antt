@@ -1,10 +1,10 @@
 -- "So reading returns whatever was written": what the writer accepts, the reader gives back, counts and counted rows, with zeros past them. Origins, followers, faces, sources
 -- and points are read as they were written; twin, predecessor and least outgoing half-edge are worked out, and are those that the writer asked for. First over any list of
 -- known versions (`written_is_read`), then for the reader and the writer as they stand (`read-written`, `read_back`). Assumes nothing.
-use Rattle.std.specs.Prelude.{◌≡◌, ◌<◌, ◌≤◌}
+use Rattle.std.specs.Prelude.{◌≡◌, ◌<◌, ◌≤◌, ◌*◌, ◌-◌, ◌^◌}
 use Rattle.std.proofs.Common.{sym, ◌∙◌, ap, subst, arith}
 use Rattle.std.proofs.Math.Seq.{take-append_seam}
-use Rattle.seq.specs.Seq.{cond, List, [], Option, none, ℕ, zero, suc, ◌*◌, ◌-◌, ◌^◌, ltb, eqb, length, get_or, replicate, take, pos, table, position, padded}
+use Rattle.seq.specs.Seq.{cond, List, [], Option, none, ℕ, zero, suc, ltb, eqb, length, get_or, replicate, take, pos, table, position, padded}
 use Rattle.seq.specs.Least.{least-ext}
 use Rattle.seq.specs.Table.{length-table, table_at, table-ext}
 use Rattle.paper.specs.Limits.{absent, maps}

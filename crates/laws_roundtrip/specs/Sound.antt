@@ -1,10 +1,10 @@
 -- What 01 asks of a vertex and of an edge record, as facts: each test of the definitions holds exactly where the facts do (`sound_is` and `is_sound`, and the writer's own
 -- `edge_is`, `is_edge`, `vertex_is`, `is_vertex`). Assumes nothing.
-use Rattle.std.specs.Prelude.{◌≡◌, ◌<◌}
+use Rattle.std.specs.Prelude.{◌≡◌, ◌<◌, ◌&&◌, ◌||◌, ◌+◌, ◌*◌, ◌^◌, ◌-ℤ◌}
 use Rattle.std.proofs.Common.{sym, ◌∙◌, ap, ltb-true, lt-ltb, leb-false, eqb-true, eq-eqb, ne_eqb}
 use Rattle.std.proofs.lemmas.Bool.{lt-leb, eqb-false}
 use Rattle.exact.specs.Tests.{eq_t, t_eq, eq-sign}
-use Rattle.seq.specs.Seq.{Bool, true, false, not, ◌&&◌, ◌||◌, ℕ, ◌+◌, ◌*◌, ◌^◌, leb, ltb, eqb, pos, ◌-ℤ◌, the_some_below}
+use Rattle.seq.specs.Seq.{Bool, true, false, not, ℕ, leb, ltb, eqb, pos, the_some_below}
 use Rattle.seq.specs.Tests.{or_false, and_both, and_parts, false_or, was-false, was-true}
 use Rattle.seq.specs.Least.{some_has, some_witness, no_some, no_some_is}
 use Rattle.paper.specs.Limits.{denominator_bytes}

@@ -1,8 +1,8 @@
 -- "writing what was read gives the same bytes only for the newest version" (02, Ask 7): what the reader accepts of that version, the writer gives back byte for byte, with zeros past it. First for any
 -- version's layout that the writer writes (`read_is_written`), then for the reader and the writer as they stand (`written_read`). Assumes nothing.
-use Rattle.std.specs.Prelude.{◌≡◌, ◌<◌, ◌≤◌}
+use Rattle.std.specs.Prelude.{◌≡◌, ◌<◌, ◌≤◌, ◌+◌, ◌*◌, ◌/◌, ◌%◌}
 use Rattle.std.proofs.Common.{sym, ◌∙◌, ap, subst, le_refl, arith, lt-ltb}
-use Rattle.seq.specs.Seq.{Bool, cond, List, Option, none, ℕ, ◌+◌, ◌*◌, ◌/◌, ◌%◌, length, get_or, ℤ, padded}
+use Rattle.seq.specs.Seq.{Bool, cond, List, Option, none, ℕ, length, get_or, ℤ, padded}
 use Rattle.paper.specs.Limits.{denominator_bytes, maps}
 use Rattle.paper.specs.Bytes.{ascii, number, u16, signed_at, le, le_signed}
 use Rattle.paper.specs.Refusal.{Refusal, done, unless_refused}

@@ -1,7 +1,7 @@
 -- The edges that looks read, summed over soundings and maps (02, Ask 8): sums of two lists end to end (`total-++`), and the ceiling, all edges for each sounding (`reads-most`). Over any number of maps. Assumes nothing.
-use Rattle.std.specs.Prelude.{◌≡◌, ◌≤◌}
+use Rattle.std.specs.Prelude.{◌≡◌, ◌≤◌, ◌∷◌, ◌++◌, ◌+◌, ◌*◌}
 use Rattle.std.proofs.Common.{subst, mul-suc, arith}
-use Rattle.seq.specs.Seq.{not, List, [], ◌∷◌, ◌++◌, ℕ, ◌+◌, ◌*◌, length, table}
+use Rattle.seq.specs.Seq.{not, List, [], ℕ, length, table}
 use Rattle.seq.specs.Total.{total}
 use Rattle.seq.specs.Count.{count-le}
 use Rattle.seq.specs.Table.{length-table}

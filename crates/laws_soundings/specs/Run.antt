@@ -1,7 +1,7 @@
 -- The count of soundings byte by byte (02, Ask 3): where it stands (`Run`), what a byte and a batch of bytes more make of it (`with_byte`, `next`), and what is answered in the end (`closed`). It is over any look, so that
 -- it can be said of maps and of tables that were laid for looks alike. A batch is any bytes: up to three bytes of a sounding wait for the others. Assumes nothing.
-use Rattle.std.specs.Prelude.{◌≡◌, refl}
-use Rattle.seq.specs.Seq.{Bool, true, cond, not, ◌||◌, List, [], ◌∷◌, ◌++◌, Option, none, some, ℕ, suc, ◌+◌, eqb, ltb, length, insert_by}
+use Rattle.std.specs.Prelude.{◌≡◌, refl, ◌||◌, ◌∷◌, ◌++◌, ◌+◌}
+use Rattle.seq.specs.Seq.{Bool, true, cond, not, List, [], Option, none, some, ℕ, suc, eqb, ltb, length, insert_by}
 use Rattle.paper.specs.Limits.{overlay_faces, list_soundings}
 use Rattle.paper.specs.Plane.{Vec}
 use Rattle.paper.specs.Refusal.{Refusal, given, first_of}

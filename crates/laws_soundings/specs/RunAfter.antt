@@ -1,11 +1,11 @@
 -- Where the count stands after the bytes s, at once (`run_after`): a byte more gives where it stands after s and that byte (`after_byte`), and so does a batch (`after_batch`), so that any cut into batches gives what the
 -- whole list gives (`after_all`). Assumes nothing.
-use Rattle.std.specs.Prelude.{◌≡◌, refl, ◌≤◌, ◌<◌}
+use Rattle.std.specs.Prelude.{◌≡◌, refl, ◌≤◌, ◌<◌, ◌||◌, ◌∷◌, ◌++◌, ◌+◌, ◌-◌, ◌*◌, ◌/◌}
 use Rattle.std.proofs.Common.{sym, ◌∙◌, ap, append_assoc, append-nil, arith, lt-ltb, le-ltb, ltb-true, ltb-false, length-append, length-take, length-drop, take-append-drop}
 use Rattle.std.proofs.Math.Decide.{dec_lt}
 use Rattle.std.proofs.lemmas.List.{drop-append-le}
 use Rattle.std.proofs.Math.Seq.{drop-length}
-use Rattle.seq.specs.Seq.{Bool, true, false, cond, ◌||◌, List, [], ◌∷◌, ◌++◌, gather, Option, none, some, ℕ, suc, ◌+◌, ◌-◌, ◌*◌, ◌/◌, ltb, length, take, drop, least, table, insert_by}
+use Rattle.seq.specs.Seq.{Bool, true, false, cond, List, [], gather, Option, none, some, ℕ, suc, ltb, length, take, drop, least, table, insert_by}
 use Rattle.seq.specs.Total.{total}
 use Rattle.seq.specs.Table.{table-ext}
 use Rattle.seq.specs.Least.{least-le, least-ext}

@@ -1,9 +1,9 @@
 -- What is answered in the end is what the definition says of the whole list: where the count stands after the bytes s (`closes`), and of two or more map files with any batches, whatever their lengths (`all_answer`); so
 -- no two cuts of one list are answered differently (`cuts-agree`). Assumes nothing.
-use Rattle.std.specs.Prelude.{◌≡◌, refl, ◌≤◌}
+use Rattle.std.specs.Prelude.{◌≡◌, refl, ◌≤◌, ◌||◌, ◌∷◌, ◌++◌, ◌%◌, ◌*◌}
 use Rattle.std.proofs.Common.{sym, ◌∙◌, ap, arith, lt-ltb, le-ltb, ltb-true, ltb-false, length-drop}
 use Rattle.std.proofs.Math.Decide.{dec_lt}
-use Rattle.seq.specs.Seq.{Bool, true, false, cond, not, ◌||◌, List, [], ◌∷◌, ◌++◌, map, Option, none, some, ℕ, ◌%◌, ◌*◌, eqb, ltb, length, drop}
+use Rattle.seq.specs.Seq.{Bool, true, false, cond, not, List, [], map, Option, none, some, ℕ, eqb, ltb, length, drop}
 use Rattle.seq.specs.Tests.{eqb_iff, or_r}
 use Rattle.seq.specs.Least.{least-le}
 use Rattle.paper.specs.Limits.{overlay_faces, list_soundings}

@@ -1,8 +1,8 @@
 -- What a count keeps that began at a start, byte by byte (`fit_next`): its numbers within their bounds, the pairs in strict order, their counts adding up to no more than the soundings, and so many edges read at most for each
 -- of them. Assumes nothing.
-use Rattle.std.specs.Prelude.{◌≡◌, refl, ◌≤◌, ◌<◌}
+use Rattle.std.specs.Prelude.{◌≡◌, refl, ◌≤◌, ◌<◌, ◌||◌, ◌∷◌, ◌++◌, ◌+◌, ◌*◌}
 use Rattle.std.proofs.Common.{mul-suc, arith, ltb-true}
-use Rattle.seq.specs.Seq.{Bool, true, false, cond, ◌||◌, List, [], ◌∷◌, ◌++◌, Option, none, some, ℕ, suc, ◌+◌, ◌*◌, ltb, length, insert_by}
+use Rattle.seq.specs.Seq.{Bool, true, false, cond, List, [], Option, none, some, ℕ, suc, ltb, length, insert_by}
 use Rattle.seq.specs.Terms.{Ordered}
 use Rattle.paper.specs.Limits.{overlay_faces, list_soundings}
 use Rattle.paper.specs.Plane.{Vec}

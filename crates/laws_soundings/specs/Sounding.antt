@@ -1,10 +1,10 @@
 -- Ask 3's look: the look of 01 along east. "look west with edges through p counted as west": along east a candidate is an edge at the height of p that has p on its right or on it
 -- (`east-candidate`); "nearest by greatest x, then smallest upward angle" is `nearer` as it stands. Assumes nothing.
-use Rattle.std.specs.Prelude.{◌≡◌, refl, ◌<◌, ◌<ℤ◌}
+use Rattle.std.specs.Prelude.{◌≡◌, refl, ◌<◌, ◌<ℤ◌, ◌&&◌, ◌∷◌, ◌-ℤ◌, ◌*ℤ◌}
 use Rattle.std.proofs.Common.{◌∙◌, ap}
 use Rattle.exact.specs.Sign.{Sign, neg, zer, plus, sgn, is_plus, neg_s, pick, sgn-negℤ, sgn-plus}
 use Rattle.exact.specs.Solve.{ring, reify}
-use Rattle.seq.specs.Seq.{Bool, true, false, not, ◌&&◌, ◌∷◌, ℕ, ℤ, pos, ◌-ℤ◌, ◌*ℤ◌, []}
+use Rattle.seq.specs.Seq.{Bool, true, false, not, ℕ, ℤ, pos, []}
 use Rattle.paper.specs.Plane.{Pt, Vec, cross}
 use Rattle.paper.specs.Graph.{Graph, edge_count, upward, at_height, left_of, westward}
 use Rattle.paper.specs.Soundings.{east}

@@ -1,9 +1,9 @@
 -- Lists of soundings end to end (02, Ask 3): cutting the list after a whole number of soundings cuts the soundings (`sounding_before`, `at_past`), and so those that lie too far (`far_before`,
 -- `far_past`); and the counts add up (`counts-add_up`). Over any number of maps. Assumes nothing.
-use Rattle.std.specs.Prelude.{◌≡◌, ◌<◌, ◌≤◌}
+use Rattle.std.specs.Prelude.{◌≡◌, ◌<◌, ◌≤◌, ◌||◌, ◌++◌, ◌+◌, ◌*◌, ◌-◌, ◌/◌, ◌^◌}
 use Rattle.std.proofs.Common.{sym, ◌∙◌, ap, arith, get_or-append-add}
 use Rattle.std.proofs.Math.ListN.{get_or-append}
-use Rattle.seq.specs.Seq.{cond, ◌||◌, List, ◌++◌, ℕ, suc, ◌+◌, ◌*◌, ◌-◌, ◌/◌, ◌^◌, ltb, length, nat_abs, ℤ, pos, negsuc}
+use Rattle.seq.specs.Seq.{cond, List, ℕ, suc, ltb, length, nat_abs, ℤ, pos, negsuc}
 use Rattle.seq.specs.Table.{length-table}
 use Rattle.paper.specs.Limits.{reach}
 use Rattle.paper.specs.Plane.{Vec, vec}

@@ -1,10 +1,10 @@
 -- Counts by cell (02, Ask 3): each list of labels that occurs, with how often, sorted. A table of counts takes soundings one after the other (`tally_from`), so that batches are one law
 -- (`tally_batches_lem`); the counts add up to the number of soundings (`tally-total`); each entry counts what it says (`tally-times`); and entries stand in strict order (`tally-ordered`).
 -- Over any number of maps. Assumes nothing.
-use Rattle.std.specs.Prelude.{◌≡◌, refl, ◌≤◌}
+use Rattle.std.specs.Prelude.{◌≡◌, refl, ◌≤◌, ◌&&◌, ◌||◌, ◌∷◌, ◌++◌, ◌+◌}
 use Rattle.std.proofs.Common.{sym, ◌∙◌, ap, add-zero, zero-add, arith, eq-eqb, lt-ltb}
 use Rattle.std.proofs.Math.Decide.{dec_lt}
-use Rattle.seq.specs.Seq.{Bool, true, false, cond, ◌&&◌, ◌||◌, List, ◌∷◌, ◌++◌, ℕ, ◌+◌, ltb, eqb, length, insert_by, []}
+use Rattle.seq.specs.Seq.{Bool, true, false, cond, List, ℕ, ltb, eqb, length, insert_by, []}
 use Rattle.seq.specs.Terms.{Every, Ordered, Joins}
 use Rattle.seq.specs.Sorted.{insert-ordered}
 use Rattle.seq.specs.Tests.{clash, or_false}

@@ -1,11 +1,11 @@
 -- What is told of soundings that are counted, read back from the lent tables, of any number of map files: the rows are the counts (`told_entries`); they add up to the number of soundings (`told-total`); a row's count is how
 -- often its labels occur, and labels that stand in no row occur never (`told-times`); rows stand in strict order (`told-ordered`); the edges read are summed over soundings and maps (`told-read`), with a ceiling (`told-ceiling`); and past them there are zeros. Assumes nothing.
-use Rattle.std.specs.Prelude.{◌≡◌, refl, ◌<◌, ◌≤◌}
+use Rattle.std.specs.Prelude.{◌≡◌, refl, ◌<◌, ◌≤◌, ◌∷◌, ◌++◌, ◌+◌, ◌*◌, ◌-◌}
 use Rattle.std.proofs.Common.{sym, ◌∙◌, subst, append_assoc, mul-suc, mul-zero, zero-add, arith, get_or-append-add}
 use Rattle.std.proofs.Math.Path.{ap}
 use Rattle.std.proofs.lemmas.List.{length-map}
 use Rattle.std.proofs.Math.ListN.{get_or-append}
-use Rattle.seq.specs.Seq.{List, [], ◌∷◌, ◌++◌, map, Option, none, ℕ, zero, suc, ◌+◌, ◌*◌, ◌-◌, length, get_or, replicate, cell, table, ltb}
+use Rattle.seq.specs.Seq.{List, [], map, Option, none, ℕ, zero, suc, length, get_or, replicate, cell, table, ltb}
 use Rattle.seq.specs.Terms.{Every, Ordered}
 use Rattle.seq.specs.Table.{length-table, table_is, table-ext}
 use Rattle.paper.specs.Refusal.{Refusal, given, first_of, done}

@@ -1,13 +1,13 @@
 -- No crossing is missed: the next stop of the line is the first point of the queue (`queue_next`). It is a corner, or edges e and f of two maps cross there; then both are in the status, and by the
 -- sides of that point so is everything between them in the status through it; of neighbours there, two of one map would end there, two of different maps have been tested, so that the point is in the
 -- queue, unless all of them are parallel, which e and f are not. Assumes nothing.
-use Rattle.std.specs.Prelude.{◌≡◌, refl, ◌⊎◌, ◌<ℤ◌}
+use Rattle.std.specs.Prelude.{◌≡◌, refl, ◌⊎◌, ◌<ℤ◌, ◌∷◌, ◌++◌}
 use Rattle.std.proofs.Common.{sym, ◌∙◌, ap, subst, inl, inr, ⊎_elim}
 use Rattle.std.proofs.Math.Decide.{ℕ_discrete}
 use Rattle.exact.specs.Order.{Tri, lt, eq, gt, tri, <→≢}
 use Rattle.exact.specs.Sign.{Sign, neg, zer, plus, sgn, is_zer}
 use Rattle.exact.specs.Signs.{zero_is}
-use Rattle.seq.specs.Seq.{Bool, true, false, List, [], ◌∷◌, ◌++◌, ℤ, pos}
+use Rattle.seq.specs.Seq.{Bool, true, false, List, [], ℤ, pos}
 use Rattle.seq.specs.Terms.{Among, Rising, Pairs, Chain}
 use Rattle.seq.specs.Members.{++-among, among-++, among_one}
 use Rattle.seq.specs.Tests.{clash, never}

@@ -1,8 +1,8 @@
 -- The queue: points put into it, and what is found of new neighbours. Assumes nothing.
-use Rattle.std.specs.Prelude.{◌≡◌, refl, ◌⊎◌}
+use Rattle.std.specs.Prelude.{◌≡◌, refl, ◌⊎◌, ◌∷◌}
 use Rattle.std.proofs.Common.{sym, subst, inl, inr, ⊎_elim, eqb→eq}
 use Rattle.std.proofs.Math.Dec.{eqb_refl}
-use Rattle.seq.specs.Seq.{Bool, true, false, cond, List, [], ◌∷◌, Option, none, some, ℕ, eqb, optional}
+use Rattle.seq.specs.Seq.{Bool, true, false, cond, List, [], Option, none, some, ℕ, eqb, optional}
 use Rattle.seq.specs.Terms.{Among, Every, Rising, Ordered}
 use Rattle.seq.specs.Members.{in_every}
 use Rattle.seq.specs.Tests.{clash, true_T, T_true, not-true}

@@ -1,8 +1,8 @@
 -- Room: what the line has met and what is in the queue are never more than there are stops (`met_room`), and a table that
 -- is full says that there are more. With an empty queue all has been met (`met_all`). Assumes nothing.
-use Rattle.std.specs.Prelude.{◌≡◌, refl, ◌≤◌}
+use Rattle.std.specs.Prelude.{◌≡◌, refl, ◌≤◌, ◌∷◌, ◌++◌}
 use Rattle.std.proofs.Common.{sym, ◌∙◌, ap, append-nil, arith, length-append}
-use Rattle.seq.specs.Seq.{List, [], ◌∷◌, ◌++◌, ℕ, length}
+use Rattle.seq.specs.Seq.{List, [], ℕ, length}
 use Rattle.seq.specs.Fewer.{fewer, rising_each}
 use Rattle.paper.specs.Plane.{Pt, before}
 use Rattle.laws_sweep.specs.Sweep.{Strand}

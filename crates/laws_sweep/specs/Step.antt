@@ -1,9 +1,9 @@
 -- The step of `sweep` is a turn (`step-turn`), so it keeps the state (`stepped`): the status falls into three parts by the sides of v, since those rise along it. Assumes nothing.
-use Rattle.std.specs.Prelude.{◌≡◌, refl, ◌⊎◌}
+use Rattle.std.specs.Prelude.{◌≡◌, refl, ◌⊎◌, ◌∷◌, ◌++◌}
 use Rattle.std.proofs.Common.{sym, ◌∙◌, ap, subst, inl, inr, ⊎_elim}
 use Rattle.exact.specs.Sign.{Sign, neg, zer, plus, is_neg, is_zer}
 use Rattle.exact.specs.Signs.{plus_is, neg_is, zer_is}
-use Rattle.seq.specs.Seq.{true, false, List, [], ◌∷◌, ◌++◌}
+use Rattle.seq.specs.Seq.{true, false, List, []}
 use Rattle.seq.specs.Terms.{Among, Pairs}
 use Rattle.seq.specs.Members.{++-among, among-++}
 use Rattle.seq.specs.Tests.{never}

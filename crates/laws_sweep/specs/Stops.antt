@@ -1,12 +1,12 @@
 -- The line stops at the stops and nowhere else, in order (`swept_left`, `stops-swept`): by a step at a time, from a point before all of them. Also after fewer steps than there are stops: then at the
 -- first so many. At every step what has been met and the queue together are a rising list of stops, so that there are never more of them than stops. Assumes nothing.
-use Rattle.std.specs.Prelude.{◌≡◌, ℤ, pos, ◌-ℤ◌, ◌*ℤ◌, ◌<ℤ◌}
+use Rattle.std.specs.Prelude.{◌≡◌, ℤ, pos, ◌-ℤ◌, ◌*ℤ◌, ◌<ℤ◌, ◌∷◌}
 use Rattle.std.proofs.Math.Path.{refl, ap, subst}
 use Rattle.std.proofs.Common.{sym, ◌∙◌, inl, ⊎_elim}
 use Rattle.exact.specs.Solve.{ring, reify}
 use Rattle.exact.specs.Order.{0<-*}
 use Rattle.exact.specs.Mul.{0<-by}
-use Rattle.seq.specs.Seq.{true, List, [], ◌∷◌, ℕ, zero, suc, take}
+use Rattle.seq.specs.Seq.{true, List, [], ℕ, zero, suc, take}
 use Rattle.seq.specs.Terms.{Among, Rising}
 use Rattle.seq.specs.Tests.{clash}
 use Rattle.seq.specs.Search.{trail}

@@ -3,7 +3,8 @@
 -- those that have it on their left. The edges through the point that go on, and those that start there, take the place of those through it, the greatest angle first. The edges that have not
 -- started wait in the order of their lower ends. Where two edges are neighbours for the first time, their crossing, if it is still ahead, goes into the queue. Each list is what a table of the
 -- code holds, step by step. Assumes nothing.
-use Rattle.seq.specs.Seq.{Bool, cond, List, [], ◌∷◌, ◌++◌, Option, none, some, ℕ, zero, suc, eqb, length, table, rows, optional, insert_by}
+use Rattle.std.specs.Prelude.{◌∷◌, ◌++◌}
+use Rattle.seq.specs.Seq.{Bool, cond, List, [], Option, none, some, ℕ, zero, suc, eqb, length, table, rows, optional, insert_by}
 use Rattle.seq.specs.Search.{lead, trail}
 use Rattle.seq.specs.Slotted.{slots}
 use Rattle.seq.specs.Pairs.{first, last}

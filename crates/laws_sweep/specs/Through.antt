@@ -1,10 +1,10 @@
 -- Which edges go through the next stop v of the line: those in the middle part of the status and those that start there (`through_on`, `start_on`), and no others (`on_through`). So a line that stops at
 -- v has before it every edge that v lies on. Assumes nothing.
-use Rattle.std.specs.Prelude.{◌≡◌, ◌⊎◌}
+use Rattle.std.specs.Prelude.{◌≡◌, ◌⊎◌, ◌∷◌, ◌++◌}
 use Rattle.std.proofs.Common.{sym, ◌∙◌, ap, subst, inl, inr, ⊎_elim}
 use Rattle.exact.specs.Sign.{sgn, is_neg, is_zer}
 use Rattle.exact.specs.Signs.{zer_is}
-use Rattle.seq.specs.Seq.{true, List, ◌∷◌, ◌++◌, ℤ}
+use Rattle.seq.specs.Seq.{true, List, ℤ}
 use Rattle.seq.specs.Terms.{Among}
 use Rattle.seq.specs.Members.{++-among, among-++}
 use Rattle.seq.specs.Tests.{never}

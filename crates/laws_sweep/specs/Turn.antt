@@ -1,11 +1,11 @@
 -- A step of the sweep keeps its state (`turned`), however it is made: the line goes from p to the next stop v, and the edges through v are exchanged for those that leave it upward. `Turn` is what
 -- a step has to bring about. In order: that; what the line cuts just above v; the new order; the new queue; the neighbours. Assumes nothing.
-use Rattle.std.specs.Prelude.{◌≡◌, refl, ◌⊎◌, ◌<ℤ◌}
+use Rattle.std.specs.Prelude.{◌≡◌, refl, ◌⊎◌, ◌<ℤ◌, ◌∷◌, ◌++◌}
 use Rattle.std.proofs.Common.{sym, ◌∙◌, ap, subst, inl, inr, ⊎_elim}
 use Rattle.exact.specs.Lowest.{lowest-fixed}
 use Rattle.exact.specs.Sign.{Sign, neg, zer, plus, sgn, is_zer, Sg, sg}
 use Rattle.exact.specs.Signs.{not_less_is}
-use Rattle.seq.specs.Seq.{Bool, true, false, List, ◌∷◌, ◌++◌, pos}
+use Rattle.seq.specs.Seq.{Bool, true, false, List, pos}
 use Rattle.seq.specs.Terms.{Among, Rising, Pairs, Chain}
 use Rattle.seq.specs.Members.{++-among, among-++}
 use Rattle.seq.specs.Tests.{clash, never, not-false}

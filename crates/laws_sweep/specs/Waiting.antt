@@ -1,8 +1,8 @@
 -- The edges that have not started wait in the order of their lower ends (`Waiting`). Those that start at the next stop are the first of them, and no others (`starting`, `starting_has`), and the rest
 -- wait on (`waits_on`). Assumes nothing.
-use Rattle.std.specs.Prelude.{◌≡◌, ◌⊎◌}
+use Rattle.std.specs.Prelude.{◌≡◌, ◌⊎◌, ◌∷◌}
 use Rattle.std.proofs.Common.{sym, subst, inl, inr, ⊎_elim}
-use Rattle.seq.specs.Seq.{true, false, List, [], ◌∷◌}
+use Rattle.seq.specs.Seq.{true, false, List, []}
 use Rattle.seq.specs.Terms.{Among, Pairs}
 use Rattle.seq.specs.Members.{++-among, among-++}
 use Rattle.seq.specs.Tests.{clash, not-true, not-false}

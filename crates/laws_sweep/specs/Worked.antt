@@ -1,7 +1,7 @@
 -- The sweep at work on small maps, computed: each list is what `vertices_of` gives, worked out by other means. Assumes nothing.
-use Rattle.std.specs.Prelude.{◌≡◌, refl}
+use Rattle.std.specs.Prelude.{◌≡◌, refl, ◌∷◌}
 use Rattle.exact.specs.Exact.{gcd_of}
-use Rattle.seq.specs.Seq.{List, [], ◌∷◌, ℕ, ℤ, pos, negsuc}
+use Rattle.seq.specs.Seq.{List, [], ℕ, ℤ, pos, negsuc}
 use Rattle.paper.specs.Plane.{Pt, vec}
 use Rattle.paper.specs.Map.{map_of}
 use Rattle.paper.specs.Sample.{arc, map_file, zone}

@@ -1,7 +1,7 @@
 -- How large a float of 64 bits is, for any float: `AtMost B x` says that x is finite and its magnitude is at most B. In order: a wider bound; the order of two floats as that of their
 -- fractions; a fraction of at most B, a whole number, is rounded to a float of at most B (`round_at_most`); so a product is at most the product of the bounds and a sum at most their
 -- sum (`mul_at_most`, `add_at_most`); a whole number is a float of its size (`int_at_most`). Assumes nothing.
-use Rattle.std.specs.Prelude.{◌≡◌, refl, suc, ◌^◌, ◌≤◌, ◌<◌, T, eqb, Float}
+use Rattle.std.specs.Prelude.{◌≡◌, refl, suc, ◌^◌, ◌≤◌, ◌<◌, T, eqb, Float, ◌&&◌, ◌||◌, ◌+◌, ◌*◌, ◌-◌}
 use Rattle.std.proofs.Common.{sym, ap, ◌∙◌, subst, inl, inr, le_trans, le_of_eq, le_of_lt, mul_comm, mul_assoc, mul_right_comm, mul-le-mul, mul-le-mul_right, le_of_mul-le-mul_right, mul-one, mul-pos, add-mul, zero-lt-suc, arith, ltb→lt, eqb→eq, pow_pos}
 use Rattle.std.specs.Bool.{beq}
 use Rattle.std.proofs.Math.Nat.{mul-mul-mul_comm}
@@ -12,7 +12,7 @@ use Rattle.std.specs.Float.Ieee.Exact.{HasValue, units_val}
 use Rattle.std.specs.Float.Ieee.Order.{drop, kept, round_mono, transfer}
 use Rattle.std.specs.Float.Ieee.Scale.{grid, overflow, finite, round_val, round_under}
 use Rattle.std.specs.Float.Ieee.Back.{round_whole}
-use Rattle.seq.specs.Seq.{Bool, true, false, cond, ◌&&◌, ◌||◌, ℕ, ◌+◌, ◌*◌, ◌-◌, ltb, ℤ, pos, negsuc, nat_abs}
+use Rattle.seq.specs.Seq.{Bool, true, false, cond, ℕ, ltb, ℤ, pos, negsuc, nat_abs}
 use Rattle.exact.specs.Tests.{never, true_of, true_T, or_cases}
 
 abbrev pub AtMost : ℕ → Float → Type 0

@@ -1,11 +1,11 @@
 -- How large a height is: a ratio is at most 4, a weight at most 1, a reading at most 20,000, each in magnitude; so a height is at most 80,000, before rounding (`height-small`) and as whole
 -- millimetres (`nearest_at_most`), and none that is answered is larger or not finite (`tide-small`). Assumes nothing.
-use Rattle.std.specs.Prelude.{◌≡◌, suc, ◌^◌, ◌≤◌, ◌<◌, T, eqb, Float}
+use Rattle.std.specs.Prelude.{◌≡◌, suc, ◌^◌, ◌≤◌, ◌<◌, T, eqb, Float, ◌∷◌, ◌&&◌, ◌+◌, ◌*◌}
 use Rattle.std.proofs.Common.{sym, ap, ◌∙◌, subst, zero-le, le_of_suc-le-suc, le_trans, le_of_eq, mul_left_comm, le_of_mul-le-mul_right, mul-one, one-mul, div-lt_iff_lt-mul, suc-mul, arith, leb→le, eqb→eq, lit≤}
 use Rattle.std.specs.Float.{nan, inf, fin, binary64}
 use Rattle.std.specs.Float.Ieee.{up, down, le, mul}
 use Rattle.std.specs.Float.Ieee.Fits.{and_l, and_r, down_pos}
-use Rattle.seq.specs.Seq.{[], ◌∷◌, none, Bool, true, false, not, ◌&&◌, ℕ, ◌+◌, ◌*◌, ℤ, pos, negsuc, nat_abs}
+use Rattle.seq.specs.Seq.{[], none, Bool, true, false, not, ℕ, ℤ, pos, negsuc, nat_abs}
 use Rattle.seq.specs.Tests.{true_T, was-true}
 use Rattle.paper.specs.Limits.{gauge_reach}
 use Rattle.paper.specs.Refusal.{given, done}

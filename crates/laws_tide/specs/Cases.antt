@@ -1,7 +1,7 @@
 -- The cases of the height operation in their order: refusals 14, 15 and 16, and the height; and the whole from a refusal and a height, as code has them. Assumes nothing.
-use Rattle.std.specs.Prelude.{◌≡◌, refl, Float}
+use Rattle.std.specs.Prelude.{◌≡◌, refl, Float, ◌∷◌}
 use Rattle.std.proofs.Common.{sym, ◌∙◌, subst}
-use Rattle.seq.specs.Seq.{Bool, true, false, not, ℕ, ◌∷◌, [], Option, none}
+use Rattle.seq.specs.Seq.{Bool, true, false, not, ℕ, [], Option, none}
 use Rattle.paper.specs.Refusal.{Refusal, given, first_of, answer, Answer, done}
 use Rattle.paper.specs.Tide.{TideRule, unset, Reading, missing, Height, is_unset, in_range, readings_good, tide_refusal, height_of, nearest_whole, tide_of, tide}
 use Rattle.laws_tide.specs.AtMost.{AtMost}

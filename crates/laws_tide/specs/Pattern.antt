@@ -1,7 +1,7 @@
 -- The nearest whole number from a float's bits: the pattern b of a finite float of magnitude below 2 ^ 31 has its sign in the highest bit, an exponent's field
 -- of 11 bits and 52 digits. From the field 1022 on the magnitude is (2 ^ 52 + digits) / 2 ^ (1075 - field), and below that it is less than a half. Assumes
 -- nothing.
-use Rattle.std.specs.Prelude.{◌≡◌, refl, zero, suc, ◌^◌, ◌≤◌, ◌<◌, T, eqb, Float}
+use Rattle.std.specs.Prelude.{◌≡◌, refl, zero, suc, ◌^◌, ◌≤◌, ◌<◌, T, eqb, Float, ◌+◌, ◌*◌, ◌-◌, ◌/◌, ◌%◌}
 use Rattle.std.proofs.Common.{sym, ap, ◌∙◌, subst, zero-le, le_trans, le_of_eq, lt_of_lt_of_le, lt_of_le_of_lt, lt_of_not-le, lt_irrefl, not-le_of_lt, mul_comm, mul_assoc, mul_left_comm, mul_right_comm, mul-le-mul_right, le_of_mul-le-mul_right, one-mul, mul-pos, add-mul, le-add_right, mod-lt, mul-lt-mul_of_pos_right, mod-eq_of_lt, arith, ltb→lt, lt→ltb, le→leb, nltb→le, lit≤, lit<, pow-add, pow_pos, pow_mono, shl_lt}
 use Rattle.std.proofs.Math.Nat.{div-eq_of_lt, pow-succ'}
 use Rattle.std.proofs.Math.Arith.{lt→nleb}
@@ -12,7 +12,7 @@ use Rattle.std.specs.Float.Ieee.Fits.{down_pos}
 use Rattle.std.specs.Float.Ieee.Bits.{of_bits-to_bits, is_true, is_false}
 use Rattle.std.specs.Float.Ieee.Exact.{HasValue, odd_sign}
 use Rattle.std.specs.Float.Ieee.Nearest.{div_same}
-use Rattle.seq.specs.Seq.{Bool, true, false, cond, not, ℕ, ◌+◌, ◌*◌, ◌-◌, ◌/◌, ◌%◌, leb, ltb, pos, neg_ℤ, nat_abs}
+use Rattle.seq.specs.Seq.{Bool, true, false, cond, not, ℕ, leb, ltb, pos, neg_ℤ, nat_abs}
 use Rattle.paper.specs.Tide.{signed, the_half_up, nearest_whole}
 use Rattle.laws_tide.specs.Nearest.{twice, abs-signed}
 use Rattle.laws_tide.specs.AtMost.{AtMost}

@@ -1,12 +1,12 @@
 -- What the ranges mean in whole numbers: a float m · 2 ^ e, which is the fraction m · up e / down e, is in a range exactly where its numerator and its
 -- denominator say so; with a minus sign only a zero is, and no NaN and no infinity. Assumes nothing.
-use Rattle.std.specs.Prelude.{◌≡◌, refl, ◌≤◌, ◌<◌, T, eqb}
+use Rattle.std.specs.Prelude.{◌≡◌, refl, ◌≤◌, ◌<◌, T, eqb, ◌&&◌, ◌||◌, ◌*◌}
 use Rattle.std.proofs.Common.{subst, inl, inr, eq-or-lt_of_le, arith, lt→ltb, eqb→eq}
 use Rattle.std.proofs.Math.Dec.{eqb_refl}
 use Rattle.std.specs.Float.{inf, fin}
 use Rattle.std.specs.Float.Ieee.{up, down, le}
 use Rattle.std.specs.Float.Ieee.Fits.{and_i, and_l, and_r, down_pos}
-use Rattle.seq.specs.Seq.{Bool, true, false, ◌&&◌, ◌||◌, ℕ, ◌*◌, ltb, ℤ, pos, negsuc}
+use Rattle.seq.specs.Seq.{Bool, true, false, ℕ, ltb, ℤ, pos, negsuc}
 use Rattle.paper.specs.Tide.{ratio_in, weight_in}
 use Rattle.laws_tide.specs.AtMost.{le_or_eq}
 

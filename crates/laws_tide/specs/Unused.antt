@@ -1,10 +1,10 @@
 -- What the height operation does not look at: both readings where the rule is none or out of range, and the second where it is a ratio. A NaN is out of every
 -- range, and -0 counts as 0. Assumes nothing.
-use Rattle.std.specs.Prelude.{◌≡◌, refl, Float}
+use Rattle.std.specs.Prelude.{◌≡◌, refl, Float, ◌&&◌}
 use Rattle.std.proofs.Common.{sym, ◌∙◌}
 use Rattle.std.specs.Float.{nan, fin}
 use Rattle.std.specs.Float.Ieee.{le}
-use Rattle.seq.specs.Seq.{Bool, true, false, ◌&&◌, pos}
+use Rattle.seq.specs.Seq.{Bool, true, false, pos}
 use Rattle.paper.specs.Tide.{TideRule, unset, ratio, weights, Reading, is_unset, ratio_in, weight_in, in_range, tide}
 use Rattle.laws_tide.specs.Cases.{no_rule, out_of_range}
 

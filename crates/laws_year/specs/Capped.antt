@@ -1,7 +1,7 @@
 -- The year with room for 500 pairs only: the tallies are kept as long as there are no more, and then the fact that there are more. The answer is the same (`capped-answer`). Assumes nothing.
-use Rattle.std.specs.Prelude.{◌≡◌, refl, ◌⊎◌, ◌≤◌, ◌<◌}
+use Rattle.std.specs.Prelude.{◌≡◌, refl, ◌⊎◌, ◌≤◌, ◌<◌, ◌&&◌, ◌∷◌, ◌+◌}
 use Rattle.std.proofs.Common.{sym, ◌∙◌, ap, subst, inl, inr, arith, ltb-true, ltb-false, lt-ltb, le-ltb}
-use Rattle.seq.specs.Seq.{Bool, true, false, cond, not, ◌&&◌, List, [], ◌∷◌, map, Option, none, some, ℕ, suc, ◌+◌, ltb, length}
+use Rattle.seq.specs.Seq.{Bool, true, false, cond, not, List, [], map, Option, none, some, ℕ, suc, ltb, length}
 use Rattle.seq.specs.HowMany.{how_many}
 use Rattle.paper.specs.Limits.{year_files, year_pairs}
 use Rattle.paper.specs.Refusal.{given, first_of, Refusal, Answer, answer}

@@ -1,10 +1,10 @@
 -- The lists of names. A list ends well exactly if it is entries end to end (`list-whole`, `whole-list`); the name that is found is that of the first entry for the label, or empty
 -- (`name_is`); it is a part that lies within the list (`part_within`); and a walk from entry to entry, with no bound on their number, finds the same (`whole_next`, `name_next` and
 -- those beside them). Assumes nothing.
-use Rattle.std.specs.Prelude.{◌≡◌, refl, ◌⊎◌, ◌≤◌, ◌<◌}
+use Rattle.std.specs.Prelude.{◌≡◌, refl, ◌⊎◌, ◌≤◌, ◌<◌, ◌∷◌, ◌++◌, ◌+◌, ◌^◌}
 use Rattle.std.proofs.Common.{sym, ◌∙◌, ap, subst, inl, inr, ⊎_elim, le_refl, arith, leb-true, le-leb, eqb-true, eq-eqb, ne_eqb, length-append, length-drop, drop-cons, length-take-le}
 use Rattle.std.proofs.lemmas.Bool.{lt-leb}
-use Rattle.seq.specs.Seq.{Bool, true, false, cond, List, [], ◌∷◌, ◌++◌, Option, none, some, Option·getD, ℕ, zero, suc, ◌+◌, ◌^◌, leb, eqb, length, take, drop, gather}
+use Rattle.seq.specs.Seq.{Bool, true, false, cond, List, [], Option, none, some, Option·getD, ℕ, zero, suc, leb, eqb, length, take, drop, gather}
 use Rattle.seq.specs.Terms.{Every}
 use Rattle.paper.specs.Bytes.{byte_at, u16, le}
 use Rattle.laws_file.specs.Bytes.{Bytes, Stands, number_of, number_below, le-number}

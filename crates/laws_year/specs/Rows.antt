@@ -1,8 +1,8 @@
 -- The year's table: strictly sorted by pair, a row for each pair that occurs and no other, with at least one sheet, no more sheets than faces; and the faces of all rows add up to the
 -- faces of all sheets, those of the rows that are gaps to the gaps. Assumes nothing.
-use Rattle.std.specs.Prelude.{◌≡◌, refl, ◌≤◌}
+use Rattle.std.specs.Prelude.{◌≡◌, refl, ◌≤◌, ◌∷◌, ◌+◌}
 use Rattle.std.proofs.Common.{sym, ◌∙◌, ap, subst, inl, inr, le_refl, arith, length-append}
-use Rattle.seq.specs.Seq.{Bool, true, false, cond, List, [], ◌∷◌, ℕ, suc, ◌+◌, length, is_in}
+use Rattle.seq.specs.Seq.{Bool, true, false, cond, List, [], ℕ, suc, length, is_in}
 use Rattle.seq.specs.Terms.{Among, Rising}
 use Rattle.seq.specs.Members.{among-map, map-among, among-gather, gather-among}
 use Rattle.seq.specs.PairOrder.{pair_before, same_pair, same_pair_is, is_same_pair, not_same, same_pair-self, pair-irr}

@@ -1,12 +1,12 @@
 -- The year file by file is the year over the whole run: `state-answer`. File by file is the whole list in any two parts (`from-++`); tallies only grow, so more than 500 stay more than 500
 -- (`run-grows`, `over_stays`), and the first file that the reader refuses stays the one that is named (`bad-stays`, `bad-named`). Assumes nothing.
-use Rattle.std.specs.Prelude.{◌≡◌, refl, ◌≤◌, ◌<◌}
+use Rattle.std.specs.Prelude.{◌≡◌, refl, ◌≤◌, ◌<◌, ◌&&◌, ◌∷◌, ◌++◌, ◌+◌}
 use Rattle.std.proofs.Common.{sym, ◌∙◌, ap, subst, append-nil, le_refl, add-zero, add-one, arith, ltb-true, ltb-false, lt-ltb, length-append, take_all}
 use Rattle.std.proofs.Math.Decide.{dec_lt}
 use Rattle.std.proofs.Math.ListN.{get_or-append}
 use Rattle.std.proofs.Math.Seq.{append_snoc}
 use Rattle.std.proofs.lemmas.List.{get_or_at, take-append-le}
-use Rattle.seq.specs.Seq.{Bool, true, false, cond, not, ◌&&◌, List, [], ◌∷◌, ◌++◌, map, Option, none, some, ℕ, suc, ◌+◌, min, ltb, length, get_or, take, is_in, gather, optional, least}
+use Rattle.seq.specs.Seq.{Bool, true, false, cond, not, List, [], map, Option, none, some, ℕ, suc, min, ltb, length, get_or, take, is_in, gather, optional, least}
 use Rattle.seq.specs.Terms.{Among}
 use Rattle.seq.specs.Tests.{not-true}
 use Rattle.seq.specs.Members.{length-map, gather-++}

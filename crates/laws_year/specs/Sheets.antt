@@ -1,8 +1,8 @@
 -- A file as a sheet: it has at most 1,333 faces other than 0 (`sheet_few`), and so a year at most 533,200 (`year_few`), which is what bounds every number that is printed.
 -- Assumes nothing.
-use Rattle.std.specs.Prelude.{◌≡◌, refl, ◌≤◌}
+use Rattle.std.specs.Prelude.{◌≡◌, refl, ◌≤◌, ◌∷◌, ◌++◌, ◌+◌, ◌*◌, ◌-◌}
 use Rattle.std.proofs.Common.{sym, ◌∙◌, ap, inl, inr, le_refl, mul-suc, arith, length-append, length-take}
-use Rattle.seq.specs.Seq.{List, [], ◌∷◌, ◌++◌, map, Option, none, some, ℕ, suc, ◌+◌, ◌*◌, ◌-◌, not, length, take, gather, optional}
+use Rattle.seq.specs.Seq.{List, [], map, Option, none, some, ℕ, suc, not, length, take, gather, optional}
 use Rattle.seq.specs.Terms.{Among}
 use Rattle.seq.specs.Members.{map-among, gather-among, take-among}
 use Rattle.seq.specs.Table.{length-table}

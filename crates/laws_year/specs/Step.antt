@@ -1,5 +1,6 @@
 -- The year file by file, as a program keeps it: a state by value after each file (02, Ask 14). Year has the same over the whole run; Run has that they agree. Assumes nothing.
-use Rattle.seq.specs.Seq.{Bool, cond, not, ◌&&◌, List, [], ◌∷◌, Option, none, some, ℕ, suc, ◌+◌, ltb, eqb, length, insert_by, map}
+use Rattle.std.specs.Prelude.{◌&&◌, ◌∷◌, ◌+◌}
+use Rattle.seq.specs.Seq.{Bool, cond, not, List, [], Option, none, some, ℕ, suc, ltb, eqb, length, insert_by, map}
 use Rattle.seq.specs.PairOrder.{pair_before}
 use Rattle.seq.specs.HowMany.{how_many}
 use Rattle.paper.specs.Limits.{year_files, year_pairs}

@@ -1,9 +1,9 @@
 -- The pairs of a file are the first two labels stored of each face (`sheet-stored`), so that it makes no difference into tables of how many maps it is read (`pairs_same`).
 -- Assumes nothing.
-use Rattle.std.specs.Prelude.{◌≡◌, ◌≤◌, ◌<◌}
+use Rattle.std.specs.Prelude.{◌≡◌, ◌≤◌, ◌<◌, ◌+◌, ◌*◌, ◌-◌}
 use Rattle.std.proofs.Common.{sym, ◌∙◌, ap, mul-suc, mul-le-mul_left, arith}
 use Rattle.std.proofs.Math.ListN.{get_or-append}
-use Rattle.seq.specs.Seq.{List, Option, none, some, ℕ, suc, ◌+◌, ◌*◌, ◌-◌, length, replicate, table}
+use Rattle.seq.specs.Seq.{List, Option, none, some, ℕ, suc, length, replicate, table}
 use Rattle.seq.specs.Table.{table-ext}
 use Rattle.seq.specs.Options.{none_some, some_once}
 use Rattle.paper.specs.Bytes.{u16}

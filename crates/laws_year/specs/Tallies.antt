@@ -1,9 +1,9 @@
 -- Adding faces one by one: the tallies of some sheets, with one face more of file n, are the tallies of those sheets with that face (`add-face`), and so for all faces of a sheet
 -- (`add-faces`, `add-sheet`). And tallies only grow in number. Assumes nothing.
-use Rattle.std.specs.Prelude.{◌≡◌, refl, ◌≤◌, ◌<◌}
+use Rattle.std.specs.Prelude.{◌≡◌, refl, ◌≤◌, ◌<◌, ◌∷◌, ◌++◌, ◌+◌}
 use Rattle.std.proofs.Common.{sym, ◌∙◌, ap, subst, inl, inr, ⊎_elim, append-nil, le_refl, add-zero, add-suc, arith, eq-eqb, ne_eqb}
 use Rattle.std.proofs.Math.Seq.{append_snoc}
-use Rattle.seq.specs.Seq.{Bool, true, false, cond, List, [], ◌∷◌, ◌++◌, map, ℕ, suc, ◌+◌, length, is_in, insert_by}
+use Rattle.seq.specs.Seq.{Bool, true, false, cond, List, [], map, ℕ, suc, length, is_in, insert_by}
 use Rattle.seq.specs.Terms.{Among, Rising}
 use Rattle.seq.specs.Tests.{clash, not-true}
 use Rattle.seq.specs.Members.{among-++, ++-among}

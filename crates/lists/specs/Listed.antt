@@ -1,6 +1,6 @@
 -- An outcome listed: its text, and the answer that it tells. Assumes nothing.
-use Rattle.std.specs.Prelude.{◌≡◌, ◌≤◌}
-use Rattle.seq.specs.Seq.{List, ℕ, ◌*◌}
+use Rattle.std.specs.Prelude.{◌≡◌, ◌≤◌, ◌*◌}
+use Rattle.seq.specs.Seq.{List, ℕ}
 use Rattle.paper.specs.Limits.{maps, overlay_vertices, overlay_edges, overlay_faces}
 use Rattle.paper.specs.Refusal.{Answer, done, refused}
 use Rattle.paper.specs.Tables.{Counts, vertex_width, half_width, face_width}

@@ -1,8 +1,9 @@
 -- What the code reckons of whole numbers is what the definitions reckon of points with denominator 1. Assumes nothing.
+use Rattle.std.specs.Prelude.{◌+ℤ◌, ◌-ℤ◌, ◌*ℤ◌}
 use mathlib.Core.Path.{◌≡◌, ◌∙◌, ap}
 use mathlib.Core.List.{[], ◌∷◌}
 use lib.Signed.{lt_z}
-use Rattle.seq.specs.Seq.{ℤ, pos, ◌+ℤ◌, ◌-ℤ◌, ◌*ℤ◌}
+use Rattle.seq.specs.Seq.{ℤ, pos}
 use Rattle.exact.specs.Solve.{ring, reify}
 use Rattle.exact.specs.Sign.{sgn, is_neg}
 use Rattle.exact.specs.Tests.{lt-sign}

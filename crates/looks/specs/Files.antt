@@ -1,8 +1,8 @@
 -- The tables of a file that passes the check: its graph is plane, no two edges of it share a stretch, and each edge's carrier goes from its lower to its upper end. So with its edges in the order of lower
 -- ends, laid for looks, the map is `Railed` (`file-railed`). Assumes nothing.
-use Rattle.std.specs.Prelude.{◌≡◌, refl, ◌≤◌, ◌<◌}
+use Rattle.std.specs.Prelude.{◌≡◌, refl, ◌≤◌, ◌<◌, ◌*◌}
 use Rattle.std.proofs.Common.{sym, ◌∙◌, ap, subst, arith, get_or-take}
-use Rattle.seq.specs.Seq.{List, none, ℕ, ◌*◌, length, get_or, take, ℤ, pos, cell, filled, laid}
+use Rattle.seq.specs.Seq.{List, none, ℕ, length, get_or, take, ℤ, pos, cell, filled, laid}
 use Rattle.seq.specs.Filled.{filled_at, length-filled}
 use Rattle.seq.specs.Laid.{laid_at, length-laid}
 use Rattle.paper.specs.Graph.{Graph, edge, goes_up, east_side}

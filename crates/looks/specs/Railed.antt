@@ -1,8 +1,8 @@
 -- A graph whose edges are laid for looks (`Railed`): by lower end, as rows from lower to upper end, with the labels on their east sides. A look in the rows sees what the look of 01 sees, so that its label is
 -- the one that 01's look gives (`railed-label`), and reads the edges whose lower y is not above the corner's (`railed-read`), no more than there are (`reads_few`). Assumes nothing.
-use Rattle.std.specs.Prelude.{◌≡◌, refl, ◌≤◌, ◌<◌}
+use Rattle.std.specs.Prelude.{◌≡◌, refl, ◌≤◌, ◌<◌, ◌&&◌}
 use Rattle.std.proofs.Common.{sym, ◌∙◌, ap, arith}
-use Rattle.seq.specs.Seq.{Bool, true, false, not, ◌&&◌, List, Option, none, some, Option·map, ℕ, length, get_or, ℤ, least, best, or_zero}
+use Rattle.seq.specs.Seq.{Bool, true, false, not, List, Option, none, some, Option·map, ℕ, length, get_or, ℤ, least, best, or_zero}
 use Rattle.seq.specs.Least.{least_min, least-ext, least-le}
 use Rattle.seq.specs.Best.{best_has}
 use Rattle.seq.specs.BestLoop.{best-ext}

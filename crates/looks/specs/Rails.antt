@@ -1,8 +1,8 @@
 -- Edges laid for looks: rows of an edge's lower end and the way to its upper end, in the order of lower ends. What a look from a corner asks of a row, how many rows it reads (`rails_read`), what it sees
 -- (`rail_seen`) and the label of that (`rail_label`); and what the loop holds before a turn (`Reading`). Assumes nothing.
-use Rattle.std.specs.Prelude.{◌≡◌, refl, ◌≤◌, ◌<◌}
+use Rattle.std.specs.Prelude.{◌≡◌, refl, ◌≤◌, ◌<◌, ◌&&◌, ◌∷◌, ◌+◌, ◌*◌}
 use Rattle.std.proofs.Common.{sym, ◌∙◌, ap, arith, lt-ltb, le-ltb}
-use Rattle.seq.specs.Seq.{Bool, true, false, cond, ◌&&◌, List, [], ◌∷◌, Option, none, some, Option·getD, ℕ, ◌+◌, ◌*◌, ltb, get_or, ℤ, least, best, or_zero}
+use Rattle.seq.specs.Seq.{Bool, true, false, cond, List, [], Option, none, some, Option·getD, ℕ, ltb, get_or, ℤ, least, best, or_zero}
 use Rattle.seq.specs.Least.{least_more, least_min, least_by, least-le}
 use Rattle.seq.specs.Best.{best_has}
 use Rattle.seq.specs.Pick.{pick, better, pick-turn, pick_below}

@@ -1,7 +1,7 @@
 -- Rows that are no edges between corners (`strays_at`), as the code finds them; and that where there is none the rows are `Carriers`, and the other way round (`kept-carriers`, `carriers-kept`). Assumes nothing.
-use Rattle.std.specs.Prelude.{◌≡◌, ◌≤◌, ◌<◌}
+use Rattle.std.specs.Prelude.{◌≡◌, ◌≤◌, ◌<◌, ◌||◌, ◌*◌, ◌+ℤ◌}
 use Rattle.std.proofs.Common.{sym, ◌∙◌, ap, ltb-false, lt-ltb, le-ltb}
-use Rattle.seq.specs.Seq.{Bool, true, false, ◌||◌, List, ℕ, ◌*◌, length, ltb, the_some_below, ℤ, ◌+ℤ◌, nat_abs}
+use Rattle.seq.specs.Seq.{Bool, true, false, List, ℕ, length, ltb, the_some_below, ℤ, nat_abs}
 use Rattle.seq.specs.Tests.{or_l, or_false}
 use Rattle.seq.specs.Least.{no_some, no_some_is}
 use Rattle.paper.specs.Limits.{reach}

@@ -1,5 +1,6 @@
 -- What the graph of a file that passes rules 1 to 7 gives to the code over flat tables: its points and carriers are within 01's bounds, and every origin
 -- names a vertex. Assumes nothing.
+use Rattle.std.specs.Prelude.{◌∷◌, ◌+◌, ◌*◌, ◌/◌, ◌%◌, ◌+ℤ◌, ◌-ℤ◌}
 use mathlib.Core.Bool.{Bool, true, false, cond}
 use mathlib.Core.Path.{◌≡◌, sym, subst}
 use Prim.Native.Nat.{◌≤◌, ◌<◌}
@@ -7,7 +8,7 @@ use native.Mathlib.Decide.{dec_lt}
 use native.Mathlib.Nat.{le_trans}
 use native.Mathlib.Omega.{arith}
 use lib.Dec.{lit≤}
-use Rattle.seq.specs.Seq.{List, [], ◌∷◌, ℕ, ◌+◌, ◌*◌, ◌/◌, ◌%◌, ℤ, nat_abs, neg_ℤ, ◌+ℤ◌, ◌-ℤ◌}
+use Rattle.seq.specs.Seq.{List, [], ℕ, ℤ, nat_abs, neg_ℤ}
 use Rattle.exact.specs.Abs.{abs-+, abs_neg}
 use Rattle.exact.specs.Solve.{ring, reify}
 use Rattle.paper.specs.Graph.{point, edge, origin}

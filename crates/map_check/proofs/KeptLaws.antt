@@ -1,8 +1,9 @@
 -- A map file in which rules 1 to 7 find nothing has its counts within the limits, its corners within range, and ends that name vertices. Assumes nothing.
+use Rattle.std.specs.Prelude.{◌||◌, ◌+◌, ◌*◌}
 use mathlib.Core.Path.{◌≡◌, sym, ap, ◌∙◌}
 use Prim.Native.Nat.{◌≤◌, ◌<◌}
 use borrow.Author.Tests.{ltb-false}
-use Rattle.seq.specs.Seq.{false, ◌||◌, none, List, ℕ, ◌+◌, ◌*◌, ltb, length, nat_abs}
+use Rattle.seq.specs.Seq.{false, none, List, ℕ, ltb, length, nat_abs}
 use Rattle.seq.specs.Tests.{or_false}
 use Rattle.paper.specs.Limits.{map_vertices, map_edges, reach}
 use Rattle.paper.specs.Refusal.{first_of}

@@ -1,12 +1,13 @@
 -- The tables of the map of a file: what was laid over a table stands in it; the tables hold the map's graph (`graph-held`), and where rules 1 to 7 find nothing
 -- they are within the bounds that the code over flat tables asks (`held-flat`). Assumes nothing.
+use Rattle.std.specs.Prelude.{◌+◌, ◌*◌}
 use mathlib.Core.Path.{◌≡◌, refl, sym, ap, ◌∙◌, subst}
 use Prim.Native.Nat.{◌≤◌, ◌<◌}
 use native.Mathlib.Omega.{arith}
 use Rattle.seq.specs.Filled.{length-filled, filled_at, filled-holds, front-table}
 use Rattle.seq.specs.Laid.{length-laid, laid_at}
 use Rattle.seq.specs.Table.{table_is, length-table}
-use Rattle.seq.specs.Seq.{List, ℕ, ◌+◌, ◌*◌, length, get_or, table, ℤ, pos, cell, filled, laid}
+use Rattle.seq.specs.Seq.{List, ℕ, length, get_or, table, ℤ, pos, cell, filled, laid}
 use Rattle.exact.specs.Lowest.{pt}
 use Rattle.paper.specs.Plane.{whole, nowhere}
 use Rattle.paper.specs.Graph.{Graph, point, edge, no_edge, origin}

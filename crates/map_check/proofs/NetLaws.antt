@@ -1,10 +1,11 @@
 -- Rules 8 to 10 of a map in flat tables: what the searches find is what the rules name (`flat-clashing`, `flat-lonely`); where rule 8 finds nothing in a graph laid
 -- in corners it is plane (`clear-plane`); and the order of the rules. Assumes nothing.
+use Rattle.std.specs.Prelude.{◌&&◌, ◌∷◌, ◌*◌}
 use mathlib.Core.Path.{◌≡◌, refl, sym, ap, ◌∙◌, subst}
 use Prim.Native.Nat.{◌<◌}
 use borrow.Author.Tests.{ltb-true}
 use Rattle.seq.specs.Least.{least-ext, some_ext, no_some_is}
-use Rattle.seq.specs.Seq.{Bool, true, false, not, ◌&&◌, Option, none, some, List, [], ◌∷◌, ℕ, ◌*◌, eqb, ltb, length, ℤ, least, the_some_below}
+use Rattle.seq.specs.Seq.{Bool, true, false, not, Option, none, some, List, [], ℕ, eqb, ltb, length, ℤ, least, the_some_below}
 use Rattle.paper.specs.Plane.{Seg, clash}
 use Rattle.paper.specs.Refusal.{Refusal, beside, given, first_at, first_of}
 use Rattle.paper.specs.Graph.{Graph, edge_count, the_half_count, leaves, followers}

@@ -1,11 +1,12 @@
 -- Rules 5 to 7: on the tables into which a file's map is read the tests are those of the map, so that the least place is the same (`parts-read`). Then the tests
 -- as the code makes them, one after the other. Assumes nothing.
+use Rattle.std.specs.Prelude.{◌∷◌, ◌&&◌, ◌||◌, ◌+◌, ◌*◌, ◌-ℤ◌, ◌*ℤ◌}
 use mathlib.Core.Path.{◌≡◌, refl, sym, ap, ◌∙◌}
 use Prim.Native.Nat.{◌≤◌, ◌<◌}
 use native.Mathlib.Omega.{arith}
 use borrow.Author.Tests.{lt-ltb, le-ltb, le-leb, lt-leb}
 use Rattle.seq.specs.Least.{least-ext, some_ext}
-use Rattle.seq.specs.Seq.{Bool, zero, suc, negsuc, [], ◌∷◌, true, false, ◌&&◌, ◌||◌, List, ℕ, ◌+◌, ◌*◌, ltb, leb, eqb, length, ℤ, pos, nat_abs, ◌-ℤ◌, ◌*ℤ◌, least}
+use Rattle.seq.specs.Seq.{Bool, zero, suc, negsuc, [], true, false, List, ℕ, ltb, leb, eqb, length, ℤ, pos, nat_abs, least}
 use Rattle.exact.specs.Mach.{eq_z}
 use Rattle.exact.specs.Sign.{sgn, is_zer, lex_s}
 use Rattle.exact.specs.Solve.{ring, reify}

@@ -1,10 +1,11 @@
 -- The map of a file that is read into tables, with n vertices and e edges: rules 5 to 7 of the tables are those of the map; where they find nothing the carriers
 -- can be made, are the map's, and the tables hold the map. Then the chain of all rules. Assumes nothing.
+use Rattle.std.specs.Prelude.{◌∷◌, ◌++◌, ◌+◌, ◌*◌}
 use mathlib.Core.Path.{◌≡◌, sym, ap, ◌∙◌, subst}
 use Prim.Native.Nat.{◌≤◌, ◌<◌}
 use native.Mathlib.Omega.{arith}
 use Rattle.seq.specs.Laid.{laid-ext}
-use Rattle.seq.specs.Seq.{none, some, List, [], ◌∷◌, ◌++◌, ℕ, ◌+◌, ◌*◌, length, take, ℤ, laid}
+use Rattle.seq.specs.Seq.{none, some, List, [], ℕ, length, take, ℤ, laid}
 use Rattle.paper.specs.Plane.{Seg, between}
 use Rattle.paper.specs.Refusal.{Refusal, first_of}
 use Rattle.paper.specs.Graph.{Graph, edge}

@@ -1,10 +1,11 @@
 -- Room for the map of a file: how many rows need room (`stored_all`, `stored_within`); more room (`room_within`); tables for any map have room for the map of any file (`any_room`);
 -- cleared tables. Assumes nothing.
+use Rattle.std.specs.Prelude.{◌*◌}
 use mathlib.Core.Path.{◌≡◌, refl, ap}
 use Prim.Native.Nat.{◌≤◌}
 use native.Mathlib.Omega.{arith}
 use lib.ListN.{length-replicate}
-use Rattle.seq.specs.Seq.{Option, none, some, List, ℕ, ◌*◌, replicate, ℤ, pos}
+use Rattle.seq.specs.Seq.{Option, none, some, List, ℕ, replicate, ℤ, pos}
 use Rattle.paper.specs.Limits.{map_vertices, map_edges}
 use Rattle.paper.specs.Refusal.{Refusal, first_of}
 use Rattle.paper.specs.Map.{vertex_count, edges_in, form_faults}

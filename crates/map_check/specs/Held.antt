@@ -1,6 +1,6 @@
 -- The map that flat tables hold; and the tables of a file's map: room for them, what is read of the file (`MapRead`), and all of them (`MapLaid`). Assumes nothing.
-use Rattle.std.specs.Prelude.{◌≡◌, ◌≤◌, ◌<◌}
-use Rattle.seq.specs.Seq.{Option, none, some, List, ℕ, ◌*◌, length, take, ℤ, filled, laid}
+use Rattle.std.specs.Prelude.{◌≡◌, ◌≤◌, ◌<◌, ◌*◌}
+use Rattle.seq.specs.Seq.{Option, none, some, List, ℕ, length, take, ℤ, filled, laid}
 use Rattle.paper.specs.Refusal.{Refusal, first_of}
 use Rattle.paper.specs.Graph.{point, origin}
 use Rattle.paper.specs.Map.{Map, label, vertex_count, edges_in, map_of, form_faults}

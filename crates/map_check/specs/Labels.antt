@@ -1,6 +1,6 @@
 -- Rule 10 on flat tables: what the code tests of one half-edge, and what its tables are (`Linked`). Assumes nothing.
-use Rattle.std.specs.Prelude.{◌≤◌, ◌<◌}
-use Rattle.seq.specs.Seq.{Bool, true, not, ◌&&◌, ◌||◌, List, [], ◌∷◌, ℕ, ◌*◌, eqb, length, get_or, ℤ, walk_from}
+use Rattle.std.specs.Prelude.{◌≤◌, ◌<◌, ◌&&◌, ◌||◌, ◌∷◌, ◌*◌}
+use Rattle.seq.specs.Seq.{Bool, true, not, List, [], ℕ, eqb, length, get_or, ℤ, walk_from}
 use Rattle.paper.specs.Limits.{absent}
 use Rattle.paper.specs.Plane.{nowhere, before}
 use Rattle.graph.specs.Flat.{origin_at, start_at, flat_graph, Flat, Starts, Numbers}

@@ -1,9 +1,9 @@
 -- Clashing is mutual, whether or not an edge goes up: so the least edge that clashes with another is the least that clashes with a later one, and the other edge, the least that clashes
 -- with it, comes after it. Assumes nothing.
-use Rattle.std.specs.Prelude.{◌≡◌, ◌<◌, ◌≤◌}
+use Rattle.std.specs.Prelude.{◌≡◌, ◌<◌, ◌≤◌, ◌&&◌, ◌+◌}
 use Rattle.std.proofs.Common.{sym, ◌∙◌, ap, subst, arith, ltb-true, lt-ltb, le-ltb, eq-eqb, ne_eqb}
 use Rattle.std.proofs.Math.Decide.{dec_lt}
-use Rattle.seq.specs.Seq.{Bool, true, false, not, ◌&&◌, List, Option, none, ℕ, ◌+◌, ltb, ℤ, least, the_some_below}
+use Rattle.seq.specs.Seq.{Bool, true, false, not, List, Option, none, ℕ, ltb, ℤ, least, the_some_below}
 use Rattle.seq.specs.Least.{least-le, least-holds, least_min, least_by, least_none, least-ext, some_has, some_witness, no_some, no_some_is}
 use Rattle.seq.specs.Tests.{bool-ext, and_parts}
 use Rattle.paper.specs.Plane.{Seg, head, whole, clash}

@@ -1,7 +1,7 @@
 -- The pass of rule 8 by boxes: from which x to which the edge in a cell reaches (`Boxes`), and a list of those cells after an edge's own whose edges may clash with it (`Picked`). Assumes nothing.
-use Rattle.std.specs.Prelude.{◌≡◌, ◌⊎◌, ◌≤◌, ◌<◌}
+use Rattle.std.specs.Prelude.{◌≡◌, ◌⊎◌, ◌≤◌, ◌<◌, ◌||◌, ◌+ℤ◌}
 use Rattle.std.specs.Int.Signed.{lt_z}
-use Rattle.seq.specs.Seq.{Bool, false, cond, ◌||◌, List, ℕ, ltb, length, get_or, ℤ, pos, nat_abs, ◌+ℤ◌}
+use Rattle.seq.specs.Seq.{Bool, false, cond, List, ℕ, ltb, length, get_or, ℤ, pos, nat_abs}
 use Rattle.paper.specs.Limits.{reach}
 use Rattle.paper.specs.Plane.{Seg, head, clash}
 use Rattle.graph.specs.Flat.{carrier_at}

@@ -1,5 +1,6 @@
 -- Rules 8 and 9 on flat tables: what the code tests of one edge or vertex. Assumes nothing.
-use Rattle.seq.specs.Seq.{Bool, not, ◌&&◌, List, Option, ℕ, eqb, ℤ, least, the_some_below}
+use Rattle.std.specs.Prelude.{◌&&◌}
+use Rattle.seq.specs.Seq.{Bool, not, List, Option, ℕ, eqb, ℤ, least, the_some_below}
 use Rattle.paper.specs.Plane.{clash}
 use Rattle.paper.specs.Refusal.{beside, Refusal}
 use Rattle.graph.specs.Flat.{carrier_at, origin_at}

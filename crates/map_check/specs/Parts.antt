@@ -1,7 +1,7 @@
 -- Rules 5 to 7 on flat tables: what the code tests of one vertex or edge of n vertices and e edges. On the tables of a map these are the definitions of 01
 -- (proofs/PartsLaws.antt). Then what they leave: corners within range, from which the carriers are made. Assumes nothing.
-use Rattle.std.specs.Prelude.{◌≤◌, ◌<◌}
-use Rattle.seq.specs.Seq.{Bool, ◌||◌, List, [], ◌∷◌, Option, ℕ, ◌+◌, ◌*◌, ltb, leb, eqb, length, ℤ, nat_abs, the_some_below}
+use Rattle.std.specs.Prelude.{◌≤◌, ◌<◌, ◌||◌, ◌∷◌, ◌+◌, ◌*◌}
+use Rattle.seq.specs.Seq.{Bool, List, [], Option, ℕ, ltb, leb, eqb, length, ℤ, nat_abs, the_some_below}
 use Rattle.paper.specs.Limits.{reach}
 use Rattle.paper.specs.Plane.{Vec, vec, whole, same, between, Seg}
 use Rattle.paper.specs.Refusal.{first_at, Refusal}

@@ -1,11 +1,12 @@
 -- Numbers in bytes: what stands past the end is 0, and a signed number by arithmetic. Then the mark, one byte after the other. Assumes nothing.
+use Rattle.std.specs.Prelude.{◌&&◌, ◌+◌, ◌-◌, ◌-ℤ◌}
 use mathlib.Core.Path.{◌≡◌, refl, sym, ap, ◌∙◌}
 use Prim.Native.Nat.{◌≤◌, ◌<◌}
 use native.Mathlib.Numerals.{add-one}
 use native.Mathlib.Omega.{arith}
 use borrow.Author.Tests.{lt-ltb, le-ltb, eq-eqb, ne_eqb}
 use lib.ListN.{get_or-eq_default}
-use Rattle.seq.specs.Seq.{Bool, true, false, ◌&&◌, List, ℕ, suc, ◌+◌, ◌-◌, eqb, length, pos, negsuc, neg_ℤ, ◌-ℤ◌}
+use Rattle.seq.specs.Seq.{Bool, true, false, List, ℕ, suc, eqb, length, pos, negsuc, neg_ℤ}
 use Rattle.exact.specs.Order.{≡-of, is-+}
 use Rattle.paper.specs.Bytes.{ascii, byte_at, marked, u16, signed_at}
 

@@ -1,9 +1,10 @@
 -- Tests as the code makes them, one after the other: one of two numbers beyond a bound; the length of a map file. Assumes nothing.
+use Rattle.std.specs.Prelude.{◌||◌, ◌+◌, ◌*◌}
 use mathlib.Core.Path.{◌≡◌}
 use Prim.Native.Nat.{◌≤◌, ◌<◌}
 use native.Mathlib.Omega.{arith}
 use borrow.Author.Tests.{lt-ltb, le-ltb}
-use Rattle.seq.specs.Seq.{Bool, true, ◌||◌, List, ℕ, ◌+◌, ◌*◌, ltb}
+use Rattle.seq.specs.Seq.{Bool, true, List, ℕ, ltb}
 use Rattle.paper.specs.Map.{vertex_count, edges_in, vertex_place, map_length}
 
 -- ── one of two ──

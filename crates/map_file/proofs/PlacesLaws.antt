@@ -1,4 +1,5 @@
 -- Cells in pairs: the two half-edges of an edge. Then what stands at the places of a map file is the map's. Assumes nothing.
+use Rattle.std.specs.Prelude.{◌∷◌, ◌+◌, ◌*◌}
 use mathlib.Core.Path.{◌≡◌, sym, ap, subst, ◌∙◌}
 use Prim.Native.Nat.{◌<◌}
 use native.Mathlib.Omega.{arith}
@@ -6,7 +7,7 @@ use lib.ListN.{set}
 use Rattle.seq.specs.Filled.{filled-ext}
 use Rattle.seq.specs.Laid.{laid-ext}
 use Rattle.seq.specs.Loops.Filling.{Filling, fill_turns}
-use Rattle.seq.specs.Seq.{List, [], ◌∷◌, ℕ, ◌+◌, ◌*◌, ℤ, pos, filled, laid}
+use Rattle.seq.specs.Seq.{List, [], ℕ, ℤ, pos, filled, laid}
 use Rattle.paper.specs.Bytes.{u16}
 use Rattle.paper.specs.Graph.{origin}
 use Rattle.paper.specs.Limits.{map_head}

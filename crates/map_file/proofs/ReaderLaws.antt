@@ -1,10 +1,11 @@
 -- Where a reader has come to: the file that it reads, and its place. Assumes nothing.
+use Rattle.std.specs.Prelude.{◌+◌, ◌*◌, ◌^◌}
 use mathlib.Core.Path.{◌≡◌, ap, ◌∙◌}
 use Prim.Native.Nat.{◌<◌}
 use native.Mathlib.Omega.{arith}
 use lib.Dec.{T as Holds, ltb, ltb→lt}
 use denote.Ref.{Bor}
-use Rattle.seq.specs.Seq.{Bool, List, ℕ, ◌+◌, ◌*◌, ◌^◌, ℤ, filled, laid}
+use Rattle.seq.specs.Seq.{Bool, List, ℕ, ℤ, filled, laid}
 use Rattle.paper.specs.Bytes.{ascii, marked, u16}
 use Rattle.map_file.specs.Places.{point_from, origin_from, label_from}
 use Rattle.map_file.specs.declared.reader.Reader.{Reader}

@@ -1,6 +1,7 @@
 -- Chains of checks: the first of a list of refusals, one check at a time. Assumes nothing.
+use Rattle.std.specs.Prelude.{◌∷◌}
 use mathlib.Core.Path.{◌≡◌, refl, sym, ap, ◌∙◌}
-use Rattle.seq.specs.Seq.{Bool, ℕ, ltb, least, List, [], ◌∷◌, Option, none, some, Option·getD}
+use Rattle.seq.specs.Seq.{Bool, ℕ, ltb, least, List, [], Option, none, some, Option·getD}
 use Rattle.paper.specs.Refusal.{given, first_at, first_of, Refusal}
 use Rattle.laws_refusals.specs.Refusals.{no_refusal, first_one}
 use Rattle.map_file.specs.Verdict.{refusal_of, verdict}

@@ -1,6 +1,7 @@
 -- What stands in a file's bytes from a place on: vertices of four bytes each, edges of eight. At the places of a map file these are the definitions of 01
 -- (proofs/PlacesLaws.antt). Assumes nothing.
-use Rattle.seq.specs.Seq.{List, [], ◌∷◌, ℕ, ◌+◌, ◌*◌, ◌/◌, ◌%◌, ℤ, pos}
+use Rattle.std.specs.Prelude.{◌∷◌, ◌+◌, ◌*◌, ◌/◌, ◌%◌}
+use Rattle.seq.specs.Seq.{List, [], ℕ, ℤ, pos}
 use Rattle.paper.specs.Bytes.{u16, signed_at}
 
 -- "x, y as signed 16-bit": the row of vertex v, with D = 1 and a spare cell

@@ -1,5 +1,6 @@
 -- A map's graph in flat tables: the row of a point and of a carrier. Origins and labels are one number for each half-edge. Assumes nothing.
-use Rattle.seq.specs.Seq.{List, [], ◌∷◌, ℕ, ℤ, pos}
+use Rattle.std.specs.Prelude.{◌∷◌}
+use Rattle.seq.specs.Seq.{List, [], ℕ, ℤ, pos}
 use Rattle.paper.specs.Graph.{point, edge, Graph}
 
 -- X, Y, D, and a spare cell

@@ -1,5 +1,6 @@
 -- Rows of w numbers stored one behind the other from a place on, wherever a test holds:    for i in 0..n { if p(i) { store(t, a, f(i)); a += w } }
 -- Before turn i the rows that are stored are `rows (λ v. cond (p v) (f v) []) i`. Assumes nothing.
+use Rattle.std.specs.Prelude.{◌++◌, ◌+◌, ◌*◌}
 use mathlib.Core.Path.{◌≡◌, refl, sym, ◌∙◌, ap}
 use mathlib.Core.List.{append-nil}
 use Prim.Native.Nat.{◌≤◌, ◌<◌}
@@ -8,7 +9,7 @@ use native.Mathlib.Numerals.{add-one}
 use native.Mathlib.Omega.{arith}
 use lib.ListN.{length-append}
 use lib.Seq.{length-sets}
-use Rattle.seq.specs.Seq.{Bool, true, false, cond, List, [], ◌++◌, ℕ, zero, suc, ◌+◌, ◌*◌, length, count, rows, sets}
+use Rattle.seq.specs.Seq.{Bool, true, false, cond, List, [], ℕ, zero, suc, length, count, rows, sets}
 use Rattle.seq.specs.Count.{count_more, count-skip}
 use Rattle.seq.specs.Rows.{rows_more}
 use Rattle.seq.specs.Over.{stored-behind}

@@ -1,10 +1,11 @@
 -- The bytes of a corner, and the parts of the mended file one behind the other. Assumes nothing.
+use Rattle.std.specs.Prelude.{◌∷◌, ◌++◌, ◌+◌, ◌*◌}
 use mathlib.Core.Path.{◌≡◌, refl, sym, ◌∙◌, ap}
 use Prim.Native.Nat.{◌≤◌}
 use native.Mathlib.Nat.{zero-add}
 use native.Mathlib.Omega.{arith}
 use lib.ListN.{length-append}
-use Rattle.seq.specs.Seq.{List, [], ◌∷◌, ◌++◌, ℕ, ◌+◌, ◌*◌, length, ℤ, count, rows, gather, sets, padded, wiped}
+use Rattle.seq.specs.Seq.{List, [], ℕ, length, ℤ, count, rows, gather, sets, padded, wiped}
 use Rattle.seq.specs.Wiped.{stored-wiped}
 use Rattle.paper.specs.Bytes.{ascii, le, le_signed}
 use Rattle.paper.specs.Limits.{map_head}

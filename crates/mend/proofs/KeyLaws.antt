@@ -1,10 +1,11 @@
 -- Keys: two corners within reach are the same exactly if their keys are, and so are two pairs of numbers, whichever way round. Then the searches of cells that hold keys. Assumes nothing.
+use Rattle.std.specs.Prelude.{◌&&◌, ◌||◌, ◌+◌, ◌*◌}
 use mathlib.Core.Path.{◌≡◌, refl, sym, ◌∙◌, ap}
 use mathlib.Core.Logic.{⊎_elim}
 use Prim.Native.Nat.{◌≤◌, ◌<◌}
 use native.Mathlib.Omega.{arith}
 use borrow.Author.Tests.{eqb-true, eq-eqb, leb-true, leb-false}
-use Rattle.seq.specs.Seq.{Bool, true, false, cond, not, ◌&&◌, ◌||◌, List, ℕ, ◌+◌, ◌*◌, leb, eqb, ℤ, pos, negsuc, nat_abs, get_or, least, the_some_below, filled}
+use Rattle.seq.specs.Seq.{Bool, true, false, cond, not, List, ℕ, leb, eqb, ℤ, pos, negsuc, nat_abs, get_or, least, the_some_below, filled}
 use Rattle.seq.specs.Tests.{bool-ext, or_l, or_r, or_cases, and_both, and_parts}
 use Rattle.seq.specs.Least.{least-ext, some_ext}
 use Rattle.seq.specs.Filled.{filled_at, filled-ext}

@@ -1,9 +1,10 @@
 -- The four parts of the list, one behind the other: `vs` has the steps of n vertices, `es` those of e edges. Assumes nothing.
+use Rattle.std.specs.Prelude.{◌∷◌, ◌++◌, ◌+◌, ◌*◌}
 use mathlib.Core.Path.{◌≡◌, refl}
 use Prim.Native.Nat.{◌≤◌}
 use native.Mathlib.Omega.{arith}
 use lib.ListN.{length-append}
-use Rattle.seq.specs.Seq.{List, [], ◌∷◌, ◌++◌, ℕ, ◌+◌, ◌*◌, length, count, rows, sets, padded, wiped}
+use Rattle.seq.specs.Seq.{List, [], ℕ, length, count, rows, sets, padded, wiped}
 use Rattle.seq.specs.Wiped.{stored-wiped}
 use Rattle.mend.specs.Steps.{step_is}
 use Rattle.mend.specs.Stored.{entry_in, the_list_count, list_in}

@@ -1,6 +1,7 @@
 -- Whether an earlier one was found, in a loop with no way out:    for j in 0..n { found = found | p(j) }                                              (`Seeing`)
 -- and the ends of what is kept set to 0:                          for k in 0..m { if p(k) { t[f(k)] = 0; t[g(k)] = 0 } }                              (`Marking`)
 -- Before turn k a cell is 0 if its number is an end of one below k that has p, and otherwise as it was. Assumes nothing.
+use Rattle.std.specs.Prelude.{◌&&◌, ◌||◌, ◌+◌}
 use mathlib.Core.Path.{◌≡◌, refl, sym, ◌∙◌, ap}
 use Prim.Native.Nat.{◌≤◌, ◌<◌}
 use native.Mathlib.Decide.{ℕ_discrete}
@@ -9,7 +10,7 @@ use native.Mathlib.Omega.{arith}
 use borrow.Author.Tests.{eq-eqb, ne_eqb, lt-ltb, ltb-true, le-ltb}
 use lib.ListN.{set, length-set}
 use lib.Seq.{get_or-set_same, get_or-set_other}
-use Rattle.seq.specs.Seq.{Bool, true, false, cond, ◌&&◌, ◌||◌, List, ℕ, suc, ◌+◌, ltb, eqb, length, get_or, least, the_some_below}
+use Rattle.seq.specs.Seq.{Bool, true, false, cond, List, ℕ, suc, ltb, eqb, length, get_or, least, the_some_below}
 use Rattle.seq.specs.Filled.{Holds}
 
 -- one more

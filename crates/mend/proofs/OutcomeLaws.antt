@@ -1,10 +1,11 @@
 -- What comes out, as the code finds it: rules 1 to 4 on the header, 5 and 7 on the tables, then the two rooms; and that the tables are ready. Assumes nothing.
+use Rattle.std.specs.Prelude.{◌||◌, ◌∷◌, ◌+◌, ◌*◌, ◌-◌, ◌/◌}
 use mathlib.Core.Path.{◌≡◌, sym, ◌∙◌, ap}
 use Prim.Native.Nat.{◌≤◌, ◌<◌}
 use native.Mathlib.Omega.{arith}
 use borrow.Author.Tests.{ltb-false}
 use lib.Seq.{get_or-take}
-use Rattle.seq.specs.Seq.{Bool, true, false, cond, ◌||◌, List, [], ◌∷◌, Option, none, some, ℕ, ◌+◌, ◌*◌, ◌-◌, ◌/◌, leb, ltb, length, get_or, ℤ, nat_abs, count, filled, padded}
+use Rattle.seq.specs.Seq.{Bool, true, false, cond, List, [], Option, none, some, ℕ, leb, ltb, length, get_or, ℤ, nat_abs, count, filled, padded}
 use Rattle.seq.specs.Filled.{Holds, filled-holds, holds-ext}
 use Rattle.seq.specs.Least.{least-ext}
 use Rattle.paper.specs.Graph.{Graph, edge_count, point, edge, even, origin}

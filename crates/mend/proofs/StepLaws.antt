@@ -1,8 +1,9 @@
 -- The steps as numbers, and as the code tells them; then that on the ends of a file that can be mended they are those of its map (`..-here`). Assumes nothing.
+use Rattle.std.specs.Prelude.{◌&&◌, ◌||◌, ◌+◌, ◌*◌}
 use mathlib.Core.Path.{◌≡◌, refl, sym, ◌∙◌, ap}
 use Prim.Native.Nat.{◌≤◌, ◌<◌}
 use native.Mathlib.Omega.{arith}
-use Rattle.seq.specs.Seq.{Bool, true, false, cond, not, ◌&&◌, ◌||◌, List, ℕ, ◌+◌, ◌*◌, eqb, length, get_or, the_some_below, filled}
+use Rattle.seq.specs.Seq.{Bool, true, false, cond, not, List, ℕ, eqb, length, get_or, the_some_below, filled}
 use Rattle.seq.specs.Least.{some_ext}
 use Rattle.seq.specs.Filled.{Holds, filled_at, length-filled}
 use Rattle.paper.specs.Graph.{Graph, edge, origin}

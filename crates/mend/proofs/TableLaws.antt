@@ -1,8 +1,9 @@
 -- By the tables of a file that can be mended: what is dropped in each step, the mended file and the list are those of its map. Assumes nothing.
+use Rattle.std.specs.Prelude.{◌∷◌, ◌++◌, ◌+◌, ◌*◌, ◌-◌}
 use mathlib.Core.Path.{◌≡◌, sym, ◌∙◌, ap}
 use Prim.Native.Nat.{◌<◌}
 use native.Mathlib.Omega.{arith}
-use Rattle.seq.specs.Seq.{Bool, cond, List, [], ◌∷◌, ◌++◌, none, ℕ, ◌+◌, ◌*◌, ◌-◌, eqb, length, get_or, ℤ, the_some_below, count, rows, gather}
+use Rattle.seq.specs.Seq.{Bool, cond, List, [], none, ℕ, eqb, length, get_or, ℤ, the_some_below, count, rows, gather}
 use Rattle.seq.specs.Count.{count-ext}
 use Rattle.seq.specs.Rows.{rows_ext}
 use Rattle.seq.specs.Select.{length-select}

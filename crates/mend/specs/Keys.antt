@@ -1,6 +1,7 @@
 -- Pairs of numbers as one number each: a vertex's corner, and the ends of an edge whichever way it runs. That two are equal says what is asked of the pairs
 -- (proofs/KeyLaws.antt). Assumes nothing.
-use Rattle.seq.specs.Seq.{Bool, cond, List, ℕ, ◌+◌, ◌*◌, leb, eqb, get_or, ℤ}
+use Rattle.std.specs.Prelude.{◌+◌, ◌*◌}
+use Rattle.seq.specs.Seq.{Bool, cond, List, ℕ, leb, eqb, get_or, ℤ}
 use Rattle.laws_file.specs.Bytes.{wrapped}
 use Rattle.map_check.specs.Parts.{corner_in}
 

@@ -1,9 +1,9 @@
 -- What 02 says of mending, over what comes out in the lent file and the lent list of any operation that keeps the promise: f and x of n bytes and l numbers, with the
 -- answer m. Refused, all is zero; a file that passes the check comes out the same; done, the mended file is refused with 8 or 10 or not at all, mending it again
 -- changes nothing, and the list tells all. Assumes nothing.
-use Rattle.std.specs.Prelude.{◌≡◌, ◌⊎◌, ◌≤◌}
+use Rattle.std.specs.Prelude.{◌≡◌, ◌⊎◌, ◌≤◌, ◌∷◌}
 use Rattle.std.proofs.Common.{sym, ◌∙◌, ap, subst}
-use Rattle.seq.specs.Seq.{List, [], ◌∷◌, none, some, ℕ, length, take, gather, padded}
+use Rattle.seq.specs.Seq.{List, [], none, some, ℕ, length, take, gather, padded}
 use Rattle.paper.specs.Map.{map_of, fault}
 use Rattle.paper.specs.Mend as paper
 use Rattle.paper.specs.Mend.{mend, entries}

@@ -1,6 +1,6 @@
 -- The tables of a file that can be mended. Assumes nothing.
-use Rattle.std.specs.Prelude.{◌≡◌, ◌<◌}
-use Rattle.seq.specs.Seq.{List, none, ℕ, ◌*◌, ℤ, count}
+use Rattle.std.specs.Prelude.{◌≡◌, ◌<◌, ◌*◌}
+use Rattle.seq.specs.Seq.{List, none, ℕ, ℤ, count}
 use Rattle.seq.specs.Filled.{Holds}
 use Rattle.paper.specs.Map.{map_of, label, doubled, vertex_count, edges_in, corner_at}
 use Rattle.paper.specs.Mend.{into, shrunk, repeated, kept_edges, has_edge}

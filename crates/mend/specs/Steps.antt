@@ -1,7 +1,8 @@
 -- The four steps as the code computes them, on flat tables: `ps` the points and `os` the origins of a map that is read, `is` the vertex into which each is
 -- merged, `t` the ends of the half-edges after step 1, and tables of steps. Then what a file is refused for before any room. On the tables of a map these are the definitions of 02
 -- (proofs/TableLaws.antt). Assumes nothing.
-use Rattle.seq.specs.Seq.{Bool, cond, not, ◌&&◌, ◌||◌, List, [], ◌∷◌, ◌++◌, Option, ℕ, ◌+◌, ◌*◌, ltb, leb, eqb, length, get_or, ℤ, least, the_some_below}
+use Rattle.std.specs.Prelude.{◌&&◌, ◌||◌, ◌∷◌, ◌++◌, ◌+◌, ◌*◌}
+use Rattle.seq.specs.Seq.{Bool, cond, not, List, [], Option, ℕ, ltb, leb, eqb, length, get_or, ℤ, least, the_some_below}
 use Rattle.paper.specs.Graph.{edge_count}
 use Rattle.paper.specs.Map.{map_of, form_faults, too_far}
 use Rattle.paper.specs.Mend.{no_vertex}

@@ -1,7 +1,7 @@
 -- The mended file and the list as the code stores them: rows where a table of steps says so. `ps` has the points, `ls` the labels, `t` the ends after step 1, `ns` the new
 -- numbers, `vs` the steps of n vertices and `es` those of e edges. Assumes nothing.
-use Rattle.std.specs.Prelude.{◌≡◌, ◌≤◌}
-use Rattle.seq.specs.Seq.{cond, List, [], ◌∷◌, ◌++◌, ℕ, ◌+◌, ◌*◌, length, get_or, ℤ, count, rows, gather}
+use Rattle.std.specs.Prelude.{◌≡◌, ◌≤◌, ◌∷◌, ◌++◌, ◌+◌, ◌*◌}
+use Rattle.seq.specs.Seq.{cond, List, [], ℕ, length, get_or, ℤ, count, rows, gather}
 use Rattle.paper.specs.Bytes.{ascii, le}
 use Rattle.paper.specs.Mend.{corner_bytes}
 use Rattle.map_check.specs.Parts.{corner_in}

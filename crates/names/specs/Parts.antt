@@ -1,8 +1,8 @@
 -- A reference that is "that very part of its list": where it points and what it holds. No second place or content meets that, and it is as long as the part says. Assumes nothing.
-use Rattle.std.specs.Prelude.{◌≡◌, refl, ◌≤◌}
+use Rattle.std.specs.Prelude.{◌≡◌, refl, ◌≤◌, ◌+◌}
 use Rattle.std.proofs.Common.{sym, ◌∙◌, ap, arith, length-drop, length-take-le}
 use Rattle.std.specs.Borrow.{Bor}
-use Rattle.seq.specs.Seq.{Bool, true, false, cond, List, ℕ, ◌+◌, eqb, length, drop}
+use Rattle.seq.specs.Seq.{Bool, true, false, cond, List, ℕ, eqb, length, drop}
 use Rattle.paper.specs.Names.{Part, part_of, name_part, of_two, shown_part, shown_name}
 use Rattle.laws_year.specs.NameLaws.{part_within}
 

@@ -1,9 +1,10 @@
 -- Whether the maps of files have room in small tables: by counts (`few_rows_lem`, `many-rows`), and that they have (`rows_few`). Assumes nothing.
+use Rattle.std.specs.Prelude.{◌&&◌}
 use mathlib.Core.Path.{◌≡◌, refl, sym, ap, ◌∙◌}
 use Prim.Native.Nat.{◌≤◌, ◌<◌}
 use native.Mathlib.Omega.{arith}
 use borrow.Author.Tests.{le-leb, lt-leb, leb-true}
-use Rattle.seq.specs.Seq.{Bool, true, false, ◌&&◌, List, ℕ, leb}
+use Rattle.seq.specs.Seq.{Bool, true, false, List, ℕ, leb}
 use Rattle.seq.specs.Total.{total}
 use Rattle.exact.specs.Tests.{never}
 use Rattle.paper.specs.Map.{vertex_count, edges_in}

@@ -1,5 +1,6 @@
 -- Maps that have room in small tables, by the counts in the headers of their files. Assumes nothing.
-use Rattle.seq.specs.Seq.{Bool, ◌&&◌, List, ℕ, leb}
+use Rattle.std.specs.Prelude.{◌&&◌}
+use Rattle.seq.specs.Seq.{Bool, List, ℕ, leb}
 use Rattle.seq.specs.Total.{total}
 use Rattle.paper.specs.Map.{vertex_count, edges_in}
 use Rattle.graph.specs.Small.{small_vertices, small_edges}

@@ -1,8 +1,8 @@
 -- All that comes out of the overlay is determined by its promise, of any number of maps: two answers with two sets of tables that keep it are one. So both ways to
 -- collect the vertices give the same. Assumes nothing.
-use Rattle.std.specs.Prelude.{◌≡◌}
+use Rattle.std.specs.Prelude.{◌≡◌, ◌∷◌}
 use Rattle.std.proofs.Common.{ap}
-use Rattle.seq.specs.Seq.{List, [], ◌∷◌, ℕ}
+use Rattle.seq.specs.Seq.{List, [], ℕ}
 use Rattle.seq.specs.Unique.{determined}
 use Rattle.paper.specs.Tables.{Tables}
 use Rattle.paper.specs.Lent.{Lengths, Outcome}

@@ -1,6 +1,6 @@
 -- Which vertices are on an edge: in rows in point order a point is found by halves, and an edge whose ends stand there has on it those from one end to the other that lie on its
 -- line. Before that, how a point is compared with a corner and with a line. Assumes nothing.
-use Rattle.std.specs.Prelude.{◌≡◌, refl, [], ◌∷◌, ◌≤◌, ◌<◌, ℤ, pos, ◌-ℤ◌, ◌*ℤ◌, ◌<ℤ◌}
+use Rattle.std.specs.Prelude.{◌≡◌, refl, [], ◌∷◌, ◌≤◌, ◌<◌, ℤ, pos, ◌-ℤ◌, ◌*ℤ◌, ◌<ℤ◌, ◌+◌}
 use Rattle.std.proofs.Common.{sym, ◌∙◌, ap, subst, add-one, arith}
 use Rattle.std.specs.Int.Signed.{lt_z}
 use Rattle.exact.specs.Ring.{*ℤ-1}
@@ -8,7 +8,7 @@ use Rattle.exact.specs.Order.{zomega, sq}
 use Rattle.exact.specs.Solve.{ring, reify}
 use Rattle.exact.specs.Sign.{Sign, sgn, is_neg, pick, Sg, is_neg_lem, is_zer_lem, is_plus_lem, sg}
 use Rattle.exact.specs.Tests.{lt-sign}
-use Rattle.seq.specs.Seq.{List, ℕ, ◌+◌, least, select}
+use Rattle.seq.specs.Seq.{List, ℕ, least, select}
 use Rattle.seq.specs.Terms.{Among}
 use Rattle.seq.specs.Table.{table-among}
 use Rattle.seq.specs.Range.{select_none}

@@ -1,10 +1,10 @@
 -- A list that is made step by step, each step at most one element longer, in a table with room for `cap` of them: where the table is full the steps are left
 -- out. Either nothing was left out, or the list has cap elements or more ("the count only grows"). First any such step; then lists that elements are put into,
 -- the last first, and lists that elements are collected in, the first first. Assumes nothing.
-use Rattle.std.specs.Prelude.{◌≡◌, refl, ◌≤◌, ◌<◌}
+use Rattle.std.specs.Prelude.{◌≡◌, refl, ◌≤◌, ◌<◌, ◌∷◌, ◌++◌, ◌+◌}
 use Rattle.std.proofs.Common.{◌∙◌, ap, arith, lt-ltb, le-ltb, length-append}
 use Rattle.std.proofs.Math.Decide.{dec_lt}
-use Rattle.seq.specs.Seq.{Bool, true, false, cond, List, [], ◌∷◌, ◌++◌, ℕ, ◌+◌, ltb, length, insert_by, in_order_by, is_in, fresh, collect}
+use Rattle.seq.specs.Seq.{Bool, true, false, cond, List, [], ℕ, ltb, length, insert_by, in_order_by, is_in, fresh, collect}
 
 -- the step f, or nothing where there is no room
 abbrev pub capped : {A : Type 0} → ℕ → (List A → List A) → List A → List A

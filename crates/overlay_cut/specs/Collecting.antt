@@ -1,9 +1,9 @@
 -- Points collected in a table: whether one stands there, one appended where it is new and there is room, and loops that collect lists end to end (`Gathering`).
 -- Assumes nothing.
-use Rattle.std.specs.Prelude.{◌≡◌, refl, ◌≤◌, ◌<◌, ℤ, pos}
+use Rattle.std.specs.Prelude.{◌≡◌, refl, ◌≤◌, ◌<◌, ℤ, pos, ◌∷◌, ◌++◌, ◌+◌, ◌*◌}
 use Rattle.std.proofs.Common.{sym, ◌∙◌, ap, arith}
 use Rattle.exact.specs.Lowest.{Pt}
-use Rattle.seq.specs.Seq.{Bool, true, false, List, [], ◌∷◌, ◌++◌, ℕ, ◌+◌, ◌*◌, length, get_or, cell, rows, the_some_below, row_stored, is_in, fresh}
+use Rattle.seq.specs.Seq.{Bool, true, false, List, [], ℕ, length, get_or, cell, rows, the_some_below, row_stored, is_in, fresh}
 use Rattle.seq.specs.Least.{some_ext}
 use Rattle.seq.specs.Collected.{in_some, fresh_old, fresh_new}
 use Rattle.seq.specs.Table.{length-table, table_at, table_more, table-ext}

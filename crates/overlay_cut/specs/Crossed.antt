@@ -1,7 +1,7 @@
 -- Where the edges of the tables meet, by the point of each meeting: an edge and those before it, of a map and of all maps. Assumes nothing.
-use Rattle.std.specs.Prelude.{◌≤◌, ℤ}
+use Rattle.std.specs.Prelude.{◌≤◌, ℤ, ◌+◌, ◌*◌}
 use Rattle.std.proofs.Common.{arith}
-use Rattle.seq.specs.Seq.{List, ℕ, ◌+◌, ◌*◌, length, rows, optional}
+use Rattle.seq.specs.Seq.{List, ℕ, length, rows, optional}
 use Rattle.exact.specs.Lowest.{Pt}
 use Rattle.paper.specs.Limits.{maps}
 use Rattle.paper.specs.Plane.{Seg}

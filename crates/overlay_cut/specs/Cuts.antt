@@ -1,8 +1,8 @@
 -- What the tables say the pieces are: the vertices on an edge, and the pieces between each two neighbours, of an edge, of a map, of all maps. `starts` has where
 -- each map's edges start among the carriers, and after the last where they end. Assumes nothing.
-use Rattle.std.specs.Prelude.{◌≡◌, ◌≤◌, ◌<◌, ℤ}
+use Rattle.std.specs.Prelude.{◌≡◌, ◌≤◌, ◌<◌, ℤ, ◌+◌, ◌-◌}
 use Rattle.std.proofs.Common.{ap, arith}
-use Rattle.seq.specs.Seq.{List, ℕ, zero, suc, ◌+◌, ◌-◌, length, get_or, select, rows}
+use Rattle.seq.specs.Seq.{List, ℕ, zero, suc, length, get_or, select, rows}
 use Rattle.paper.specs.Limits.{maps, absent}
 use Rattle.paper.specs.Plane.{Seg, on_seg}
 use Rattle.paper.specs.Pieces.{Piece, only, links}

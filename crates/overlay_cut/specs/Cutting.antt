@@ -1,8 +1,8 @@
 -- The pieces of input edges put into a table, the last first: what is left to put in, put into the table, gives the whole. First the loop over the vertices on
 -- an edge; then loops over edges, and over maps. Assumes nothing.
-use Rattle.std.specs.Prelude.{◌≡◌, refl, ◌≤◌, ◌<◌}
+use Rattle.std.specs.Prelude.{◌≡◌, refl, ◌≤◌, ◌<◌, ◌∷◌, ◌++◌, ◌-◌}
 use Rattle.std.proofs.Common.{sym, ◌∙◌, ap, append_assoc, append-nil, arith, lt-ltb, le-ltb}
-use Rattle.seq.specs.Seq.{Bool, true, false, cond, List, [], ◌∷◌, ◌++◌, Option, ℕ, suc, ◌-◌, ltb, select, rows, insert_by}
+use Rattle.seq.specs.Seq.{Bool, true, false, cond, List, [], Option, ℕ, suc, ltb, select, rows, insert_by}
 use Rattle.paper.specs.Pieces.{Piece, links, links_from, earlier, joined}
 use Rattle.overlay_cut.specs.Capped.{capped, put_all, put_all-++}
 use Rattle.overlay_cut.specs.Links.{pieced}

@@ -1,6 +1,6 @@
 -- The overlay's graph in tables, from the table of pieces: of each edge its ends, and the carrier of the first map that it comes from. Assumes nothing.
-use Rattle.std.specs.Prelude.{ℤ}
-use Rattle.seq.specs.Seq.{cond, List, [], ◌∷◌, ℕ, ◌+◌, ◌-◌, ltb, cell, least}
+use Rattle.std.specs.Prelude.{ℤ, ◌∷◌, ◌+◌, ◌-◌}
+use Rattle.seq.specs.Seq.{cond, List, [], ℕ, ltb, cell, least}
 use Rattle.paper.specs.Limits.{maps}
 use Rattle.paper.specs.Plane.{Seg}
 use Rattle.paper.specs.Graph.{no_edge}

@@ -1,9 +1,9 @@
 -- A table of pieces: rows of lower, upper, and for each map a source + 1 or 0. What is read of a row is a piece; a source stored in a row joins the piece to
 -- it. Assumes nothing.
-use Rattle.std.specs.Prelude.{◌≡◌, refl, ◌≤◌, ◌<◌, set}
+use Rattle.std.specs.Prelude.{◌≡◌, refl, ◌≤◌, ◌<◌, set, ◌∷◌, ◌++◌, ◌+◌, ◌*◌}
 use Rattle.std.proofs.Common.{sym, ◌∙◌, ap, arith, eq-eqb, ne_eqb, get_or-set_same, get_or-set_other}
 use Rattle.std.proofs.Math.Decide.{ℕ_discrete}
-use Rattle.seq.specs.Seq.{Bool, true, false, cond, List, [], ◌∷◌, ◌++◌, Option, none, some, ℕ, zero, suc, ◌+◌, ◌*◌, eqb, length, get_or, cell, table}
+use Rattle.seq.specs.Seq.{Bool, true, false, cond, List, [], Option, none, some, ℕ, zero, suc, eqb, length, get_or, cell, table}
 use Rattle.seq.specs.Table.{length-table, table-ext}
 use Rattle.paper.specs.Limits.{maps}
 use Rattle.paper.specs.Pieces.{Piece, only, merged, joined}

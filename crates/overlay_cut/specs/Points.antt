@@ -1,10 +1,10 @@
 -- A table of points as a list of points, and how a row is read and stored; points in lowest terms, each once, and their order; what the merge of two halves asks.
 -- Assumes nothing.
-use Rattle.std.specs.Prelude.{◌≡◌, refl, ◌≤◌, ◌<◌, ℤ, pos}
+use Rattle.std.specs.Prelude.{◌≡◌, refl, ◌≤◌, ◌<◌, ℤ, pos, ◌&&◌, ◌∷◌, ◌+◌, ◌*◌}
 use Rattle.std.proofs.Common.{sym, subst, arith}
 use Rattle.exact.specs.Tests.{eq_z, eq_t, t_eq, not-true, clash, and_parts}
 use Rattle.exact.specs.Lowest.{Pt, pt, Lowest}
-use Rattle.seq.specs.Seq.{Bool, true, false, ◌&&◌, List, [], ◌∷◌, ℕ, ◌+◌, ◌*◌, length, table}
+use Rattle.seq.specs.Seq.{Bool, true, false, List, [], ℕ, length, table}
 use Rattle.seq.specs.Terms.{Among, Every, Distinct, Transitive, Asymmetric}
 use Rattle.seq.specs.Members.{every_in}
 use Rattle.seq.specs.Table.{among-table, table-among}

@@ -1,11 +1,12 @@
 -- Refusals in the order in which the code finds them: the maps, then vertices and edges over the room, then faces. Assumes nothing.
+use Rattle.std.specs.Prelude.{◌∷◌, ◌+◌}
 use mathlib.Core.Path.{◌≡◌, refl, sym, ◌∙◌, ap}
 use Prim.Native.Nat.{◌≤◌, ◌<◌}
 use native.Mathlib.Decide.{dec_lt}
 use native.Mathlib.Numerals.{add-one}
 use native.Mathlib.Omega.{arith}
 use borrow.Author.Tests.{ltb-false, lt-ltb, le-ltb}
-use Rattle.seq.specs.Seq.{Bool, true, false, List, [], ◌∷◌, map, Option, none, some, ℕ, suc, ◌+◌, ltb, length}
+use Rattle.seq.specs.Seq.{Bool, true, false, List, [], map, Option, none, some, ℕ, suc, ltb, length}
 use lib.ListN.{length-map}
 use Rattle.seq.specs.Table.{length-table}
 use Rattle.paper.specs.Limits.{maps, overlay_vertices, overlay_edges}

@@ -1,8 +1,9 @@
 -- What is stored is the tables of the overlay of the points and pieces that the stages hold: `stored_is`. In order: the counts; rows of vertices, half-edges and sources. Assumes nothing.
+use Rattle.std.specs.Prelude.{◌∷◌, ◌+◌, ◌*◌}
 use mathlib.Core.Path.{◌≡◌, refl, sym, ◌∙◌, ap}
 use Prim.Native.Nat.{◌<◌}
 use native.Mathlib.Numerals.{add-one}
-use Rattle.seq.specs.Seq.{List, [], ◌∷◌, map, ℕ, zero, suc, ◌+◌, ◌*◌, length, get_or, pos, padded, rows}
+use Rattle.seq.specs.Seq.{List, [], map, ℕ, zero, suc, length, get_or, pos, padded, rows}
 use Rattle.seq.specs.Table.{table_at, table-ext, table-map}
 use Rattle.seq.specs.Rows.{rows_ext}
 use Rattle.paper.specs.Limits.{maps}

@@ -1,6 +1,6 @@
 -- What comes out of maps that pass: "room comes last". Assumes nothing.
-use Rattle.std.specs.Prelude.{◌≤◌}
-use Rattle.seq.specs.Seq.{List, ◌*◌, length}
+use Rattle.std.specs.Prelude.{◌≤◌, ◌*◌}
+use Rattle.seq.specs.Seq.{List, length}
 use Rattle.paper.specs.Limits.{maps, overlay_vertices, overlay_edges}
 use Rattle.paper.specs.Refusal.{Refusal, first_of, done, refused}
 use Rattle.paper.specs.Map.{Map}

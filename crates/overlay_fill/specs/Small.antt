@@ -1,6 +1,6 @@
 -- A sheet that small tables have room for. Assumes nothing.
-use Rattle.std.specs.Prelude.{◌≤◌}
-use Rattle.seq.specs.Seq.{ℕ, ◌+◌}
+use Rattle.std.specs.Prelude.{◌≤◌, ◌+◌}
+use Rattle.seq.specs.Seq.{ℕ}
 use Rattle.graph.specs.Small.{small_vertices, small_edges, small_faces}
 
 -- v vertices, e edges, n outer walks

@@ -1,5 +1,6 @@
 -- The tables that are stored, from what the stages hold. Assumes nothing.
-use Rattle.seq.specs.Seq.{List, ℕ, ◌*◌, rows}
+use Rattle.std.specs.Prelude.{◌*◌}
+use Rattle.seq.specs.Seq.{List, ℕ, rows}
 use Rattle.paper.specs.Tables.{Counts, Tables}
 use Rattle.tables.specs.Rows.{vertex_of, half_of, source_of, face_by}
 use Rattle.overlay_graph.specs.Cut.{Cut}

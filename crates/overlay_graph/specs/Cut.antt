@@ -1,8 +1,8 @@
 -- The overlay's vertices and edges in tables with one row more than the overlay may have: a record of lists, which contracts name and no function holds. In order:
 -- the tables of the maps' own vertices and edges; the overlay of any points and pieces that stand in such tables; what is asked of them so that walks, faces and
 -- labels can be found. Assumes nothing.
-use Rattle.std.specs.Prelude.{◌≡◌, ◌≤◌, ◌<◌}
-use Rattle.seq.specs.Seq.{List, none, some, ℕ, ◌*◌, length, get_or, ℤ}
+use Rattle.std.specs.Prelude.{◌≡◌, ◌≤◌, ◌<◌, ◌*◌}
+use Rattle.seq.specs.Seq.{List, none, some, ℕ, length, get_or, ℤ}
 use Rattle.seq.specs.Terms.{Among}
 use Rattle.paper.specs.Limits.{overlay_vertices, overlay_edges}
 use Rattle.paper.specs.Plane.{Pt}

@@ -1,7 +1,7 @@
 -- The overlay's half-edges, walks and faces in tables, zeros past the counts: a record of lists, which contracts name and no function holds. In order: tables of
 -- zeros, of any length; the net, the faces, and all of it with predecessors and least outgoing half-edges. Assumes nothing.
-use Rattle.std.specs.Prelude.{◌≡◌, ◌≤◌, ◌<◌}
-use Rattle.seq.specs.Seq.{List, ℕ, suc, ◌*◌, length, get_or, replicate, ℤ, table, position, over, padded}
+use Rattle.std.specs.Prelude.{◌≡◌, ◌≤◌, ◌<◌, ◌*◌}
+use Rattle.seq.specs.Seq.{List, ℕ, suc, length, get_or, replicate, ℤ, table, position, over, padded}
 use Rattle.paper.specs.Map.{Map}
 use Rattle.paper.specs.Graph.{the_half_count, leaves}
 use Rattle.paper.specs.Faces.{Overlay, net, holes_of}

@@ -1,5 +1,6 @@
 -- The layers of a list of files that pass hold their maps: `held-maps` and `layers-held`. In order: where each map starts; its part of a table in which all stand;
 -- the tables of one file; one map in its parts; all. Assumes nothing.
+use Rattle.std.specs.Prelude.{◌∷◌, ◌++◌, ◌+◌, ◌*◌, ◌-◌}
 use mathlib.Core.Path.{◌≡◌, refl, sym, ◌∙◌, ap, subst}
 use mathlib.Core.List.{append_assoc}
 use Prim.Native.Nat.{◌≤◌, ◌<◌}
@@ -8,7 +9,7 @@ use native.Mathlib.Numerals.{add-one}
 use native.Mathlib.Omega.{arith}
 use lib.ListN.{length-append, length-map, get_or-map}
 use lib.Seq.{take_at, drop_at}
-use Rattle.seq.specs.Seq.{Option, none, some, List, [], ◌∷◌, ◌++◌, map, ℕ, zero, suc, ◌+◌, ◌*◌, ◌-◌, length, get_or, take, drop, ℤ, gather, over, filled, laid}
+use Rattle.seq.specs.Seq.{Option, none, some, List, [], map, ℕ, zero, suc, length, get_or, take, drop, ℤ, gather, over, filled, laid}
 use Rattle.seq.specs.Table.{table_is}
 use Rattle.seq.specs.Over.{length_over, over_at}
 use Rattle.seq.specs.Filled.{filled_all}

@@ -1,10 +1,11 @@
 -- The label of a map's edge at the left of a half-edge along it, by which of the edge's half-edges goes up.
 -- Assumes nothing.
+use Rattle.std.specs.Prelude.{◌+◌, ◌*◌, ◌-◌, ◌%◌}
 use mathlib.Core.Path.{◌≡◌, sym, ◌∙◌, ap}
 use native.Mathlib.Decide.{dec_lt}
 use native.Mathlib.Omega.{arith}
 use borrow.Author.Tests.{eq-eqb, ne_eqb}
-use Rattle.seq.specs.Seq.{Bool, true, false, cond, ℕ, suc, ◌+◌, ◌*◌, ◌-◌, ◌%◌, get_or}
+use Rattle.seq.specs.Seq.{Bool, true, false, cond, ℕ, suc, get_or}
 use Rattle.paper.specs.Plane.{Pt, Vec}
 use Rattle.paper.specs.Graph.{twin, goes_up, east_side}
 use Rattle.paper.specs.Map.{Map}

@@ -1,4 +1,5 @@
 -- A part of a table that is lent from a place on, and comes back with its start laid over: the table with that stored there (`part-stored`). Assumes nothing.
+use Rattle.std.specs.Prelude.{◌++◌, ◌+◌, ◌-◌}
 use mathlib.Core.Path.{◌≡◌, sym, ◌∙◌, ap}
 use mathlib.Core.List.{append-nil, append_assoc}
 use Prim.Native.Nat.{◌≤◌}
@@ -6,7 +7,7 @@ use native.Mathlib.Omega.{arith}
 use lib.ListN.{length-drop, drop_of_length-le}
 use lib.Seq.{take_all, drop-drop, sets-eq}
 use borrow.Rule.Slice.PartMut.{put_mid, mid_of}
-use Rattle.seq.specs.Seq.{List, [], ◌++◌, ℕ, ◌+◌, ◌-◌, length, take, drop, sets, over}
+use Rattle.seq.specs.Seq.{List, [], ℕ, length, take, drop, sets, over}
 
 module _ {A : Type 0} (t : List A) (a : ℕ) where
   -- what is lent

@@ -1,12 +1,13 @@
 -- Room for the maps of a list of files: sums over files; tables for as many maps as there are have it for any files (`full_room`), and tables for as many rows as
 -- the headers count for these (`counted_room`); with where the maps start beside them (`layer_room`); so cleared tables (`cleared_full`, `cleared-counted`).
 -- Assumes nothing.
+use Rattle.std.specs.Prelude.{◌∷◌, ◌+◌, ◌*◌}
 use mathlib.Core.Path.{◌≡◌}
 use Prim.Native.Nat.{◌≤◌, ◌<◌}
 use native.Mathlib.Nat.{mul-suc}
 use native.Mathlib.Omega.{arith}
 use lib.ListN.{length-replicate}
-use Rattle.seq.specs.Seq.{List, [], ◌∷◌, ℕ, suc, ◌+◌, ◌*◌, length, get_or, replicate, ℤ, pos}
+use Rattle.seq.specs.Seq.{List, [], ℕ, suc, length, get_or, replicate, ℤ, pos}
 use Rattle.seq.specs.Total.{total}
 use Rattle.paper.specs.Limits.{maps, map_vertices, map_edges}
 use Rattle.paper.specs.Map.{vertex_count, edges_in}

@@ -1,5 +1,6 @@
 -- Maps that stand one after the other: none, and one more behind them (`stack_more`); the rows of one file's map are as many as it counts. Then which refusal is
 -- given of a file behind others. Assumes nothing.
+use Rattle.std.specs.Prelude.{◌∷◌, ◌++◌, ◌+◌, ◌*◌}
 use mathlib.Core.Path.{◌≡◌, refl, sym, ◌∙◌, ap}
 use mathlib.Core.List.{append-nil}
 use Prim.Native.Nat.{◌≤◌, ◌<◌}
@@ -7,7 +8,7 @@ use native.Mathlib.Nat.{zero-add, mul-zero, mul-add}
 use native.Mathlib.Omega.{arith}
 use lib.ListN.{length-append, get_or-append}
 use lib.Seq.{get_or_at}
-use Rattle.seq.specs.Seq.{Option, none, some, List, [], ◌∷◌, ◌++◌, ℕ, suc, ◌+◌, ◌*◌, length, get_or, sets, ℤ, table, gather, over}
+use Rattle.seq.specs.Seq.{Option, none, some, List, [], ℕ, suc, length, get_or, sets, ℤ, table, gather, over}
 use Rattle.seq.specs.Table.{length-table, table_more, table-ext, among-table}
 use Rattle.seq.specs.Rows.{length-rows}
 use Rattle.seq.specs.Over.{over_none, stored_first, stored-behind}

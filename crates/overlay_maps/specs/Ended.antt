@@ -1,12 +1,12 @@
 -- Whether an edge of a map is at a point's height, by its own numbers: its ends are corners, whose heights are whole, so that "lower y ≤ y of p < upper y" is asked by two products
 -- (`height_of`); where they say that it is not, it is no candidate (`height_off`). Which of its half-edges goes up, by whether the second starts at the carrier's foot (`foot_up`). Then one turn of a
 -- loop that takes the best. Assumes nothing.
-use Rattle.std.specs.Prelude.{◌≡◌, refl, ◌≤◌, ◌<◌, ◌<ℤ◌}
+use Rattle.std.specs.Prelude.{◌≡◌, refl, ◌≤◌, ◌<◌, ◌<ℤ◌, ◌&&◌, ◌+◌, ◌*◌, ◌*ℤ◌}
 use Rattle.std.proofs.Common.{sym, ◌∙◌, ap, subst, arith}
 use Rattle.std.specs.Int.Signed.{lt_z}
 use Rattle.exact.specs.Tests.{lt_t, t_lt, eq_z, eq_t, t_eq, clash}
 use Rattle.exact.specs.Ring.{*ℤ-1}
-use Rattle.seq.specs.Seq.{Bool, true, false, cond, not, ◌&&◌, List, ℕ, ◌+◌, ◌*◌, ℤ, ◌*ℤ◌}
+use Rattle.seq.specs.Seq.{Bool, true, false, cond, not, List, ℕ, ℤ}
 use Rattle.seq.specs.Tests.{bool-ext}
 use Rattle.seq.specs.Pick.{better}
 use Rattle.seq.specs.Loops.Picking.{Picking, pick_takes, pick-skips}

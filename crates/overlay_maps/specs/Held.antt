@@ -1,6 +1,6 @@
 -- The maps that the layers hold, read back from the tables, and what is known of layers whose maps keep the rules. Assumes nothing.
-use Rattle.std.specs.Prelude.{◌≡◌, ◌≤◌, ◌<◌}
-use Rattle.seq.specs.Seq.{List, ℕ, ◌+◌, ◌*◌, length, get_or, table}
+use Rattle.std.specs.Prelude.{◌≡◌, ◌≤◌, ◌<◌, ◌+◌, ◌*◌}
+use Rattle.seq.specs.Seq.{List, ℕ, length, get_or, table}
 use Rattle.paper.specs.Limits.{maps, map_edges}
 use Rattle.paper.specs.Map.{Map}
 use Rattle.laws_map.specs.Keeps.{Keeps}

@@ -1,7 +1,7 @@
 -- The label of a half-edge in a map that stands in flat tables, from what the code has of the half-edge: its number, its lower end, its upward direction, and
 -- the source + 1 or 0 of its piece in the map. That is the definition's. Assumes nothing.
-use Rattle.std.specs.Prelude.{◌≡◌, refl}
-use Rattle.seq.specs.Seq.{cond, Option, none, some, ℕ, zero, suc, ◌/◌, or_zero}
+use Rattle.std.specs.Prelude.{◌≡◌, refl, ◌/◌}
+use Rattle.seq.specs.Seq.{cond, Option, none, some, ℕ, zero, suc, or_zero}
 use Rattle.paper.specs.Plane.{Pt, Vec}
 use Rattle.paper.specs.Graph.{Graph, even, twin, low, upward, east_side, west}
 use Rattle.paper.specs.Map.{Map, label}

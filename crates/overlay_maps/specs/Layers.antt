@@ -1,7 +1,7 @@
 -- The tables of all maps, one map after the other: a record of lists, which contracts name and no function holds; and what stands in them of a list of files.
 -- In order: the tables; one file's map; a map behind others; all of them. Assumes nothing.
-use Rattle.std.specs.Prelude.{◌≡◌, ◌<◌}
-use Rattle.seq.specs.Seq.{List, [], ◌∷◌, ℕ, ◌+◌, ◌*◌, length, sets, ℤ, rows, table, gather, over}
+use Rattle.std.specs.Prelude.{◌≡◌, ◌<◌, ◌∷◌, ◌+◌, ◌*◌}
+use Rattle.seq.specs.Seq.{List, [], ℕ, length, sets, ℤ, rows, table, gather, over}
 use Rattle.seq.specs.Total.{total}
 use Rattle.paper.specs.Limits.{maps}
 use Rattle.paper.specs.Graph.{origin}

@@ -1,5 +1,6 @@
 -- The label of a half-edge that lies at a place, and the part of the tables that a map stands in. Assumes nothing.
-use Rattle.seq.specs.Seq.{List, ℕ, ◌+◌, get_or}
+use Rattle.std.specs.Prelude.{◌+◌}
+use Rattle.seq.specs.Seq.{List, ℕ, get_or}
 use Rattle.paper.specs.Map.{Map}
 use Rattle.plane.specs.Values.{pt_of, vec_of}
 use Rattle.overlay_maps.specs.Label.{label_by}

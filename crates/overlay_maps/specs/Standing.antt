@@ -1,7 +1,7 @@
 -- A map that stands in a part of each of the tables: its vertices in the rows v to w of the corners, its edges in the rows a to b of the carriers. Assumes nothing.
-use Rattle.std.specs.Prelude.{◌≡◌, ◌≤◌}
+use Rattle.std.specs.Prelude.{◌≡◌, ◌≤◌, ◌*◌, ◌-◌}
 use Rattle.std.proofs.Common.{arith, length-drop, length-take-le}
-use Rattle.seq.specs.Seq.{List, ℕ, ◌*◌, ◌-◌, length, take, drop, ℤ}
+use Rattle.seq.specs.Seq.{List, ℕ, length, take, drop, ℤ}
 use Rattle.paper.specs.Limits.{absent}
 use Rattle.paper.specs.Map.{Map}
 use Rattle.graph.specs.Flat.{Flat, flat_graph}

@@ -1,8 +1,8 @@
 -- The label in a map of a half-edge and of a face of the overlay, from the flat tables that the code has of the overlay; what the code reads along the walk of a
 -- half-edge and of its twin; and the place of a half-edge, which is what the code looks up of it. Assumes nothing.
-use Rattle.std.specs.Prelude.{◌≡◌, refl, ◌⊎◌, ◌≤◌, ◌<◌}
+use Rattle.std.specs.Prelude.{◌≡◌, refl, ◌⊎◌, ◌≤◌, ◌<◌, ◌&&◌, ◌+◌, ◌*◌, ◌-◌, ◌/◌, ◌%◌}
 use Rattle.std.proofs.Common.{sym, ◌∙◌, ap, subst, inl, inr, arith}
-use Rattle.seq.specs.Seq.{◌&&◌, List, Option·map, ℕ, zero, suc, ◌+◌, ◌*◌, ◌-◌, ◌/◌, ◌%◌, length, get_or, ℤ, best, or_zero}
+use Rattle.seq.specs.Seq.{List, Option·map, ℕ, zero, suc, length, get_or, ℤ, best, or_zero}
 use Rattle.seq.specs.Terms.{Reach, step}
 use Rattle.seq.specs.Perm.{reach-trans}
 use Rattle.paper.specs.Limits.{maps, absent}

@@ -1,9 +1,9 @@
 -- The labels that the code finds are the definition's: of the half-edges and faces of the overlay of the points and pieces in tables, in the maps that the layers
 -- hold. Assumes nothing.
-use Rattle.std.specs.Prelude.{◌≡◌, ◌≤◌, ◌<◌}
+use Rattle.std.specs.Prelude.{◌≡◌, ◌≤◌, ◌<◌, ◌∷◌, ◌++◌, ◌+◌, ◌*◌, ◌-◌, ◌/◌, ◌%◌}
 use Rattle.std.proofs.Math.Path.{refl, ap}
 use Rattle.std.proofs.Common.{sym, ◌∙◌, subst, inl, inr, arith}
-use Rattle.seq.specs.Seq.{List, [], ◌∷◌, ◌++◌, Option, none, some, ℕ, zero, suc, ◌+◌, ◌*◌, ◌-◌, ◌/◌, ◌%◌, length, get_or, replicate, ℤ, rows, table, cell, select, filled, padded}
+use Rattle.seq.specs.Seq.{List, [], Option, none, some, ℕ, zero, suc, length, get_or, replicate, ℤ, rows, table, cell, select, filled, padded}
 use Rattle.seq.specs.Terms.{Reach}
 use Rattle.seq.specs.Filled.{filled_at}
 use Rattle.seq.specs.Rows.{rows_ext}

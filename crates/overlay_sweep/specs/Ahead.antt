@@ -1,9 +1,9 @@
 -- The crossing of two neighbours, if it is ahead, put into the queue. Assumes nothing.
-use Rattle.std.specs.Prelude.{◌≡◌, refl, ◌⊎◌, ◌≤◌, ◌<◌}
+use Rattle.std.specs.Prelude.{◌≡◌, refl, ◌⊎◌, ◌≤◌, ◌<◌, ◌∷◌, ◌++◌, ◌+◌, ◌-◌, ◌*◌}
 use Rattle.std.proofs.Common.{sym, ◌∙◌, ap, subst, ⊎_elim, arith}
 use Rattle.std.proofs.Math.Decide.{dec_lt}
 use Rattle.exact.specs.Lowest.{Pt}
-use Rattle.seq.specs.Seq.{Bool, true, false, cond, List, [], ◌∷◌, ◌++◌, ℕ, ℤ, ◌+◌, ◌-◌, ◌*◌, least, ltb, eqb, length, optional, insert_by}
+use Rattle.seq.specs.Seq.{Bool, true, false, cond, List, [], ℕ, ℤ, least, ltb, eqb, length, optional, insert_by}
 use Rattle.seq.specs.Terms.{Among, Rising, Ordered, Transitive}
 use Rattle.seq.specs.Members.{in_every}
 use Rattle.seq.specs.Sorted.{insert-ordered, ordered-rising, rising-ordered}

@@ -1,8 +1,8 @@
 -- Between two stops of the line: what holds (`Between`), that a turn keeps it (`between_turns`), that the next search may be made (`between_steady`), which edges the next stop is on (`between_met`), and what is known at the end (`Outcome`). Assumes nothing.
-use Rattle.std.specs.Prelude.{◌≡◌, refl, ◌≤◌, ◌<◌}
+use Rattle.std.specs.Prelude.{◌≡◌, refl, ◌≤◌, ◌<◌, ◌∷◌, ◌++◌, ◌+◌, ◌-◌, ◌*◌}
 use Rattle.std.proofs.Common.{sym, ◌∙◌, ap, subst, append_assoc, arith, length-append, take_all, length-take-le}
 use Rattle.std.proofs.Math.Decide.{dec_lt}
-use Rattle.seq.specs.Seq.{List, [], ◌∷◌, ◌++◌, ℤ, ℕ, ◌+◌, ◌-◌, ◌*◌, length, get_or, table, insert_by, row_stored}
+use Rattle.seq.specs.Seq.{List, [], ℤ, ℕ, length, get_or, table, insert_by, row_stored}
 use Rattle.seq.specs.Terms.{Among}
 use Rattle.seq.specs.Members.{among-map}
 use Rattle.seq.specs.Table.{length-table, table-ext, among-table}

@@ -1,8 +1,8 @@
 -- The values of f below n, the last first (`falling`): its members, and an element put in its place where the list is in strict order (`falling-insert`, `falling_old`). Assumes nothing.
-use Rattle.std.specs.Prelude.{◌≡◌, refl, ◌≤◌, ◌<◌}
+use Rattle.std.specs.Prelude.{◌≡◌, refl, ◌≤◌, ◌<◌, ◌∷◌, ◌+◌, ◌-◌}
 use Rattle.std.proofs.Common.{sym, ◌∙◌, ap, inl, inr, ⊎_elim, add-one, arith}
 use Rattle.std.proofs.Math.Decide.{dec_lt}
-use Rattle.seq.specs.Seq.{Bool, true, false, cond, List, [], ◌∷◌, ℕ, zero, suc, ◌+◌, ◌-◌, length, insert_by}
+use Rattle.seq.specs.Seq.{Bool, true, false, cond, List, [], ℕ, zero, suc, length, insert_by}
 use Rattle.seq.specs.Terms.{Among, Rising}
 
 abbrev pub falling : {A : Type 0} → (ℕ → A) → ℕ → List A

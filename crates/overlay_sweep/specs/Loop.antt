@@ -1,8 +1,8 @@
 -- The loop over the stops: what it starts from (`Begun`), keeps (`Looping`) and ends with (`loop_ends`, `loop-stops`); what the sweep asks of the tables (`Given`), the stops by the
 -- definition (`stops_in`) and what it answers (`SweptTo`). Assumes nothing.
-use Rattle.std.specs.Prelude.{◌≡◌, refl, ◌≤◌, ◌<◌}
+use Rattle.std.specs.Prelude.{◌≡◌, refl, ◌≤◌, ◌<◌, ◌+◌, ◌-◌, ◌*◌}
 use Rattle.std.proofs.Common.{sym, ◌∙◌, ap, subst, arith}
-use Rattle.seq.specs.Seq.{List, [], ℤ, ℕ, ◌+◌, ◌-◌, ◌*◌, length, table, row_stored}
+use Rattle.seq.specs.Seq.{List, [], ℤ, ℕ, length, table, row_stored}
 use Rattle.seq.specs.Search.{Steady}
 use Rattle.seq.specs.Slotted.{slots}
 use Rattle.paper.specs.Limits.{maps}

@@ -1,8 +1,8 @@
 -- The edges through a stop, by tables (`Meets`), and how the cells of a table fall into parts. Assumes nothing.
-use Rattle.std.specs.Prelude.{◌≡◌, ◌⊎◌, ◌≤◌, ◌<◌}
+use Rattle.std.specs.Prelude.{◌≡◌, ◌⊎◌, ◌≤◌, ◌<◌, ◌+◌, ◌-◌}
 use Rattle.std.proofs.Common.{◌∙◌, ap, subst, inl, inr, arith}
 use Rattle.std.proofs.Math.Decide.{dec_lt}
-use Rattle.seq.specs.Seq.{List, ℤ, ℕ, ◌+◌, ◌-◌, get_or}
+use Rattle.seq.specs.Seq.{List, ℤ, ℕ, get_or}
 use Rattle.seq.specs.Terms.{Among}
 use Rattle.seq.specs.Table.{table-among, among-table}
 use Rattle.seq.specs.Search.{Stop, ScanStop}

@@ -1,8 +1,8 @@
 -- The neighbours in the cells j - 1 and j of a table of edge numbers: the last of the cells before j and the first from j on, and the crossing ahead of the two (`joint_at`). Assumes nothing.
-use Rattle.std.specs.Prelude.{◌≡◌, refl, ◌≤◌, ◌<◌}
+use Rattle.std.specs.Prelude.{◌≡◌, refl, ◌≤◌, ◌<◌, ◌∷◌, ◌++◌, ◌+◌, ◌-◌}
 use Rattle.std.proofs.Common.{◌∙◌, ap, add-zero, arith}
 use Rattle.std.proofs.lemmas.List.{map-append}
-use Rattle.seq.specs.Seq.{List, [], ◌∷◌, ◌++◌, map, Option, none, some, ℤ, ℕ, ◌+◌, ◌-◌, get_or}
+use Rattle.seq.specs.Seq.{List, [], map, Option, none, some, ℤ, ℕ, get_or}
 use Rattle.seq.specs.Table.{table-+}
 use Rattle.seq.specs.Pairs.{first, last}
 use Rattle.paper.specs.Plane.{Pt}

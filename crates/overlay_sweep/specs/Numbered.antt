@@ -1,8 +1,8 @@
 -- The numbers of the edges that the line cuts, and of those that wait (`Numbered`): State and Waiting speak of edges, and two of them might be alike; here every edge below e is named. A turn keeps it
 -- (`numbered_turns`), and so the edges through the next stop are, number by number, those that the tables have there (`met_on`, `on_met`). Assumes nothing.
-use Rattle.std.specs.Prelude.{◌≡◌, refl, ◌⊎◌, ◌<◌, ◌<ℤ◌}
+use Rattle.std.specs.Prelude.{◌≡◌, refl, ◌⊎◌, ◌<◌, ◌<ℤ◌, ◌∷◌, ◌-◌}
 use Rattle.std.proofs.Common.{sym, ◌∙◌, ap, subst, inl, inr, ⊎_elim, arith}
-use Rattle.seq.specs.Seq.{Bool, true, false, List, [], ◌∷◌, ℤ, pos, ℕ, ◌-◌, get_or, map, table}
+use Rattle.seq.specs.Seq.{Bool, true, false, List, [], ℤ, pos, ℕ, get_or, map, table}
 use Rattle.seq.specs.Terms.{Among}
 use Rattle.seq.specs.Members.{among-map}
 use Rattle.seq.specs.Table.{among-table}

@@ -1,10 +1,10 @@
 -- The queue: points in falling order in a table, so that the next stop of the line is its last row (`queue_of`). A point's place is the first row that comes before it (`Place`); with the rows
 -- from there on moved up by one and the point stored, the queue has it too (`queue_new`). Assumes nothing.
-use Rattle.std.specs.Prelude.{◌≡◌, refl, ◌≤◌, ◌<◌}
+use Rattle.std.specs.Prelude.{◌≡◌, refl, ◌≤◌, ◌<◌, ◌∷◌, ◌+◌, ◌-◌, ◌*◌}
 use Rattle.std.proofs.Common.{sym, ◌∙◌, ap, subst, add-one, arith}
 use Rattle.std.proofs.Math.Decide.{dec_lt}
 use Rattle.exact.specs.Lowest.{Pt}
-use Rattle.seq.specs.Seq.{Bool, true, false, not, List, ◌∷◌, [], ℕ, suc, ℤ, pos, ◌+◌, ◌-◌, ◌*◌, length, get_or, cell, row_stored, insert_by}
+use Rattle.seq.specs.Seq.{Bool, true, false, not, List, [], ℕ, suc, ℤ, pos, length, get_or, cell, row_stored, insert_by}
 use Rattle.seq.specs.Tests.{clash, was-true, was-false}
 use Rattle.seq.specs.Halves.{Lasts, Halving}
 use Rattle.paper.specs.Plane.{before}

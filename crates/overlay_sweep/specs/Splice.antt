@@ -1,9 +1,9 @@
 -- A part of a table of numbers exchanged for another list: first the cells after it moved, down (`Lowering`) or up, then the others copied in (`Copying`); `spliced` says what list there is then.
 -- Assumes nothing.
-use Rattle.std.specs.Prelude.{◌≡◌, refl, ◌≤◌, ◌<◌, set}
+use Rattle.std.specs.Prelude.{◌≡◌, refl, ◌≤◌, ◌<◌, set, ◌+◌, ◌-◌, ◌++◌}
 use Rattle.std.proofs.Common.{sym, ◌∙◌, ap, arith, length-set, get_or-set_same, get_or-set_other, take_at, drop_at}
 use Rattle.std.proofs.Math.Decide.{dec_lt}
-use Rattle.seq.specs.Seq.{List, ℕ, ◌+◌, ◌-◌, length, get_or, take, drop, table, ◌++◌}
+use Rattle.seq.specs.Seq.{List, ℕ, length, get_or, take, drop, table}
 use Rattle.seq.specs.Table.{length-table, table-+, table-ext}
 use Rattle.seq.specs.Loops.Lifting.{lifted}
 use Rattle.seq.specs.Lifted.{lifted_below, lifted_in}

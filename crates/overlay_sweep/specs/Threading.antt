@@ -1,8 +1,8 @@
 -- A stop remembered of the edges through it (`Threading`): the cells name exactly the edges that it is on (`named_on`). So the threads of the stops below i become those of the stops below i + 1
 -- (`spun_turns`). Assumes nothing.
-use Rattle.std.specs.Prelude.{◌≡◌, refl, ◌⊎◌, ◌≤◌, ◌<◌}
+use Rattle.std.specs.Prelude.{◌≡◌, refl, ◌⊎◌, ◌≤◌, ◌<◌, ◌||◌, ◌+◌, ◌-◌, ◌*◌}
 use Rattle.std.proofs.Common.{sym, ◌∙◌, ap, subst, inl, inr, ⊎_elim, arith}
-use Rattle.seq.specs.Seq.{Bool, true, ◌||◌, List, ℤ, pos, ℕ, ◌+◌, ◌-◌, ◌*◌, length, get_or, cell, row_stored}
+use Rattle.seq.specs.Seq.{Bool, true, List, ℤ, pos, ℕ, length, get_or, cell, row_stored}
 use Rattle.seq.specs.Terms.{Among}
 use Rattle.seq.specs.Table.{among-table, table-among}
 use Rattle.seq.specs.Cells.{row_same, row_other}

@@ -1,9 +1,9 @@
 -- A turn of the line, by tables: the numbers in the tables are strands (`strand_at`), and what the code makes of the tables is what the definition makes of the lists of strands.
 -- Assumes nothing.
-use Rattle.std.specs.Prelude.{◌≡◌, ◌⊎◌, ◌≤◌, ◌<◌}
+use Rattle.std.specs.Prelude.{◌≡◌, ◌⊎◌, ◌≤◌, ◌<◌, ◌++◌, ◌+◌, ◌-◌, ◌*◌}
 use Rattle.std.proofs.Common.{sym, ◌∙◌, ap, subst, inl, inr, ⊎_elim, arith, drop-drop, length-take-le, take_at, drop_at}
 use Rattle.std.proofs.lemmas.List.{map-append}
-use Rattle.seq.specs.Seq.{true, List, [], ◌++◌, map, ℤ, ℕ, ◌+◌, ◌-◌, ◌*◌, length, get_or, take, drop, table}
+use Rattle.seq.specs.Seq.{true, List, [], map, ℤ, ℕ, length, get_or, take, drop, table}
 use Rattle.seq.specs.Terms.{Among}
 use Rattle.seq.specs.Members.{++-among, among-++}
 use Rattle.seq.specs.Table.{length-table, table_at, table-ext, table-among, among-table}

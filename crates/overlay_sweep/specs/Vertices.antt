@@ -1,9 +1,9 @@
 -- What the sweep's answer says of maps: where the tables hold the edges and the corners of maps that keep the rules, what it asks is met (`maps-given`), and its rows are their vertices
 -- (`maps-swept`). Assumes nothing.
-use Rattle.std.specs.Prelude.{◌≡◌, ◌≤◌, ◌<◌}
+use Rattle.std.specs.Prelude.{◌≡◌, ◌≤◌, ◌<◌, ◌*◌}
 use Rattle.std.proofs.Common.{sym, ◌∙◌, ap, subst, arith, take_all, length-take-le}
 use Rattle.std.proofs.Math.Decide.{dec_lt}
-use Rattle.seq.specs.Seq.{List, [], ℤ, ℕ, ◌*◌, length, take}
+use Rattle.seq.specs.Seq.{List, [], ℤ, ℕ, length, take}
 use Rattle.seq.specs.Table.{length-table}
 use Rattle.paper.specs.Limits.{maps}
 use Rattle.paper.specs.Plane.{Pt}

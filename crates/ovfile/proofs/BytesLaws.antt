@@ -1,10 +1,11 @@
 -- Numbers in bytes as the loops make them: read from the high byte down, stored from the low byte up. Assumes nothing.
+use Rattle.std.specs.Prelude.{◌+◌, ◌*◌, ◌-◌, ◌/◌, ◌%◌, ◌^◌, ◌-ℤ◌}
 use mathlib.Core.Path.{◌≡◌, refl, sym, ◌∙◌, ap}
 use Prim.Native.Nat.{◌≤◌, ◌<◌}
 use native.Mathlib.Nat.{pow-le-pow_right}
 use native.Mathlib.Omega.{arith}
 use lib.ListN.{set, length-set, get_or-eq_default}
-use Rattle.seq.specs.Seq.{List, ℕ, zero, suc, ◌+◌, ◌*◌, ◌-◌, ◌/◌, ◌%◌, ◌^◌, length, sets, ℤ, pos, negsuc, nat_abs, ◌-ℤ◌}
+use Rattle.seq.specs.Seq.{List, ℕ, zero, suc, length, sets, ℤ, pos, negsuc, nat_abs}
 use lib.Signed.{◌≤ℤ◌, ◌<ℤ◌}
 use Rattle.exact.specs.Order.{≡-of, is-+, pos≮0}
 use Rattle.paper.specs.Bytes.{byte_at, number, le}

@@ -1,10 +1,11 @@
 -- Sound edge records as the code judges them: the first half-edge with each follower, and one test of it in place of a search. Assumes nothing.
+use Rattle.std.specs.Prelude.{◌&&◌, ◌||◌, ◌+◌, ◌-◌}
 use mathlib.Core.Path.{◌≡◌, refl, sym, ◌∙◌, ap}
 use Prim.Native.Nat.{◌≤◌, ◌<◌}
 use native.Mathlib.Decide.{ℕ_discrete}
 use native.Mathlib.Omega.{arith}
 use borrow.Author.Tests.{ltb-true, lt-ltb, eq-eqb, ne_eqb}
-use Rattle.seq.specs.Seq.{Bool, true, false, cond, not, ◌&&◌, ◌||◌, List, ℕ, ◌+◌, ◌-◌, ltb, eqb, length, get_or, least, the_some_below}
+use Rattle.seq.specs.Seq.{Bool, true, false, cond, not, List, ℕ, ltb, eqb, length, get_or, least, the_some_below}
 use Rattle.seq.specs.Least.{least_at_most, least-holds, least_min, some_has, no_some}
 use Rattle.seq.specs.Firsts.{length-firsts, firsts_all}
 use Rattle.paper.specs.Limits.{maps}

@@ -1,8 +1,8 @@
 -- What the code over a layout asks of it, so that no place leaves 64 bits: few bytes for a coordinate, and few maps. Of every version that is known, and of the one without
 -- bytes that stands for all others. Then how far places go in it (`vertices-near`, `edges-near`, `faces-near`). Assumes nothing.
-use Rattle.std.specs.Prelude.{◌≤◌, ◌<◌}
+use Rattle.std.specs.Prelude.{◌≤◌, ◌<◌, ◌+◌, ◌*◌, ◌^◌}
 use Rattle.std.proofs.Common.{mul-le-mul_right, arith}
-use Rattle.seq.specs.Seq.{ℕ, ◌+◌, ◌*◌, ◌^◌}
+use Rattle.seq.specs.Seq.{ℕ}
 use Rattle.paper.specs.Limits as limits
 use Rattle.paper.specs.Limits.{overlay_head}
 use Rattle.paper.specs.Tables.{Counts}

@@ -1,11 +1,12 @@
 -- What the reader works out, as the code finds it: predecessors and least outgoing half-edges are the first places of a number among the stored followers and
 -- origins. Assumes nothing.
+use Rattle.std.specs.Prelude.{◌∷◌, ◌+◌, ◌*◌, ◌/◌, ◌%◌}
 use mathlib.Core.Path.{◌≡◌, refl, sym, ◌∙◌, ap}
 use Prim.Native.Nat.{◌≤◌, ◌<◌}
 use native.Mathlib.Nat.{zero-add}
 use native.Mathlib.Omega.{arith}
 use borrow.Author.Tests.{ltb-false}
-use Rattle.seq.specs.Seq.{Bool, true, false, cond, List, [], ◌∷◌, ℕ, ◌+◌, ◌*◌, ◌/◌, ◌%◌, ltb, eqb, length, get_or, pos, least, rows, position, firsts}
+use Rattle.seq.specs.Seq.{Bool, true, false, cond, List, [], ℕ, ltb, eqb, length, get_or, pos, least, rows, position, firsts}
 use Rattle.seq.specs.Terms.{the_stands_at}
 use Rattle.seq.specs.Tests.{eqb_swap}
 use Rattle.seq.specs.Least.{least-le, least-ext}

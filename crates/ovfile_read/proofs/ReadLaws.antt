@@ -1,9 +1,10 @@
 -- The reader's refusals as the code finds them: the form first, then the edges and the room, and what is known of a file that is not refused. Assumes nothing.
+use Rattle.std.specs.Prelude.{◌∷◌, ◌++◌}
 use mathlib.Core.Path.{◌≡◌, sym, ◌∙◌}
 use Prim.Native.Nat.{◌≤◌}
 use native.Mathlib.Omega.{arith}
 use borrow.Author.Tests.{ltb-false}
-use Rattle.seq.specs.Seq.{Bool, not, List, ◌∷◌, ◌++◌, ℕ, Option, none, some, length}
+use Rattle.seq.specs.Seq.{Bool, not, List, ℕ, Option, none, some, length}
 use Rattle.paper.specs.Limits.{maps}
 use Rattle.paper.specs.Bytes.{u16}
 use Rattle.paper.specs.Refusal.{Refusal, first_at, first_of, done, refused}

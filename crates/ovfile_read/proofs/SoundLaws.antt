@@ -1,5 +1,6 @@
 -- Sound edge records by the stored fields: a record of the tables that a file holds is sound exactly if its fields are, and one look into the table of the half-edges that follow one so
 -- far stands for a search. Assumes nothing.
+use Rattle.std.specs.Prelude.{◌&&◌, ◌+◌, ◌*◌, ◌-◌, ◌%◌}
 use mathlib.Core.Path.{◌≡◌, refl, sym, ◌∙◌, ap, subst}
 use Prim.Native.Nat.{◌≤◌, ◌<◌}
 use native.Mathlib.Decide.{ℕ_discrete}
@@ -7,7 +8,7 @@ use native.Mathlib.Omega.{arith}
 use borrow.Author.Tests.{ltb-true, eq-eqb, ne_eqb}
 use lib.ListN.{set, length-set, get_or-replicate, length-replicate}
 use lib.Seq.{get_or-set_same, get_or-set_other}
-use Rattle.seq.specs.Seq.{Bool, true, false, cond, not, ◌&&◌, List, ℕ, ◌+◌, ◌*◌, ◌-◌, ◌%◌, ltb, eqb, length, get_or, replicate, the_some_below}
+use Rattle.seq.specs.Seq.{Bool, true, false, cond, not, List, ℕ, ltb, eqb, length, get_or, replicate, the_some_below}
 use Rattle.seq.specs.Least.{some_has, some_witness, no_some, no_some_is, some_ext}
 use Rattle.seq.specs.Table.{table_at}
 use Rattle.paper.specs.Limits.{maps}

@@ -1,7 +1,7 @@
 -- What the functions that fill the reader's tables ask and promise of each other, of a file of any layout: counts within 01's numbers, and the tables of least half-edges and of
 -- predecessors that they hand on. Assumes nothing.
-use Rattle.std.specs.Prelude.{◌≡◌, ◌<◌, ◌≤◌}
-use Rattle.seq.specs.Seq.{List, [], ◌∷◌, ℕ, ◌+◌, ◌*◌, ◌/◌, ◌%◌, eqb, length, get_or, ℤ, pos, table, position}
+use Rattle.std.specs.Prelude.{◌≡◌, ◌<◌, ◌≤◌, ◌∷◌, ◌+◌, ◌*◌, ◌/◌, ◌%◌}
+use Rattle.seq.specs.Seq.{List, [], ℕ, eqb, length, get_or, ℤ, pos, table, position}
 use Rattle.paper.specs.Limits.{overlay_vertices, overlay_edges, overlay_faces, overlay_head, denominator_bytes, maps}
 use Rattle.paper.specs.Bytes.{number, signed_at}
 use Rattle.paper.specs.Tables.{vertex_width, half_width, face_width, least_half, Counts}

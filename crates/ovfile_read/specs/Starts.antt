@@ -1,7 +1,7 @@
 -- What is worked out once for a whole file: where its edges and its faces start. And the table that the search for sound edge records keeps: the half-edges that follow another one so
 -- far. Assumes nothing.
-use Rattle.std.specs.Prelude.{◌≡◌, ◌<◌, ◌≤◌}
-use Rattle.seq.specs.Seq.{not, List, ℕ, ◌^◌, eqb, length, get_or, the_some_below}
+use Rattle.std.specs.Prelude.{◌≡◌, ◌<◌, ◌≤◌, ◌^◌}
+use Rattle.seq.specs.Seq.{not, List, ℕ, eqb, length, get_or, the_some_below}
 use Rattle.paper.specs.Ovfile.{Layout, edges_at, faces_at}
 use Rattle.paper.specs.Reader.{counts_in}
 use Rattle.ovfile.specs.Known.{Known}

@@ -1,5 +1,6 @@
 -- Refusals 5 and 21 as the code finds them: whether a number fits its bytes, by its magnitude; the least outgoing half-edges from a table; and what is known
 -- of a vertex that is not refused. Assumes nothing.
+use Rattle.std.specs.Prelude.{◌&&◌, ◌*◌, ◌/◌, ◌^◌, ◌-ℤ◌}
 use mathlib.Core.Path.{◌≡◌, refl, ◌∙◌, ap}
 use Prim.Native.Nat.{◌≤◌, ◌<◌}
 use native.Mathlib.Omega.{arith}
@@ -7,7 +8,7 @@ use borrow.Author.Tests.{ltb-true, not-false}
 use lib.Signed.{◌≤ℤ◌, ◌<ℤ◌}
 use mir.Syntax.{w64}
 use mir.Val.{SFits, of_z}
-use Rattle.seq.specs.Seq.{true, false, not, ◌&&◌, List, [], ℕ, ◌*◌, ◌/◌, ◌^◌, leb, ltb, eqb, length, get_or, ℤ, pos, negsuc, nat_abs, ◌-ℤ◌, least}
+use Rattle.seq.specs.Seq.{true, false, not, List, [], ℕ, leb, ltb, eqb, length, get_or, ℤ, pos, negsuc, nat_abs, least}
 use Rattle.seq.specs.Least.{least-ext}
 use Rattle.seq.specs.Tests.{clash, and_parts}
 use Rattle.exact.specs.Order.{pos≮0}

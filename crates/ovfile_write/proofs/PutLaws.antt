@@ -1,9 +1,10 @@
 -- The file's parts as the code stores them, one behind the other: their lengths, and the whole. Assumes nothing.
+use Rattle.std.specs.Prelude.{◌++◌, ◌+◌, ◌*◌}
 use mathlib.Core.Path.{◌≡◌, refl, sym, ◌∙◌, ap}
 use Prim.Native.Nat.{◌≤◌}
 use native.Mathlib.Nat.{zero-add}
 use lib.ListN.{length-append}
-use Rattle.seq.specs.Seq.{List, ◌++◌, ℕ, ◌+◌, ◌*◌, length, ℤ, sets, rows, gather, padded, wiped}
+use Rattle.seq.specs.Seq.{List, ℕ, length, ℤ, sets, rows, gather, padded, wiped}
 use Rattle.seq.specs.Rows.{length-rows}
 use Rattle.paper.specs.Limits.{overlay_head, coordinate_bytes, denominator_bytes, maps}
 use Rattle.paper.specs.Bytes.{ascii, le, le_signed}

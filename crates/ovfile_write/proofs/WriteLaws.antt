@@ -1,10 +1,11 @@
 -- The writer's refusals as the code finds them: the counts first, then vertices, edges and the buffer, and what is known where nothing is refused.
 -- Assumes nothing.
+use Rattle.std.specs.Prelude.{◌∷◌}
 use mathlib.Core.Path.{◌≡◌, sym}
 use Prim.Native.Nat.{◌≤◌}
 use native.Mathlib.Omega.{arith}
 use borrow.Author.Tests.{ltb-false}
-use Rattle.seq.specs.Seq.{List, [], ◌∷◌, ℕ, Option, none, some, ltb, length, ℤ, padded}
+use Rattle.seq.specs.Seq.{List, [], ℕ, Option, none, some, ltb, length, ℤ, padded}
 use Rattle.paper.specs.Limits.{maps, overlay_vertices, overlay_edges}
 use Rattle.paper.specs.Refusal.{Refusal, given, first_at, answer, unless_refused, done, refused}
 use Rattle.paper.specs.Tables.{Counts, Tables}

@@ -1,7 +1,7 @@
 -- What the functions of the writer ask and promise of each other: a vertex judged by a table of least outgoing half-edges, vertices whose numbers fit, and the
 -- fields of the head. The promise on a table is a record, so that a large table of one value is compared by its name and not cell by cell. Assumes nothing.
-use Rattle.std.specs.Prelude.{◌≡◌, ◌<◌, ◌≤◌}
-use Rattle.seq.specs.Seq.{Bool, not, ◌&&◌, List, [], ◌∷◌, ℕ, ◌^◌, eqb, length, get_or, ℤ, pos, nat_abs, ◌-ℤ◌, cell}
+use Rattle.std.specs.Prelude.{◌≡◌, ◌<◌, ◌≤◌, ◌&&◌, ◌∷◌, ◌^◌, ◌-ℤ◌}
+use Rattle.seq.specs.Seq.{Bool, not, List, [], ℕ, eqb, length, get_or, ℤ, pos, nat_abs, cell}
 use Rattle.paper.specs.Limits.{overlay_vertices, coordinate_bytes, denominator_bytes}
 use Rattle.paper.specs.Plane.{is_zer, sgn}
 use Rattle.paper.specs.Bytes.{the_fits_signed, fits_unsigned}

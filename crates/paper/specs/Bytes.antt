@@ -1,9 +1,10 @@
 -- Numbers and marks in files, "low byte first". Assumes nothing.
+use Rattle.std.specs.Prelude.{◌&&◌, ◌∷◌, ◌+◌, ◌*◌, ◌-◌, ◌/◌, ◌%◌, ◌^◌}
 use Prim.Native.Char.{code}
 use Prim.Native.String as Str
 use Prim.Native.String.{String}
 use Rattle.std.specs.Int.Signed.{mag}
-use Rattle.seq.specs.Seq.{Bool, true, false, cond, ◌&&◌, List, [], ◌∷◌, ℕ, zero, suc, ◌+◌, ◌*◌, ◌-◌, ◌/◌, ◌%◌, ◌^◌, ltb, eqb, get_or, ℤ, pos, negsuc}
+use Rattle.seq.specs.Seq.{Bool, true, false, cond, List, [], ℕ, zero, suc, ltb, eqb, get_or, ℤ, pos, negsuc}
 
 -- a text as its bytes; it has no character past 127
 abbrev pub ascii : String → List ℕ

@@ -1,5 +1,6 @@
 -- The overlay of a list of maps: walks, faces and labels (01, "Overlay tables"). Assumes nothing.
-use Rattle.seq.specs.Seq.{Bool, false, cond, not, ◌&&◌, List, [], Option, none, some, ℕ, zero, suc, ◌/◌, eqb, length, get_or, count, select, table, leader, or_zero}
+use Rattle.std.specs.Prelude.{◌&&◌, ◌/◌}
+use Rattle.seq.specs.Seq.{Bool, false, cond, not, List, [], Option, none, some, ℕ, zero, suc, eqb, length, get_or, count, select, table, leader, or_zero}
 use Rattle.paper.specs.Graph.{the_half_count, upward, even, twin, low, followers, hole_walk, east_side, west, hole_look, Graph}
 use Rattle.paper.specs.Map.{label, Map}
 use Rattle.paper.specs.Pieces.{layer, vertices_of, edges_of, graph_of, Piece}

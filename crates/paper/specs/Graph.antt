@@ -1,7 +1,8 @@
 -- A plane graph as half-edges see it, one for the maps and for the overlay: points, and edges that join two of them. Half-edge 2k goes along
 -- edge k `from` its one point, 2k + 1 back. Followers, walks, hole walks (01, "Points, sides, followers") and looking west. Assumes nothing.
+use Rattle.std.specs.Prelude.{◌&&◌, ◌∷◌, ◌+◌, ◌*◌, ◌-◌, ◌/◌, ◌%◌, ◌-ℤ◌, ◌*ℤ◌}
 pub use Rattle.seq.specs.Seq.{walk}
-use Rattle.seq.specs.Seq.{Bool, true, false, cond, not, ◌&&◌, List, [], ◌∷◌, Option, Option·getD, Option·map, ℕ, ◌+◌, ◌*◌, ◌-◌, ◌/◌, ◌%◌, eqb, length, get_or, ℤ, neg_ℤ, ◌-ℤ◌, ◌*ℤ◌, table, best, best_of, among}
+use Rattle.seq.specs.Seq.{Bool, true, false, cond, not, List, [], Option, Option·getD, Option·map, ℕ, eqb, length, get_or, ℤ, neg_ℤ, table, best, best_of, among}
 use Rattle.paper.specs.Plane.{Pt, Vec, Seg, vec, whole, opposite, nowhere, cross, rises, before, below, lower, upper, less_angle, the_left_by}
 
 -- an edge: the numbers of the points that it joins, and its carrier, the input edge that it lies along, from its lower end. Of a map's edge

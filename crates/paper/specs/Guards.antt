@@ -1,8 +1,8 @@
 -- Guards against two of 01's slips, as laws of the definitions: an edge is split at every vertex on it, and an upper end is never counted when
 -- looking west. Assumes nothing.
-use Rattle.std.specs.Prelude.{◌≡◌, refl, ◌<◌}
+use Rattle.std.specs.Prelude.{◌≡◌, refl, ◌<◌, ◌&&◌, ◌∷◌}
 use Rattle.std.proofs.Common.{sym, arith}
-use Rattle.seq.specs.Seq.{Bool, true, false, not, ◌&&◌, List, [], ◌∷◌, Option, ℕ, zero, suc, length, get_or}
+use Rattle.seq.specs.Seq.{Bool, true, false, not, List, [], Option, ℕ, zero, suc, length, get_or}
 use Rattle.paper.specs.Plane.{Pt, Sign, pick, neg, zer, plus, sgn, is_neg, is_zer, same, below, dir}
 use Rattle.paper.specs.Graph.{Graph, high, low, at_height}
 use Rattle.paper.specs.Pieces.{Piece, links, links_from}

@@ -1,6 +1,7 @@
 -- The lent tables (01, "When a map is refused"): their lengths, the room in them, what they hold when an operation is done or refused.
 -- Assumes nothing.
-use Rattle.seq.specs.Seq.{List, [], ◌∷◌, Option, ℕ, ◌/◌, min, ltb, length, pos, padded}
+use Rattle.std.specs.Prelude.{◌∷◌, ◌/◌}
+use Rattle.seq.specs.Seq.{List, [], Option, ℕ, min, ltb, length, pos, padded}
 use Rattle.paper.specs.Limits.{overlay_vertices, overlay_edges, overlay_faces}
 use Rattle.paper.specs.Refusal.{given, answer, unless_refused, Refusal, Answer}
 use Rattle.paper.specs.Tables.{vertex_width, half_width, face_width, Counts, Tables}

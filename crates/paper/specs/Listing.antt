@@ -1,5 +1,6 @@
 -- The listing program's text (01, "Worked sheets"). Assumes nothing.
-use Rattle.seq.specs.Seq.{Bool, not, ◌&&◌, cond, List, [], ◌∷◌, ◌++◌, map, ℕ, zero, suc, ◌+◌, ◌-◌, ◌/◌, ◌%◌, ltb, eqb, count, rows}
+use Rattle.std.specs.Prelude.{◌&&◌, ◌∷◌, ◌++◌, ◌+◌, ◌-◌, ◌/◌, ◌%◌}
+use Rattle.seq.specs.Seq.{Bool, not, cond, List, [], map, ℕ, zero, suc, ltb, eqb, count, rows}
 use Rattle.paper.specs.Bytes.{ascii}
 use Rattle.paper.specs.Refusal.{Refusal, Answer, done, refused}
 use Rattle.paper.specs.Tables.{face_cell, Counts, Tables}

@@ -1,5 +1,6 @@
 -- Map files (01, "Map file"): the map that the bytes hold, and its check, refusals 1 to 10. Assumes nothing.
-use Rattle.seq.specs.Seq.{Bool, not, ◌&&◌, ◌||◌, List, [], ◌∷◌, ◌++◌, map, Option, ℕ, ◌+◌, ◌*◌, ◌/◌, ◌%◌, leb, ltb, eqb, length, get_or, nat_abs, least, the_some_below, table, or_zero}
+use Rattle.std.specs.Prelude.{◌&&◌, ◌||◌, ◌∷◌, ◌++◌, ◌+◌, ◌*◌, ◌/◌, ◌%◌}
+use Rattle.seq.specs.Seq.{Bool, not, List, [], map, Option, ℕ, leb, ltb, eqb, length, get_or, nat_abs, least, the_some_below, table, or_zero}
 use Rattle.paper.specs.Limits.{map_vertices, map_edges, reach, map_head}
 use Rattle.paper.specs.Plane.{Vec, vec, nowhere, whole, same, between, clash}
 use Rattle.paper.specs.Graph.{edge_count, the_half_count, point, edge, leaves, followers, makes_hole, hole_look, Edge, Graph}

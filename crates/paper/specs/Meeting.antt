@@ -1,5 +1,6 @@
 -- How two edges meet (02, Ask 2): of two edges that go up, and asked by itself of eight numbers. Assumes nothing.
-use Rattle.seq.specs.Seq.{Bool, true, false, cond, not, ◌&&◌, ◌||◌, List, [], ◌∷◌, Option, none, some, ltb, ℤ, nat_abs}
+use Rattle.std.specs.Prelude.{◌&&◌, ◌||◌, ◌∷◌}
+use Rattle.seq.specs.Seq.{Bool, true, false, cond, not, List, [], Option, none, some, ltb, ℤ, nat_abs}
 use Rattle.paper.specs.Limits.{reach}
 use Rattle.paper.specs.Plane.{Sign, neg, zer, plus, sgn, is_zer, Pt, Vec, vec, Seg, cross, head, whole, order, same, lower, upper, between, the_left_by, inside}
 use Rattle.paper.specs.Plane.{crossing as common}

@@ -1,7 +1,7 @@
 -- Worked cases of how two edges meet, and of refusal 8 with its other edge, each by computing. Assumes nothing.
-use Rattle.std.specs.Prelude.{◌≡◌, refl}
+use Rattle.std.specs.Prelude.{◌≡◌, refl, ◌∷◌}
 use Rattle.exact.specs.Exact.{gcd_of}
-use Rattle.seq.specs.Seq.{[], ◌∷◌, some, ℕ, pos}
+use Rattle.seq.specs.Seq.{[], some, ℕ, pos}
 use Rattle.paper.specs.Plane.{Pt, between}
 use Rattle.paper.specs.Refusal.{done, refused}
 use Rattle.paper.specs.Sample.{at, arc, map_file}

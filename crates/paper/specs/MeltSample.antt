@@ -7,9 +7,9 @@
 --      0     4 5 6 8
 --
 -- The line between the zones and the fence go, then the fence's ends; 4 has two edges and stays. Assumes nothing.
-use Rattle.std.specs.Prelude.{◌≡◌, refl}
+use Rattle.std.specs.Prelude.{◌≡◌, refl, ◌∷◌, ◌*◌}
 use Rattle.exact.specs.Exact.{gcd_of}
-use Rattle.seq.specs.Seq.{List, [], ◌∷◌, Option, some, ℕ, ◌*◌, table}
+use Rattle.seq.specs.Seq.{List, [], Option, some, ℕ, table}
 use Rattle.paper.specs.Limits.{maps}
 use Rattle.paper.specs.Refusal.{Answer}
 use Rattle.paper.specs.Map.{fault}

@@ -1,5 +1,6 @@
 -- Mending digitised maps (02, Ask 9): the four steps, the list of what was done, the mended file, and all that comes out. Assumes nothing.
-use Rattle.seq.specs.Seq.{Bool, not, ◌&&◌, ◌||◌, List, [], ◌∷◌, ◌++◌, map, Option, ℕ, ◌+◌, ◌*◌, ◌/◌, leb, ltb, eqb, length, get_or, least, the_some_below, select, rows, position, is_in, gather, padded}
+use Rattle.std.specs.Prelude.{◌&&◌, ◌||◌, ◌∷◌, ◌++◌, ◌+◌, ◌*◌, ◌/◌}
+use Rattle.seq.specs.Seq.{Bool, not, List, [], map, Option, ℕ, leb, ltb, eqb, length, get_or, least, the_some_below, select, rows, position, is_in, gather, padded}
 use Rattle.paper.specs.Plane.{Vec, vec, same}
 use Rattle.paper.specs.Graph.{edge_count, point, edge, Graph}
 use Rattle.paper.specs.Bytes.{ascii, le, le_signed}

@@ -1,7 +1,7 @@
 -- A digitised square with every trifle that 02 names, mended: what comes out is the square of S12, byte for byte, with the list of what was done. Then each refusal for
 -- room, by one too short, and which of two faults is named. Assumes nothing.
-use Rattle.std.specs.Prelude.{◌≡◌, refl}
-use Rattle.seq.specs.Seq.{true, List, [], ◌∷◌, ◌++◌, ℕ}
+use Rattle.std.specs.Prelude.{◌≡◌, refl, ◌∷◌, ◌++◌}
+use Rattle.seq.specs.Seq.{true, List, [], ℕ}
 use Rattle.paper.specs.Refusal.{given, answer, done, Answer}
 use Rattle.paper.specs.Sample.{at, arc, map_file, zone}
 use Rattle.paper.specs.Mend as mending

@@ -1,5 +1,6 @@
 -- The lists of names (02, Ask 14): which list ends well, and which part of a list is the name for a label. A byte past the end counts as 0. Assumes nothing.
-use Rattle.seq.specs.Seq.{Bool, cond, List, Option, none, some, Option·getD, ℕ, zero, suc, ◌+◌, leb, eqb, length, take, drop}
+use Rattle.std.specs.Prelude.{◌+◌}
+use Rattle.seq.specs.Seq.{Bool, cond, List, Option, none, some, Option·getD, ℕ, zero, suc, leb, eqb, length, take, drop}
 use Rattle.paper.specs.Bytes.{byte_at, u16}
 
 -- an entry at i: "label as unsigned 16-bit, low byte first, then length byte, name"

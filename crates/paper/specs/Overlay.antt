@@ -1,5 +1,6 @@
 -- The overlay of map files in lent tables, whole (01, "When a map is refused"): which refusal is given, and everything that comes out. THE DEFINITION of the operation. Assumes nothing.
-use Rattle.seq.specs.Seq.{List, [], ◌∷◌, ◌++◌, map, Option, ℕ, suc, ◌+◌, length, get_or, table}
+use Rattle.std.specs.Prelude.{◌∷◌, ◌++◌, ◌+◌}
+use Rattle.seq.specs.Seq.{List, [], map, Option, ℕ, suc, length, get_or, table}
 use Rattle.paper.specs.Refusal.{first_of, the_of_map, Refusal}
 use Rattle.paper.specs.Map.{map_of, fault}
 use Rattle.paper.specs.Faces.{overlay_of}

@@ -1,5 +1,6 @@
 -- The overlay file (01, "Overlay file"): its versions' layouts, which edge records are sound, and its writer, which "takes any counts and tables". Assumes nothing.
-use Rattle.seq.specs.Seq.{Bool, ◌&&◌, List, [], ◌∷◌, ◌++◌, ℕ, ◌+◌, ◌*◌, ltb, get_or, table, not, ◌||◌, eqb, the_some_below, rows, gather, ◌-◌}
+use Rattle.std.specs.Prelude.{◌&&◌, ◌∷◌, ◌++◌, ◌+◌, ◌*◌, ◌||◌, ◌-◌}
+use Rattle.seq.specs.Seq.{Bool, List, [], ℕ, ltb, get_or, table, not, eqb, the_some_below, rows, gather}
 use Rattle.paper.specs.Limits.{overlay_head, first_coordinate_bytes, coordinate_bytes, denominator_bytes, maps}
 use Rattle.paper.specs.Graph.{twin}
 use Rattle.paper.specs.Bytes.{ascii, le, le_signed}

@@ -1,5 +1,6 @@
 -- The overlay's graph (01, "Overlay tables"): its vertices, and the pieces of input edges with their sources, over a list of maps. Assumes nothing.
-use Rattle.seq.specs.Seq.{Bool, cond, ◌&&◌, ◌||◌, List, [], ◌∷◌, ◌++◌, map, Option, none, some, ℕ, ltb, eqb, length, get_or, select, rows, table, optional, in_order_by}
+use Rattle.std.specs.Prelude.{◌&&◌, ◌||◌, ◌∷◌, ◌++◌}
+use Rattle.seq.specs.Seq.{Bool, cond, List, [], map, Option, none, some, ℕ, ltb, eqb, length, get_or, select, rows, table, optional, in_order_by}
 use Rattle.paper.specs.Plane.{Pt, Seg, before, crossing, on_seg}
 use Rattle.paper.specs.Graph.{edge_count, point_in, no_edge, edge, Edge, Graph}
 use Rattle.paper.specs.Map.{empty, Map}

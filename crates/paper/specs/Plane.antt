@@ -1,9 +1,10 @@
 -- Points, their order, sides, angles, the crossing of two edges and when two clash (01, "Points, sides, followers"): exact, over the integers.
 -- x grows east and y grows north. Assumes nothing.
+use Rattle.std.specs.Prelude.{◌&&◌, ◌||◌, ◌+ℤ◌, ◌-ℤ◌, ◌*ℤ◌}
 pub use Rattle.exact.specs.Exact.{Pt, lowest}
 pub use Rattle.exact.specs.Exact.{Sign, neg, zer, plus, sgn, is_neg, is_zer, is_plus, pick, lex_s}
 use Rattle.std.specs.Int.Signed.{le_z}
-use Rattle.seq.specs.Seq.{Bool, cond, not, ◌&&◌, ◌||◌, Option, none, some, zero, suc, ℤ, pos, negsuc, neg_ℤ, ◌+ℤ◌, ◌-ℤ◌, ◌*ℤ◌}
+use Rattle.seq.specs.Seq.{Bool, cond, not, Option, none, some, zero, suc, ℤ, pos, negsuc, neg_ℤ}
 
 -- ── directions ──
 

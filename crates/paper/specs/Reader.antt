@@ -1,5 +1,6 @@
 -- The overlay file's reader (01, "Overlay file"), of all known versions. Assumes nothing.
-use Rattle.seq.specs.Seq.{cond, not, ◌||◌, List, [], ◌∷◌, ◌++◌, Option, ℕ, ◌+◌, ◌*◌, ◌/◌, ◌%◌, ltb, eqb, length, get_or, ℤ, pos, rows, table, position}
+use Rattle.std.specs.Prelude.{◌||◌, ◌∷◌, ◌++◌, ◌+◌, ◌*◌, ◌/◌, ◌%◌}
+use Rattle.seq.specs.Seq.{cond, not, List, [], Option, ℕ, ltb, eqb, length, get_or, ℤ, pos, rows, table, position}
 use Rattle.paper.specs.Limits.{overlay_vertices, overlay_edges, overlay_faces, overlay_head, denominator_bytes, maps}
 use Rattle.paper.specs.Graph.{twin}
 use Rattle.paper.specs.Bytes.{ascii, marked, number, u16, signed_at}

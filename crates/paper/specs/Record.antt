@@ -1,5 +1,6 @@
 -- The overlay edge record, of three maps (01, "Overlay tables"): "it is handed out by edge number, and a number with no edge is answered as absent". Assumes nothing.
-use Rattle.seq.specs.Seq.{Bool, cond, ◌&&◌, Option, none, some, Option·map, ℕ, zero, suc, ◌+◌, ◌*◌, ◌^◌, leb, ltb, all_below}
+use Rattle.std.specs.Prelude.{◌&&◌, ◌+◌, ◌*◌, ◌^◌}
+use Rattle.seq.specs.Seq.{Bool, cond, Option, none, some, Option·map, ℕ, zero, suc, leb, ltb, all_below}
 use Rattle.paper.specs.Limits.{maps}
 use Rattle.paper.specs.Tables.{origin_of, source_cell, Tables}
 use Rattle.paper.specs.Lent.{lengths_of, edge_room}

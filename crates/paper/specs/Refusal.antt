@@ -1,5 +1,6 @@
 -- Refusals and answers (01, "When a map is refused"). Assumes nothing.
-use Rattle.seq.specs.Seq.{Bool, cond, List, [], ◌∷◌, map, Option, none, some, Option·map, ℕ, ltb, least}
+use Rattle.std.specs.Prelude.{◌∷◌}
+use Rattle.seq.specs.Seq.{Bool, cond, List, [], map, Option, none, some, Option·map, ℕ, ltb, least}
 
 -- "a refusal with number, map and place". "The answer for refusal 8 gains the other edge's number" (02, Ask 2): it stands beside the place, and is 0 in every other refusal
 pub record Refusal : Type 0 where

@@ -1,5 +1,6 @@
 -- Map files for the sheets and the checks. Assumes nothing.
-use Rattle.seq.specs.Seq.{List, [], ◌∷◌, ◌++◌, ℕ, ◌+◌, length, pos, gather}
+use Rattle.std.specs.Prelude.{◌∷◌, ◌++◌, ◌+◌}
+use Rattle.seq.specs.Seq.{List, [], ℕ, length, pos, gather}
 use Rattle.paper.specs.Plane.{Vec, vec}
 use Rattle.paper.specs.Bytes.{ascii, le, le_signed}
 

@@ -1,5 +1,6 @@
 -- The overlay file of S12, byte by byte: "S12's file has 427 bytes" (02, Ask 13). Assumes nothing.
-use Rattle.seq.specs.Seq.{List, [], ◌∷◌, ℕ}
+use Rattle.std.specs.Prelude.{◌∷◌}
+use Rattle.seq.specs.Seq.{List, [], ℕ}
 
 abbrev pub s12_file : List ℕ
 s12_file =

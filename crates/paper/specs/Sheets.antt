@@ -1,8 +1,8 @@
 -- The worked sheets S1 to S12, listed once, and one statement over the list: each computes to what 01 says. A sheet is a question and its answer,
 -- both of one type. Assumes nothing.
-use Rattle.std.specs.Prelude.{◌≡◌, refl}
+use Rattle.std.specs.Prelude.{◌≡◌, refl, ◌∷◌, ◌++◌, ◌*◌}
 use Rattle.exact.specs.Exact.{gcd_of}
-use Rattle.seq.specs.Seq.{List, [], ◌∷◌, ◌++◌, map, Option, none, some, ℕ, ◌*◌, ℤ, pos, negsuc, table}
+use Rattle.seq.specs.Seq.{List, [], map, Option, none, some, ℕ, ℤ, pos, negsuc, table}
 use Rattle.paper.specs.Limits.{overlay_vertices, overlay_edges, overlay_faces, maps}
 use Rattle.paper.specs.Plane.{vec, between, whole, side, crossing}
 use Rattle.paper.specs.Bytes.{ascii, le}

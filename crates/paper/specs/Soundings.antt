@@ -1,6 +1,7 @@
 -- Soundings by cell (02, Ask 3): the labels of a sounding, how often each list of labels occurs, which refusal is given, and everything that comes out. THE DEFINITION of the operation,
 -- over any list of map files; it is run with two. Assumes nothing.
-use Rattle.seq.specs.Seq.{Bool, true, false, not, ◌&&◌, ◌||◌, List, [], ◌∷◌, ◌++◌, map, Option, ℕ, ◌+◌, ◌*◌, ◌/◌, ◌%◌, min, ltb, eqb, length, nat_abs, pos, table, or_zero, insert_by, gather, padded}
+use Rattle.std.specs.Prelude.{◌&&◌, ◌||◌, ◌∷◌, ◌++◌, ◌+◌, ◌*◌, ◌/◌, ◌%◌}
+use Rattle.seq.specs.Seq.{Bool, true, false, not, List, [], map, Option, ℕ, min, ltb, eqb, length, nat_abs, pos, table, or_zero, insert_by, gather, padded}
 use Rattle.seq.specs.Total.{total}
 use Rattle.paper.specs.Limits.{reach, overlay_faces, list_soundings}
 use Rattle.paper.specs.Plane.{Vec, vec, whole}

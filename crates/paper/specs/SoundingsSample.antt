@@ -1,7 +1,7 @@
 -- Soundings by cell at a sheet (02, Ask 3), computed: two squares of side 2 side by side with labels 5 and 6, over a triangle with label 7. Soundings inside, on sides, on corners, on
 -- a slanting side, outside; the refusals in their order. Assumes nothing.
-use Rattle.std.specs.Prelude.{◌≡◌, refl}
-use Rattle.seq.specs.Seq.{List, ◌∷◌, ◌++◌, map, ℕ, negsuc, pos, gather, []}
+use Rattle.std.specs.Prelude.{◌≡◌, refl, ◌∷◌, ◌++◌}
+use Rattle.seq.specs.Seq.{List, map, ℕ, negsuc, pos, gather, []}
 use Rattle.paper.specs.Plane.{Vec, vec}
 use Rattle.paper.specs.Bytes.{le_signed}
 use Rattle.paper.specs.Refusal.{Answer, done, refused}

@@ -1,5 +1,6 @@
 -- The overlay's tables as flat lists of numbers: rows of vertices, half-edges, sources and faces. Assumes nothing.
-use Rattle.seq.specs.Seq.{Bool, cond, List, [], ◌∷◌, ◌++◌, map, Option, none, some, ℕ, zero, suc, ◌+◌, ◌*◌, ltb, length, get_or, replicate, ℤ, pos, least, rows, position, cell}
+use Rattle.std.specs.Prelude.{◌∷◌, ◌++◌, ◌+◌, ◌*◌}
+use Rattle.seq.specs.Seq.{Bool, cond, List, [], map, Option, none, some, ℕ, zero, suc, ltb, length, get_or, replicate, ℤ, pos, least, rows, position, cell}
 use Rattle.paper.specs.Limits.{absent}
 use Rattle.paper.specs.Graph.{edge_count, the_half_count, point, twin, origin, leaves, Graph}
 use Rattle.paper.specs.Map.{Map}

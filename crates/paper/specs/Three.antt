@@ -10,9 +10,9 @@
 --      0    2       3  4   5    6     7     9
 --
 -- Assumes nothing.
-use Rattle.std.specs.Prelude.{◌≡◌, refl}
+use Rattle.std.specs.Prelude.{◌≡◌, refl, ◌∷◌}
 use Rattle.exact.specs.Exact.{gcd_of}
-use Rattle.seq.specs.Seq.{List, [], ◌∷◌, Option, some, ℕ, table}
+use Rattle.seq.specs.Seq.{List, [], Option, some, ℕ, table}
 use Rattle.paper.specs.Limits.{maps}
 use Rattle.paper.specs.Refusal.{Answer}
 use Rattle.paper.specs.Map.{fault}

@@ -1,10 +1,10 @@
 -- Height of tide for a zone (02, Ask 5). In order: what is taken and answered; what is refused; the height, and the nearest whole millimetre; the answer.
 -- "Ratios and weights are 64-bit floats": values, operations and comparisons are those of `lib.Ieee`, where a float is `nan`, an infinity, or `fin s m e`, the number
 -- m · 2 ^ e with a minus sign where s is true. Assumes nothing.
-use Rattle.std.specs.Prelude.{Float}
+use Rattle.std.specs.Prelude.{Float, ◌&&◌, ◌∷◌, ◌+◌, ◌*◌, ◌/◌}
 use Rattle.std.specs.Float.{nan, inf, fin, binary64}
 use Rattle.std.specs.Float.Ieee.{up, down, le, mul, add, of_int}
-use Rattle.seq.specs.Seq.{Bool, true, false, cond, not, ◌&&◌, [], ◌∷◌, Option, ℕ, ◌+◌, ◌*◌, ◌/◌, leb, ℤ, pos, negsuc, neg_ℤ, nat_abs}
+use Rattle.seq.specs.Seq.{Bool, true, false, cond, not, [], Option, ℕ, leb, ℤ, pos, negsuc, neg_ℤ, nat_abs}
 use Rattle.paper.specs.Limits.{gauge_reach}
 use Rattle.paper.specs.Refusal.{given, first_of, answer, Refusal, Answer}
 

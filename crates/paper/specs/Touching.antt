@@ -1,8 +1,8 @@
 -- Two triangles that touch in their smallest vertex: the walk round both visits that vertex twice, and only one of the two half-edges that it leaves by there is of
 -- greatest angle. 01's slip "judging hole or outer from any corner of a walk that visits its smallest vertex twice" counts the outside as a face more. Assumes nothing.
-use Rattle.std.specs.Prelude.{◌≡◌, refl}
+use Rattle.std.specs.Prelude.{◌≡◌, refl, ◌∷◌}
 use Rattle.exact.specs.Exact.{gcd_of}
-use Rattle.seq.specs.Seq.{List, [], ◌∷◌, ℕ, pos, negsuc, table}
+use Rattle.seq.specs.Seq.{List, [], ℕ, pos, negsuc, table}
 use Rattle.paper.specs.Limits.{maps}
 use Rattle.paper.specs.Plane.{vec}
 use Rattle.paper.specs.Refusal.{Answer}

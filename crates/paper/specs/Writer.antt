@@ -1,5 +1,6 @@
 -- The overlay file's writer (01, "Overlay file"): "It refuses with 3 .., 5 .., 21 or 11 (place 4), in that order, and then zeroes its buffer". "The writer writes 3" (02, Ask 13), the newest version. Assumes nothing.
-use Rattle.seq.specs.Seq.{Bool, ◌&&◌, List, [], ◌∷◌, Option, ℕ, ◌+◌, ◌*◌, ◌^◌, leb, ltb, length, pos, padded, not, ◌||◌, eqb, ◌-ℤ◌, the_some_below, ◌-◌}
+use Rattle.std.specs.Prelude.{◌&&◌, ◌∷◌, ◌+◌, ◌*◌, ◌^◌, ◌||◌, ◌-ℤ◌, ◌-◌}
+use Rattle.seq.specs.Seq.{Bool, List, [], Option, ℕ, leb, ltb, length, pos, padded, not, eqb, the_some_below}
 use Rattle.paper.specs.Limits.{maps, denominator_bytes}
 use Rattle.paper.specs.Refusal.{given, first_of, answer, unless_refused, Refusal, Answer, first_at}
 use Rattle.paper.specs.Tables.{source_cell, Counts, Tables, vertex_cell, twin_of, follower_of, predecessor_of}

@@ -1,5 +1,6 @@
 -- The year in whole numbers (02, Ask 14), over the whole run: pairs, sheets and faces, gaps, refusals 17 to 20, the text. Assumes nothing.
-use Rattle.seq.specs.Seq.{Bool, true, false, not, ◌&&◌, List, [], ◌∷◌, ◌++◌, map, Option, none, some, ℕ, suc, ◌-◌, min, ltb, length, get_or, take, table, gather, optional, is_in, in_order_by}
+use Rattle.std.specs.Prelude.{◌&&◌, ◌∷◌, ◌++◌, ◌-◌}
+use Rattle.seq.specs.Seq.{Bool, true, false, not, List, [], map, Option, none, some, ℕ, suc, min, ltb, length, get_or, take, table, gather, optional, is_in, in_order_by}
 use Rattle.seq.specs.PairOrder.{pair_before, same_pair}
 use Rattle.seq.specs.HowMany.{how_many}
 use Rattle.paper.specs.Limits.{maps, year_files, year_pairs}

@@ -1,6 +1,6 @@
 -- The year, worked (02, Ask 14): what is printed for S12's file read twice, a sheet that counts once, names, and each refusal before the later ones. Assumes nothing.
-use Rattle.std.specs.Prelude.{◌≡◌, refl}
-use Rattle.seq.specs.Seq.{Bool, true, false, List, [], ◌∷◌, ◌++◌, Option, none, some, ℕ, replicate, table}
+use Rattle.std.specs.Prelude.{◌≡◌, refl, ◌∷◌, ◌++◌}
+use Rattle.seq.specs.Seq.{Bool, true, false, List, [], Option, none, some, ℕ, replicate, table}
 use Rattle.paper.specs.Bytes.{ascii}
 use Rattle.paper.specs.Refusal.{Answer, done}
 use Rattle.paper.specs.Reader.{tables_in}

@@ -1,10 +1,10 @@
 -- How large the numbers of corners, directions, points and edges are: document 01's limits, by their names. First the numbers, then a record for each kind of
 -- value. Assumes nothing.
-use Rattle.std.specs.Prelude.{ℕ, ◌*◌, ◌≤◌, ℤ, pos, negsuc, nat_abs, ◌-ℤ◌, ◌<ℤ◌}
+use Rattle.std.specs.Prelude.{ℕ, ◌*◌, ◌≤◌, ℤ, pos, negsuc, nat_abs, ◌-ℤ◌, ◌<ℤ◌, ◌&&◌, ◌||◌}
 use Rattle.std.specs.Int.Signed.{lt_z}
 use Rattle.paper.specs.Limits.{reach, denominators}
 use Rattle.paper.specs.Plane.{Vec, Pt, Seg, head, Sign, lex_s}
-use Rattle.seq.specs.Seq.{Bool, ◌&&◌, ◌||◌, Option, none, some}
+use Rattle.seq.specs.Seq.{Bool, Option, none, some}
 
 -- X and Y lie within the reach times D either way
 abbrev pub numerators : ℕ

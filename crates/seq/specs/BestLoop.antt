@@ -1,8 +1,8 @@
 -- What a loop asks of `best`, turn by turn: a number that is no candidate, the first candidate, a better one, one that is not. And candidates and
 -- comparisons that agree below the bound have the same best. Assumes nothing.
-use Rattle.std.specs.Prelude.{◌≡◌, refl, ◌<◌}
+use Rattle.std.specs.Prelude.{◌≡◌, refl, ◌<◌, ◌+◌}
 use Rattle.std.proofs.Common.{◌∙◌, ap, add-one, arith}
-use Rattle.seq.specs.Seq.{Bool, true, false, cond, Option, none, some, ℕ, zero, suc, ◌+◌, best, improve}
+use Rattle.seq.specs.Seq.{Bool, true, false, cond, Option, none, some, ℕ, zero, suc, best, improve}
 use Rattle.seq.specs.Best.{best_has}
 
 module _ (p : ℕ → Bool) (b : ℕ → ℕ → Bool) where

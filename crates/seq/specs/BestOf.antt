@@ -1,9 +1,9 @@
 -- The best of a list that has a first element: it is one of them; where the comparison is a strict order of them none is better; and what beats
 -- all others is the best. Then the least number of a list. Assumes nothing.
-use Rattle.std.specs.Prelude.{◌≡◌, refl, ◌≤◌}
+use Rattle.std.specs.Prelude.{◌≡◌, refl, ◌≤◌, ◌∷◌, ◌++◌}
 use Rattle.std.proofs.Common.{sym, subst, inl, inr, arith, ltb-true, ltb-false, lt-ltb, le-ltb}
 use Rattle.std.proofs.Math.Decide.{ℕ_discrete}
-use Rattle.seq.specs.Seq.{Bool, true, false, cond, List, [], ◌∷◌, ◌++◌, ℕ, ltb, best_of}
+use Rattle.seq.specs.Seq.{Bool, true, false, cond, List, [], ℕ, ltb, best_of}
 use Rattle.seq.specs.Terms.{Among, Every, Transitive}
 use Rattle.seq.specs.Tests.{clash, not-true}
 use Rattle.seq.specs.Members.{in_every}

@@ -1,9 +1,9 @@
 -- The cells of a table after a run of stores: before the run, in it, past it; and so of a row stored in a table of rows. Assumes nothing.
-use Rattle.std.specs.Prelude.{◌≡◌, refl, ◌≤◌, ◌<◌, set}
+use Rattle.std.specs.Prelude.{◌≡◌, refl, ◌≤◌, ◌<◌, set, ◌∷◌, ◌+◌, ◌*◌}
 use Rattle.std.proofs.Common.{sym, ◌∙◌, ap, add-zero, add-suc, suc-add, mul-suc, mul-le-mul_left, not-suc-le-zero, le_of_suc-le-suc, arith, length-set, get_or-set_same, get_or-set_other}
 use Rattle.std.proofs.Math.Decide.{dec_lt}
 use Rattle.std.proofs.lemmas.List.{set_comm}
-use Rattle.seq.specs.Seq.{List, [], ◌∷◌, ℕ, zero, suc, ◌+◌, ◌*◌, length, get_or, cell, sets, row_stored}
+use Rattle.seq.specs.Seq.{List, [], ℕ, zero, suc, length, get_or, cell, sets, row_stored}
 
 module _ {A : Type 0} where
   -- ── a run of stores ──

@@ -1,8 +1,8 @@
 -- `collect same l xs`: the elements of xs appended to l one after the other, each where it is not there yet. It goes over lists end to end, so that nested
 -- loops are one; no element is like one before it; and where the test says what is equal it has exactly the members of both. Assumes nothing.
-use Rattle.std.specs.Prelude.{◌≡◌, refl, ◌⊎◌, ◌≤◌}
+use Rattle.std.specs.Prelude.{◌≡◌, refl, ◌⊎◌, ◌≤◌, ◌∷◌, ◌++◌, ◌+◌}
 use Rattle.std.proofs.Common.{sym, subst, inl, inr, ⊎_elim, arith, length-append}
-use Rattle.seq.specs.Seq.{Bool, true, false, cond, List, [], ◌∷◌, ◌++◌, ◌+◌, length, get_or, the_some_below, is_in, fresh, collect}
+use Rattle.seq.specs.Seq.{Bool, true, false, cond, List, [], length, get_or, the_some_below, is_in, fresh, collect}
 use Rattle.seq.specs.Terms.{Among, Every, Distinct}
 use Rattle.seq.specs.Tests.{clash, or_l, or_r, or_cases, or_false, bool-ext}
 use Rattle.seq.specs.Members.{among-++, ++-among, at_among, among_at}

@@ -1,10 +1,10 @@
 -- Counts below a bound. First what a loop asks, then what a theorem asks: the count grows with the bound, each number that is counted has a rank of its
 -- own, each rank below the count is some number's, a property that implies another is had by no more numbers, and of three properties of which each number has
 -- one the counts add up. Assumes nothing.
-use Rattle.std.specs.Prelude.{◌⊎◌, ◌≡◌, refl, ◌≤◌, ◌<◌}
+use Rattle.std.specs.Prelude.{◌⊎◌, ◌≡◌, refl, ◌≤◌, ◌<◌, ◌||◌, ◌+◌}
 use Rattle.std.proofs.Common.{inl, inr, sym, ◌∙◌, ap, not-suc-le-zero, le_refl, add-suc, add-zero, add-one, arith}
 use Rattle.std.proofs.Math.Decide.{dec_lt}
-use Rattle.seq.specs.Seq.{Bool, true, false, cond, not, ◌||◌, ℕ, zero, suc, ◌+◌, count}
+use Rattle.seq.specs.Seq.{Bool, true, false, cond, not, ℕ, zero, suc, count}
 use Rattle.seq.specs.Tests.{clash, never}
 
 module _ (p : ℕ → Bool) where

@@ -1,9 +1,9 @@
 -- The best of n candidates, taken in an order f and only up to the first place at which a test says stop: where no candidate comes from there on, it is the best of all (`early-best`). For a comparison in which
 -- any two candidates differ, so that the order does not matter; in the order of their numbers any comparison will do (`prefix_best`). Assumes nothing.
-use Rattle.std.specs.Prelude.{◌≡◌, ◌≤◌, ◌<◌}
+use Rattle.std.specs.Prelude.{◌≡◌, ◌≤◌, ◌<◌, ◌+◌, ◌-◌}
 use Rattle.std.proofs.Common.{sym, ◌∙◌, ap, subst, add-zero, add-suc, add-one, arith}
 use Rattle.std.proofs.Math.Decide.{dec_lt}
-use Rattle.seq.specs.Seq.{Bool, true, false, Option, none, some, Option·map, ℕ, zero, suc, ◌+◌, ◌-◌, least, best}
+use Rattle.seq.specs.Seq.{Bool, true, false, Option, none, some, Option·map, ℕ, zero, suc, least, best}
 use Rattle.seq.specs.Terms.{Has, Order, BestIs, Injects}
 use Rattle.seq.specs.Tests.{clash}
 use Rattle.seq.specs.Perm.{onto}

@@ -1,8 +1,8 @@
 -- A list in which each element stands once, all of them members of another list, is no longer than that. So two such lists with the same members are equally long. Assumes
 -- nothing.
-use Rattle.std.specs.Prelude.{◌≡◌, refl, ◌⊎◌, ◌≤◌}
+use Rattle.std.specs.Prelude.{◌≡◌, refl, ◌⊎◌, ◌≤◌, ◌∷◌, ◌++◌}
 use Rattle.std.proofs.Common.{sym, ◌∙◌, ap, subst, inl, inr, ⊎_elim, arith}
-use Rattle.seq.specs.Seq.{Bool, true, List, [], ◌∷◌, ◌++◌, map, suc, length}
+use Rattle.seq.specs.Seq.{Bool, true, List, [], map, suc, length}
 use Rattle.seq.specs.Terms.{Among, Rising, Distinct, Asymmetric}
 use Rattle.seq.specs.Tests.{clash}
 use Rattle.seq.specs.Members.{among-++, among_one, map-among, length-map}

@@ -1,9 +1,9 @@
 -- Loops that fill a table: `filled n f d` after n turns of `t[i] = f(i)`, and `over (select p n) d` after n turns of `if p(i) { t[c] = i; c += 1 }`.
 -- Then a table by its cells, and what is asked of a table that another function reads: that its first cells are those of a function (`Holds`). Assumes nothing.
-use Rattle.std.specs.Prelude.{◌≡◌, ◌≤◌, ◌<◌, set}
+use Rattle.std.specs.Prelude.{◌≡◌, ◌≤◌, ◌<◌, set, ◌∷◌, ◌++◌, ◌+◌}
 use Rattle.std.proofs.Common.{sym, ◌∙◌, ap, arith, length-set, ext_get_or, get_or-set_same, get_or-set_other, get_or-take, length-take-le}
 use Rattle.std.proofs.Math.Decide.{dec_lt, ℕ_discrete}
-use Rattle.seq.specs.Seq.{Bool, true, false, List, [], ◌∷◌, ◌++◌, ℕ, ◌+◌, length, get_or, take, table, count, select, over, filled}
+use Rattle.seq.specs.Seq.{Bool, true, false, List, [], ℕ, length, get_or, take, table, count, select, over, filled}
 use Rattle.seq.specs.Table.{length-table, table_more, table_at, table_is, table-ext}
 use Rattle.seq.specs.Select.{length-select, select_more, select-skip}
 use Rattle.seq.specs.Over.{over_none, length_over, over_more, over_all, over_at, over_past}

@@ -1,10 +1,10 @@
 -- A loop from the last number down to the first that stores each number in the cell of its key: the first wins, so that each cell holds the least
 -- number of its key (predecessors, least outgoing half-edges) or what stood there. Assumes nothing.
-use Rattle.std.specs.Prelude.{◌≡◌, refl, ◌≤◌, ◌<◌, set}
+use Rattle.std.specs.Prelude.{◌≡◌, refl, ◌≤◌, ◌<◌, set, ◌+◌}
 use Rattle.std.proofs.Common.{sym, ◌∙◌, ap, add-suc, suc-add, zero-add, arith, lt-ltb, le-ltb, eq-eqb, ne_eqb, length-set, get_or-set_same, get_or-set_other}
 use Rattle.std.proofs.Math.Decide.{dec_lt, ℕ_discrete}
 use Rattle.std.proofs.Math.Seq.{set_out}
-use Rattle.seq.specs.Seq.{Bool, true, false, cond, List, ℕ, zero, suc, ◌+◌, ltb, eqb, length, get_or, least, least_from, first_or, firsts}
+use Rattle.seq.specs.Seq.{Bool, true, false, cond, List, ℕ, zero, suc, ltb, eqb, length, get_or, least, least_from, first_or, firsts}
 use Rattle.seq.specs.Least.{least_by}
 use Rattle.seq.specs.Table.{length-table, table_at, table_is, table_of, table-ext}
 

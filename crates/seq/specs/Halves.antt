@@ -1,9 +1,9 @@
 -- A search by halves: of a test that, once it holds, holds from there on, the least number below n that has it. First any such test, by a loop and by a count; then the place of an element among
 -- rows in strict order, the first row that is not before it; an element that stands there is found at its place. Assumes nothing.
-use Rattle.std.specs.Prelude.{◌≡◌, ◌≤◌, ◌<◌}
+use Rattle.std.specs.Prelude.{◌≡◌, ◌≤◌, ◌<◌, ◌+◌, ◌-◌, ◌/◌}
 use Rattle.std.proofs.Common.{sym, ◌∙◌, ap, subst, not-suc-le-zero, add-zero, arith}
 use Rattle.std.proofs.Math.Decide.{dec_lt}
-use Rattle.seq.specs.Seq.{Bool, true, false, not, ℕ, ◌+◌, ◌-◌, ◌/◌, least, count, table}
+use Rattle.seq.specs.Seq.{Bool, true, false, not, ℕ, least, count, table}
 use Rattle.seq.specs.Terms.{Rising, Transitive, Asymmetric}
 use Rattle.seq.specs.Tests.{clash, not-true, was-false}
 use Rattle.seq.specs.Least.{least-le, least-holds, least_min, least_by, least_is}

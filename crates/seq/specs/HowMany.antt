@@ -1,7 +1,7 @@
 -- How many elements of a list pass a test: no more than there are, of lists end to end, none, and at least one. Assumes nothing.
-use Rattle.std.specs.Prelude.{◌≡◌, refl, ◌≤◌}
+use Rattle.std.specs.Prelude.{◌≡◌, refl, ◌≤◌, ◌∷◌, ◌++◌, ◌+◌}
 use Rattle.std.proofs.Common.{sym, ◌∙◌, ap, inl, inr, le_refl, arith}
-use Rattle.seq.specs.Seq.{Bool, true, false, cond, List, [], ◌∷◌, ◌++◌, ℕ, suc, ◌+◌, length}
+use Rattle.seq.specs.Seq.{Bool, true, false, cond, List, [], ℕ, suc, length}
 use Rattle.seq.specs.Terms.{Among}
 use Rattle.seq.specs.Tests.{never}
 

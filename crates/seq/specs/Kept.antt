@@ -1,8 +1,8 @@
 -- The elements of a list that have a property, in their order: what is left of a table of those that still stand when some are dropped. First what a loop asks that moves
 -- those that stay to the front of the table, then members; and whether an element of a list has a property. Assumes nothing.
-use Rattle.std.specs.Prelude.{◌≡◌, refl, ◌≤◌}
+use Rattle.std.specs.Prelude.{◌≡◌, refl, ◌≤◌, ◌||◌, ◌∷◌, ◌++◌}
 use Rattle.std.proofs.Common.{sym, ◌∙◌, ap, inl, inr, le_refl, arith}
-use Rattle.seq.specs.Seq.{Bool, true, false, cond, ◌||◌, List, [], ◌∷◌, ◌++◌, ℕ, suc, length}
+use Rattle.seq.specs.Seq.{Bool, true, false, cond, List, [], ℕ, suc, length}
 use Rattle.seq.specs.Terms.{Among}
 use Rattle.seq.specs.Tests.{clash, or_false, or_l, or_r}
 

@@ -1,7 +1,7 @@
 -- Loops that fill a table of rows of w cells: `laid n f d` after n turns of a store of the row f i at row i. `each` is the rows' width. Assumes nothing.
-use Rattle.std.specs.Prelude.{◌≡◌, ◌≤◌, ◌<◌, ◌*◌}
+use Rattle.std.specs.Prelude.{◌≡◌, ◌≤◌, ◌<◌, ◌*◌, ◌+◌}
 use Rattle.std.proofs.Common.{◌∙◌, ap, mul-suc, mul-le-mul_left, arith}
-use Rattle.seq.specs.Seq.{List, ℕ, ◌+◌, length, get_or, rows, cell, over, laid}
+use Rattle.seq.specs.Seq.{List, ℕ, length, get_or, rows, cell, over, laid}
 use Rattle.seq.specs.Rows.{length-rows, cell-rows, rows_ext}
 use Rattle.seq.specs.Over.{length_over, over_all, over_at, over_past}
 

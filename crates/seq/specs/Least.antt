@@ -1,10 +1,10 @@
 -- Searches below a bound: `least`, `the_some_below`, `all_below`. First what a theorem asks of the least number found (it is below, it has the property,
 -- no smaller one has it), then what a loop asks (nothing so far, one more, found, what was found is it), then the witnesses of `the_some_below`, a search in two parts (`least_on`, `turning`), and
 -- `all_below`. A lemma goes by the tests that the definition makes, each as a Bool with the equation that says where it comes from. Assumes nothing.
-use Rattle.std.specs.Prelude.{◌≡◌, refl, ◌≤◌, ◌<◌}
+use Rattle.std.specs.Prelude.{◌≡◌, refl, ◌≤◌, ◌<◌, ◌+◌, ◌-◌}
 use Rattle.std.proofs.Common.{◌∙◌, ap, sym, not-suc-le-zero, le_refl, arith, add-one, ltb-true, ltb-false, lt-ltb, le-ltb}
 use Rattle.std.proofs.Math.Decide.{dec_lt}
-use Rattle.seq.specs.Seq.{Bool, true, false, cond, not, ℕ, zero, suc, ◌+◌, ltb, least, the_some_below, all_below, ◌-◌}
+use Rattle.seq.specs.Seq.{Bool, true, false, cond, not, ℕ, zero, suc, ltb, least, the_some_below, all_below}
 use Rattle.seq.specs.Tests.{clash, was-false, was-true}
 
 module _ (p : ℕ → Bool) where

@@ -1,7 +1,7 @@
 -- The members of a list: of two lists end to end, by position, of a list's start; what holds of every member; of a mapped list, with its cells, and of gathered lists. Assumes nothing.
-use Rattle.std.specs.Prelude.{◌≡◌, refl, ◌⊎◌, ◌<◌}
+use Rattle.std.specs.Prelude.{◌≡◌, refl, ◌⊎◌, ◌<◌, ◌∷◌, ◌++◌}
 use Rattle.std.proofs.Common.{sym, ◌∙◌, ap, subst, append_assoc, inl, inr, ⊎_elim, suc-le-suc, not-suc-le-zero, le_of_suc-le-suc, arith}
-use Rattle.seq.specs.Seq.{List, [], ◌∷◌, ◌++◌, map, ℕ, zero, suc, length, get_or, take, gather}
+use Rattle.seq.specs.Seq.{List, [], map, ℕ, zero, suc, length, get_or, take, gather}
 use Rattle.seq.specs.Terms.{Among, Every}
 
 module _ {A : Type 0} where

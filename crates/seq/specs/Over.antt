@@ -1,6 +1,6 @@
 -- `over xs d`, a list laid over the start of a table, is what every loop has made of its table so far. Laid over it: nothing, one more cell,
 -- all of it; then its cells; then lists stored in a table from a place on. `Filled`, `Laid` and `Wiped` say it for a table by a function, for rows, and for zeros. Assumes nothing.
-use Rattle.std.specs.Prelude.{◌≡◌, ◌≤◌, ◌<◌, ◌-◌}
+use Rattle.std.specs.Prelude.{◌≡◌, ◌≤◌, ◌<◌, ◌-◌, ◌∷◌, ◌++◌, ◌+◌}
 use Rattle.std.proofs.Math.Path.{refl, sym, ap}
 use Rattle.std.proofs.Common.{◌∙◌, add-zero, add-suc, suc-add, zero-add, length-append, length-drop, drop_of_length-le, drop-cons}
 use mathlib.Core.List.{append_assoc, append-nil}
@@ -9,7 +9,7 @@ use native.Mathlib.Omega.{arith}
 use Rattle.std.proofs.Math.ListN.{set, get_or-append}
 use Rattle.std.proofs.Math.Seq.{set_at, sets-eq, take-append_seam, get_or-append-add, get_or-drop}
 use Rattle.std.proofs.lemmas.List.Edits.{sets}
-use Rattle.seq.specs.Seq.{List, [], ◌∷◌, ◌++◌, ℕ, suc, ◌+◌, length, get_or, take, drop, over}
+use Rattle.seq.specs.Seq.{List, [], ℕ, suc, length, get_or, take, drop, over}
 
 module _ {A : Type 0} where
   -- with nothing laid over it, it is d

@@ -1,8 +1,8 @@
 -- Pairs of numbers: in order by the first number, then by the second, a strict order in which of two that differ one is before the other; and which are equal.
 -- Assumes nothing.
-use Rattle.std.specs.Prelude.{◌≡◌, refl, ◌⊎◌, ◌<◌}
+use Rattle.std.specs.Prelude.{◌≡◌, refl, ◌⊎◌, ◌<◌, ◌&&◌, ◌||◌}
 use Rattle.std.proofs.Common.{sym, ◌∙◌, subst, inl, inr, ⊎_elim, arith, ltb-true, lt-ltb, eqb-true, eq-eqb}
-use Rattle.seq.specs.Seq.{Bool, true, false, ◌&&◌, ◌||◌, ℕ, ltb, eqb}
+use Rattle.seq.specs.Seq.{Bool, true, false, ℕ, ltb, eqb}
 use Rattle.seq.specs.Terms.{Transitive, Asymmetric}
 use Rattle.seq.specs.Tests.{clash, not-true, or_l, or_r, or_cases, and_both, and_parts}
 

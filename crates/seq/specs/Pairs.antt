@@ -1,9 +1,9 @@
 -- What holds of every two members of a list in their order (`Pairs`) and of every two neighbours (`Chain`). In order: by cells, and so lists in strict order by number; of a list in
 -- parts; from neighbour to neighbour (`linked`); of a mapped property; where a member stands (`split`, `apart_in`). Assumes nothing.
-use Rattle.std.specs.Prelude.{◌≡◌, refl, ◌⊎◌, ◌<◌}
+use Rattle.std.specs.Prelude.{◌≡◌, refl, ◌⊎◌, ◌<◌, ◌∷◌, ◌++◌}
 use Rattle.std.proofs.Common.{sym, ◌∙◌, ap, subst, append_assoc, inl, inr, ⊎_elim, suc-le-suc, zero-le, not-suc-le-zero, le_of_suc-le-suc, arith}
 use Rattle.std.proofs.Math.Decide.{dec_lt}
-use Rattle.seq.specs.Seq.{Bool, true, false, List, [], ◌∷◌, ◌++◌, Option, none, some, ℕ, zero, suc, length, get_or, map}
+use Rattle.seq.specs.Seq.{Bool, true, false, List, [], Option, none, some, ℕ, zero, suc, length, get_or, map}
 use Rattle.seq.specs.Terms.{Among, Pairs, Chain, Rising}
 use Rattle.seq.specs.Tests.{clash}
 use Rattle.seq.specs.Options.{none_some}

@@ -1,10 +1,10 @@
 -- An injective function f from the numbers below n to themselves: each number comes back to itself within n steps, so that f is a permutation. No
 -- injection into fewer numbers; steps and orbits; then the return, and that every number is taken. Assumes nothing.
-use Rattle.std.specs.Prelude.{◌≡◌, refl, ◌<◌}
+use Rattle.std.specs.Prelude.{◌≡◌, refl, ◌<◌, ◌∷◌, ◌++◌, ◌+◌, ◌-◌}
 use Rattle.std.proofs.Common.{sym, ◌∙◌, ap, subst, inl, inr, suc-le-suc, not-suc-le-zero, le_of_suc-le-suc, zero-add, suc-add, arith, eqb-true, eq-eqb}
 use Rattle.std.proofs.Math.Decide.{dec_lt}
 use Rattle.std.proofs.lemmas.Bool.{eqb-false}
-use Rattle.seq.specs.Seq.{Bool, true, false, cond, List, [], ◌∷◌, ◌++◌, ℕ, zero, suc, ◌+◌, ◌-◌, eqb, length}
+use Rattle.seq.specs.Seq.{Bool, true, false, cond, List, [], ℕ, zero, suc, eqb, length}
 use Rattle.seq.specs.Terms.{Among, iter, orbit, steps, Reach, Injects}
 use Rattle.seq.specs.Tests.{clash}
 use Rattle.seq.specs.Least.{least_min, least-holds}

@@ -1,8 +1,8 @@
 -- The best candidate so far as a number, by a default that no candidate is: what a loop that looks for the best keeps. Its turn; numbers that are no
 -- candidates passed over; that it is the default or a candidate; and the best from it. Assumes nothing.
-use Rattle.std.specs.Prelude.{◌≡◌, refl, ◌≤◌, ◌<◌}
+use Rattle.std.specs.Prelude.{◌≡◌, refl, ◌≤◌, ◌<◌, ◌+◌}
 use Rattle.std.proofs.Common.{sym, ◌∙◌, ap, arith, eq-eqb, ne_eqb}
-use Rattle.seq.specs.Seq.{Bool, true, false, cond, Option, none, some, Option·getD, ℕ, ◌+◌, eqb, best}
+use Rattle.seq.specs.Seq.{Bool, true, false, cond, Option, none, some, Option·getD, ℕ, eqb, best}
 use Rattle.seq.specs.Terms.{Has}
 use Rattle.seq.specs.Best.{best_has}
 use Rattle.seq.specs.BestLoop.{best-skip, best_first, best-better, best-stays}

@@ -1,9 +1,9 @@
 -- Where a number first stands in a list, and whether it stands there: `position` is the search over the list's cells, and `elem` is membership.
 -- Assumes nothing.
-use Rattle.std.specs.Prelude.{◌≡◌, refl, ◌<◌, ◌≤◌}
+use Rattle.std.specs.Prelude.{◌≡◌, refl, ◌<◌, ◌≤◌, ◌∷◌}
 use Rattle.std.proofs.Common.{sym, ◌∙◌, inl, inr, suc-le-suc, zero-le, not-suc-le-zero, le_of_suc-le-suc, ltb-true, lt-ltb, eqb-true, eq-eqb, ne_eqb}
 use Rattle.std.proofs.lemmas.Bool.{eqb-false}
-use Rattle.seq.specs.Seq.{Bool, true, false, cond, List, [], ◌∷◌, Option, none, some, ℕ, zero, suc, eqb, length, get_or, position, elem, among, least}
+use Rattle.seq.specs.Seq.{Bool, true, false, cond, List, [], Option, none, some, ℕ, zero, suc, eqb, length, get_or, position, elem, among, least}
 use Rattle.seq.specs.Terms.{Among, the_stands_at}
 use Rattle.seq.specs.Tests.{clash}
 use Rattle.seq.specs.Members.{at_among}

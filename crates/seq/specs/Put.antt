@@ -1,9 +1,9 @@
 -- A list with one more element put at place a: its length and cells; mapped, with a list after it, all one value; and tables and rows by functions that agree but for the
 -- place a. Assumes nothing.
-use Rattle.std.specs.Prelude.{◌≡◌, refl, ◌<◌, ◌≤◌, ◌-◌}
+use Rattle.std.specs.Prelude.{◌≡◌, refl, ◌<◌, ◌≤◌, ◌-◌, ◌∷◌, ◌++◌}
 use Rattle.std.proofs.Common.{sym, ◌∙◌, ap, append-nil, not-suc-le-zero, le_of_suc-le-suc, arith}
 use Rattle.std.proofs.Math.Decide.{dec_lt, ℕ_discrete}
-use Rattle.seq.specs.Seq.{List, [], ◌∷◌, ◌++◌, map, ℕ, zero, suc, length, get_or, replicate, rows, table}
+use Rattle.seq.specs.Seq.{List, [], map, ℕ, zero, suc, length, get_or, replicate, rows, table}
 use Rattle.seq.specs.Rows.{rows_ext}
 use Rattle.seq.specs.Table.{length-table, table_at, table_is}
 

@@ -1,8 +1,8 @@
 -- `select` over a range: where the test fails below a and from e on, what is selected of n numbers is what is selected from a to e. Assumes nothing.
-use Rattle.std.specs.Prelude.{◌≡◌, refl, ◌≤◌, ◌<◌}
+use Rattle.std.specs.Prelude.{◌≡◌, refl, ◌≤◌, ◌<◌, ◌∷◌, ◌++◌, ◌+◌, ◌-◌}
 use Rattle.std.proofs.Common.{sym, ◌∙◌, ap, add-suc, add-zero, arith}
 use Rattle.std.proofs.Math.Decide.{ℕ_discrete}
-use Rattle.seq.specs.Seq.{Bool, false, cond, List, [], ◌∷◌, ◌++◌, ℕ, zero, suc, ◌+◌, ◌-◌, select}
+use Rattle.seq.specs.Seq.{Bool, false, cond, List, [], ℕ, zero, suc, select}
 
 -- those of the m numbers from a on that have p, rising: for i in 0..m { if p(a + i) { out[c] = a + i; c += 1 } }
 abbrev pub select_from : (ℕ → Bool) → ℕ → ℕ → List ℕ

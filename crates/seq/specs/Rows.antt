@@ -1,11 +1,11 @@
 -- `rows f n`: rows end to end. Of rows of w cells each, the length, the cell j of row i, and the row itself; and rows whose widths differ, by
 -- their members; rows that are mapped. `each` is the rows' width below the bound. Assumes nothing.
-use Rattle.std.specs.Prelude.{◌≡◌, refl, ◌<◌, ◌*◌}
+use Rattle.std.specs.Prelude.{◌≡◌, refl, ◌<◌, ◌*◌, ◌∷◌, ◌++◌, ◌+◌}
 use Rattle.std.proofs.Common.{sym, ◌∙◌, ap, inl, inr, ⊎_elim, append_assoc, append-nil, add-suc, add-zero, mul-zero, mul-suc, not-suc-le-zero, mul-le-mul_left, add-one, one-add, arith, length-append, get_or-append-add}
 use Rattle.std.proofs.lemmas.List.{map-append}
 use Rattle.std.proofs.Math.Decide.{dec_lt}
 use Rattle.std.proofs.Math.ListN.{get_or-append}
-use Rattle.seq.specs.Seq.{List, [], ◌∷◌, ◌++◌, ℕ, zero, suc, ◌+◌, length, get_or, table, rows, cell, map, gather}
+use Rattle.seq.specs.Seq.{List, [], ℕ, zero, suc, length, get_or, table, rows, cell, map, gather}
 use Rattle.seq.specs.Terms.{Among}
 use Rattle.seq.specs.Members.{among-++, ++-among}
 

@@ -1,10 +1,10 @@
 -- Where a test stops that, once it fails, fails on (`Steady`): by halves (`halve-stops`) and one cell after the other (`Scan`). Then what stands there: the start and the rest of a list
 -- (`lead`, `trail`, `lead_at_lem`), an element put in its slot (`slotted_at`) or in its place in a list in strict order (`insert_at`, `insert_old`); and which tests fail on: those on a list in
 -- order (`steady_by`). Assumes nothing.
-use Rattle.std.specs.Prelude.{◌≡◌, refl, ◌≤◌, ◌<◌}
+use Rattle.std.specs.Prelude.{◌≡◌, refl, ◌≤◌, ◌<◌, ◌∷◌, ◌++◌, ◌+◌}
 use Rattle.std.proofs.Common.{◌∙◌, ap, subst, inl, inr, suc-le-suc, not-suc-le-zero, le_of_suc-le-suc, arith}
 use Rattle.std.proofs.Math.Decide.{dec_lt}
-use Rattle.seq.specs.Seq.{Bool, true, false, cond, not, List, [], ◌∷◌, ◌++◌, ℕ, zero, suc, ◌+◌, length, get_or, take, drop, insert_by}
+use Rattle.seq.specs.Seq.{Bool, true, false, cond, not, List, [], ℕ, zero, suc, length, get_or, take, drop, insert_by}
 use Rattle.seq.specs.Terms.{Among, Pairs}
 use Rattle.seq.specs.Tests.{clash, was-false, was-true}
 use Rattle.seq.specs.Pairs.{pairs_at}

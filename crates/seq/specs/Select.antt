@@ -1,11 +1,11 @@
 -- `select p n`: its members are exactly the numbers below n that have p, they rise, there are `count p n` of them, and a number that has p stands at
 -- its rank (`select_at`, `position-count`). Where all have it; tests that agree; and rows appended for those that have it (`rows-select`). Assumes nothing.
-use Rattle.std.specs.Prelude.{◌≡◌, refl, ◌<◌}
+use Rattle.std.specs.Prelude.{◌≡◌, refl, ◌<◌, ◌∷◌, ◌++◌, ◌+◌}
 use Rattle.std.proofs.Common.{sym, ◌∙◌, ap, append-nil, inl, inr, ⊎_elim, not-suc-le-zero, add-one, arith, length-append}
 use Rattle.std.proofs.Math.Decide.{dec_lt}
 use Rattle.std.proofs.Math.ListN.{get_or-append}
 use Rattle.std.proofs.lemmas.List.{get_or_at}
-use Rattle.seq.specs.Seq.{Bool, true, false, cond, List, [], ◌∷◌, ◌++◌, ℕ, zero, suc, ◌+◌, length, get_or, count, select, position, rows}
+use Rattle.seq.specs.Seq.{Bool, true, false, cond, List, [], ℕ, zero, suc, length, get_or, count, select, position, rows}
 use Rattle.seq.specs.Terms.{Among, Asc}
 use Rattle.seq.specs.Tests.{clash}
 use Rattle.seq.specs.Members.{among-++, ++-among}

@@ -1,7 +1,7 @@
 -- Sums of integers over a list: congruence, linearity, the exchange of two sums, a sum in which one index counts, a count as a sum, a sum over the
 -- numbers below n in another order, and by pairs. By induction on the list.
 -- Assumes nothing.
-use Rattle.std.specs.Prelude.{◌≡◌, ◌≤◌, ◌<◌}
+use Rattle.std.specs.Prelude.{◌≡◌, ◌≤◌, ◌<◌, ◌∷◌, ◌++◌, ◌+◌, ◌*◌, ◌+ℤ◌, ◌-ℤ◌, ◌*ℤ◌}
 use Rattle.std.proofs.Math.Path.{refl, sym, ap}
 use Rattle.std.proofs.Common.{◌∙◌, inl, inr, not-suc-le-zero, arith, eqb-true, ne_eqb, one-add}
 use Rattle.std.proofs.Math.Decide.{dec_lt}
@@ -10,7 +10,7 @@ use Rattle.std.proofs.Math.IntN.{+ℤ_idl, +ℤ_idr, +ℤ_assoc, pos-+ℤ-pos, *
 use Rattle.exact.specs.Ring.{+ℤ-swap4, *ℤ-distl, one-*ℤ}
 use Rattle.exact.specs.Solve.{ring, reify}
 use Rattle.exact.specs.Order.{pos-once}
-use Rattle.seq.specs.Seq.{Bool, true, false, cond, List, [], ◌∷◌, ◌++◌, ℕ, zero, suc, ◌+◌, ◌*◌, eqb, count, ℤ, pos, ◌+ℤ◌, ◌-ℤ◌, ◌*ℤ◌}
+use Rattle.seq.specs.Seq.{Bool, true, false, cond, List, [], ℕ, zero, suc, eqb, count, ℤ, pos}
 use Rattle.seq.specs.Terms.{Among, Injects, sum, upto, ind}
 use Rattle.seq.specs.Tests.{eqb_iff}
 use Rattle.seq.specs.Perm.{onto}

@@ -1,9 +1,9 @@
 -- `table f n`: its length, its cells, and that it is determined by them. Assumes nothing.
-use Rattle.std.specs.Prelude.{◌≡◌, refl, ◌<◌}
+use Rattle.std.specs.Prelude.{◌≡◌, refl, ◌<◌, ◌∷◌, ◌++◌, ◌+◌}
 use Rattle.std.proofs.Common.{sym, ◌∙◌, ap, ⊎_elim, append_assoc, append-nil, add-suc, add-zero, eq-or-lt_of_le, le_of_suc-le-suc, add-one, arith, length-append, ext_get_or}
 use Rattle.std.proofs.lemmas.List.{map-append, replicate-append-replicate, get_or_at}
 use Rattle.std.proofs.Math.ListN.{get_or-append}
-use Rattle.seq.specs.Seq.{List, [], ◌∷◌, ◌++◌, map, ℕ, zero, suc, ◌+◌, length, get_or, replicate, table}
+use Rattle.seq.specs.Seq.{List, [], map, ℕ, zero, suc, length, get_or, replicate, table}
 use Rattle.seq.specs.Terms.{Among}
 use Rattle.seq.specs.Members.{at_among, among_at}
 

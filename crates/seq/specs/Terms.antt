@@ -7,8 +7,8 @@
 --   sum, upto, ind                   sums in ℤ
 -- A list rises if each element is before all that come after it, not before the next alone: so a law on lists needs no transitivity.
 -- Assumes nothing.
-use Rattle.std.specs.Prelude.{◌≡◌, ◌⊎◌, ◌<◌}
-use Rattle.seq.specs.Seq.{Bool, true, false, cond, not, ◌&&◌, List, [], ◌∷◌, Option, none, some, Option·getD, ℕ, zero, suc, eqb, length, get_or, least, best, ℤ, pos, ◌+ℤ◌}
+use Rattle.std.specs.Prelude.{◌≡◌, ◌⊎◌, ◌<◌, ◌&&◌, ◌∷◌, ◌+ℤ◌}
+use Rattle.seq.specs.Seq.{Bool, true, false, cond, not, List, [], Option, none, some, Option·getD, ℕ, zero, suc, eqb, length, get_or, least, best, ℤ, pos}
 
 -- ── members ──
 

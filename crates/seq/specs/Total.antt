@@ -1,7 +1,7 @@
 -- The sum of a function over a list, in ℕ: functions that agree, zeros, two sums, and a mapped list. Assumes nothing.
-use Rattle.std.specs.Prelude.{◌≡◌, refl}
+use Rattle.std.specs.Prelude.{◌≡◌, refl, ◌∷◌, ◌+◌}
 use Rattle.std.proofs.Common.{ap, arith}
-use Rattle.seq.specs.Seq.{List, [], ◌∷◌, map, ℕ, ◌+◌}
+use Rattle.seq.specs.Seq.{List, [], map, ℕ}
 
 abbrev pub total {ℓ} : {A : Type ℓ} → (A → ℕ) → List A → ℕ
 total f [] = 0

@@ -1,8 +1,8 @@
 -- Walks over a list of followers that takes no number twice: a walk ends by return and not for want of fuel; exactly what is met from h is on it;
 -- its least number is the same along it and different on different walks; `predecessor` is the inverse of following. Assumes nothing.
-use Rattle.std.specs.Prelude.{◌≡◌, refl, ◌≤◌, ◌<◌}
+use Rattle.std.specs.Prelude.{◌≡◌, refl, ◌≤◌, ◌<◌, ◌∷◌}
 use Rattle.std.proofs.Common.{sym, ◌∙◌, ap, subst, inl, inr, suc-le-suc, not-suc-le-zero, le_antisymm, le_of_suc-le-suc, arith, eq-eqb, ne_eqb}
-use Rattle.seq.specs.Seq.{List, [], ◌∷◌, ℕ, zero, suc, eqb, length, get_or, walk_from, walk, leader, predecessor}
+use Rattle.seq.specs.Seq.{List, [], ℕ, zero, suc, eqb, length, get_or, walk_from, walk, leader, predecessor}
 use Rattle.seq.specs.Terms.{Among, iter, orbit, Reach, Injects, step, turns}
 use Rattle.seq.specs.Least.{least_is}
 use Rattle.seq.specs.BestOf.{least_of_in, least_of-le}

@@ -1,6 +1,6 @@
 -- Zeros: `padded` (a list and then zeros), and `wiped z n d` (d with zeros from cell n on) as a loop reaches it. A table that is filled to n and wiped
 -- from n on is `padded`: "places past the counts are zero". Assumes nothing.
-use Rattle.std.specs.Prelude.{◌≡◌, ◌≤◌, ◌<◌, ◌-◌, ◌*◌, set}
+use Rattle.std.specs.Prelude.{◌≡◌, ◌≤◌, ◌<◌, ◌-◌, ◌*◌, set, ◌∷◌, ◌++◌, ◌+◌}
 use Rattle.std.proofs.Math.Path.{refl}
 use Rattle.std.proofs.Common.{sym, ◌∙◌, ap, take-append-drop, length-drop, take_at, get_or-append-add}
 use mathlib.Core.List.{append_assoc, append-nil}
@@ -9,7 +9,7 @@ use native.Mathlib.Omega.{arith}
 use Rattle.std.proofs.Math.ListN.{length-append, get_or-append}
 use Rattle.std.proofs.lemmas.List.{length-replicate, get_or-replicate, replicate-append-replicate}
 use Rattle.std.proofs.Math.Seq.{length-take-le}
-use Rattle.seq.specs.Seq.{List, [], ◌∷◌, ◌++◌, ℕ, zero, suc, ◌+◌, length, get_or, replicate, take, drop, sets, table, rows, over, filled, laid, padded, wiping, wiped}
+use Rattle.seq.specs.Seq.{List, [], ℕ, zero, suc, length, get_or, replicate, take, drop, sets, table, rows, over, filled, laid, padded, wiping, wiped}
 use Rattle.seq.specs.Table.{length-table}
 use Rattle.seq.specs.Rows.{length-rows}
 use Rattle.seq.specs.Over.{length_over, over_more, over_all, stored_first}

@@ -1,6 +1,6 @@
 -- The definitions at work, each on a small case that is computed. Assumes nothing.
-use Rattle.std.specs.Prelude.{◌≡◌, refl}
-use Rattle.seq.specs.Seq.{true, false, [], ◌∷◌, none, some, ℕ, ◌*◌, ◌%◌, ltb, eqb, least, the_some_below, all_below, count, select, table, rows, best, best_of, position, elem, gather, in_order_by, walk, leader, predecessor, cell, padded, filled, row_stored, wiped, over}
+use Rattle.std.specs.Prelude.{◌≡◌, refl, ◌∷◌, ◌*◌, ◌%◌}
+use Rattle.seq.specs.Seq.{true, false, [], none, some, ℕ, ltb, eqb, least, the_some_below, all_below, count, select, table, rows, best, best_of, position, elem, gather, in_order_by, walk, leader, predecessor, cell, padded, filled, row_stored, wiped, over}
 
 -- ── searches ──
 

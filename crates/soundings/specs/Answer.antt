@@ -1,7 +1,7 @@
 -- What is answered, in the definition's terms, and the lent tables where it is done: the rows of the pairs, zeros past them. Assumes nothing.
 use Rattle.std.proofs.Common.{append_assoc, sym, ◌∙◌, ap, add-zero, arith, take-suc}
-use Rattle.std.specs.Prelude.{◌≡◌, refl, ◌≤◌}
-use Rattle.seq.specs.Seq.{List, [], ◌∷◌, ◌++◌, none, ℕ, zero, suc, ◌+◌, ◌*◌, length, get_or, take, padded, wiped}
+use Rattle.std.specs.Prelude.{◌≡◌, refl, ◌≤◌, ◌∷◌, ◌++◌, ◌+◌, ◌*◌}
+use Rattle.seq.specs.Seq.{List, [], none, ℕ, zero, suc, length, get_or, take, padded, wiped}
 use Rattle.paper.specs.Refusal.{Refusal, done, refused}
 use Rattle.paper.specs.Soundings as paper
 use Rattle.paper.specs.Soundings.{Entry, CountRoom, label_rows, times, counted}

@@ -1,7 +1,7 @@
 -- What is answered after the last batch, as the code finds it: which refusal is due (`close_fault`), and that with it the answer is that of the run (`closed_is`); and the pairs in the lent tables (`laid-entries`). Assumes nothing.
-use Rattle.std.specs.Prelude.{◌≡◌, refl, ◌≤◌, ◌<◌}
+use Rattle.std.specs.Prelude.{◌≡◌, refl, ◌≤◌, ◌<◌, ◌∷◌, ◌+◌, ◌*◌}
 use Rattle.std.proofs.Common.{sym, ◌∙◌, ap, arith, lt-ltb, le-ltb, ltb-true, ltb-false, eq-eqb, ne_eqb, length-take}
-use Rattle.seq.specs.Seq.{Bool, true, false, cond, not, List, [], ◌∷◌, Option, none, some, ℕ, suc, ◌+◌, ◌*◌, length, get_or, ltb, eqb, take, filled, ℤ}
+use Rattle.seq.specs.Seq.{Bool, true, false, cond, not, List, [], Option, none, some, ℕ, suc, length, get_or, ltb, eqb, take, filled, ℤ}
 use Rattle.seq.specs.Tests.{eqb_iff, clash}
 use Rattle.seq.specs.Table.{length-table, table-ext}
 use Rattle.seq.specs.Filled.{filled_at}

@@ -1,8 +1,8 @@
 -- A count that is sound keeps what its definitions keep, and the other way round (`sound-fit`, `fit-sound`); so a batch is added to it (`goes_on`), and one that is not sound, or that is refused, stays as it is (`stays-bad`,
 -- `stays-unsound`). The start is sound where the maps pass (`begins`). Assumes nothing.
-use Rattle.std.specs.Prelude.{◌≡◌, refl, ◌≤◌, ◌<◌}
+use Rattle.std.specs.Prelude.{◌≡◌, refl, ◌≤◌, ◌<◌, ◌&&◌, ◌||◌, ◌∷◌, ◌*◌}
 use Rattle.std.proofs.Common.{sym, ◌∙◌, ap, subst, arith, leb-true, le-leb, ltb-true, ltb-false, lt-ltb, le-ltb, eqb-true, eq-eqb, ne_eqb, length-take}
-use Rattle.seq.specs.Seq.{Bool, true, false, cond, not, ◌&&◌, ◌||◌, List, [], ◌∷◌, Option, none, some, ℕ, ◌*◌, length, ltb, leb, eqb, take, the_some_below, ℤ}
+use Rattle.seq.specs.Seq.{Bool, true, false, cond, not, List, [], Option, none, some, ℕ, length, ltb, leb, eqb, take, the_some_below, ℤ}
 use Rattle.seq.specs.Tests.{and_parts, and_both, was-false, or_cases, clash}
 use Rattle.paper.specs.Limits.{map_edges, overlay_faces, list_soundings}
 use Rattle.paper.specs.Refusal.{Refusal}

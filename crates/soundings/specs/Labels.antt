@@ -1,5 +1,6 @@
 -- The labels of a sounding by value, and the two maps that it is looked up in. Assumes nothing.
-use Rattle.seq.specs.Seq.{List, [], ◌∷◌, ℕ}
+use Rattle.std.specs.Prelude.{◌∷◌}
+use Rattle.seq.specs.Seq.{List, [], ℕ}
 use Rattle.paper.specs.Map.{Map, map_of}
 use Rattle.soundings.specs.declared.sounding.Labels.{Labels}
 

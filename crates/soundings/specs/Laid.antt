@@ -1,7 +1,7 @@
 -- The map of a file that passes the check stands in tables of its own (`Laid`), and from there its edges in the order of lower ends, laid for looks (`Ready`). Assumes nothing.
-use Rattle.std.specs.Prelude.{◌≡◌, refl, ◌≤◌}
+use Rattle.std.specs.Prelude.{◌≡◌, refl, ◌≤◌, ◌∷◌, ◌++◌, ◌*◌}
 use Rattle.std.proofs.Common.{sym, ◌∙◌, ap, subst, arith}
-use Rattle.seq.specs.Seq.{List, [], ◌∷◌, ◌++◌, Option, none, some, ℕ, ◌*◌, length, get_or, take, ℤ, filled, laid}
+use Rattle.seq.specs.Seq.{List, [], Option, none, some, ℕ, length, get_or, take, ℤ, filled, laid}
 use Rattle.paper.specs.Limits.{map_vertices, map_edges}
 use Rattle.paper.specs.Refusal.{Refusal, Answer, done, refused, answer, first_of, the_of_map}
 use Rattle.paper.specs.Map.{label, vertex_count, edges_in, map_of, fault, form_faults, part_faults, net_faults}

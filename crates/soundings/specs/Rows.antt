@@ -1,7 +1,7 @@
 -- Two maps' edges laid for looks, as the code holds them: rows with their labels (`Rows`), and the look in them (`look_by`). Of files that pass it is the look in their maps (`ready-look`). Assumes nothing.
-use Rattle.std.specs.Prelude.{◌≡◌, ◌≤◌}
+use Rattle.std.specs.Prelude.{◌≡◌, ◌≤◌, ◌∷◌, ◌+◌, ◌*◌}
 use Rattle.std.proofs.Common.{sym, ◌∙◌, ap, add-zero, arith}
-use Rattle.seq.specs.Seq.{List, [], ◌∷◌, ℕ, ◌+◌, ◌*◌, length, ℤ, or_zero}
+use Rattle.seq.specs.Seq.{List, [], ℕ, length, ℤ, or_zero}
 use Rattle.seq.specs.Least.{least-le}
 use Rattle.paper.specs.Limits.{map_edges}
 use Rattle.paper.specs.Plane.{Vec}

@@ -1,9 +1,9 @@
 -- Whether a count that was handed in can go on, as the code tests it (`sound`): its numbers within their bounds, the rows of both maps edges between corners, and, where there are at most 1,334 pairs, these in strict order, their
 -- counts adding up to no more than the soundings, and no more edges read than there are for so many. Then what the code finds, test by test. Assumes nothing.
-use Rattle.std.specs.Prelude.{◌≡◌, ◌≤◌, ◌<◌}
+use Rattle.std.specs.Prelude.{◌≡◌, ◌≤◌, ◌<◌, ◌&&◌, ◌||◌, ◌*◌}
 use Rattle.std.proofs.Common.{sym, ◌∙◌, ap, arith, le-leb, lt-ltb, le-ltb}
 use Rattle.std.proofs.lemmas.Bool.{lt-leb}
-use Rattle.seq.specs.Seq.{Bool, true, false, not, ◌&&◌, ◌||◌, List, ℕ, ◌*◌, length, ltb, leb, the_some_below, ℤ}
+use Rattle.seq.specs.Seq.{Bool, true, false, not, List, ℕ, length, ltb, leb, the_some_below, ℤ}
 use Rattle.seq.specs.Tests.{or_l}
 use Rattle.paper.specs.Limits.{map_edges, overlay_faces, list_soundings}
 use Rattle.looks.specs.Straying.{strays_at}

@@ -1,7 +1,7 @@
 -- Bytes added to a count, as the code does it: a sounding counted into the table of pairs (`Stepped`), one sounding more with what comes of it, one byte more, and the loop over a batch (`Adding`). Assumes nothing.
-use Rattle.std.specs.Prelude.{◌≡◌, refl, ◌≤◌, ◌<◌, set}
+use Rattle.std.specs.Prelude.{◌≡◌, refl, ◌≤◌, ◌<◌, set, ◌||◌, ◌∷◌, ◌++◌, ◌+◌, ◌*◌}
 use Rattle.std.proofs.Common.{sym, ◌∙◌, ap, subst, add-one, arith, lt-ltb, le-ltb, ltb-true, ltb-false, eq-eqb, ne_eqb, length-set, length-append, length-take, take-suc, take-suc-set, take_all}
-use Rattle.seq.specs.Seq.{Bool, true, false, cond, ◌||◌, List, [], ◌∷◌, ◌++◌, Option, none, some, ℕ, suc, ◌+◌, ◌*◌, length, get_or, ltb, nat_abs, take, insert_by}
+use Rattle.seq.specs.Seq.{Bool, true, false, cond, List, [], Option, none, some, ℕ, suc, length, get_or, ltb, nat_abs, take, insert_by}
 use Rattle.seq.specs.Terms.{Ordered}
 use Rattle.seq.specs.Tests.{or_false}
 use Rattle.paper.specs.Limits.{reach, overlay_faces, list_soundings}

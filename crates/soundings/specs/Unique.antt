@@ -1,8 +1,8 @@
 -- All that comes out is determined by its promise: two answers with two sets of lent tables that keep it are one. In batches: `begin`, then `add` for one batch after the other, of any bytes, then `close`: what comes of it is the
 -- definition's answer, of the whole list (`run-answer`), and no second outcome meets what the three promise, whatever the cuts (`one_answer`). The same of a list that is read from a file (`read_answer`). Assumes nothing.
-use Rattle.std.specs.Prelude.{◌≡◌, refl}
+use Rattle.std.specs.Prelude.{◌≡◌, refl, ◌∷◌, ◌++◌}
 use Rattle.std.proofs.Common.{sym, ◌∙◌, ap, append-nil, arith}
-use Rattle.seq.specs.Seq.{List, [], ◌∷◌, ◌++◌, ℕ}
+use Rattle.seq.specs.Seq.{List, [], ℕ}
 use Rattle.seq.specs.Unique.{determined}
 use Rattle.paper.specs.Refusal.{Answer, done, refused, Refusal}
 use Rattle.paper.specs.Soundings as paper

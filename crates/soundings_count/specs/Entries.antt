@@ -1,6 +1,6 @@
 -- The table of pairs with how often they occur: rows of two labels in one table, the counts in the other. What is read of the first n rows is a list of entries. Assumes nothing.
-use Rattle.std.specs.Prelude.{◌≡◌, ◌≤◌, ◌<◌}
-use Rattle.seq.specs.Seq.{true, List, [], ◌∷◌, ℕ, length, get_or, cell, table}
+use Rattle.std.specs.Prelude.{◌≡◌, ◌≤◌, ◌<◌, ◌∷◌}
+use Rattle.seq.specs.Seq.{true, List, [], ℕ, length, get_or, cell, table}
 use Rattle.paper.specs.Soundings.{Entry, less_list}
 
 -- "pair": a row has two labels

@@ -1,9 +1,9 @@
 -- A table of pairs that was handed in: a row that does not come after the one before it (`falls_at`), and the sum of the counts (`sum_of`), as the code finds them. Where no row falls the entries stand in strict order, and the other
 -- way round (`risen_ordered`, `ordered_risen`); the sum is theirs (`sum_is`). Assumes nothing.
-use Rattle.std.specs.Prelude.{◌≡◌, refl, ◌≤◌, ◌<◌}
+use Rattle.std.specs.Prelude.{◌≡◌, refl, ◌≤◌, ◌<◌, ◌∷◌, ◌++◌, ◌+◌, ◌*◌, ◌-◌}
 use Rattle.std.proofs.Common.{sym, ◌∙◌, ap, subst, add-one, arith}
 use Rattle.std.proofs.Math.Decide.{dec_lt}
-use Rattle.seq.specs.Seq.{Bool, true, false, not, List, [], ◌∷◌, ◌++◌, ℕ, zero, suc, ◌+◌, ◌*◌, ◌-◌, length, get_or, the_some_below, table}
+use Rattle.seq.specs.Seq.{Bool, true, false, not, List, [], ℕ, zero, suc, length, get_or, the_some_below, table}
 use Rattle.seq.specs.Terms.{Ordered}
 use Rattle.seq.specs.Tests.{was-false, was-true}
 use Rattle.seq.specs.Least.{no_some, no_some_is}

@@ -1,12 +1,13 @@
 -- The overlay edge record from five stored numbers: where it is absent, and which source it has; and that in tables with room for the edge it is the
 -- definition's. Assumes nothing.
+use Rattle.std.specs.Prelude.{◌&&◌, ◌∷◌, ◌+◌, ◌*◌, ◌-◌, ◌/◌, ◌^◌}
 use mathlib.Core.Path.{◌≡◌, refl, sym, ◌∙◌, ap}
 use Prim.Native.Nat.{◌≤◌, ◌<◌}
 use native.Mathlib.Nat.{min-le_left, min-le_right, add-zero}
 use native.Mathlib.Numerals.{unary_clauses}
 use native.Mathlib.Omega.{arith}
 use borrow.Author.Tests.{lt-ltb, le-ltb, le-leb, lt-leb, leb-true}
-use Rattle.seq.specs.Seq.{Bool, true, false, cond, ◌&&◌, List, [], ◌∷◌, Option, none, some, Option·map, ℕ, zero, suc, ◌+◌, ◌*◌, ◌-◌, ◌/◌, ◌^◌, leb, length, get_or, cell}
+use Rattle.seq.specs.Seq.{Bool, true, false, cond, List, [], Option, none, some, Option·map, ℕ, zero, suc, leb, length, get_or, cell}
 use Rattle.seq.specs.Least.{all_is, all_has, all_fails}
 use Rattle.paper.specs.Limits.{maps}
 use Rattle.paper.specs.Tables.{half_width}

@@ -1,8 +1,9 @@
 -- What the loops that store rows lean on: a twin fits where its half-edge does, and a table that is laid and then wiped is padded. Assumes nothing.
+use Rattle.std.specs.Prelude.{◌+◌, ◌*◌}
 use mathlib.Core.Path.{◌≡◌, ◌∙◌, ap}
 use Prim.Native.Nat.{◌≤◌}
 use native.Mathlib.Omega.{arith}
-use Rattle.seq.specs.Seq.{List, ℕ, ◌+◌, ◌*◌, length, rows, laid, padded, wiped}
+use Rattle.seq.specs.Seq.{List, ℕ, length, rows, laid, padded, wiped}
 use Rattle.seq.specs.Wiped.{wiped-laid}
 use Rattle.paper.specs.Graph.{twin}
 use Rattle.laws_graph.specs.Halves.{twin-half}

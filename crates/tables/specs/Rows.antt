@@ -1,5 +1,6 @@
 -- The rows that are stored, from the tables that are lent. Assumes nothing.
-use Rattle.seq.specs.Seq.{List, [], ◌∷◌, ◌++◌, ℕ, ◌+◌, get_or, ℤ, pos, table, cell}
+use Rattle.std.specs.Prelude.{◌∷◌, ◌++◌, ◌+◌}
+use Rattle.seq.specs.Seq.{List, [], ℕ, get_or, ℤ, pos, table, cell}
 use Rattle.paper.specs.Limits.{maps}
 use Rattle.paper.specs.Graph.{twin}
 

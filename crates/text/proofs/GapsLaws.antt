@@ -1,10 +1,11 @@
 -- Counting the gaps: before turn f the gaps among the faces 1 to f - 1 are counted. Assumes nothing.
+use Rattle.std.specs.Prelude.{◌&&◌, ◌+◌, ◌*◌, ◌-◌}
 use mathlib.Core.Path.{◌≡◌, refl, sym, ◌∙◌, ap, subst}
 use Prim.Native.Nat.{◌≤◌, ◌<◌}
 use native.Mathlib.Omega.{arith}
 use native.Mathlib.Nat.{add-zero}
 use borrow.Author.Tests.{eq-eqb, ne_eqb}
-use Rattle.seq.specs.Seq.{List, Bool, true, false, not, ◌&&◌, ℕ, suc, ◌+◌, ◌*◌, ◌-◌, cond, eqb, get_or}
+use Rattle.seq.specs.Seq.{List, Bool, true, false, not, ℕ, suc, cond, eqb, get_or}
 use Rattle.paper.specs.Limits.{maps}
 use Rattle.paper.specs.Tables.{face_width}
 use Rattle.paper.specs.Listing.{is_gap}

@@ -1,4 +1,5 @@
 -- Text put into a line behind text. Assumes nothing.
+use Rattle.std.specs.Prelude.{◌++◌, ◌+◌, ◌*◌}
 use mathlib.Core.Path.{◌≡◌, refl, sym, ◌∙◌, ap}
 use mathlib.Core.List.{append_assoc}
 use Prim.Native.Nat.{◌≤◌}
@@ -7,7 +8,7 @@ use native.Mathlib.Omega.{arith}
 use lib.ListN.{length-append}
 use lib.Seq.{sets-eq, take_at}
 use borrow.Author.Tests.{eq-eqb, ne_eqb}
-use Rattle.seq.specs.Seq.{Bool, cond, List, [], ◌++◌, ℕ, ◌+◌, ◌*◌, eqb, length, get_or, take, drop, sets, rows}
+use Rattle.seq.specs.Seq.{Bool, cond, List, [], ℕ, eqb, length, get_or, take, drop, sets, rows}
 use Rattle.seq.specs.Over.{stored-behind}
 use Rattle.seq.specs.Rows.{rows_more}
 use Rattle.paper.specs.Bytes.{ascii}

@@ -1,8 +1,8 @@
 -- The listing's lines over the face table alone, the line of an edge, and a line that stands at the start of a lent one. Assumes nothing.
-use Rattle.std.specs.Prelude.{◌≡◌, ◌≤◌}
+use Rattle.std.specs.Prelude.{◌≡◌, ◌≤◌, ◌++◌}
 use Rattle.std.proofs.Common.{sym, ◌∙◌}
 use Rattle.io.specs.Counts as io
-use Rattle.seq.specs.Seq.{List, [], ◌++◌, cond, ℕ, eqb, length, take, sets}
+use Rattle.seq.specs.Seq.{List, [], cond, ℕ, eqb, length, take, sets}
 use Rattle.paper.specs.Bytes.{ascii}
 use Rattle.paper.specs.Limits.{maps}
 use Rattle.paper.specs.Refusal.{done}

@@ -1,8 +1,8 @@
 -- An overlay's tables thinned (02, Ask 12), over the tables that the code has: its vertices and edges, the face of each half-edge, and the labels of each face, a row for each face
 -- and in it a cell for each map. Which edges have a label that differs on their two sides, which vertices are the ends of those, and what the thinned tables hold: paper's
 -- combinators over the tables. Assumes nothing.
-use Rattle.std.specs.Prelude.{◌≡◌, ◌≤◌, ◌<◌}
-use Rattle.seq.specs.Seq.{Bool, cond, not, List, ◌∷◌, map, ℕ, ◌+◌, ◌*◌, eqb, ltb, length, get_or, cell, count, select, the_some_below, table}
+use Rattle.std.specs.Prelude.{◌≡◌, ◌≤◌, ◌<◌, ◌∷◌, ◌+◌, ◌*◌}
+use Rattle.seq.specs.Seq.{Bool, cond, not, List, map, ℕ, eqb, ltb, length, get_or, cell, count, select, the_some_below, table}
 use Rattle.paper.specs.Limits.{maps, overlay_vertices, overlay_edges}
 use Rattle.paper.specs.Pieces.{Piece}
 use Rattle.paper.specs.Melt.{is_end, afresh}

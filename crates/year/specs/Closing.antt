@@ -1,7 +1,7 @@
 -- What comes of a year: the rows of its table and the gaps, or the refusal. Assumes nothing.
-use Rattle.std.specs.Prelude.{◌≡◌, refl, ◌≤◌}
+use Rattle.std.specs.Prelude.{◌≡◌, refl, ◌≤◌, ◌&&◌, ◌∷◌, ◌-◌}
 use Rattle.std.proofs.Common.{sym, ◌∙◌, ap, arith, ltb-false}
-use Rattle.seq.specs.Seq.{Bool, true, false, not, ◌&&◌, List, [], ◌∷◌, map, none, ℕ, zero, suc, ◌-◌, min, ltb}
+use Rattle.seq.specs.Seq.{Bool, true, false, not, List, [], map, none, ℕ, zero, suc, min, ltb}
 use Rattle.paper.specs.Limits.{year_files, year_pairs}
 use Rattle.paper.specs.Refusal as refusal
 use Rattle.paper.specs.Refusal.{given, answer}

@@ -1,7 +1,7 @@
 -- What the code asks of a row of the table, cell by cell, is the order of pairs and whether a pair stands there. Assumes nothing.
-use Rattle.std.specs.Prelude.{◌≡◌, refl, ◌≤◌, ◌<◌}
+use Rattle.std.specs.Prelude.{◌≡◌, refl, ◌≤◌, ◌<◌, ◌&&◌, ◌∷◌, ◌+◌, ◌*◌}
 use Rattle.std.proofs.Common.{sym, ◌∙◌, ap, add-zero, add-one, arith, lt-ltb, le-ltb, eq-eqb, ne_eqb}
-use Rattle.seq.specs.Seq.{Bool, true, false, ◌&&◌, List, [], ◌∷◌, ℕ, ◌+◌, ◌*◌, eqb, ltb, get_or, row_stored}
+use Rattle.seq.specs.Seq.{Bool, true, false, List, [], ℕ, eqb, ltb, get_or, row_stored}
 use Rattle.seq.specs.PairOrder.{pair_before, same_pair}
 use Rattle.year.specs.TallyRows.{tally_width, tally_at, pair_at, cells_of, again}
 

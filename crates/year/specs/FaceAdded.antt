@@ -1,7 +1,7 @@
 -- A face added to a table of n pairs, as the code does it: where its pair stands, one more in that row; otherwise a row put in at its place, if there is room. Assumes nothing.
-use Rattle.std.specs.Prelude.{◌≡◌, refl, ◌≤◌, ◌<◌, set}
+use Rattle.std.specs.Prelude.{◌≡◌, refl, ◌≤◌, ◌<◌, set, ◌+◌, ◌*◌}
 use Rattle.std.proofs.Common.{sym, ◌∙◌, ap, subst, arith, ltb-true, lt-ltb, le-ltb}
-use Rattle.seq.specs.Seq.{Bool, true, false, List, ℕ, suc, ◌+◌, ◌*◌, min, ltb, length, get_or, row_stored}
+use Rattle.seq.specs.Seq.{Bool, true, false, List, ℕ, suc, min, ltb, length, get_or, row_stored}
 use Rattle.seq.specs.Terms.{Asymmetric}
 use Rattle.seq.specs.Tests.{clash, not-true, and_parts, and_both}
 use Rattle.seq.specs.Table.{length-table, table_at}

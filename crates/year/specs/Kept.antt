@@ -1,7 +1,7 @@
 -- What a table of pairs and a number keep: at most 500 tallies, or that there are more pairs; and how large the numbers of tallies can be. Assumes nothing.
-use Rattle.std.specs.Prelude.{◌≡◌, refl, ◌≤◌, ◌<◌}
+use Rattle.std.specs.Prelude.{◌≡◌, refl, ◌≤◌, ◌<◌, ◌∷◌, ◌++◌, ◌+◌}
 use Rattle.std.proofs.Common.{subst, not-suc-le-zero, le_of_suc-le-suc, arith}
-use Rattle.seq.specs.Seq.{Bool, true, false, cond, List, [], ◌∷◌, ◌++◌, ℕ, zero, suc, ◌+◌, min, ltb, eqb, length, get_or, insert_by}
+use Rattle.seq.specs.Seq.{Bool, true, false, cond, List, [], ℕ, zero, suc, min, ltb, eqb, length, get_or, insert_by}
 use Rattle.seq.specs.Terms.{Every}
 use Rattle.seq.specs.Table.{length-table, table_at}
 use Rattle.paper.specs.Limits.{year_pairs}

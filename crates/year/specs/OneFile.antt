@@ -1,7 +1,7 @@
 -- What the code knows of one file, by the reader's judgement, is what the state after it asks. Assumes nothing.
-use Rattle.std.specs.Prelude.{◌≡◌, ◌≤◌, ◌<◌}
+use Rattle.std.specs.Prelude.{◌≡◌, ◌≤◌, ◌<◌, ◌+◌, ◌-◌}
 use Rattle.std.proofs.Common.{◌∙◌, ap, add-one, arith}
-use Rattle.seq.specs.Seq.{List, Option, none, some, ℕ, ◌+◌, ◌-◌, length}
+use Rattle.seq.specs.Seq.{List, Option, none, some, ℕ, length}
 use Rattle.seq.specs.HowMany.{how_many, many-le}
 use Rattle.seq.specs.Table.{length-table}
 use Rattle.paper.specs.Limits.{maps}

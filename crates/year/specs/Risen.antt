@@ -1,9 +1,9 @@
 -- A table of pairs in strict order stays so as faces are added (`faces-ordered`); a pair's place in it can be found by halves (`rows_last`); and whether it is so is seen at neighbours
 -- (`next_ordered`). Assumes nothing.
-use Rattle.std.specs.Prelude.{◌≡◌, ◌≤◌, ◌<◌}
+use Rattle.std.specs.Prelude.{◌≡◌, ◌≤◌, ◌<◌, ◌∷◌, ◌+◌, ◌*◌}
 use Rattle.std.proofs.Common.{sym, ◌∙◌, ap, subst, not-suc-le-zero, add-one, arith}
 use Rattle.std.proofs.Math.Decide.{dec_lt}
-use Rattle.seq.specs.Seq.{Bool, true, false, cond, not, List, [], ◌∷◌, ℕ, zero, suc, ◌+◌, ◌*◌, min, ltb, length, get_or}
+use Rattle.seq.specs.Seq.{Bool, true, false, cond, not, List, [], ℕ, zero, suc, min, ltb, length, get_or}
 use Rattle.seq.specs.Terms.{Ordered, Joins}
 use Rattle.seq.specs.Tests.{clash, not-true, was-false}
 use Rattle.seq.specs.Members.{in_every}

@@ -1,9 +1,9 @@
 -- `begin`, then `add` for one file after another, then `close`: what comes of it is the definition's answer, of the whole list of files (`run-answer`), and no second outcome meets what the
 -- three promise (`one_answer`). No state on the way is without room (`sound_room`). Assumes nothing.
-use Rattle.std.specs.Prelude.{◌≡◌, refl, ◌≤◌, ◌<◌}
+use Rattle.std.specs.Prelude.{◌≡◌, refl, ◌≤◌, ◌<◌, ◌&&◌, ◌||◌, ◌∷◌, ◌++◌, ◌+◌, ◌*◌}
 use Rattle.std.proofs.Common.{sym, ◌∙◌, ap, subst, arith, lt-ltb, le-ltb, le-leb, eq-eqb}
 use Rattle.std.proofs.Math.Decide.{dec_lt}
-use Rattle.seq.specs.Seq.{true, false, not, ◌&&◌, ◌||◌, List, [], ◌∷◌, ◌++◌, map, none, some, ℕ, suc, ◌+◌, ◌*◌, min, ltb, eqb, length}
+use Rattle.seq.specs.Seq.{true, false, not, List, [], map, none, some, ℕ, suc, min, ltb, eqb, length}
 use Rattle.seq.specs.Tests.{and_both}
 use Rattle.seq.specs.HowMany.{how_many, many-le}
 use Rattle.paper.specs.Limits.{maps, year_files}

@@ -1,8 +1,8 @@
 -- The year so far, as the code keeps it, is a state of the definitions: what a file more makes of it. A state whose counts leave no room for a file's faces, which no files give, stays as it is.
 -- Assumes nothing.
-use Rattle.std.specs.Prelude.{◌≡◌, refl, ◌≤◌, ◌<◌}
+use Rattle.std.specs.Prelude.{◌≡◌, refl, ◌≤◌, ◌<◌, ◌&&◌, ◌||◌, ◌∷◌, ◌+◌, ◌*◌}
 use Rattle.std.proofs.Common.{sym, ◌∙◌, ap, add-zero, add-one, arith, ltb-false, lt-ltb, le-ltb, leb-true, eqb-true, eq-eqb, ne_eqb}
-use Rattle.seq.specs.Seq.{Bool, true, false, cond, ◌&&◌, ◌||◌, List, [], ◌∷◌, Option, none, some, ℕ, zero, suc, ◌+◌, ◌*◌, min, ltb, leb, eqb, length, get_or}
+use Rattle.seq.specs.Seq.{Bool, true, false, cond, List, [], Option, none, some, ℕ, zero, suc, min, ltb, leb, eqb, length, get_or}
 use Rattle.seq.specs.Tests.{and_parts, or_l}
 use Rattle.seq.specs.HowMany.{how_many, many-le, many-++}
 use Rattle.seq.specs.Table.{length-table, table_more}

@@ -1,8 +1,8 @@
 -- A table of pairs: rows of zone, block, sheets, faces and last file. What is read of a row is a tally; a tally stored as row r is set in the list of those read. Assumes nothing.
-use Rattle.std.specs.Prelude.{◌≡◌, refl, ◌≤◌, ◌<◌, set}
+use Rattle.std.specs.Prelude.{◌≡◌, refl, ◌≤◌, ◌<◌, set, ◌∷◌, ◌+◌, ◌*◌}
 use Rattle.std.proofs.Common.{sym, ◌∙◌, ap, arith, length-set, get_or-set_same, get_or-set_other, ext_get_or}
 use Rattle.std.proofs.Math.Decide.{ℕ_discrete}
-use Rattle.seq.specs.Seq.{List, [], ◌∷◌, ℕ, ◌+◌, ◌*◌, length, get_or, cell, table, row_stored}
+use Rattle.seq.specs.Seq.{List, [], ℕ, length, get_or, cell, table, row_stored}
 use Rattle.seq.specs.Table.{length-table, table_at}
 use Rattle.seq.specs.Cells.{row_same, row_other}
 use Rattle.paper.specs.Year.{Pair}

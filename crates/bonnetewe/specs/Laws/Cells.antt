@@ -1,9 +1,9 @@
 -- What C is told of soundings is what is answered: where two questions have one number and one first cell of the edges read, they have one answer, whatever the files, the lists and the lent tables are
 -- (`cells-means`). Assumes nothing.
-use Rattle.std.specs.Prelude.{◌≡◌, ◌<◌, ◌≤◌}
+use Rattle.std.specs.Prelude.{◌≡◌, ◌<◌, ◌≤◌, ◌∷◌, ◌++◌, ◌%◌}
 use Rattle.std.proofs.Common.{sym, ◌∙◌, ap, arith}
 use borrow.Author.Tests.{ltb-false}
-use Rattle.seq.specs.Seq.{Bool, not, List, [], ◌∷◌, ◌++◌, map, Option, none, ℕ, ◌%◌, ltb, eqb, length, get_or}
+use Rattle.seq.specs.Seq.{Bool, not, List, [], map, Option, none, ℕ, ltb, eqb, length, get_or}
 use Rattle.seq.specs.Tests.{or_false}
 use Rattle.seq.specs.Terms.{Every}
 use Rattle.seq.specs.Table.{table_at}

@@ -1,8 +1,8 @@
 -- What the two numbers of an edge record tell is the record: where a half-edge table has cells of 16 bits, as C's has, two records that the same two numbers tell are one
 -- (`edge-means`). Assumes nothing.
-use Rattle.std.specs.Prelude.{◌≡◌, refl, ◌<◌, ◌≤◌}
+use Rattle.std.specs.Prelude.{◌≡◌, refl, ◌<◌, ◌≤◌, ◌&&◌, ◌∷◌, ◌+◌, ◌*◌, ◌^◌}
 use Rattle.std.proofs.Common.{sym, ◌∙◌, ap, arith, leb-true}
-use Rattle.seq.specs.Seq.{Bool, true, false, cond, ◌&&◌, List, [], ◌∷◌, Option, none, some, Option·map, ℕ, zero, suc, ◌+◌, ◌*◌, ◌^◌, ltb, leb, eqb, all_below, get_or}
+use Rattle.seq.specs.Seq.{Bool, true, false, cond, List, [], Option, none, some, Option·map, ℕ, zero, suc, ltb, leb, eqb, all_below, get_or}
 use Rattle.seq.specs.Tests.{and_parts}
 use Rattle.seq.specs.Least.{all_is}
 use Rattle.seq.specs.Terms.{Every}

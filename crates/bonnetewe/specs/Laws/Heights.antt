@@ -1,7 +1,7 @@
 -- What C is told of a height of tide is the answer: by one rule, where two questions have one number and one float, they have one answer, whatever the readings are (`tide-means`). Assumes nothing.
-use Rattle.std.specs.Prelude.{◌≡◌, refl, Float}
+use Rattle.std.specs.Prelude.{◌≡◌, refl, Float, ◌∷◌}
 use Rattle.std.proofs.Common.{sym, ◌∙◌, arith}
-use Rattle.seq.specs.Seq.{Bool, true, false, not, [], ◌∷◌, ℕ}
+use Rattle.seq.specs.Seq.{Bool, true, false, not, [], ℕ}
 use Rattle.paper.specs.Refusal.{Answer, done, refused, given, first_of, answer}
 use Rattle.paper.specs.Tide.{TideRule, Reading, Height, is_unset, in_range, readings_good, tide_of, tide}
 use Rattle.bonnetewe.specs.ToldTide.{told_tide, told_height, done-apart, millimetres-told}

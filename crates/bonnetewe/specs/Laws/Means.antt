@@ -1,8 +1,8 @@
 -- What the number for C tells is the answer: where counts, numbers, maps, places and other edges have 16 bits and a refusal's number is not 0, two answers that one number tells are
 -- one (`told-means` of tables, `told-map-means` of a map's check, `told-length-means` of a file). Assumes nothing.
-use Rattle.std.specs.Prelude.{◌≡◌, ◌<◌}
+use Rattle.std.specs.Prelude.{◌≡◌, ◌<◌, ◌+◌, ◌*◌}
 use Rattle.std.proofs.Common.{ap, arith}
-use Rattle.seq.specs.Seq.{ℕ, ◌+◌, ◌*◌}
+use Rattle.seq.specs.Seq.{ℕ}
 use Rattle.paper.specs.Refusal.{Refusal, Answer, done, refused}
 use Rattle.paper.specs.Tables.{Counts}
 use Rattle.bonnetewe.specs.Told.{four, told, told_map, told_length}

@@ -1,7 +1,7 @@
 -- What C is told of two edges is how they meet: where two questions have one number and one table of three cells or more, they have one answer, whatever the edges are (`meet-means`). Assumes nothing.
-use Rattle.std.specs.Prelude.{◌≡◌, refl, ◌<◌, ◌≤◌}
+use Rattle.std.specs.Prelude.{◌≡◌, refl, ◌<◌, ◌≤◌, ◌||◌, ◌∷◌}
 use Rattle.std.proofs.Common.{sym, ◌∙◌, ap, arith}
-use Rattle.seq.specs.Seq.{Bool, true, false, ◌||◌, List, [], ◌∷◌, ℕ, ℤ, pos, table, get_or}
+use Rattle.seq.specs.Seq.{Bool, true, false, List, [], ℕ, ℤ, pos, table, get_or}
 use Rattle.seq.specs.Table.{table_at}
 use Rattle.paper.specs.Plane.{Pt, vec, whole, same, between}
 use Rattle.paper.specs.Refusal.{Answer, done, refused, given, first_of, answer}

@@ -1,8 +1,8 @@
 -- Every answer that melting can give is sound, for its refusals are the overlay's and the melted tables fit wherever the overlay's do; so one number that bonnetewe_melt answers is one answer
 -- (`melt-means`). Assumes nothing.
-use Rattle.std.specs.Prelude.{◌≡◌}
+use Rattle.std.specs.Prelude.{◌≡◌, ◌∷◌, ◌++◌}
 use Rattle.std.proofs.Common.{sym, ◌∙◌, ap, arith}
-use Rattle.seq.specs.Seq.{List, [], ◌∷◌, ◌++◌, none, ℕ, length}
+use Rattle.seq.specs.Seq.{List, [], none, ℕ, length}
 use Rattle.paper.specs.Refusal.{first_of, answer}
 use Rattle.paper.specs.Faces.{overlay_of}
 use Rattle.paper.specs.Tables.{Counts, Tables, counts_of}

@@ -1,8 +1,8 @@
 -- Every answer that mending can give is sound: lengths, numbers of entries and refusals have 16 bits, whatever the bytes and the room are. So one number that bonnetewe_mend answers is one answer
 -- (`mend-means`). Assumes nothing.
-use Rattle.std.specs.Prelude.{◌≡◌, refl, ◌<◌}
+use Rattle.std.specs.Prelude.{◌≡◌, refl, ◌<◌, ◌∷◌, ◌/◌}
 use Rattle.std.proofs.Common.{sym, ◌∙◌, arith}
-use Rattle.seq.specs.Seq.{List, [], ◌∷◌, ℕ, ◌/◌, ltb, length, get_or}
+use Rattle.seq.specs.Seq.{List, [], ℕ, ltb, length, get_or}
 use Rattle.seq.specs.Count.{count-le}
 use Rattle.seq.specs.Select.{length-select}
 use Rattle.paper.specs.Graph.{Graph, edge_count}

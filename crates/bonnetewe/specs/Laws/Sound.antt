@@ -1,8 +1,8 @@
 -- Every answer that check, overlay, read and write can give is sound: a refusal's number is not 0, and it, its map, its place, its other edge and all counts have 16 bits, whatever the bytes,
 -- the lengths and the counts are. So one number that a C function answers is one answer, and nothing is asked (`check-means`, `overlay-means`, `read-means`, `write-means`). Assumes nothing.
-use Rattle.std.specs.Prelude.{◌≡◌, refl, ◌<◌, ◌≤◌}
+use Rattle.std.specs.Prelude.{◌≡◌, refl, ◌<◌, ◌≤◌, ◌||◌, ◌∷◌, ◌++◌}
 use Rattle.std.proofs.Common.{sym, ◌∙◌, arith, ltb-false}
-use Rattle.seq.specs.Seq.{Bool, true, false, not, ◌||◌, List, [], ◌∷◌, ◌++◌, Option, none, some, ℕ, ltb, eqb, length, least, the_some_below}
+use Rattle.seq.specs.Seq.{Bool, true, false, not, List, [], Option, none, some, ℕ, ltb, eqb, length, least, the_some_below}
 use Rattle.seq.specs.Tests.{or_false}
 use Rattle.seq.specs.Terms.{Every}
 use Rattle.seq.specs.Least.{least-le}

@@ -1,7 +1,7 @@
 -- What a graph in flat tables holds, cell by cell: `flat_graph` at each vertex, edge and half-edge is what stands in its row. Assumes nothing.
-use Rattle.std.specs.Prelude.{◌≡◌, ◌<◌}
+use Rattle.std.specs.Prelude.{◌≡◌, ◌<◌, ◌*◌, ◌/◌}
 use Rattle.std.proofs.Common.{sym, ◌∙◌, ap, arith}
-use Rattle.seq.specs.Seq.{List, ℕ, ◌*◌, ◌/◌, length, ℤ}
+use Rattle.seq.specs.Seq.{List, ℕ, length, ℤ}
 use Rattle.seq.specs.Table.{length-table, table_at}
 use Rattle.paper.specs.Plane.{Pt, Seg, whole, nowhere, the_left_by}
 use Rattle.paper.specs.Graph.{Edge, edge_count, the_half_count, point, edge, no_edge, origin, start, upward, left_of}

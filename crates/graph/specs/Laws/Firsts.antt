@@ -1,7 +1,7 @@
 -- What the first places are of a graph: in the origins, each vertex's least outgoing half-edge; in the followers, each half-edge's predecessor. Assumes nothing.
-use Rattle.std.specs.Prelude.{◌≡◌, ◌<◌}
+use Rattle.std.specs.Prelude.{◌≡◌, ◌<◌, ◌*◌}
 use Rattle.std.proofs.Common.{sym, ◌∙◌, ap, arith, lt-ltb}
-use Rattle.seq.specs.Seq.{Bool, cond, List, ℕ, ◌*◌, eqb, ltb, length, get_or, least, position, ℤ}
+use Rattle.seq.specs.Seq.{Bool, cond, List, ℕ, eqb, ltb, length, get_or, least, position, ℤ}
 use Rattle.seq.specs.Terms.{the_stands_at}
 use Rattle.seq.specs.Tests.{eqb_swap}
 use Rattle.seq.specs.Least.{least-ext}

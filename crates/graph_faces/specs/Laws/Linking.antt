@@ -1,8 +1,8 @@
 -- From one table to the next: what each stage of linking makes, as the definition's. Each stage takes the equation that its function promises. Assumes nothing.
-use Rattle.std.specs.Prelude.{◌≡◌, ◌≤◌, ◌<◌}
+use Rattle.std.specs.Prelude.{◌≡◌, ◌≤◌, ◌<◌, ◌*◌}
 use Rattle.std.proofs.Common.{sym, ◌∙◌, ap, subst, arith}
 use Rattle.std.proofs.lemmas.List.{length-replicate}
-use Rattle.seq.specs.Seq.{List, Option·getD, ℕ, ◌*◌, length, get_or, take, replicate, table, leader, filled, laid, over, ℤ}
+use Rattle.seq.specs.Seq.{List, Option·getD, ℕ, length, get_or, take, replicate, table, leader, filled, laid, over, ℤ}
 use Rattle.seq.specs.Table.{table-ext}
 use Rattle.seq.specs.Filled.{filled-ext, Holds, filled-holds, holds-ext}
 use Rattle.paper.specs.Limits.{absent}

@@ -1,8 +1,8 @@
 -- What the tables of faces are of a plane graph: hole walks and outer walks, the numbers of the outer walks, what hole walks see, and so the face of every half-edge
 -- and the hole walks of every face, are the definition's. Assumes nothing.
-use Rattle.std.specs.Prelude.{◌≡◌, refl, ◌≤◌, ◌<◌}
+use Rattle.std.specs.Prelude.{◌≡◌, refl, ◌≤◌, ◌<◌, ◌&&◌, ◌+◌, ◌*◌}
 use Rattle.std.proofs.Common.{sym, ◌∙◌, ap, subst, add-one, arith, eq-eqb, ne_eqb}
-use Rattle.seq.specs.Seq.{Bool, true, false, cond, not, ◌&&◌, List, Option, none, some, Option·getD, ℕ, zero, suc, ◌+◌, ◌*◌, eqb, length, get_or, count, select, table, over, filled, or_zero, ℤ}
+use Rattle.seq.specs.Seq.{Bool, true, false, cond, not, List, Option, none, some, Option·getD, ℕ, zero, suc, eqb, length, get_or, count, select, table, over, filled, or_zero, ℤ}
 use Rattle.seq.specs.Count.{count-ext}
 use Rattle.seq.specs.Select.{select-ext, length-select}
 use Rattle.seq.specs.Table.{table_at}

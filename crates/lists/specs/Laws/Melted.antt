@@ -1,7 +1,7 @@
 -- What is melted has no more faces than an overlay may have: room is judged on the overlay, and the melted tables fit wherever the overlay's do. Assumes nothing.
-use Rattle.std.specs.Prelude.{◌≡◌, refl}
+use Rattle.std.specs.Prelude.{◌≡◌, refl, ◌∷◌, ◌++◌}
 use Rattle.std.proofs.Common.{ap, arith}
-use Rattle.seq.specs.Seq.{List, [], ◌∷◌, ◌++◌, Option, none, some, ℕ, length}
+use Rattle.seq.specs.Seq.{List, [], Option, none, some, ℕ, length}
 use Rattle.paper.specs.Refusal.{Refusal, first_of, answer}
 use Rattle.paper.specs.Map.{Map}
 use Rattle.paper.specs.Faces.{overlay_of}

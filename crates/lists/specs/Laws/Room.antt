@@ -1,7 +1,7 @@
 -- What is done has no more faces than an overlay may have, and its listing looks at the face table alone. Assumes nothing.
-use Rattle.std.specs.Prelude.{◌≡◌, refl, ◌≤◌}
+use Rattle.std.specs.Prelude.{◌≡◌, refl, ◌≤◌, ◌∷◌, ◌++◌}
 use Rattle.std.proofs.Common.{sym, ◌∙◌, ap, subst, arith, ltb-false}
-use Rattle.seq.specs.Seq.{Bool, true, false, not, List, [], ◌∷◌, ◌++◌, Option, none, some, ℕ, ltb, length}
+use Rattle.seq.specs.Seq.{Bool, true, false, not, List, [], Option, none, some, ℕ, ltb, length}
 use Rattle.paper.specs.Limits.{maps}
 use Rattle.paper.specs.Bytes.{u16}
 use Rattle.paper.specs.Refusal.{Refusal, Answer, done, refused, given, first_at, first_of, answer}

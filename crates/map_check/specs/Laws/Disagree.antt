@@ -1,7 +1,7 @@
 -- Rule 10 on flat tables is rule 10 of the map, where the graph that they hold is plane: `flat-disagrees`. Assumes nothing.
-use Rattle.std.specs.Prelude.{◌≡◌, refl, ◌<◌}
+use Rattle.std.specs.Prelude.{◌≡◌, refl, ◌<◌, ◌&&◌, ◌||◌, ◌∷◌, ◌*◌}
 use Rattle.std.proofs.Common.{sym, ◌∙◌, ap, subst, inr}
-use Rattle.seq.specs.Seq.{Bool, true, false, cond, not, ◌&&◌, ◌||◌, List, [], ◌∷◌, Option, Option·getD, ℕ, zero, suc, ◌*◌, eqb, get_or, ℤ, best, the_some_below, or_zero, walk_from}
+use Rattle.seq.specs.Seq.{Bool, true, false, cond, not, List, [], Option, Option·getD, ℕ, zero, suc, eqb, get_or, ℤ, best, the_some_below, or_zero, walk_from}
 use Rattle.seq.specs.Terms.{Among}
 use Rattle.seq.specs.BestLoop.{best-ext}
 use Rattle.paper.specs.Limits.{absent}

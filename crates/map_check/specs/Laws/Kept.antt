@@ -1,7 +1,7 @@
 -- What a map file that passes rules 1 to 7 has, on its bytes, as those who load it into tables lean on it: counts within the limits (3), corners within range (5),
 -- ends that name vertices (7). Assumes nothing.
-use Rattle.std.specs.Prelude.{◌≤◌, ◌<◌}
-use Rattle.seq.specs.Seq.{List, ℕ, ◌+◌, ◌*◌}
+use Rattle.std.specs.Prelude.{◌≤◌, ◌<◌, ◌+◌, ◌*◌}
+use Rattle.seq.specs.Seq.{List, ℕ}
 use Rattle.paper.specs.Limits.{map_vertices, map_edges}
 use Rattle.paper.specs.Map.{vertex_count, edges_in, corner_at, origin_at}
 use Rattle.plane.specs.Bounds.{Corner}

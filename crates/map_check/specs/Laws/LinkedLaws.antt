@@ -1,10 +1,10 @@
 -- The tables of headings and followers made from a graph in flat tables: what the search for disagreeing labels asks of them, and that it finds what rule 10
 -- says. Assumes nothing.
-use Rattle.std.specs.Prelude.{◌≡◌, ◌≤◌, ◌<◌}
+use Rattle.std.specs.Prelude.{◌≡◌, ◌≤◌, ◌<◌, ◌*◌}
 use Rattle.std.proofs.Common.{sym, ap, ◌∙◌, subst, arith}
 use Rattle.seq.specs.Filled.{length-filled, filled_at, Holds, filled-holds, holds-ext}
 use Rattle.seq.specs.Least.{least-ext}
-use Rattle.seq.specs.Seq.{List, ℕ, ◌*◌, length, get_or, ℤ, least, filled, laid}
+use Rattle.seq.specs.Seq.{List, ℕ, length, get_or, ℤ, least, filled, laid}
 use Rattle.paper.specs.Limits.{map_edges}
 use Rattle.paper.specs.Graph.{Graph, heading, follower, followers}
 use Rattle.paper.specs.Map.{disagrees}

@@ -1,9 +1,9 @@
 -- The half-edge that makes its walk a hole walk, by the tests that the code makes: in a plane graph it is the one that has the greatest angle out of its origin and
 -- on whose walk no half-edge starts at a smaller vertex. Assumes nothing.
-use Rattle.std.specs.Prelude.{◌≡◌, refl, ◌<◌}
+use Rattle.std.specs.Prelude.{◌≡◌, refl, ◌<◌, ◌&&◌, ◌∷◌}
 use Rattle.std.proofs.Common.{sym, ◌∙◌, ap, subst, inl, inr, eqb-true, eq-eqb}
 use Rattle.std.proofs.Math.Decide.{ℕ_discrete}
-use Rattle.seq.specs.Seq.{Bool, true, false, not, ◌&&◌, List, [], ◌∷◌, Option, none, some, Option·getD, ℕ, eqb, length, get_or, the_some_below, walk_from}
+use Rattle.seq.specs.Seq.{Bool, true, false, not, List, [], Option, none, some, Option·getD, ℕ, eqb, length, get_or, the_some_below, walk_from}
 use Rattle.seq.specs.Terms.{Among, Has, BestIs}
 use Rattle.seq.specs.Tests.{bool-ext, clash, not-true, and_both, and_parts, was-false}
 use Rattle.seq.specs.Least.{no_some, no_some_is}

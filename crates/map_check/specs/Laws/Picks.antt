@@ -1,13 +1,13 @@
 -- A list of the cells whose edges may clash with that in cell i, made cell by cell:    n[c] = j; c += 1, or c += 0 where the boxes are apart
 -- (`pick_turns`); and that edges whose boxes lie beside each other do not clash (`beside-clear`). Assumes nothing.
-use Rattle.std.specs.Prelude.{◌≡◌, refl, [], ◌∷◌, ◌⊎◌, ◌≤◌, ◌<◌, set, ◌≤ℤ◌, ◌<ℤ◌}
+use Rattle.std.specs.Prelude.{◌≡◌, refl, [], ◌∷◌, ◌⊎◌, ◌≤◌, ◌<◌, set, ◌≤ℤ◌, ◌<ℤ◌, ◌+◌, ◌+ℤ◌}
 use Rattle.std.proofs.Common.{sym, ◌∙◌, ap, subst, inl, inr, ⊎_elim, arith, get_or-set_same, get_or-set_other, ltb-true}
 use Rattle.std.proofs.Math.Decide.{dec_lt}
 use Rattle.std.specs.Int.Signed.{lt_z}
 use Rattle.exact.specs.Abs.{abs_is_self, abs-lo}
 use Rattle.exact.specs.Order.{zomega, sq, ≤-of-≡, pos-<}
 use Rattle.exact.specs.Tests.{lt_t, lt_f}
-use Rattle.seq.specs.Seq.{Bool, true, false, cond, List, ℕ, ◌+◌, ltb, length, get_or, ℤ, pos, neg_ℤ, nat_abs, ◌+ℤ◌}
+use Rattle.seq.specs.Seq.{Bool, true, false, cond, List, ℕ, ltb, length, get_or, ℤ, pos, neg_ℤ, nat_abs}
 use Rattle.seq.specs.Tests.{or_cases}
 use Rattle.paper.specs.Limits.{reach}
 use Rattle.paper.specs.Plane.{Seg, head, clash}

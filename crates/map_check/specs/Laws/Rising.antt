@@ -1,11 +1,11 @@
 -- The pass from below: edges in cells that stand in turn are in the order of their lower ends, each once; so those from the first that starts where an edge ends, or after, do not
 -- clash with it (`above_clear`), and where no edge clashes with one in a later cell the search for the least that clashes finds nothing (`turn-least`). The same of edges in their own order
 -- (`pairs-least`). Assumes nothing.
-use Rattle.std.specs.Prelude.{◌≡◌, ◌≤◌, ◌<◌}
+use Rattle.std.specs.Prelude.{◌≡◌, ◌≤◌, ◌<◌, ◌+◌, ◌*◌}
 use Rattle.std.proofs.Common.{sym, ◌∙◌, subst, arith, le-ltb}
 use Rattle.std.proofs.Math.Decide.{dec_lt}
 use Rattle.seq.specs.RisingKeys.{ByKey}
-use Rattle.seq.specs.Seq.{false, List, ℕ, ◌+◌, ◌*◌, ℤ, least}
+use Rattle.seq.specs.Seq.{false, List, ℕ, ℤ, least}
 use Rattle.paper.specs.Plane.{head, clash}
 use Rattle.laws_plane.specs.Clash.{clash-swap}
 use Rattle.laws_fast.specs.Clashes.{order_least}

@@ -1,8 +1,8 @@
 -- A loop along the walk of h that looks for a half-edge with p, turn by turn: what it still has to look at has none exactly if the whole walk after h has none.
 -- Assumes nothing.
-use Rattle.std.specs.Prelude.{◌≡◌, refl, ◌≤◌, ◌<◌}
+use Rattle.std.specs.Prelude.{◌≡◌, refl, ◌≤◌, ◌<◌, ◌&&◌, ◌-◌}
 use Rattle.std.proofs.Common.{sym, ◌∙◌, ap, arith}
-use Rattle.seq.specs.Seq.{Bool, true, false, not, ◌&&◌, List, ℕ, suc, ◌-◌, get_or, walk_from}
+use Rattle.seq.specs.Seq.{Bool, true, false, not, List, ℕ, suc, get_or, walk_from}
 use Rattle.seq.specs.Walks.{walk-done, walk_next}
 use Rattle.map_check.specs.Labels.{the_none_of}
 

@@ -1,8 +1,8 @@
 -- Refusals in the order in which the code finds them: the maps, then vertices, edges and faces of the overlay over the room; where the overlay has room, so has what is
 -- left of it (`melted_room`). Assumes nothing.
-use Rattle.std.specs.Prelude.{◌≡◌, ◌≤◌, ◌<◌}
+use Rattle.std.specs.Prelude.{◌≡◌, ◌≤◌, ◌<◌, ◌+◌}
 use Rattle.std.proofs.Common.{sym, ◌∙◌, ap, lt-ltb, le-ltb}
-use Rattle.seq.specs.Seq.{List, map, Option, none, some, ℕ, ◌+◌, ltb, length}
+use Rattle.seq.specs.Seq.{List, map, Option, none, some, ℕ, ltb, length}
 use Rattle.paper.specs.Limits.{maps, overlay_vertices, overlay_edges}
 use Rattle.paper.specs.Refusal.{Refusal, given, first_of}
 use Rattle.paper.specs.Map.{Map, map_of}

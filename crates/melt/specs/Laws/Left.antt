@@ -1,8 +1,8 @@
 -- What is left of the overlay, in tables: the tables that are thinned hold the overlay of the maps with its faces and labels (`labelled`), and the thinned tables can
 -- be drawn (`left_drawable`) and are within the room (`left_within`); the overlay that they hold is the melted one (`left_melted`). Assumes nothing.
-use Rattle.std.specs.Prelude.{◌≡◌, ◌≤◌, ◌<◌}
+use Rattle.std.specs.Prelude.{◌≡◌, ◌≤◌, ◌<◌, ◌+◌, ◌*◌}
 use Rattle.std.proofs.Common.{sym, ◌∙◌, ap, subst, arith}
-use Rattle.seq.specs.Seq.{List, ℕ, suc, ◌+◌, ◌*◌, length, get_or, cell, ℤ, filled}
+use Rattle.seq.specs.Seq.{List, ℕ, suc, length, get_or, cell, ℤ, filled}
 use Rattle.paper.specs.Limits.{maps}
 use Rattle.paper.specs.Map.{Map}
 use Rattle.paper.specs.Faces.{Overlay, overlay_of}

@@ -1,8 +1,8 @@
 -- The pieces of an edge put into a table along its thread, the last first: what is left to put in, put into the table, gives the whole. Then threads of the vertices on each edge: the pieces along
 -- them are those of the edges. Assumes nothing.
-use Rattle.std.specs.Prelude.{◌≡◌, refl, ◌≤◌, ◌<◌}
+use Rattle.std.specs.Prelude.{◌≡◌, refl, ◌≤◌, ◌<◌, ◌∷◌, ◌++◌, ◌+◌, ◌-◌, ◌*◌}
 use Rattle.std.proofs.Common.{sym, ◌∙◌, ap, subst, append_assoc, append-nil, arith, lt-ltb, le-ltb}
-use Rattle.seq.specs.Seq.{Bool, true, false, cond, List, [], ◌∷◌, ◌++◌, Option, ℕ, zero, suc, ◌+◌, ◌-◌, ◌*◌, ℤ, ltb, length, get_or, select, rows}
+use Rattle.seq.specs.Seq.{Bool, true, false, cond, List, [], Option, ℕ, zero, suc, ℤ, ltb, length, get_or, select, rows}
 use Rattle.seq.specs.Rows.{rows_ext}
 use Rattle.paper.specs.Limits.{maps}
 use Rattle.paper.specs.Plane.{on_seg}

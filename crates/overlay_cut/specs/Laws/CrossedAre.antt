@@ -1,9 +1,9 @@
 -- Where edges of the tables meet is where edges of different maps meet, by the point of each meeting: the two lists have the same members, each in lowest
 -- terms. Assumes nothing.
-use Rattle.std.specs.Prelude.{◌≡◌, refl, ◌<◌, ℤ}
+use Rattle.std.specs.Prelude.{◌≡◌, refl, ◌<◌, ℤ, ◌+◌}
 use Rattle.std.proofs.Common.{sym, ◌∙◌, ap, subst, arith}
 use Rattle.exact.specs.Lowest.{Pt, Lowest}
-use Rattle.seq.specs.Seq.{List, ℕ, ◌+◌, length, rows, optional}
+use Rattle.seq.specs.Seq.{List, ℕ, length, rows, optional}
 use Rattle.seq.specs.Terms.{Among}
 use Rattle.seq.specs.Members.{among_one}
 use Rattle.seq.specs.Rows.{among-rows, rows-among}

@@ -1,9 +1,9 @@
 -- The pieces that the tables give are the pieces of the maps' edges, so that the table of pieces is `edges_of` the maps that the tables hold; and where it is full
 -- there are at least as many as it has room for. Assumes nothing.
-use Rattle.std.specs.Prelude.{◌≡◌, ◌≤◌, ◌<◌, ℤ}
+use Rattle.std.specs.Prelude.{◌≡◌, ◌≤◌, ◌<◌, ℤ, ◌+◌}
 use Rattle.std.proofs.Common.{sym, ◌∙◌, ap, subst, arith}
 use Rattle.exact.specs.Lowest.{Pt}
-use Rattle.seq.specs.Seq.{List, [], ℕ, ◌+◌, length, select, rows}
+use Rattle.seq.specs.Seq.{List, [], ℕ, length, select, rows}
 use Rattle.seq.specs.Select.{select-ext}
 use Rattle.seq.specs.Rows.{rows_ext}
 use Rattle.seq.specs.Table.{length-table, table_at}

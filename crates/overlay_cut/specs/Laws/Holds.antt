@@ -1,9 +1,9 @@
 -- The tables hold a list of maps: all corners, map after map; and the carriers of all edges, with where each map's edges start. Then an edge by its number in
 -- the table is an edge of one of the maps, and back. Assumes nothing.
-use Rattle.std.specs.Prelude.{◌≡◌, ◌≤◌, ◌<◌, ℤ}
+use Rattle.std.specs.Prelude.{◌≡◌, ◌≤◌, ◌<◌, ℤ, ◌+◌, ◌-◌}
 use Rattle.std.proofs.Common.{sym, ◌∙◌, ap, not-suc-le-zero, add-one, arith}
 use Rattle.std.proofs.Math.Decide.{dec_lt}
-use Rattle.seq.specs.Seq.{List, ℕ, zero, suc, ◌+◌, ◌-◌, length, rows}
+use Rattle.seq.specs.Seq.{List, ℕ, zero, suc, length, rows}
 use Rattle.paper.specs.Limits.{maps}
 use Rattle.paper.specs.Graph.{edge, edge_count}
 use Rattle.paper.specs.Map.{Map}

@@ -1,11 +1,11 @@
 -- The tables of ends and carriers, with the points, are the overlay's graph: `graph_of` the maps that the tables hold. Assumes nothing.
-use Rattle.std.specs.Prelude.{◌≡◌, refl, ◌≤◌, ◌<◌, ℤ}
+use Rattle.std.specs.Prelude.{◌≡◌, refl, ◌≤◌, ◌<◌, ℤ, ◌∷◌, ◌+◌, ◌*◌, ◌-◌}
 use Rattle.std.proofs.Math.Path.{sym}
 use Rattle.std.proofs.Common.{◌∙◌, ap, suc-le-suc, zero-le, add-zero, not-suc-le-zero, le_of_suc-le-suc, arith, ltb-false}
 use Rattle.std.proofs.Math.Option.{Option}
 use Rattle.std.proofs.Math.Decide.{dec_lt}
 use Rattle.std.proofs.Math.ListN.{get_or-eq_default}
-use Rattle.seq.specs.Seq.{List, [], ◌∷◌, map, none, some, ℕ, zero, suc, ◌+◌, ◌*◌, ◌-◌, ltb, length, get_or, cell, table, laid}
+use Rattle.seq.specs.Seq.{List, [], map, none, some, ℕ, zero, suc, ltb, length, get_or, cell, table, laid}
 use Rattle.seq.specs.Least.{least_min, least-le}
 use Rattle.seq.specs.Table.{length-table, table_at, table-ext, table-map}
 use Rattle.seq.specs.Laid.{laid_at}

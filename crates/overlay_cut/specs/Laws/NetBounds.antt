@@ -1,9 +1,9 @@
 -- The overlay's tables are within the bounds that the graph code asks: every piece joins two of the n vertices, and every carrier is an edge between corners.
 -- Assumes nothing.
-use Rattle.std.specs.Prelude.{◌≡◌, refl, ◌≤◌, ◌<◌, ℤ}
+use Rattle.std.specs.Prelude.{◌≡◌, refl, ◌≤◌, ◌<◌, ℤ, ◌∷◌, ◌+◌, ◌*◌, ◌-◌, ◌/◌, ◌%◌}
 use Rattle.std.proofs.Common.{sym, ◌∙◌, ap, subst, inl, inr, ⊎_elim, arith}
 use Rattle.std.proofs.Math.Decide.{dec_lt}
-use Rattle.seq.specs.Seq.{Bool, true, false, cond, List, [], ◌∷◌, Option, ℕ, zero, suc, ◌+◌, ◌*◌, ◌-◌, ◌/◌, ◌%◌, ltb, length, get_or, cell, laid, insert_by}
+use Rattle.seq.specs.Seq.{Bool, true, false, cond, List, [], Option, ℕ, zero, suc, ltb, length, get_or, cell, laid, insert_by}
 use Rattle.seq.specs.Terms.{Among}
 use Rattle.seq.specs.Rows.{rows-among}
 use Rattle.seq.specs.Select.{select_from_lem}

@@ -1,8 +1,8 @@
 -- What the code does for the graph's tables, turn by turn: the ends of an edge stored; the first map that a piece comes from, and the carrier there.
 -- Assumes nothing.
-use Rattle.std.specs.Prelude.{◌≡◌, refl, ◌≤◌, ◌<◌, set, ℤ, pos}
+use Rattle.std.specs.Prelude.{◌≡◌, refl, ◌≤◌, ◌<◌, set, ℤ, pos, ◌∷◌, ◌+◌, ◌*◌, ◌-◌}
 use Rattle.std.proofs.Common.{sym, ◌∙◌, ap, subst, add-zero, add-one, arith, lt-ltb, le-ltb, ltb-true}
-use Rattle.seq.specs.Seq.{List, [], ◌∷◌, map, ℕ, zero, suc, ◌+◌, ◌*◌, ◌-◌, ltb, get_or, cell, table, laid}
+use Rattle.seq.specs.Seq.{List, [], map, ℕ, zero, suc, ltb, get_or, cell, table, laid}
 use Rattle.seq.specs.Least.{least-holds}
 use Rattle.seq.specs.Laid.{laid_at}
 use Rattle.seq.specs.Table.{table-ext, table-map}

@@ -1,8 +1,8 @@
 -- Threads: a vertex more on some edges, and what it makes of threads of the vertices below it. Assumes nothing.
-use Rattle.std.specs.Prelude.{◌≡◌, refl, ◌≤◌, ◌<◌}
+use Rattle.std.specs.Prelude.{◌≡◌, refl, ◌≤◌, ◌<◌, ◌||◌, ◌∷◌, ◌+◌, ◌-◌, ◌*◌}
 use Rattle.std.proofs.Common.{sym, ◌∙◌, ap, ⊎_elim, arith, eqb-true, eq-eqb, ne_eqb}
 use Rattle.std.proofs.Math.Decide.{ℕ_discrete}
-use Rattle.seq.specs.Seq.{Bool, true, false, cond, ◌||◌, List, [], ◌∷◌, ℕ, zero, suc, ◌+◌, ◌-◌, ◌*◌, eqb, get_or}
+use Rattle.seq.specs.Seq.{Bool, true, false, cond, List, [], ℕ, zero, suc, eqb, get_or}
 use Rattle.seq.specs.Tests.{or_l, or_r, or_cases, clash}
 use Rattle.overlay_cut.specs.Threads.{down, along, thread, heads, topped, named_in}
 

@@ -1,9 +1,9 @@
 -- The points that are collected are the overlay's vertices: put in order they are `vertices_of` the maps that the tables hold, and where the table is full the
 -- overlay has at least as many vertices as it has rows. The maps keep the rules: where edges in one line touch is a corner then. Assumes nothing.
-use Rattle.std.specs.Prelude.{◌≡◌, refl, ◌≤◌, ◌<◌, ℤ}
+use Rattle.std.specs.Prelude.{◌≡◌, refl, ◌≤◌, ◌<◌, ℤ, ◌++◌}
 use Rattle.std.proofs.Common.{sym, ◌∙◌, ap, subst, inl, inr, ⊎_elim, arith}
 use Rattle.exact.specs.Lowest.{Pt, Lowest}
-use Rattle.seq.specs.Seq.{List, [], ◌++◌, ℕ, length, rows, collect}
+use Rattle.seq.specs.Seq.{List, [], ℕ, length, rows, collect}
 use Rattle.seq.specs.Terms.{Among, Every}
 use Rattle.seq.specs.Members.{among-++, ++-among, every_in, in_every}
 use Rattle.seq.specs.Table.{length-table}

@@ -1,8 +1,8 @@
 -- Predecessors and least outgoing half-edges, from the tables of the net and of the followers: what is asked of the tables that they are counted out from, and
 -- that they are the definition's. Assumes nothing.
-use Rattle.std.specs.Prelude.{◌≡◌, ◌≤◌}
+use Rattle.std.specs.Prelude.{◌≡◌, ◌≤◌, ◌*◌}
 use Rattle.std.proofs.Common.{sym, ◌∙◌, ap, arith}
-use Rattle.seq.specs.Seq.{List, ℕ, ◌*◌, length, ℤ, filled, padded}
+use Rattle.seq.specs.Seq.{List, ℕ, length, ℤ, filled, padded}
 use Rattle.paper.specs.Limits.{absent}
 use Rattle.paper.specs.Graph.{Graph, followers}
 use Rattle.paper.specs.Map.{Map}

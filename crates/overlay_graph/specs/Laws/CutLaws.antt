@@ -1,9 +1,9 @@
 -- The points that are collected from held layers, put in order, are the overlay's vertices; the pieces between these, however they were collected, are its edges.
 -- Assumes nothing.
-use Rattle.std.specs.Prelude.{◌≡◌, ◌≤◌, ◌<◌}
+use Rattle.std.specs.Prelude.{◌≡◌, ◌≤◌, ◌<◌, ◌++◌, ◌*◌}
 use Rattle.std.proofs.Common.{sym, ◌∙◌, ap, subst, arith}
 use Rattle.std.proofs.Math.Decide.{dec_lt}
-use Rattle.seq.specs.Seq.{List, [], ◌++◌, ℕ, ◌*◌, length, ℤ}
+use Rattle.seq.specs.Seq.{List, [], ℕ, length, ℤ}
 use Rattle.seq.specs.Terms.{Among}
 use Rattle.seq.specs.Table.{length-table}
 use Rattle.paper.specs.Limits.{maps, overlay_vertices, overlay_edges}

@@ -1,9 +1,9 @@
 -- The overlay of the points and pieces in tables: its parts; that it is the overlay of the maps where the tables hold the maps' vertices and edges (`overlay_in_lem`);
 -- and that those of held layers have all that walks, faces and labels ask (`cut-drawable`). Assumes nothing.
-use Rattle.std.specs.Prelude.{◌≡◌, ◌≤◌}
+use Rattle.std.specs.Prelude.{◌≡◌, ◌≤◌, ◌*◌}
 use Rattle.std.proofs.Math.Path.{refl}
 use Rattle.std.proofs.Common.{sym, subst}
-use Rattle.seq.specs.Seq.{List, ◌*◌, length}
+use Rattle.seq.specs.Seq.{List, length}
 use Rattle.seq.specs.Terms.{Among}
 use Rattle.paper.specs.Limits.{overlay_vertices, overlay_edges}
 use Rattle.paper.specs.Plane.{Pt}

@@ -1,10 +1,10 @@
 -- What is known of layers whose maps stand in their tables and keep the rules: the tables are those that the overlay's vertices and edges are cut from, and
 -- the numbers of the overlay's vertices are within 01's bounds. Assumes nothing.
-use Rattle.std.specs.Prelude.{◌≡◌, refl, ◌≤◌, ◌<◌}
+use Rattle.std.specs.Prelude.{◌≡◌, refl, ◌≤◌, ◌<◌, ◌++◌, ◌+◌, ◌*◌, ◌-◌}
 use Rattle.std.proofs.Common.{sym, ◌∙◌, ap, ⊎_elim, le_trans, le_refl, mul-le-mul, add-one, arith, get_or-take, get_or-drop}
 use Rattle.std.proofs.Math.Path.{subst}
 use Rattle.exact.specs.Lowest.{Pt, pt, Lowest}
-use Rattle.seq.specs.Seq.{List, ◌++◌, ℕ, zero, suc, ◌+◌, ◌*◌, ◌-◌, length, get_or, drop, ℤ, pos, nat_abs, table, rows}
+use Rattle.seq.specs.Seq.{List, ℕ, zero, suc, length, get_or, drop, ℤ, pos, nat_abs, table, rows}
 use Rattle.seq.specs.Terms.{Among}
 use Rattle.seq.specs.Members.{every_in}
 use Rattle.seq.specs.Table.{length-table, table_at, table-+, table-ext, table-among}

@@ -1,9 +1,9 @@
 -- The sweep over the tables of the layers: their edges and corners are those of the maps that the tables hold, so that what the sweep asks is met, and the points that it
 -- meets are the overlay's vertices. Assumes nothing.
-use Rattle.std.specs.Prelude.{◌≡◌, ◌≤◌, ◌<◌}
+use Rattle.std.specs.Prelude.{◌≡◌, ◌≤◌, ◌<◌, ◌++◌, ◌+◌, ◌*◌}
 use Rattle.std.proofs.Common.{sym, ◌∙◌, ap, add-one, arith, lt-ltb, le-ltb}
 use Rattle.std.proofs.Math.Decide.{dec_lt}
-use Rattle.seq.specs.Seq.{List, ◌++◌, ℕ, zero, suc, ◌+◌, ◌*◌, ltb, length, ℤ, table, rows}
+use Rattle.seq.specs.Seq.{List, ℕ, zero, suc, ltb, length, ℤ, table, rows}
 use Rattle.seq.specs.Least.{least_is}
 use Rattle.seq.specs.Table.{table-+, table-ext, table-map}
 use Rattle.paper.specs.Limits.{maps}

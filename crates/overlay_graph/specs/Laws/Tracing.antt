@@ -1,9 +1,9 @@
 -- What the stages of tracing make of the points and pieces in tables: the tables of their graph, of its walks and of its faces. Each stage takes the equation that
 -- its function promises. Assumes nothing.
-use Rattle.std.specs.Prelude.{◌≡◌, refl, ◌≤◌, ◌<◌}
+use Rattle.std.specs.Prelude.{◌≡◌, refl, ◌≤◌, ◌<◌, ◌*◌}
 use Rattle.std.proofs.Common.{sym, ◌∙◌, subst, arith}
 use Rattle.std.proofs.Math.Path.{ap}
-use Rattle.seq.specs.Seq.{List, ℕ, suc, ◌*◌, length, get_or, table, position, filled, laid, over, ℤ}
+use Rattle.seq.specs.Seq.{List, ℕ, suc, length, get_or, table, position, filled, laid, over, ℤ}
 use Rattle.seq.specs.Filled.{filled_at, Holds}
 use Rattle.seq.specs.Laid.{length-laid}
 use Rattle.seq.specs.Table.{length-table}

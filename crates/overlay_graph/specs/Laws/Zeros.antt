@@ -1,8 +1,8 @@
 -- Tables of zeros, and lists laid over them: however long the table is, it has the list's cells. Assumes nothing.
-use Rattle.std.specs.Prelude.{◌≡◌, ◌≤◌}
+use Rattle.std.specs.Prelude.{◌≡◌, ◌≤◌, ◌-◌}
 use Rattle.std.proofs.Common.{◌∙◌, ap, arith, length-append}
 use Rattle.std.proofs.lemmas.List.{length-replicate}
-use Rattle.seq.specs.Seq.{List, ℕ, ◌-◌, length, replicate, over}
+use Rattle.seq.specs.Seq.{List, ℕ, length, replicate, over}
 use Rattle.seq.specs.Wiped.{over_zeros}
 use Rattle.overlay_graph.specs.Traced.{Blank, Zeroed}
 

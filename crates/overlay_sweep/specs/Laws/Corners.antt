@@ -1,9 +1,9 @@
 -- The corners put into the queue, the last first. Assumes nothing.
-use Rattle.std.specs.Prelude.{◌≡◌, refl, ◌≤◌, ◌<◌}
+use Rattle.std.specs.Prelude.{◌≡◌, refl, ◌≤◌, ◌<◌, ◌∷◌, ◌-◌, ◌*◌}
 use Rattle.std.proofs.Common.{sym, ◌∙◌, ap, arith, drop-cons}
 use Rattle.std.proofs.Math.Seq.{drop-length}
 use Rattle.exact.specs.Lowest.{Pt}
-use Rattle.seq.specs.Seq.{List, ◌∷◌, ℕ, suc, ℤ, ◌-◌, ◌*◌, length, drop}
+use Rattle.seq.specs.Seq.{List, ℕ, suc, ℤ, length, drop}
 use Rattle.seq.specs.Table.{length-table, table_at}
 use Rattle.graph.specs.Flat.{the_point_at}
 use Rattle.plane.specs.Bounds.{Near}

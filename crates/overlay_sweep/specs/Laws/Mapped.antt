@@ -1,7 +1,7 @@
 -- Lists under a map g: those of a list that have a property, its start and its rest, elements put in their slots, each before the map and after it. Assumes nothing.
-use Rattle.std.specs.Prelude.{◌≡◌, refl}
+use Rattle.std.specs.Prelude.{◌≡◌, refl, ◌∷◌}
 use Rattle.std.proofs.Common.{◌∙◌, ap}
-use Rattle.seq.specs.Seq.{Bool, true, false, cond, List, [], ◌∷◌, map}
+use Rattle.seq.specs.Seq.{Bool, true, false, cond, List, [], map}
 use Rattle.seq.specs.Kept.{kept}
 use Rattle.seq.specs.Search.{lead, trail}
 use Rattle.seq.specs.Slotted.{slotted, slots}

@@ -1,8 +1,8 @@
 -- The line between two stops, by tables: the sides of the next stop rise along the status, so that the search by halves may be made (`right_steady`). Assumes nothing.
-use Rattle.std.specs.Prelude.{◌≡◌, refl, ◌<◌}
+use Rattle.std.specs.Prelude.{◌≡◌, refl, ◌<◌, ◌∷◌}
 use Rattle.std.proofs.Common.{sym, ◌∙◌, ap, subst, arith}
 use Rattle.exact.specs.Sign.{Sign, neg, zer, plus, is_neg}
-use Rattle.seq.specs.Seq.{true, false, List, ◌∷◌, ℤ, ℕ, get_or, table}
+use Rattle.seq.specs.Seq.{true, false, List, ℤ, ℕ, get_or, table}
 use Rattle.seq.specs.Terms.{Pairs}
 use Rattle.seq.specs.Table.{length-table, table_at, table-map}
 use Rattle.seq.specs.Tests.{never}

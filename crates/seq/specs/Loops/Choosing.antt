@@ -1,8 +1,8 @@
 -- The best of each key, from a table of `none`:    for i in 0..m { if t[key(i)] == none || b(i, t[key(i)]) { t[key(i)] = i } }
 -- Before turn i cell v has the best by b of the numbers below i whose key is v, or `none`, which is no number below m. Assumes nothing.
-use Rattle.std.specs.Prelude.{◌≡◌, refl, ◌≤◌, ◌<◌, set}
+use Rattle.std.specs.Prelude.{◌≡◌, refl, ◌≤◌, ◌<◌, set, ◌+◌}
 use Rattle.std.proofs.Common.{sym, ◌∙◌, ap, arith, eqb-true, eq-eqb, ne_eqb, length-set}
-use Rattle.seq.specs.Seq.{Bool, List, ℕ, ◌+◌, eqb, length, get_or, filled}
+use Rattle.seq.specs.Seq.{Bool, List, ℕ, eqb, length, get_or, filled}
 use Rattle.seq.specs.Best.{best_has}
 use Rattle.seq.specs.Filled.{filled_at, length-filled, filled_is, filled-set, filled-twice}
 use Rattle.seq.specs.Pick.{pick, better, Away, turn_yes, turn_no, pick_some}

@@ -1,9 +1,9 @@
 -- A list copied into a table from a place on:    for i in 0..xs.len() { t[at + i] = xs[i] }
 -- Before turn i its first i elements stand there. Assumes nothing.
-use Rattle.std.specs.Prelude.{◌≡◌, refl, ◌≤◌, ◌<◌, set}
+use Rattle.std.specs.Prelude.{◌≡◌, refl, ◌≤◌, ◌<◌, set, ◌∷◌, ◌+◌}
 use Rattle.std.proofs.Common.{sym, ◌∙◌, ap, add-one, arith, length-take, take-suc, take_all}
 use Rattle.std.proofs.Math.Seq.{length-sets}
-use Rattle.seq.specs.Seq.{List, [], ◌∷◌, ℕ, ◌+◌, length, get_or, take, sets}
+use Rattle.seq.specs.Seq.{List, [], ℕ, length, get_or, take, sets}
 use Rattle.seq.specs.Over.{stored-behind}
 
 -- t is what the loop has made of d before turn i

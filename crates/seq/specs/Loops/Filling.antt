@@ -1,8 +1,8 @@
 -- A table filled cell by cell:    for i in 0..n { t[i] = f(i) }
 -- Before turn i it is `filled i f d`. Assumes nothing.
-use Rattle.std.specs.Prelude.{◌≡◌, refl, ◌≤◌, ◌<◌, set}
+use Rattle.std.specs.Prelude.{◌≡◌, refl, ◌≤◌, ◌<◌, set, ◌+◌}
 use Rattle.std.proofs.Common.{◌∙◌, ap, arith, length-set}
-use Rattle.seq.specs.Seq.{List, ℕ, ◌+◌, length, filled}
+use Rattle.seq.specs.Seq.{List, ℕ, length, filled}
 use Rattle.seq.specs.Filled.{filled_none, filled_more}
 
 -- t is what the loop has made of d before turn i

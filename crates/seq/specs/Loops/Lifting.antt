@@ -1,10 +1,10 @@
 -- Cells moved up by w, from the last down to the first:    for i in (a..e).rev() { t[i + w] = t[i] }
 -- Where it is down to i the table is `lifted i e w d`. Assumes nothing.
-use Rattle.std.specs.Prelude.{◌≡◌, refl, ◌≤◌, ◌<◌, set}
+use Rattle.std.specs.Prelude.{◌≡◌, refl, ◌≤◌, ◌<◌, set, ◌+◌, ◌-◌}
 use Rattle.std.proofs.Common.{sym, ◌∙◌, suc-add, arith, length-set}
 use Rattle.std.proofs.Math.Path.{ap}
 use Rattle.std.proofs.Math.Seq.{slice, slice_empty, slice-cons}
-use Rattle.seq.specs.Seq.{List, ℕ, suc, ◌+◌, ◌-◌, length, get_or, sets}
+use Rattle.seq.specs.Seq.{List, ℕ, suc, length, get_or, sets}
 use Rattle.seq.specs.Cells.{sets_below, set_before}
 
 -- the cells from a to e moved up by w

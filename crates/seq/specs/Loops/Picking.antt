@@ -1,8 +1,8 @@
 -- The best of the numbers below n that have p, or n:    for i in 0..n { if p(i) && (r == n || b(i, r)) { r = i } }
 -- Before turn i it is the best of those below i. Assumes nothing.
-use Rattle.std.specs.Prelude.{◌≡◌, refl, ◌≤◌, ◌<◌}
+use Rattle.std.specs.Prelude.{◌≡◌, refl, ◌≤◌, ◌<◌, ◌+◌}
 use Rattle.std.proofs.Common.{sym, ◌∙◌, ap, arith}
-use Rattle.seq.specs.Seq.{Bool, true, false, none, some, ℕ, suc, ◌+◌, best}
+use Rattle.seq.specs.Seq.{Bool, true, false, none, some, ℕ, suc, best}
 use Rattle.seq.specs.Pick.{pick, better, Away, turn_yes, turn_no, pick_none, pick_some, pick_below}
 
 -- r is the best before turn i

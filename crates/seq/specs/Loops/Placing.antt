@@ -1,9 +1,9 @@
 -- Each number stored in the cell of its key, from the last down to the first, so that the first of each key is stored last:
 --     for i in (0..m).rev() { t[key(i)] = i }
 -- Where it is down to i the table is `firsts key i (m - i) d`. A number whose cell is not there is left out. Assumes nothing.
-use Rattle.std.specs.Prelude.{◌≡◌, refl, ◌≤◌, ◌<◌, set}
+use Rattle.std.specs.Prelude.{◌≡◌, refl, ◌≤◌, ◌<◌, set, ◌-◌}
 use Rattle.std.proofs.Common.{sym, ◌∙◌, ap, arith, length-set}
-use Rattle.seq.specs.Seq.{List, ℕ, suc, ◌-◌, length, firsts}
+use Rattle.seq.specs.Seq.{List, ℕ, suc, length, firsts}
 use Rattle.seq.specs.Firsts.{firsts_none, firsts-stored}
 
 -- t is what the loop has made of d where it is down to i

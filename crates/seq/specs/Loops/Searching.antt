@@ -1,9 +1,9 @@
 -- A search:    for i in 0..n { if p(i) { return i } } return n
 -- or, where only whether there is one is asked:    for i in 0..n { if p(i) { return true } } return false
 -- Before turn k nothing below k has p. A search may start at any place before which there is nothing to find. Assumes nothing.
-use Rattle.std.specs.Prelude.{◌≡◌, refl, ◌≤◌, ◌<◌}
+use Rattle.std.specs.Prelude.{◌≡◌, refl, ◌≤◌, ◌<◌, ◌+◌}
 use Rattle.std.proofs.Common.{sym, ◌∙◌, ap, arith}
-use Rattle.seq.specs.Seq.{Bool, true, false, ℕ, ◌+◌, least, the_some_below}
+use Rattle.seq.specs.Seq.{Bool, true, false, ℕ, least, the_some_below}
 use Rattle.seq.specs.Least.{least_more, least-found, some_has, some_none}
 
 pub record Searching (p : ℕ → Bool) (n k : ℕ) : Type 0 where

@@ -1,9 +1,9 @@
 -- The numbers that have p, counted:    for i in 0..m { if p(i) { c += 1 } }                 (`Counting`)
 -- and stored one after the other:      for i in 0..m { if p(i) { t[c] = i; c += 1 } }       (`Selecting`)
 -- Before turn i the count is `count p i`, and the table `over (select p i) d`. Assumes nothing.
-use Rattle.std.specs.Prelude.{◌≡◌, refl, ◌≤◌, ◌<◌, set}
+use Rattle.std.specs.Prelude.{◌≡◌, refl, ◌≤◌, ◌<◌, set, ◌+◌}
 use Rattle.std.proofs.Common.{sym, ◌∙◌, ap, add-zero, arith, length-set}
-use Rattle.seq.specs.Seq.{Bool, true, false, cond, List, ℕ, ◌+◌, length, count, select, over}
+use Rattle.seq.specs.Seq.{Bool, true, false, cond, List, ℕ, length, count, select, over}
 use Rattle.seq.specs.Count.{count-le, count_more, count-skip}
 use Rattle.seq.specs.Over.{over_none}
 use Rattle.seq.specs.Filled.{selected_more, selected_skip}

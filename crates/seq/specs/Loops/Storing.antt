@@ -1,10 +1,10 @@
 -- Rows of w cells stored one after the other from a place on (`Storing`), or from the start of the table on (`Laying`, which is Storing at 0):
 --     for i in 0..n { store(t, at + w * i, f(i)) }
 -- Before turn i the rows f 0, f 1, .. that are stored are `rows f i`. `each` is the rows' width. Assumes nothing.
-use Rattle.std.specs.Prelude.{◌≡◌, refl, ◌≤◌, ◌<◌}
+use Rattle.std.specs.Prelude.{◌≡◌, refl, ◌≤◌, ◌<◌, ◌+◌, ◌*◌}
 use Rattle.std.proofs.Common.{sym, ◌∙◌, ap, zero-add, arith}
 use Rattle.std.proofs.Math.Seq.{length-sets}
-use Rattle.seq.specs.Seq.{List, ℕ, ◌+◌, ◌*◌, length, sets, rows, laid, padded, row_stored, wiped}
+use Rattle.seq.specs.Seq.{List, ℕ, length, sets, rows, laid, padded, row_stored, wiped}
 use Rattle.seq.specs.Over.{stored-behind, stored_first}
 use Rattle.seq.specs.Rows.{length-rows, rows_more}
 use Rattle.seq.specs.Wiped.{stored-wiped}

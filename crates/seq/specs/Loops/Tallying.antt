@@ -1,8 +1,8 @@
 -- The numbers that have p, counted by their key, from a table of zeros:    for i in 0..m { if p(i) { t[key(i)] += 1 } }
 -- Before turn i cell v has the count of those below i that have p and the key v. Assumes nothing.
-use Rattle.std.specs.Prelude.{◌≡◌, refl, ◌≤◌, ◌<◌, set}
+use Rattle.std.specs.Prelude.{◌≡◌, refl, ◌≤◌, ◌<◌, set, ◌&&◌, ◌+◌}
 use Rattle.std.proofs.Common.{sym, ◌∙◌, ap, arith, eq-eqb, ne_eqb, length-set}
-use Rattle.seq.specs.Seq.{Bool, true, false, ◌&&◌, List, ℕ, ◌+◌, eqb, length, get_or, count, filled}
+use Rattle.seq.specs.Seq.{Bool, true, false, List, ℕ, eqb, length, get_or, count, filled}
 use Rattle.seq.specs.Tests.{and_both}
 use Rattle.seq.specs.Count.{count-le, count_more, count-skip}
 use Rattle.seq.specs.Filled.{filled_at, filled_past, length-filled, filled_is, filled-set, filled-twice}

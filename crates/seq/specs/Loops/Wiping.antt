@@ -1,8 +1,8 @@
 -- A table wiped from cell n on:    for i in n..t.len() { t[i] = z }
 -- Before turn i it is `wiping z n i d`. Assumes nothing.
-use Rattle.std.specs.Prelude.{◌≡◌, refl, ◌≤◌, ◌<◌, set}
+use Rattle.std.specs.Prelude.{◌≡◌, refl, ◌≤◌, ◌<◌, set, ◌+◌}
 use Rattle.std.proofs.Common.{◌∙◌, ap, arith, length-set}
-use Rattle.seq.specs.Seq.{List, ℕ, ◌+◌, length, wiping, wiped}
+use Rattle.seq.specs.Seq.{List, ℕ, length, wiping, wiped}
 use Rattle.seq.specs.Wiped.{wiping_none, wiping_more, wiping_all}
 
 -- t is what the loop has made of d before turn i

@@ -1,10 +1,10 @@
 -- The ends of the pieces that stay marked:    for k in 0..m { if p(k) { t[f(k).lo] = 1; t[f(k).hi] = 1 } }
 -- Before turn k a cell is 1 exactly if its number is an end of a piece below k that has p. Then counts and lists by marks. Assumes nothing.
-use Rattle.std.specs.Prelude.{◌≡◌, refl, ◌≤◌, ◌<◌, set}
+use Rattle.std.specs.Prelude.{◌≡◌, refl, ◌≤◌, ◌<◌, set, ◌||◌, ◌∷◌, ◌++◌, ◌+◌}
 use Rattle.std.proofs.Common.{sym, ◌∙◌, ap, arith, eq-eqb, ne_eqb, length-set, get_or-set_same, get_or-set_other}
 use Rattle.std.proofs.lemmas.List.{map-append}
 use Rattle.std.proofs.Math.Decide.{ℕ_discrete}
-use Rattle.seq.specs.Seq.{Bool, true, false, ◌||◌, List, [], ◌∷◌, ◌++◌, map, ℕ, ◌+◌, eqb, ltb, length, get_or, select}
+use Rattle.seq.specs.Seq.{Bool, true, false, List, [], map, ℕ, eqb, ltb, length, get_or, select}
 use Rattle.seq.specs.Tests.{bool-ext}
 use Rattle.seq.specs.Members.{at_among, among_at}
 use Rattle.seq.specs.Least.{some_has, some_witness}

@@ -2,12 +2,12 @@
 -- each face, an edge is separated by its faces exactly if it is by its own labels (`separated`: the labels of a half-edge are those of its face), so that what stays is paper's
 -- `kept_pieces`, and the thinned tables hold `melted_of` (`thinned-melted`). Then what is known of it: it is plane, its points are among the overlay's, there are no more of them.
 -- Assumes nothing.
-use Rattle.std.specs.Prelude.{◌≡◌, ◌≤◌, ◌<◌}
+use Rattle.std.specs.Prelude.{◌≡◌, ◌≤◌, ◌<◌, ◌+◌, ◌*◌, ◌/◌}
 use Rattle.std.proofs.Common.{sym, ◌∙◌, ap, arith}
 use Rattle.std.proofs.Math.Path.{subst}
 use Rattle.std.proofs.lemmas.List.{length-map, get_or-replicate}
 use Rattle.exact.specs.Lowest.{Pt}
-use Rattle.seq.specs.Seq.{not, List, map, none, ℕ, zero, suc, ◌+◌, ◌*◌, ◌/◌, eqb, length, get_or, cell, select, the_some_below}
+use Rattle.seq.specs.Seq.{not, List, map, none, ℕ, zero, suc, eqb, length, get_or, cell, select, the_some_below}
 use Rattle.seq.specs.Terms.{Among}
 use Rattle.seq.specs.Members.{map-ext, map-among}
 use Rattle.seq.specs.Least.{some_ext}

@@ -1,10 +1,10 @@
 -- Rows that stay moved down:    for i in 0..m { if p(i) { out[c] = f(i); c += 1 } }
 -- Before turn i the first c rows are those f j below i that have p, in their order. Rows are read by any function. Then the rows of points and of pieces. Assumes nothing.
-use Rattle.std.specs.Prelude.{◌≡◌, refl, ◌≤◌, ◌<◌}
+use Rattle.std.specs.Prelude.{◌≡◌, refl, ◌≤◌, ◌<◌, ◌∷◌, ◌++◌, ◌+◌, ◌*◌}
 use Rattle.std.proofs.Common.{sym, ◌∙◌, ap, add-zero, arith}
 use Rattle.std.proofs.lemmas.List.{map-append}
 use Rattle.std.proofs.Math.Seq.{length-sets}
-use Rattle.seq.specs.Seq.{Bool, true, false, List, [], ◌∷◌, ◌++◌, map, ℕ, ◌+◌, ◌*◌, length, get_or, count, select, table, row_stored, ℤ, pos}
+use Rattle.seq.specs.Seq.{Bool, true, false, List, [], map, ℕ, length, get_or, count, select, table, row_stored, ℤ, pos}
 use Rattle.seq.specs.Table.{table_more, table-ext}
 use Rattle.seq.specs.Select.{select_more, select-skip}
 use Rattle.seq.specs.Parts.{Stored, row-stored}

@@ -1,8 +1,9 @@
 -- `graph::heading::heading` meets its contract. Assumes nothing.
+use Rattle.std.specs.Prelude.{◌/◌}
 use mathlib.Core.Path.{◌≡◌, sym, ◌∙◌, ap, subst}
 use Prim.Native.Nat.{◌<◌}
 use borrow.Author.Rules.{rules}
-use Rattle.seq.specs.Seq.{Bool, cond, List, ℕ, ◌/◌, ℤ}
+use Rattle.seq.specs.Seq.{Bool, cond, List, ℕ, ℤ}
 use Rattle.paper.specs.Plane.{Vec, Seg, opposite, before}
 use Rattle.plane.specs.Bounds.{Direction}
 use Rattle.plane.proofs.Machine.{vec_back}

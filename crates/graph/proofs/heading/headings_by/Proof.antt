@@ -1,9 +1,10 @@
 -- `graph::heading::headings_by` meets its contract. Assumes nothing.
+use Rattle.std.specs.Prelude.{◌*◌, ◌/◌, ◌-◌}
 use mathlib.Core.Path.{◌≡◌, refl, sym, ◌∙◌, ap}
 use Prim.Native.Nat.{◌≤◌, ◌<◌}
 use native.Mathlib.Omega.{arith}
 use borrow.Author.Rules.{rules}
-use Rattle.seq.specs.Seq.{List, ℕ, ◌*◌, ◌/◌, ◌-◌, ℤ}
+use Rattle.seq.specs.Seq.{List, ℕ, ℤ}
 use Rattle.paper.specs.Graph.{twin, heading}
 use Rattle.paper.specs.Limits.{absent}
 use Rattle.paper.specs.Plane.{Vec}

@@ -1,7 +1,8 @@
 -- `graph::look::at_height` meets its contract. Assumes nothing.
+use Rattle.std.specs.Prelude.{◌+◌, ◌*◌}
 use mathlib.Core.Path.{◌≡◌, sym, ◌∙◌, ap}
 use borrow.Author.Rules.{rules}
-use Rattle.seq.specs.Seq.{Bool, cond, not, ◌+◌, ◌*◌}
+use Rattle.seq.specs.Seq.{Bool, cond, not}
 use Rattle.paper.specs.Plane.{Pt, below}
 use Rattle.plane.specs.Values.{pt_of}
 use Rattle.graph.specs.Flat.{start_at}

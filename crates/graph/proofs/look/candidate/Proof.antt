@@ -1,7 +1,8 @@
 -- `graph::look::candidate` meets its contract. Assumes nothing.
+use Rattle.std.specs.Prelude.{◌&&◌}
 use mathlib.Core.Path.{sym, ◌∙◌, ap}
 use borrow.Author.Rules.{rules}
-use Rattle.seq.specs.Seq.{Bool, ◌&&◌}
+use Rattle.seq.specs.Seq.{Bool}
 use Rattle.plane.specs.Values.{pt_of, vec_of}
 use Rattle.graph.specs.Flat.{carrier_at}
 use Rattle.graph.specs.Look.{westward_of}

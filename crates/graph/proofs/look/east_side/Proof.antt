@@ -1,7 +1,8 @@
 -- `graph::look::east_side` meets its contract. Assumes nothing.
+use Rattle.std.specs.Prelude.{◌+◌, ◌*◌}
 use mathlib.Core.Path.{sym, ◌∙◌, ap, subst}
 use borrow.Author.Rules.{rules}
-use Rattle.seq.specs.Seq.{Bool, cond, ◌+◌, ◌*◌}
+use Rattle.seq.specs.Seq.{Bool, cond}
 use Rattle.laws_graph.specs.Halves.{twin_first}
 use Rattle.graph.specs.Flat.{Starts}
 use Rattle.graph.proofs.look.east_side.Statement.{statement}

@@ -1,10 +1,11 @@
 -- `graph::look::look` meets its contract. Assumes nothing.
+use Rattle.std.specs.Prelude.{◌-◌}
 use mathlib.Core.Logic.{⊎_elim}
 use mathlib.Core.Path.{sym, ◌∙◌}
 use Prim.Native.Nat.{◌<◌}
 use native.Mathlib.Omega.{arith}
 use borrow.Author.Rules.{rules}
-use Rattle.seq.specs.Seq.{ℕ, ◌-◌}
+use Rattle.seq.specs.Seq.{ℕ}
 use Rattle.seq.specs.Loops.Picking.{Picking, pick_starts, pick-most, pick_takes, pick-skips, pick-lacks, pick_has}
 use Rattle.plane.specs.Values.{pt_of, vec_of}
 use Rattle.graph.specs.Flat.{Carried}

@@ -1,9 +1,10 @@
 -- `graph::look::seen_half` meets its contract. Assumes nothing.
+use Rattle.std.specs.Prelude.{◌+◌, ◌*◌}
 use mathlib.Core.Path.{sym, ◌∙◌, ap}
 use Prim.Native.Nat.{◌≤◌}
 use native.Mathlib.Omega.{arith}
 use borrow.Author.Rules.{rules}
-use Rattle.seq.specs.Seq.{Bool, true, false, cond, List, some, Option·map, ℕ, ◌+◌, ◌*◌, ℤ}
+use Rattle.seq.specs.Seq.{Bool, true, false, cond, List, some, Option·map, ℕ, ℤ}
 use Rattle.paper.specs.Graph.{east_side}
 use Rattle.plane.specs.Values.{pt_of, vec_of}
 use Rattle.graph.specs.Flat.{flat_graph}

@@ -1,9 +1,9 @@
 -- `graph::rising::rise` meets its contract. Assumes nothing.
+use Rattle.std.specs.Prelude.{◌-◌}
 use mathlib.Core.Path.{◌≡◌, sym, ◌∙◌, subst}
 use Prim.Native.Nat.{◌<◌}
 use native.Mathlib.Omega.{arith}
 use borrow.Author.Rules.{rules}
-use Rattle.seq.specs.Seq.{◌-◌}
 use Rattle.seq.specs.Tests.{clash, never, was-false, was-true}
 use Rattle.paper.specs.Plane.{before}
 use Rattle.plane.specs.Bounds.{Near}

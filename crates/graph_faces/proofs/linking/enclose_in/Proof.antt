@@ -1,10 +1,11 @@
 -- `graph_faces::linking::enclose_in` meets its contract. First what is known from the start and of the table of what is known of each walk; then the needs, call by call. Assumes nothing.
+use Rattle.std.specs.Prelude.{◌+◌, ◌*◌}
 use mathlib.Core.Path.{◌≡◌}
 use Prim.Native.Nat.{◌≤◌, ◌<◌}
 use native.Mathlib.Omega.{arith}
 use borrow.Author.Rules.{rules}
 use Rattle.seq.specs.Count.{count-le}
-use Rattle.seq.specs.Seq.{Bool, List, ℕ, ◌+◌, ◌*◌, length, count, filled, ℤ}
+use Rattle.seq.specs.Seq.{Bool, List, ℕ, length, count, filled, ℤ}
 use Rattle.seq.specs.Filled.{Holds}
 use Rattle.paper.specs.Limits.{overlay_edges, absent}
 use Rattle.paper.specs.Graph.{Graph}

@@ -1,9 +1,10 @@
 -- `graph_faces::links::link_in` meets its contract. First what is known from the start and of each table as it is made; then the needs, call by call. Assumes nothing.
+use Rattle.std.specs.Prelude.{◌*◌}
 use mathlib.Core.Path.{◌≡◌}
 use Prim.Native.Nat.{◌≤◌}
 use native.Mathlib.Omega.{arith}
 use borrow.Author.Rules.{rules}
-use Rattle.seq.specs.Seq.{List, Option·getD, ℕ, ◌*◌, take, leader, length, filled, laid, ℤ}
+use Rattle.seq.specs.Seq.{List, Option·getD, ℕ, take, leader, length, filled, laid, ℤ}
 use Rattle.seq.specs.Filled.{Holds}
 use Rattle.paper.specs.Limits.{overlay_edges, absent}
 use Rattle.paper.specs.Graph.{Graph, follower, heading, greatest_out}

@@ -1,9 +1,10 @@
 -- `graph_faces::links::tops_of` meets its contract: where the edges climb, and where they do not. Assumes nothing.
+use Rattle.std.specs.Prelude.{◌*◌}
 use mathlib.Core.Path.{◌≡◌, ◌∙◌}
 use Prim.Native.Nat.{◌≤◌}
 use native.Mathlib.Omega.{arith}
 use borrow.Author.Rules.{rules}
-use Rattle.seq.specs.Seq.{List, Option·getD, ℕ, ◌*◌, length, replicate, filled, ℤ}
+use Rattle.seq.specs.Seq.{List, Option·getD, ℕ, length, replicate, filled, ℤ}
 use Rattle.seq.specs.Filled.{Holds, filled-ext}
 use Rattle.paper.specs.Limits.{absent}
 use Rattle.paper.specs.Graph.{Graph, greatest_out}

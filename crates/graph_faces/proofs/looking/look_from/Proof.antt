@@ -1,10 +1,11 @@
 -- `graph_faces::looking::look_from` meets its contract. Assumes nothing.
+use Rattle.std.specs.Prelude.{◌-◌}
 use mathlib.Core.Logic.{⊎_elim}
 use mathlib.Core.Path.{sym, ◌∙◌, subst}
 use Prim.Native.Nat.{◌<◌}
 use native.Mathlib.Omega.{arith}
 use borrow.Author.Rules.{rules}
-use Rattle.seq.specs.Seq.{ℕ, ◌-◌}
+use Rattle.seq.specs.Seq.{ℕ}
 use Rattle.seq.specs.Loops.Picking.{Picking, pick_starts, pick-most, pick_takes, pick-skips, pick-lacks, pick_has}
 use Rattle.paper.specs.Plane.{nowhere}
 use Rattle.plane.specs.Values.{pt_of}

@@ -1,9 +1,10 @@
 -- `graph_faces::looking::one_side` meets its contract. Assumes nothing.
+use Rattle.std.specs.Prelude.{◌+◌, ◌*◌}
 use mathlib.Core.Path.{sym, ap}
 use native.Mathlib.Omega.{arith}
 use borrow.Author.Rules.{rules}
 use borrow.Author.Tests.{lt-ltb, le-ltb}
-use Rattle.seq.specs.Seq.{Bool, cond, not, ◌+◌, ◌*◌, ltb}
+use Rattle.seq.specs.Seq.{Bool, cond, not, ltb}
 use Rattle.graph.specs.Flat.{origin_at}
 use Rattle.graph_faces.proofs.looking.one_side.Statement.{statement}
 use Rattle.graph_faces.proofs.looking.one_side.Tie as tie

@@ -1,9 +1,10 @@
 -- `graph_faces::looking::seen_from` meets its contract. Assumes nothing.
+use Rattle.std.specs.Prelude.{◌+◌, ◌*◌}
 use mathlib.Core.Path.{sym, ◌∙◌, ap, subst}
 use Prim.Native.Nat.{◌≤◌}
 use native.Mathlib.Omega.{arith}
 use borrow.Author.Rules.{rules}
-use Rattle.seq.specs.Seq.{Bool, true, false, cond, List, Option, some, Option·map, Option·getD, ℕ, ◌+◌, ◌*◌, ℤ}
+use Rattle.seq.specs.Seq.{Bool, true, false, cond, List, Option, some, Option·map, Option·getD, ℕ, ℤ}
 use Rattle.paper.specs.Limits.{absent}
 use Rattle.paper.specs.Plane.{Pt, nowhere}
 use Rattle.paper.specs.Graph.{east_side, west}

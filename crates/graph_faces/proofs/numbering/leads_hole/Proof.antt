@@ -1,8 +1,9 @@
 -- `graph_faces::numbering::leads_hole` meets its contract. Assumes nothing.
+use Rattle.std.specs.Prelude.{◌&&◌}
 use mathlib.Core.Path.{◌≡◌, refl, sym, ◌∙◌, ap}
 use native.Mathlib.Omega.{arith}
 use borrow.Author.Rules.{rules}
-use Rattle.seq.specs.Seq.{Bool, true, false, ◌&&◌, eqb, get_or}
+use Rattle.seq.specs.Seq.{Bool, true, false, eqb, get_or}
 use Rattle.graph_faces.proofs.numbering.leads_hole.Statement.{statement}
 use Rattle.graph_faces.proofs.numbering.leads_hole.Tie as tie
 

@@ -1,9 +1,10 @@
 -- `graph_faces::numbering::tell_walk` meets its contract. Assumes nothing.
+use Rattle.std.specs.Prelude.{◌+◌}
 use mathlib.Core.Path.{sym, ◌∙◌, ap}
 use native.Mathlib.Omega.{arith}
 use borrow.Author.Rules.{rules}
 use lib.ListN.{set}
-use Rattle.seq.specs.Seq.{Bool, cond, ℕ, ◌+◌, get_or}
+use Rattle.seq.specs.Seq.{Bool, cond, ℕ, get_or}
 use Rattle.graph.specs.Flat.{origin_at}
 use Rattle.graph_faces.specs.Kinds.{seen_from}
 use Rattle.graph_faces.proofs.numbering.tell_walk.Statement.{statement}

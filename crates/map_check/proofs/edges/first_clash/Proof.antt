@@ -1,9 +1,9 @@
 -- `map_check::edges::first_clash` meets its contract: nothing below the counter has been found. Assumes nothing.
+use Rattle.std.specs.Prelude.{◌-◌}
 use mathlib.Core.Path.{sym, ◌∙◌}
 use Prim.Native.Nat.{◌<◌}
 use native.Mathlib.Omega.{arith}
 use borrow.Author.Rules.{rules}
-use Rattle.seq.specs.Seq.{◌-◌}
 use Rattle.map_check.specs.Later.{later_at, later-starts, later-is}
 use Rattle.map_check.proofs.edges.first_clash.Statement.{statement}
 use Rattle.map_check.proofs.edges.first_clash.Tie as tie

@@ -1,6 +1,6 @@
 -- `map_check::edges::first_holding` meets its contract: nothing below the counter has been found. Assumes nothing.
+use Rattle.std.specs.Prelude.{◌-◌}
 use borrow.Author.Tests.{eq-eqb, ne_eqb}
-use Rattle.seq.specs.Seq.{◌-◌}
 use Rattle.map_check.specs.Net.{starts_at}
 use borrow.Author.Rules.{rules}
 use native.Mathlib.Omega.{arith}

@@ -1,9 +1,10 @@
 -- `map_check::edges::search_clashing` meets its contract: nothing below the counter has been found. Assumes nothing.
+use Rattle.std.specs.Prelude.{◌-◌}
 use mathlib.Core.Path.{sym, ap, ◌∙◌}
 use native.Mathlib.Omega.{arith}
 use borrow.Author.Rules.{rules}
 use borrow.Author.Tests.{lt-ltb, le-ltb}
-use Rattle.seq.specs.Seq.{◌-◌, ℕ, ltb}
+use Rattle.seq.specs.Seq.{ℕ, ltb}
 use Rattle.map_check.specs.Later.{later_clashing, least-later}
 use Rattle.map_check.proofs.edges.search_clashing.Statement.{statement}
 use Rattle.map_check.proofs.edges.search_clashing.Tie as tie

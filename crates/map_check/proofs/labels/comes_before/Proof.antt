@@ -1,4 +1,5 @@
 -- `map_check::labels::comes_before` meets its contract: of corners by the whole numbers. Assumes nothing.
+use Rattle.std.specs.Prelude.{◌-ℤ◌}
 use mathlib.Core.List.{[], ◌∷◌}
 use mathlib.Core.Path.{◌≡◌, sym, ◌∙◌}
 use borrow.Author.Rules.{rules}
@@ -9,7 +10,7 @@ use Rattle.exact.specs.Lowest.{pt}
 use Rattle.exact.specs.Mach.{trb, test, trbits, eq_yes, eq_no}
 use Rattle.exact.specs.Order.{zomega, sq}
 use Rattle.exact.specs.Tests.{lt_t, t_lt}
-use Rattle.seq.specs.Seq.{true, ℤ, pos, ◌-ℤ◌}
+use Rattle.seq.specs.Seq.{true, ℤ, pos}
 use Rattle.seq.specs.Tests.{bool-ext}
 use Rattle.paper.specs.Plane.{Vec, vec, whole, before}
 use Rattle.laws_plane.specs.Cone.{Up, above, level}

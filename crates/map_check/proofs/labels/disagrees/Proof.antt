@@ -1,8 +1,9 @@
 -- `map_check::labels::disagrees` meets its contract. Assumes nothing.
+use Rattle.std.specs.Prelude.{◌&&◌, ◌||◌, ◌*◌}
 use mathlib.Core.Path.{◌≡◌, sym, ap, ◌∙◌}
 use native.Mathlib.Omega.{arith}
 use borrow.Author.Tests.{eq-eqb, ne_eqb}
-use Rattle.seq.specs.Seq.{Bool, true, false, not, ◌&&◌, ◌||◌, ℕ, ◌*◌, eqb, get_or}
+use Rattle.seq.specs.Seq.{Bool, true, false, not, ℕ, eqb, get_or}
 use Rattle.graph.specs.Heading.{flat_starts}
 use Rattle.map_check.specs.Labels.{makes_hole_at, seen_west}
 use borrow.Author.Rules.{rules}

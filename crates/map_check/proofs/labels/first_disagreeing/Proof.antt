@@ -1,8 +1,8 @@
 -- `map_check::labels::first_disagreeing` meets its contract: nothing below the counter has been found. Assumes nothing.
+use Rattle.std.specs.Prelude.{◌*◌, ◌-◌}
 use mathlib.Core.Path.{sym, ◌∙◌}
 use native.Mathlib.Omega.{arith}
 use borrow.Author.Rules.{rules}
-use Rattle.seq.specs.Seq.{◌*◌, ◌-◌}
 use Rattle.seq.specs.Loops.Searching.{Searching, search_starts, search_turns, search_finds, search_ends}
 use Rattle.map_check.specs.Labels.{disagrees_at}
 use Rattle.map_check.proofs.labels.first_disagreeing.Statement.{statement}

@@ -1,9 +1,10 @@
 -- `map_check::labels::makes_hole` meets its contract: the two tests of the definition. Assumes nothing.
+use Rattle.std.specs.Prelude.{◌&&◌}
 use mathlib.Core.Path.{◌≡◌, ap, sym, ◌∙◌}
 use borrow.Author.Rules.{rules}
 use borrow.Author.Tests.{eq-eqb, ne_eqb}
 use native.Mathlib.Omega.{arith}
-use Rattle.seq.specs.Seq.{Bool, ◌&&◌, get_or}
+use Rattle.seq.specs.Seq.{Bool, get_or}
 use Rattle.graph.specs.Flat.{origin_at}
 use Rattle.map_check.specs.Labels.{smallest_at}
 use Rattle.map_check.proofs.labels.makes_hole.Statement.{statement}

@@ -1,9 +1,10 @@
 -- `map_check::near::over` meets its contract. Assumes nothing.
+use Rattle.std.specs.Prelude.{◌||◌}
 use mathlib.Core.Path.{◌≡◌, sym}
 use borrow.Author.Rules.{rules}
 use borrow.Author.Tests.{lt-ltb, le-ltb}
 use native.Mathlib.Omega.{arith}
-use Rattle.seq.specs.Seq.{true, false, cond, ◌||◌, ltb}
+use Rattle.seq.specs.Seq.{true, false, cond, ltb}
 use Rattle.map_check.proofs.near.over.Statement.{statement}
 use Rattle.map_check.proofs.near.over.Tie as tie
 

@@ -1,4 +1,5 @@
 -- `map_check::pairs::one_side` meets its contract. Assumes nothing.
+use Rattle.std.specs.Prelude.{◌&&◌, ◌||◌}
 use mathlib.Core.List.{[], ◌∷◌}
 use mathlib.Core.Path.{◌≡◌, refl, sym, ◌∙◌}
 use borrow.Author.Rules.{rules}
@@ -7,7 +8,7 @@ use lib.Signed.{lt_z, ◌<ℤ◌}
 use Rattle.exact.specs.Mach.{trbs, test}
 use Rattle.exact.specs.Order.{zomega, sq}
 use Rattle.exact.specs.Tests.{lt_t}
-use Rattle.seq.specs.Seq.{Bool, true, false, ◌&&◌, ◌||◌, ℤ, pos}
+use Rattle.seq.specs.Seq.{Bool, true, false, ℤ, pos}
 use Rattle.seq.specs.Tests.{clash, not-true}
 use Rattle.map_check.proofs.pairs.one_side.Statement.{statement}
 use Rattle.map_check.proofs.pairs.one_side.Tie as tie

@@ -1,7 +1,7 @@
 -- `map_check::parts::bad_ends` meets its contract: one test after the other. Assumes nothing.
+use Rattle.std.specs.Prelude.{◌+◌, ◌*◌}
 use native.Mathlib.Omega.{arith}
 use borrow.Author.Rules.{rules}
-use Rattle.seq.specs.Seq.{◌+◌, ◌*◌}
 use Rattle.graph.specs.Flat.{origin_at}
 use Rattle.map_check.proofs.PartsLaws.{no_from, no_to, by_ends}
 use Rattle.map_check.proofs.parts.bad_ends.Statement.{statement}

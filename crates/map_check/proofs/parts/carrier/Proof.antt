@@ -1,8 +1,8 @@
 -- `map_check::parts::carrier` meets its contract: both ends name a corner within range. Assumes nothing.
+use Rattle.std.specs.Prelude.{◌+◌, ◌*◌}
 use mathlib.Core.Path.{sym, ◌∙◌, subst}
 use native.Mathlib.Omega.{arith}
 use borrow.Author.Rules.{rules}
-use Rattle.seq.specs.Seq.{◌+◌, ◌*◌}
 use Rattle.paper.specs.Plane.{between}
 use Rattle.plane.specs.Bounds.{Corner}
 use Rattle.graph.specs.Flat.{origin_at}

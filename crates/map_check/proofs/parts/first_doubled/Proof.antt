@@ -1,10 +1,11 @@
 -- `map_check::parts::first_doubled` meets its contract: nothing below the counter has been found. Assumes nothing.
+use Rattle.std.specs.Prelude.{◌-◌}
 use mathlib.Core.Path.{sym, ap, ◌∙◌}
 use native.Mathlib.Omega.{arith}
 use borrow.Author.Rules.{rules}
 use borrow.Author.Tests.{lt-ltb, le-ltb}
 use Rattle.seq.specs.Loops.Searching.{Searching, search_starts, search_turns, search_finds, search_ends}
-use Rattle.seq.specs.Seq.{ℕ, ◌-◌, ltb}
+use Rattle.seq.specs.Seq.{ℕ, ltb}
 use Rattle.map_check.specs.Parts.{doubled_at}
 use Rattle.map_check.proofs.parts.first_doubled.Statement.{statement}
 use Rattle.map_check.proofs.parts.first_doubled.Tie as tie

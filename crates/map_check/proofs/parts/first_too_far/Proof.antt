@@ -1,9 +1,9 @@
 -- `map_check::parts::first_too_far` meets its contract: nothing below the counter has been found. Assumes nothing.
+use Rattle.std.specs.Prelude.{◌-◌}
 use mathlib.Core.Path.{sym, ◌∙◌}
 use native.Mathlib.Omega.{arith}
 use borrow.Author.Rules.{rules}
 use Rattle.seq.specs.Loops.Searching.{Searching, search_starts, search_turns, search_finds, search_ends}
-use Rattle.seq.specs.Seq.{◌-◌}
 use Rattle.map_check.specs.Parts.{far_at}
 use Rattle.map_check.proofs.parts.first_too_far.Statement.{statement}
 use Rattle.map_check.proofs.parts.first_too_far.Tie as tie

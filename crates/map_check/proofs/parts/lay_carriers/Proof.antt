@@ -1,9 +1,10 @@
 -- `map_check::parts::lay_carriers` meets its contract: below the counter the rows are the carriers, and the other cells as they were. Assumes nothing.
+use Rattle.std.specs.Prelude.{◌∷◌, ◌-◌}
 use mathlib.Core.Path.{refl, ap}
 use native.Mathlib.Omega.{arith}
 use borrow.Author.Rules.{rules}
 use Rattle.seq.specs.Loops.Storing.{Laying, lay_starts, lay_turns, lay_ends}
-use Rattle.seq.specs.Seq.{[], ◌∷◌, ◌-◌}
+use Rattle.seq.specs.Seq.{[]}
 use Rattle.paper.specs.Plane.{Seg}
 use Rattle.map_check.specs.Parts.{carrier_row_by}
 use Rattle.map_check.proofs.parts.lay_carriers.Statement.{statement}

@@ -1,10 +1,11 @@
 -- `map_check::rules::labels_disagree` meets its contract: the labels that are lent are those of the half-edges. Assumes nothing.
+use Rattle.std.specs.Prelude.{◌*◌, ◌-◌}
 use mathlib.Core.Path.{◌≡◌, sym, ap, ◌∙◌}
 use native.Mathlib.Omega.{arith}
 use borrow.Author.Rules.{rules}
 use lib.Seq.{length-take-le}
 use Rattle.seq.specs.Least.{least-le}
-use Rattle.seq.specs.Seq.{List, ℕ, ◌*◌, ◌-◌, take, least}
+use Rattle.seq.specs.Seq.{List, ℕ, take, least}
 use Rattle.paper.specs.Refusal.{first_at}
 use Rattle.paper.specs.Graph.{the_half_count, followers}
 use Rattle.paper.specs.Map.{disagrees}

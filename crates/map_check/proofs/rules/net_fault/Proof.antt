@@ -1,9 +1,10 @@
 -- `map_check::rules::net_fault` meets its contract: rule 10 follows where rules 8 and 9 give nothing. Assumes nothing.
+use Rattle.std.specs.Prelude.{◌*◌}
 use mathlib.Core.Path.{sym, ap, ◌∙◌}
 use native.Mathlib.Omega.{arith}
 use borrow.Author.Rules.{rules}
 use Rattle.seq.specs.Least.{least-le}
-use Rattle.seq.specs.Seq.{◌*◌, take}
+use Rattle.seq.specs.Seq.{take}
 use Rattle.map_file.specs.Verdict.{verdict}
 use Rattle.map_check.specs.Net.{lonely_at}
 use Rattle.map_check.proofs.NetLaws.{laid-upright, gives-eight, gives-nine, clear-plane, eight-nine, net_some, net_none}

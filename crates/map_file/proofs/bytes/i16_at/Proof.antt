@@ -1,8 +1,9 @@
 -- `map_file::bytes::i16_at` meets its contract: the upper half of the 16-bit numbers stands for the negative ones. Assumes nothing.
+use Rattle.std.specs.Prelude.{◌-ℤ◌}
 use mathlib.Core.Path.{sym, ap, ◌∙◌}
 use native.Mathlib.Omega.{arith}
 use borrow.Author.Rules.{rules}
-use Rattle.seq.specs.Seq.{ℕ, pos, ◌-ℤ◌}
+use Rattle.seq.specs.Seq.{ℕ, pos}
 use Rattle.exact.specs.Mach.{trn, fits, plain}
 use Rattle.map_file.proofs.BytesLaws.{signed_low, signed_high}
 use Rattle.map_file.proofs.bytes.i16_at.Statement.{statement}

@@ -1,7 +1,8 @@
 -- `map_file::form::form_fault` meets its contract: each check is a line of the definition, and the chain is its list. Assumes nothing.
+use Rattle.std.specs.Prelude.{◌+◌, ◌*◌, ◌||◌}
 use mathlib.Core.Path.{ap, ◌∙◌}
 use borrow.Author.Rules.{rules}
-use Rattle.seq.specs.Seq.{ℕ, ◌+◌, ◌*◌, not, ◌||◌, ltb, eqb, length}
+use Rattle.seq.specs.Seq.{ℕ, not, ltb, eqb, length}
 use Rattle.paper.specs.Limits.{map_head, map_vertices, map_edges}
 use Rattle.paper.specs.Map.{vertex_place}
 use Rattle.paper.specs.Refusal.{given}

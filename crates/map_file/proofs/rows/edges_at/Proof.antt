@@ -1,11 +1,12 @@
 -- `map_file::rows::edges_at` meets its contract: below twice the counter the cells of both tables are those of the file, and the others as they were; the place is behind
 -- the last edge read. Assumes nothing.
+use Rattle.std.specs.Prelude.{◌+◌, ◌*◌, ◌-◌}
 use mathlib.Core.Path.{◌≡◌, ◌∙◌, ap}
 use native.Mathlib.Omega.{arith}
 use borrow.Author.Rules.{rules}
 use lib.ListN.{length-set}
 use Rattle.seq.specs.Loops.Filling.{Filling, fill_starts, fill_ends}
-use Rattle.seq.specs.Seq.{ℕ, ◌+◌, ◌*◌, ◌-◌}
+use Rattle.seq.specs.Seq.{ℕ}
 use Rattle.paper.specs.Bytes.{u16}
 use Rattle.map_file.specs.Places.{origin_from, label_from}
 use Rattle.map_file.proofs.PlacesLaws.{from_is, to_is, left_is, right_is, fill_two}

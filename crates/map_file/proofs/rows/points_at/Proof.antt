@@ -1,11 +1,12 @@
 -- `map_file::rows::points_at` meets its contract: below the counter the rows are those of the file, and the other cells as they were; the place is behind the last row
 -- read. Assumes nothing.
+use Rattle.std.specs.Prelude.{◌∷◌, ◌+◌, ◌*◌, ◌-◌}
 use mathlib.Core.Path.{◌≡◌, refl, ◌∙◌, ap}
 use native.Mathlib.Omega.{arith}
 use borrow.Author.Rules.{rules}
 use mir.Syntax.{w64}
 use mir.ValLaws.{to_z-of_z}
-use Rattle.seq.specs.Seq.{[], ◌∷◌, ℕ, ◌+◌, ◌*◌, ◌-◌, pos}
+use Rattle.seq.specs.Seq.{[], ℕ, pos}
 use Rattle.seq.specs.Loops.Storing.{Laying, lay_starts, lay_turns, lay_ends}
 use Rattle.paper.specs.Bytes.{signed_at}
 use Rattle.map_file.specs.Places.{point_from}

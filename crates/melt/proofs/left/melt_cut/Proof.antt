@@ -1,11 +1,12 @@
 -- `melt::left::melt_cut` meets its contract: the tables are zero and have room, small ones where the sheet is small. Assumes nothing.
+use Rattle.std.specs.Prelude.{◌+◌, ◌*◌}
 use mathlib.Core.Path.{refl}
 use Prim.Native.Nat.{◌≤◌}
 use native.Mathlib.Omega.{arith}
 use borrow.Author.Rules.{rules}
 use borrow.Author.Tests.{leb-true}
 use lib.ListN.{length-replicate}
-use Rattle.seq.specs.Seq.{ℕ, suc, ◌+◌, ◌*◌, replicate}
+use Rattle.seq.specs.Seq.{ℕ, suc, replicate}
 use Rattle.graph.specs.Small.{small_edges}
 use Rattle.graph_faces.specs.Linked.{half_rows}
 use Rattle.overlay_graph.specs.Traced.{Blank}

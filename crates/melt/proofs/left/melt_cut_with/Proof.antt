@@ -1,9 +1,10 @@
 -- `melt::left::melt_cut_with` meets its contract. First what is known from the start; then the needs, call by call. Assumes nothing.
+use Rattle.std.specs.Prelude.{◌+◌, ◌*◌}
 use mathlib.Core.Path.{◌∙◌, ap}
 use Prim.Native.Nat.{◌≤◌}
 use native.Mathlib.Omega.{arith}
 use borrow.Author.Rules.{rules}
-use Rattle.seq.specs.Seq.{List, ℕ, ◌+◌, ◌*◌, length, ℤ}
+use Rattle.seq.specs.Seq.{List, ℕ, length, ℤ}
 use Rattle.paper.specs.Limits.{overlay_vertices, overlay_edges}
 use Rattle.paper.specs.Map.{Map}
 use Rattle.paper.specs.Tables.{Counts}

@@ -1,10 +1,11 @@
 -- `mend::bytes::put_corner` meets its contract. Assumes nothing.
+use Rattle.std.specs.Prelude.{◌+◌}
 use mathlib.Core.Path.{ap, ◌∙◌}
 use native.Mathlib.Omega.{arith}
 use borrow.Author.Rules.{rules}
 use mir.Syntax.{w64}
 use mir.ValLaws.{to_z-of_z}
-use Rattle.seq.specs.Seq.{◌+◌, nat_abs, sets}
+use Rattle.seq.specs.Seq.{nat_abs, sets}
 use Rattle.map_check.specs.Parts.{corner_in}
 use Rattle.mend.proofs.ByteLaws.{signed-bytes, corner-put}
 use Rattle.mend.proofs.bytes.put_corner.Statement.{statement}

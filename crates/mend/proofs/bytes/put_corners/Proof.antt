@@ -1,10 +1,10 @@
 -- `mend::bytes::put_corners` meets its contract: what is stored are the rows of those below the counter that are kept. Assumes nothing.
+use Rattle.std.specs.Prelude.{◌-◌}
 use mathlib.Core.Path.{sym, ◌∙◌}
 use mathlib.Core.Logic.{⊎_elim}
 use native.Mathlib.Omega.{arith}
 use borrow.Author.Rules.{rules}
 use Rattle.seq.specs.Count.{count_below}
-use Rattle.seq.specs.Seq.{◌-◌}
 use Rattle.paper.specs.Mend.{corner_bytes}
 use Rattle.map_check.specs.Parts.{corner_in}
 use Rattle.mend.specs.Steps.{step_is}

@@ -1,6 +1,7 @@
 -- `mend::bytes::put_edge` meets its contract. Assumes nothing.
+use Rattle.std.specs.Prelude.{◌∷◌}
 use mathlib.Core.Path.{ap, ◌∙◌}
-use Rattle.seq.specs.Seq.{[], ◌∷◌, ℕ, get_or, gather, sets}
+use Rattle.seq.specs.Seq.{[], ℕ, get_or, gather, sets}
 use borrow.Author.Rules.{rules}
 use Rattle.paper.specs.Bytes.{le}
 use Rattle.mend.proofs.bytes.put_edge.Statement.{statement}

@@ -1,10 +1,11 @@
 -- `mend::bytes::put_edges` meets its contract: what is stored are the rows of those below the counter that are kept. Assumes nothing.
+use Rattle.std.specs.Prelude.{◌-◌}
 use mathlib.Core.Path.{refl, sym, ◌∙◌}
 use mathlib.Core.Logic.{⊎_elim}
 use native.Mathlib.Omega.{arith}
 use borrow.Author.Rules.{rules}
 use Rattle.seq.specs.Count.{count_below}
-use Rattle.seq.specs.Seq.{◌-◌, gather}
+use Rattle.seq.specs.Seq.{gather}
 use Rattle.paper.specs.Bytes.{le}
 use Rattle.mend.specs.Steps.{step_is}
 use Rattle.mend.specs.Stored.{row_in}

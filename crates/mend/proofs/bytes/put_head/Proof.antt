@@ -1,6 +1,7 @@
 -- `mend::bytes::put_head` meets its contract. Assumes nothing.
+use Rattle.std.specs.Prelude.{◌∷◌}
 use mathlib.Core.Path.{refl}
-use Rattle.seq.specs.Seq.{[], ◌∷◌, gather}
+use Rattle.seq.specs.Seq.{[], gather}
 use borrow.Author.Rules.{rules}
 use Rattle.paper.specs.Bytes.{ascii, le}
 use Rattle.mend.proofs.AppendLaws.{then-behind}

@@ -1,9 +1,9 @@
 -- `mend::faults::first_no_vertex` meets its contract: nothing below the counter has been found. Assumes nothing.
+use Rattle.std.specs.Prelude.{◌-◌}
 use mathlib.Core.Path.{sym, ◌∙◌}
 use native.Mathlib.Omega.{arith}
 use borrow.Author.Rules.{rules}
 use Rattle.seq.specs.Loops.Searching.{Searching, search_starts, search_turns, search_finds, search_ends}
-use Rattle.seq.specs.Seq.{◌-◌}
 use Rattle.mend.specs.Steps.{no_vertex_at}
 use Rattle.mend.proofs.faults.first_no_vertex.Statement.{statement}
 use Rattle.mend.proofs.faults.first_no_vertex.Tie as tie

@@ -1,7 +1,7 @@
 -- `mend::faults::no_vertex` meets its contract. Assumes nothing.
+use Rattle.std.specs.Prelude.{◌+◌, ◌*◌}
 use native.Mathlib.Omega.{arith}
 use borrow.Author.Rules.{rules}
-use Rattle.seq.specs.Seq.{◌+◌, ◌*◌}
 use Rattle.mend.proofs.faults.no_vertex.Statement.{statement}
 use Rattle.mend.proofs.faults.no_vertex.Tie as tie
 

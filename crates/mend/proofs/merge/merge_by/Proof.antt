@@ -1,8 +1,9 @@
 -- `mend::merge::merge_by` meets its contract: below the counter the cells are the lowest vertices, and the other cells as they were. Assumes nothing.
+use Rattle.std.specs.Prelude.{◌-◌}
 use native.Mathlib.Omega.{arith}
 use borrow.Author.Rules.{rules}
 use Rattle.seq.specs.Loops.Filling.{Filling, fill_starts, fill_turns, fill_ends}
-use Rattle.seq.specs.Seq.{◌-◌, least}
+use Rattle.seq.specs.Seq.{least}
 use Rattle.mend.specs.Keys.{like_in}
 use Rattle.mend.proofs.merge.merge_by.Statement.{statement}
 use Rattle.mend.proofs.merge.merge_by.Tie as tie

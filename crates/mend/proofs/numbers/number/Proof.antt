@@ -1,11 +1,12 @@
 -- `mend::numbers::number` meets its contract: before a turn the cells below the counter are the counts. Assumes nothing.
+use Rattle.std.specs.Prelude.{◌-◌}
 use mathlib.Core.Path.{sym, ◌∙◌}
 use mathlib.Core.Logic.{⊎_elim}
 use native.Mathlib.Omega.{arith}
 use borrow.Author.Rules.{rules}
 use Rattle.seq.specs.Loops.Filling.{Filling, fill_starts, fill_turns, fill_ends}
 use Rattle.seq.specs.Loops.Selecting.{Counting, count_starts, count_most, count-takes, count-skips, count_ends}
-use Rattle.seq.specs.Seq.{◌-◌, count}
+use Rattle.seq.specs.Seq.{count}
 use Rattle.mend.specs.Steps.{step_is}
 use Rattle.mend.proofs.numbers.number.Statement.{statement}
 use Rattle.mend.proofs.numbers.number.Tie as tie

@@ -1,9 +1,10 @@
 -- `mend::outcome::finish` meets its contract: room is judged first, and then both are stored, or both are wiped. Assumes nothing.
+use Rattle.std.specs.Prelude.{◌+◌, ◌-◌}
 use mathlib.Core.Path.{refl, sym, ap, ◌∙◌}
 use native.Mathlib.Omega.{arith}
 use borrow.Author.Rules.{rules}
 use Rattle.seq.specs.Count.{count-le}
-use Rattle.seq.specs.Seq.{◌+◌, ◌-◌, length}
+use Rattle.seq.specs.Seq.{length}
 use Rattle.paper.specs.Map.{vertex_count, edges_in}
 use Rattle.paper.specs.Refusal.{done}
 use Rattle.map_file.specs.Verdict.{verdict}

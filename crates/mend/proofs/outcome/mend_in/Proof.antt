@@ -1,8 +1,9 @@
 -- `mend::outcome::mend_in` meets its contract: rules 5 and 7 on the tables, then the steps. Assumes nothing.
+use Rattle.std.specs.Prelude.{◌*◌}
 use mathlib.Core.Path.{◌≡◌, sym, ap, ◌∙◌, subst}
 use Prim.Native.Nat.{◌≤◌}
 use borrow.Author.Rules.{rules}
-use Rattle.seq.specs.Seq.{ℕ, ◌*◌, length}
+use Rattle.seq.specs.Seq.{ℕ, length}
 use Rattle.paper.specs.Limits.{map_vertices, map_edges}
 use Rattle.map_file.specs.declared.reader.Header.{Header}
 use Rattle.map_file.specs.Verdict.{verdict}

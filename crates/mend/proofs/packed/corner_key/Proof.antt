@@ -1,11 +1,12 @@
 -- `mend::packed::corner_key` meets its contract: a corner within reach fits two bytes and two. Assumes nothing.
+use Rattle.std.specs.Prelude.{◌+◌, ◌*◌}
 use mathlib.Core.Path.{◌≡◌, ap, ◌∙◌}
 use Prim.Native.Nat.{◌<◌}
 use native.Mathlib.Omega.{arith}
 use borrow.Author.Rules.{rules}
 use mir.Syntax.{w64}
 use mir.ValLaws.{to_z-of_z}
-use Rattle.seq.specs.Seq.{◌+◌, ◌*◌, nat_abs}
+use Rattle.seq.specs.Seq.{nat_abs}
 use Rattle.laws_file.specs.Bytes.{wrapped}
 use Rattle.map_check.specs.Parts.{corner_in}
 use Rattle.mend.proofs.KeyLaws.{wrapped_below}

@@ -1,9 +1,9 @@
 -- `mend::packed::first_like` meets its contract: nothing below the counter has been found. Assumes nothing.
+use Rattle.std.specs.Prelude.{◌-◌}
 use borrow.Author.Rules.{rules}
 use borrow.Author.Tests.{eq-eqb, ne_eqb}
 use native.Mathlib.Omega.{arith}
 use Rattle.seq.specs.Loops.Searching.{Searching, search_starts, search_turns, search_finds, search_ends}
-use Rattle.seq.specs.Seq.{◌-◌}
 use Rattle.mend.specs.Keys.{like_in}
 use Rattle.mend.proofs.packed.first_like.Statement.{statement}
 use Rattle.mend.proofs.packed.first_like.Tie as tie

@@ -1,9 +1,10 @@
 -- `mend::packed::pair_key` meets its contract. Assumes nothing.
+use Rattle.std.specs.Prelude.{◌+◌, ◌*◌}
 use mathlib.Core.Path.{sym, ap}
 use borrow.Author.Rules.{rules}
 use borrow.Author.Tests.{le-leb, lt-leb}
 use native.Mathlib.Omega.{arith}
-use Rattle.seq.specs.Seq.{Bool, cond, ◌+◌, ◌*◌}
+use Rattle.seq.specs.Seq.{Bool, cond}
 use Rattle.mend.proofs.packed.pair_key.Statement.{statement}
 use Rattle.mend.proofs.packed.pair_key.Tie as tie
 

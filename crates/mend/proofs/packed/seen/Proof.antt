@@ -1,8 +1,8 @@
 -- `mend::packed::seen` meets its contract: what is found stands below the counter. Assumes nothing.
+use Rattle.std.specs.Prelude.{◌-◌}
 use mathlib.Core.Path.{refl}
 use borrow.Author.Rules.{rules}
 use native.Mathlib.Omega.{arith}
-use Rattle.seq.specs.Seq.{◌-◌}
 use Rattle.mend.specs.Keys.{like_in}
 use Rattle.mend.proofs.MarkLaws.{Seeing, see_starts, see_turns, see_ends}
 use Rattle.mend.proofs.packed.seen.Statement.{statement}

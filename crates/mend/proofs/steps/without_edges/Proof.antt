@@ -1,8 +1,9 @@
 -- `mend::steps::without_edges` meets its contract: below the counter the cells are their steps, and the other cells as they were. Assumes nothing.
+use Rattle.std.specs.Prelude.{◌-◌}
 use native.Mathlib.Omega.{arith}
 use borrow.Author.Rules.{rules}
 use Rattle.seq.specs.Loops.Filling.{Filling, fill_starts, fill_turns, fill_ends}
-use Rattle.seq.specs.Seq.{◌-◌, cond}
+use Rattle.seq.specs.Seq.{cond}
 use Rattle.mend.specs.Steps.{merged_in}
 use Rattle.mend.proofs.steps.without_edges.Statement.{statement}
 use Rattle.mend.proofs.steps.without_edges.Tie as tie

@@ -1,7 +1,8 @@
 -- `overlay::layers::few_rows` meets its contract. Assumes nothing.
+use Rattle.std.specs.Prelude.{◌∷◌, ◌+◌}
 use native.Mathlib.Omega.{arith}
 use borrow.Author.Rules.{rules}
-use Rattle.seq.specs.Seq.{[], ◌∷◌, ◌+◌}
+use Rattle.seq.specs.Seq.{[]}
 use Rattle.overlay.proofs.LayersLaws.{few_rows_lem, many-rows}
 use Rattle.overlay.proofs.layers.few_rows.Statement.{statement}
 use Rattle.overlay.proofs.layers.few_rows.Tie as tie

@@ -1,8 +1,9 @@
 -- `overlay::stages::lay_cut` meets its contract. First what is known from the start and what was judged; then the needs, call by call. Assumes nothing.
+use Rattle.std.specs.Prelude.{◌∷◌}
 use mathlib.Core.Path.{◌≡◌, sym, ◌∙◌, ap}
 use native.Mathlib.Omega.{arith}
 use borrow.Author.Rules.{rules}
-use Rattle.seq.specs.Seq.{List, [], ◌∷◌, ltb}
+use Rattle.seq.specs.Seq.{List, [], ltb}
 use Rattle.paper.specs.Limits.{maps}
 use Rattle.paper.specs.Refusal.{given, first_of}
 use Rattle.paper.specs.Map.{Map}

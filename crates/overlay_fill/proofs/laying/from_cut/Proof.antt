@@ -1,9 +1,10 @@
 -- `overlay_fill::laying::from_cut` meets its contract: the tables are zero and have room, small ones where the edges are few. Assumes nothing.
+use Rattle.std.specs.Prelude.{◌+◌, ◌*◌}
 use mathlib.Core.Path.{refl}
 use Prim.Native.Nat.{◌≤◌}
 use native.Mathlib.Omega.{arith}
 use borrow.Author.Rules.{rules}
-use Rattle.seq.specs.Seq.{ℕ, suc, ◌+◌, ◌*◌, replicate}
+use Rattle.seq.specs.Seq.{ℕ, suc, replicate}
 use Rattle.graph_faces.specs.Linked.{half_rows}
 use Rattle.overlay_graph.specs.Traced.{Blank}
 use Rattle.graph.specs.Small.{small_edges}

@@ -1,8 +1,8 @@
 -- `overlay_maps::stack::lay_behind` meets its contract: each part comes back with the map's rows at its start. Assumes nothing.
+use Rattle.std.specs.Prelude.{◌*◌}
 use mathlib.Core.Path.{ap, ◌∙◌}
 use native.Mathlib.Omega.{arith}
 use borrow.Author.Rules.{rules}
-use Rattle.seq.specs.Seq.{◌*◌}
 use Rattle.paper.specs.Refusal.{the_of_map}
 use Rattle.paper.specs.Map.{vertex_count, edges_in, fault}
 use Rattle.map_check.specs.Held.{stored}

@@ -1,11 +1,12 @@
 -- `overlay_maps::stack::lay_starts` meets its contract. Assumes nothing.
+use Rattle.std.specs.Prelude.{◌+◌}
 use mathlib.Core.Path.{sym, ◌∙◌}
 use mathlib.Core.List.{[], ◌∷◌}
 use native.Mathlib.Nat.{zero-add}
 use native.Mathlib.Omega.{arith}
 use borrow.Author.Rules.{rules}
 use lib.ListN.{length-set}
-use Rattle.seq.specs.Seq.{◌+◌, sets}
+use Rattle.seq.specs.Seq.{sets}
 use Rattle.seq.specs.Over.{stored_first}
 use Rattle.overlay_maps.proofs.stack.lay_starts.Statement.{statement}
 use Rattle.overlay_maps.proofs.stack.lay_starts.Tie as tie

@@ -1,8 +1,9 @@
 -- `overlay_maps::west::look` meets its contract. Assumes nothing.
+use Rattle.std.specs.Prelude.{◌-◌}
 use mathlib.Core.Path.{sym, ◌∙◌}
 use Prim.Native.Nat.{◌<◌}
 use native.Mathlib.Omega.{arith}
-use Rattle.seq.specs.Seq.{ℕ, ◌-◌}
+use Rattle.seq.specs.Seq.{ℕ}
 use Rattle.seq.specs.Loops.Picking.{Picking, pick_starts, pick-most, pick-lacks, pick_has}
 use Rattle.plane.specs.Values.{pt_of, vec_of}
 use Rattle.graph.specs.Flat.{Carried}

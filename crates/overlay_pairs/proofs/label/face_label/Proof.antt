@@ -1,11 +1,12 @@
 -- `overlay_pairs::label::face_label` meets its contract: face 0, a map with no edges, and another face, whose least outer half-edge has the label of the half-edge beside it that is read. Assumes
 -- nothing.
+use Rattle.std.specs.Prelude.{◌+◌}
 use mathlib.Core.Path.{◌≡◌, sym, ◌∙◌, ap, subst}
 use Prim.Native.Nat.{◌-◌, ◌<◌}
 use native.Mathlib.Omega.{arith}
 use borrow.Author.Rules.{rules}
 use lib.ListN.{length, get_or}
-use Rattle.seq.specs.Seq.{ℕ, ◌+◌}
+use Rattle.seq.specs.Seq.{ℕ}
 use Rattle.overlay_maps.specs.Layers.{Layers, layers_by}
 use Rattle.overlay_maps.specs.Held.{held_map, edge_start}
 use Rattle.overlay_pairs.specs.Labels.{half_label, Agreeing, outside-label, inner-label, inner, bare-map, bare-label}

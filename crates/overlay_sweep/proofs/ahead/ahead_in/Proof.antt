@@ -1,7 +1,8 @@
 -- `overlay_sweep::ahead::ahead_in` meets its contract. Assumes nothing.
+use Rattle.std.specs.Prelude.{◌∷◌}
 use mathlib.Core.Path.{sym, ◌∙◌, ap}
 use mathlib.Core.Bool.{cond}
-use Rattle.seq.specs.Seq.{Bool, [], ◌∷◌}
+use Rattle.seq.specs.Seq.{Bool, []}
 use Rattle.plane.specs.Values.{pt_of}
 use Rattle.overlay_sweep.specs.Ahead.{room_lasts, queued_none, queued_one, requeued}
 use borrow.Author.Rules.{rules}

@@ -1,7 +1,8 @@
 -- `overlay_sweep::ahead::joined` meets its contract. Assumes nothing.
+use Rattle.std.specs.Prelude.{◌+◌, ◌-◌}
 use mathlib.Core.Path.{◌≡◌, sym, ◌∙◌, ap}
 use native.Mathlib.Omega.{arith}
-use Rattle.seq.specs.Seq.{ℕ, ◌+◌, ◌-◌, get_or}
+use Rattle.seq.specs.Seq.{ℕ, get_or}
 use Rattle.plane.specs.Values.{pt_of}
 use Rattle.laws_sweep.specs.Sweep.{ahead}
 use Rattle.overlay_sweep.specs.Ahead.{strand_at, queued_none, requeued}

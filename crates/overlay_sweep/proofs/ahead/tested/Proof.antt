@@ -1,7 +1,8 @@
 -- `overlay_sweep::ahead::tested` meets its contract. Assumes nothing.
+use Rattle.std.specs.Prelude.{◌+◌}
 use mathlib.Core.Path.{sym, ◌∙◌}
 use native.Mathlib.Omega.{arith}
-use Rattle.seq.specs.Seq.{◌+◌, get_or}
+use Rattle.seq.specs.Seq.{get_or}
 use Rattle.plane.specs.Values.{pt_of}
 use Rattle.keys.specs.Rows.{carried}
 use Rattle.overlay_sweep.specs.Ahead.{strand_at, queued_none, requeued, cross_ahead, ahead_same, ahead_other}

@@ -1,9 +1,9 @@
 -- `overlay_sweep::queue::place_in` meets its contract. Assumes nothing.
+use Rattle.std.specs.Prelude.{◌+◌, ◌/◌}
 use mathlib.Core.Path.{sym, ◌∙◌, ap, subst}
 use Prim.Native.Nat.{◌-◌}
 use native.Mathlib.Omega.{arith}
 use borrow.Author.Rules.{rules}
-use Rattle.seq.specs.Seq.{◌+◌, ◌/◌}
 use Rattle.paper.specs.Plane.{Pt, before}
 use Rattle.plane.specs.Bounds.{Near}
 use Rattle.plane.specs.Values.{pt_of}

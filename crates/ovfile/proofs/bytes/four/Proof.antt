@@ -1,7 +1,7 @@
 -- `ovfile::bytes::four` meets its contract. Assumes nothing.
+use Rattle.std.specs.Prelude.{◌+◌, ◌*◌}
 use mathlib.Core.Path.{sym, ◌∙◌}
 use native.Mathlib.Omega.{arith}
-use Rattle.seq.specs.Seq.{◌+◌, ◌*◌}
 use Rattle.ovfile.proofs.BytesLaws.{number-four}
 use borrow.Author.Rules.{rules}
 use Rattle.ovfile.proofs.bytes.four.Statement.{statement}

@@ -1,11 +1,12 @@
 -- `ovfile::bytes::numbers` meets its contract. Assumes nothing.
+use Rattle.std.specs.Prelude.{◌*◌, ◌-◌, ◌^◌}
 use mathlib.Core.Path.{◌≡◌, sym, ap, ◌∙◌}
 use Prim.Native.Nat.{◌≤◌}
 use native.Mathlib.Nat.{pow-succ'}
 use native.Mathlib.Numerals.{add-one}
 use native.Mathlib.Omega.{arith}
 use borrow.Author.Rules.{rules}
-use Rattle.seq.specs.Seq.{ℕ, ◌*◌, ◌-◌, ◌^◌}
+use Rattle.seq.specs.Seq.{ℕ}
 use Rattle.ovfile.proofs.BytesLaws.{powers_fit}
 use Rattle.ovfile.proofs.bytes.numbers.Statement.{statement}
 use Rattle.ovfile.proofs.bytes.numbers.Tie as tie

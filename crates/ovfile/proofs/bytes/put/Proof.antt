@@ -1,6 +1,6 @@
 -- `ovfile::bytes::put` meets its contract: what is left of the number is still to be stored. Assumes nothing.
+use Rattle.std.specs.Prelude.{◌-◌}
 use borrow.Author.Rules.{rules}
-use Rattle.seq.specs.Seq.{◌-◌}
 use Rattle.ovfile.proofs.BytesLaws.{Writing, write_starts, write_turns, write_ends}
 use Rattle.ovfile.proofs.bytes.put.Statement.{statement}
 use Rattle.ovfile.proofs.bytes.put.Tie as tie

@@ -1,8 +1,9 @@
 -- `ovfile::bytes::put_fields` meets its contract: the fields are rows of two bytes. Assumes nothing.
+use Rattle.std.specs.Prelude.{◌-◌}
 use mathlib.Core.Path.{◌≡◌, ap, ◌∙◌}
 use native.Mathlib.Omega.{arith}
 use borrow.Author.Rules.{rules}
-use Rattle.seq.specs.Seq.{List, ℕ, ◌-◌, length, get_or, sets}
+use Rattle.seq.specs.Seq.{List, ℕ, length, get_or, sets}
 use Rattle.paper.specs.Bytes.{le}
 use Rattle.laws_file.specs.Bytes.{length-le}
 use Rattle.seq.specs.Loops.Storing.{Storing, store_starts, store_turns, store_ends}

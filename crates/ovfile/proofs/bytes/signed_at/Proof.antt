@@ -1,10 +1,11 @@
 -- `ovfile::bytes::signed_at` meets its contract: the upper half of the numbers stands for the negative ones. Assumes nothing.
+use Rattle.std.specs.Prelude.{◌+◌, ◌/◌, ◌^◌, ◌-ℤ◌}
 use mathlib.Core.Path.{sym, ap, ◌∙◌}
 use Prim.Native.Nat.{◌<◌}
 use native.Mathlib.Omega.{arith}
 use borrow.Author.Rules.{rules}
 use borrow.Author.Tests.{lt-ltb, le-ltb}
-use Rattle.seq.specs.Seq.{ℕ, true, false, ◌+◌, ◌/◌, ◌^◌, pos, ◌-ℤ◌}
+use Rattle.seq.specs.Seq.{ℕ, true, false, pos}
 use Rattle.exact.specs.Mach.{trn, fits, plain}
 use Rattle.laws_file.specs.Bytes.{signed_by, number_below}
 use Rattle.ovfile.proofs.BytesLaws.{powers_small, number_small, below_zero}

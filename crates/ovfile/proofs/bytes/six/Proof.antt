@@ -1,6 +1,6 @@
 -- `ovfile::bytes::six` meets its contract. Assumes nothing.
+use Rattle.std.specs.Prelude.{◌+◌, ◌*◌}
 use mathlib.Core.Path.{sym, ◌∙◌}
-use Rattle.seq.specs.Seq.{◌+◌, ◌*◌}
 use Rattle.ovfile.proofs.BytesLaws.{number-six}
 use borrow.Author.Rules.{rules}
 use Rattle.ovfile.proofs.bytes.six.Statement.{statement}

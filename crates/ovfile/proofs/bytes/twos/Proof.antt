@@ -1,11 +1,12 @@
 -- `ovfile::bytes::twos` meets its contract. Assumes nothing.
+use Rattle.std.specs.Prelude.{◌-◌}
 use mathlib.Core.Path.{◌≡◌, ap, ◌∙◌}
 use native.Mathlib.Omega.{arith}
 use borrow.Author.Rules.{rules}
 use lib.Signed.{lt_z_yes, lt_z_no}
 use mir.Syntax.{w64}
 use mir.ValLaws.{to_z-of_z}
-use Rattle.seq.specs.Seq.{◌-◌, nat_abs}
+use Rattle.seq.specs.Seq.{nat_abs}
 use Rattle.exact.specs.Mach.{trbs, taken, left}
 use Rattle.ovfile.proofs.BytesLaws.{wrapped_low, wrapped_high}
 use Rattle.ovfile.proofs.bytes.twos.Statement.{statement}

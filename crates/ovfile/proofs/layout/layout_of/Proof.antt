@@ -1,8 +1,9 @@
 -- `ovfile::layout::layout_of` meets its contract. Assumes nothing.
+use Rattle.std.specs.Prelude.{◌-◌}
 use mathlib.Core.Path.{◌≡◌, sym, ap}
 use native.Mathlib.Omega.{arith}
 use lib.ListN.{get_or-eq_default}
-use Rattle.seq.specs.Seq.{ℕ, ◌-◌, get_or}
+use Rattle.seq.specs.Seq.{ℕ, get_or}
 use Rattle.paper.specs.Ovfile.{Layout, layouts}
 use borrow.Author.Rules.{rules}
 use Rattle.ovfile.proofs.layout.layout_of.Statement.{statement}

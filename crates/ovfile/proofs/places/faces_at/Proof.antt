@@ -1,7 +1,7 @@
 -- `ovfile::places::faces_at` meets its contract. Assumes nothing.
+use Rattle.std.specs.Prelude.{◌+◌, ◌*◌}
 use mathlib.Core.Path.{◌∙◌}
 use native.Mathlib.Omega.{arith}
-use Rattle.seq.specs.Seq.{◌+◌, ◌*◌}
 use Rattle.tables.specs.Values.{counts_of}
 use Rattle.ovfile.specs.Values.{layout_from}
 use Rattle.ovfile.specs.Known.{edges-near}

@@ -1,7 +1,8 @@
 -- `ovfile::places::vertex_place` meets its contract. Assumes nothing.
+use Rattle.std.specs.Prelude.{◌+◌, ◌*◌}
 use mathlib.Core.Path.{ap, ◌∙◌}
 use native.Mathlib.Omega.{arith}
-use Rattle.seq.specs.Seq.{ℕ, ◌+◌, ◌*◌}
+use Rattle.seq.specs.Seq.{ℕ}
 use Rattle.paper.specs.Limits.{overlay_head}
 use borrow.Author.Rules.{rules}
 use Rattle.ovfile.proofs.places.vertex_place.Statement.{statement}

@@ -1,8 +1,9 @@
 -- `ovfile::sound::first_places` meets its contract. Assumes nothing.
+use Rattle.std.specs.Prelude.{◌-◌}
 use mathlib.Core.Path.{ap, ◌∙◌}
 use native.Mathlib.Omega.{arith}
 use lib.ListN.{set}
-use Rattle.seq.specs.Seq.{ℕ, ◌-◌}
+use Rattle.seq.specs.Seq.{ℕ}
 use Rattle.ovfile.specs.Firsts.{column}
 use Rattle.seq.specs.Loops.Placing.{Placing, place_starts, place_turns, place_ends}
 use borrow.Author.Rules.{rules}

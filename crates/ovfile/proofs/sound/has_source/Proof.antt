@@ -1,6 +1,7 @@
 -- `ovfile::sound::has_source` meets its contract. Assumes nothing.
+use Rattle.std.specs.Prelude.{◌||◌}
 use mathlib.Core.Path.{◌∙◌}
-use Rattle.seq.specs.Seq.{not, ◌||◌, eqb, cell}
+use Rattle.seq.specs.Seq.{not, eqb, cell}
 use Rattle.paper.specs.Limits.{maps}
 use Rattle.ovfile.proofs.SoundLaws.{some_source}
 use borrow.Author.Rules.{rules}

@@ -1,5 +1,6 @@
 -- `ovfile::sound::sound_edge` meets its contract. Assumes nothing.
-use Rattle.seq.specs.Seq.{◌&&◌, ltb}
+use Rattle.std.specs.Prelude.{◌&&◌}
+use Rattle.seq.specs.Seq.{ltb}
 use borrow.Author.Rules.{rules}
 use Rattle.ovfile.proofs.sound.sound_edge.Statement.{statement}
 use Rattle.ovfile.proofs.sound.sound_edge.Tie as tie

@@ -1,6 +1,7 @@
 -- `ovfile::sound::sound_follower` meets its contract. Assumes nothing.
+use Rattle.std.specs.Prelude.{◌&&◌, ◌*◌}
 use mathlib.Core.Path.{ap, ◌∙◌}
-use Rattle.seq.specs.Seq.{◌&&◌, ℕ, ◌*◌, ltb, eqb, get_or}
+use Rattle.seq.specs.Seq.{ℕ, ltb, eqb, get_or}
 use Rattle.paper.specs.Graph.{twin}
 use Rattle.ovfile.specs.Firsts.{column}
 use Rattle.ovfile.proofs.SoundLaws.{follower-test}

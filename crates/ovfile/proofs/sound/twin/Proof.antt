@@ -1,6 +1,6 @@
 -- `ovfile::sound::twin` meets its contract. Assumes nothing.
+use Rattle.std.specs.Prelude.{◌%◌}
 use borrow.Author.Tests.{eq-eqb, ne_eqb}
-use Rattle.seq.specs.Seq.{◌%◌}
 use borrow.Author.Rules.{rules}
 use Rattle.ovfile.proofs.sound.twin.Statement.{statement}
 use Rattle.ovfile.proofs.sound.twin.Tie as tie

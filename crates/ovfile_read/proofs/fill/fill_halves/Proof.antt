@@ -1,7 +1,7 @@
 -- `ovfile_read::fill::fill_halves` meets its contract. Assumes nothing.
+use Rattle.std.specs.Prelude.{◌*◌}
 use mathlib.Core.Path.{◌≡◌, refl, ap}
 use native.Mathlib.Omega.{arith}
-use Rattle.seq.specs.Seq.{◌*◌}
 use Rattle.paper.specs.Tables.{Counts}
 use Rattle.paper.specs.Reader.{counts_in, half_read, tables_in}
 use Rattle.ovfile.specs.Values.{layout_from}

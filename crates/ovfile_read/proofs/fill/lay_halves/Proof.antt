@@ -1,8 +1,9 @@
 -- `ovfile_read::fill::lay_halves` meets its contract. Assumes nothing.
+use Rattle.std.specs.Prelude.{◌∷◌, ◌*◌, ◌-◌}
 use mathlib.Core.Path.{◌≡◌, refl, sym, ap, ◌∙◌}
 use Prim.Native.Nat.{◌<◌}
 use native.Mathlib.Omega.{arith}
-use Rattle.seq.specs.Seq.{List, [], ◌∷◌, ℕ, ◌*◌, ◌-◌}
+use Rattle.seq.specs.Seq.{List, [], ℕ}
 use Rattle.seq.specs.Table.{table_at}
 use Rattle.paper.specs.Tables.{Counts}
 use Rattle.paper.specs.Reader.{counts_in, stored_follower, half_read}

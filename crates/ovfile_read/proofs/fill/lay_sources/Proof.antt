@@ -1,7 +1,8 @@
 -- `ovfile_read::fill::lay_sources` meets its contract. Assumes nothing.
+use Rattle.std.specs.Prelude.{◌∷◌, ◌-◌}
 use mathlib.Core.Path.{◌≡◌, refl, ap}
 use native.Mathlib.Omega.{arith}
-use Rattle.seq.specs.Seq.{List, [], ◌∷◌, ℕ, ◌-◌, table}
+use Rattle.seq.specs.Seq.{List, [], ℕ, table}
 use Rattle.paper.specs.Limits.{maps}
 use Rattle.paper.specs.Tables.{Counts}
 use Rattle.paper.specs.Reader.{counts_in, stored_source}

@@ -1,9 +1,10 @@
 -- `ovfile_read::fill::lay_vertices` meets its contract. Assumes nothing.
+use Rattle.std.specs.Prelude.{◌∷◌, ◌+◌, ◌*◌, ◌-◌}
 use mathlib.Core.Path.{◌≡◌, refl, ap, ◌∙◌}
 use native.Mathlib.Omega.{arith}
 use mir.Syntax.{w64}
 use mir.ValLaws.{to_z-of_z}
-use Rattle.seq.specs.Seq.{[], ◌∷◌, ℕ, pos, ◌+◌, ◌*◌, ◌-◌}
+use Rattle.seq.specs.Seq.{[], ℕ, pos}
 use Rattle.paper.specs.Bytes.{signed_at, number}
 use Rattle.paper.specs.Tables.{Counts}
 use Rattle.paper.specs.Reader.{counts_in}

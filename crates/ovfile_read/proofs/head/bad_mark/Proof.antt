@@ -1,6 +1,7 @@
 -- `ovfile_read::head::bad_mark` meets its contract. Assumes nothing.
+use Rattle.std.specs.Prelude.{◌&&◌, ◌||◌}
 use mathlib.Core.Path.{ap, ◌∙◌}
-use Rattle.seq.specs.Seq.{Bool, not, ◌&&◌, ◌||◌, ltb, eqb, length}
+use Rattle.seq.specs.Seq.{Bool, not, ltb, eqb, length}
 use Rattle.paper.specs.Limits.{overlay_head}
 use Rattle.ovfile_read.proofs.HeadLaws.{mark_is}
 use borrow.Author.Rules.{rules}

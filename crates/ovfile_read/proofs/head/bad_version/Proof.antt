@@ -1,5 +1,6 @@
 -- `ovfile_read::head::bad_version` meets its contract. Assumes nothing.
-use Rattle.seq.specs.Seq.{◌||◌, ltb, eqb, length}
+use Rattle.std.specs.Prelude.{◌||◌}
+use Rattle.seq.specs.Seq.{ltb, eqb, length}
 use Rattle.paper.specs.Ovfile.{layouts}
 use borrow.Author.Rules.{rules}
 use Rattle.ovfile_read.proofs.head.bad_version.Statement.{statement}

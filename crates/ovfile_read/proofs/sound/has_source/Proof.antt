@@ -1,7 +1,8 @@
 -- `ovfile_read::sound::has_source` meets its contract. Assumes nothing.
+use Rattle.std.specs.Prelude.{◌||◌}
 use mathlib.Core.Path.{sym, ◌∙◌}
 use native.Mathlib.Omega.{arith}
-use Rattle.seq.specs.Seq.{not, ◌||◌, eqb}
+use Rattle.seq.specs.Seq.{not, eqb}
 use Rattle.paper.specs.Limits.{maps}
 use Rattle.paper.specs.Tables.{source_cell}
 use Rattle.paper.specs.Reader.{tables_in}

@@ -1,8 +1,9 @@
 -- `ovfile_read::sound::sound_edge` meets its contract. Assumes nothing.
+use Rattle.std.specs.Prelude.{◌&&◌, ◌+◌, ◌*◌, ◌^◌}
 use mathlib.Core.Path.{◌≡◌, ap, ◌∙◌}
 use Prim.Native.Nat.{◌<◌}
 use native.Mathlib.Omega.{arith}
-use Rattle.seq.specs.Seq.{◌&&◌, ℕ, ◌+◌, ◌*◌, ◌^◌, ltb}
+use Rattle.seq.specs.Seq.{ℕ, ltb}
 use Rattle.paper.specs.Tables.{Counts}
 use Rattle.paper.specs.Reader.{counts_in, stored_origin}
 use Rattle.ovfile.specs.Values.{layout_from}

@@ -1,7 +1,8 @@
 -- `ovfile_read::sound::sound_follower` meets its contract. Assumes nothing.
+use Rattle.std.specs.Prelude.{◌&&◌}
 use mathlib.Core.Path.{ap, ◌∙◌}
 use lib.ListN.{set}
-use Rattle.seq.specs.Seq.{◌&&◌, ℕ, ltb, eqb, get_or}
+use Rattle.seq.specs.Seq.{ℕ, ltb, eqb, get_or}
 use Rattle.paper.specs.Reader.{stored_origin}
 use Rattle.ovfile.specs.Values.{layout_from}
 use Rattle.ovfile_read.proofs.SoundLaws.{taken_turns, follower_by}

@@ -1,7 +1,8 @@
 -- `ovfile_read::sound::unsound_by` meets its contract. Assumes nothing.
+use Rattle.std.specs.Prelude.{◌+◌, ◌*◌, ◌-◌}
 use mathlib.Core.Path.{◌≡◌, refl, sym, ap, ◌∙◌}
 use native.Mathlib.Omega.{arith}
-use Rattle.seq.specs.Seq.{not, ◌+◌, ◌*◌, ◌-◌, length}
+use Rattle.seq.specs.Seq.{not, length}
 use Rattle.paper.specs.Tables.{Counts}
 use Rattle.paper.specs.Reader.{counts_in, stored_follower}
 use Rattle.seq.specs.Loops.Searching.{Searching, search_starts, search_turns, search_finds, search_ends}

@@ -1,5 +1,5 @@
 -- `ovfile_read::sound::unsound_few` meets its contract. Assumes nothing.
-use Rattle.seq.specs.Seq.{◌*◌, ◌/◌}
+use Rattle.std.specs.Prelude.{◌*◌, ◌/◌}
 use Rattle.paper.specs.Limits.{overlay_edges}
 use Rattle.paper.specs.Reader.{counts_in, stored_follower}
 use Rattle.ovfile.specs.Values.{layout_from}

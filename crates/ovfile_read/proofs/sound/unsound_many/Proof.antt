@@ -1,6 +1,6 @@
 -- `ovfile_read::sound::unsound_many` meets its contract. Assumes nothing.
+use Rattle.std.specs.Prelude.{◌*◌}
 use native.Mathlib.Omega.{arith}
-use Rattle.seq.specs.Seq.{◌*◌}
 use Rattle.paper.specs.Reader.{counts_in, stored_follower}
 use Rattle.ovfile.specs.Values.{layout_from}
 use Rattle.ovfile_read.proofs.SoundLaws.{taken_starts}

@@ -1,7 +1,7 @@
 -- `ovfile_read::stored::edge_field` meets its contract. Assumes nothing.
+use Rattle.std.specs.Prelude.{◌+◌, ◌*◌}
 use mathlib.Core.Path.{ap, ◌∙◌}
 use native.Mathlib.Omega.{arith}
-use Rattle.seq.specs.Seq.{◌+◌, ◌*◌}
 use Rattle.paper.specs.Bytes.{u16}
 use Rattle.ovfile.specs.Known.{rows-near}
 use borrow.Author.Rules.{rules}

@@ -1,7 +1,8 @@
 -- `ovfile_read::stored::source` meets its contract. Assumes nothing.
+use Rattle.std.specs.Prelude.{◌+◌}
 use mathlib.Core.Path.{sym, ap, ◌∙◌}
 use borrow.Author.Tests.{lt-ltb, le-ltb}
-use Rattle.seq.specs.Seq.{Bool, cond, ◌+◌}
+use Rattle.seq.specs.Seq.{Bool, cond}
 use Rattle.paper.specs.Reader.{edge_field}
 use Rattle.ovfile.specs.Values.{layout_from}
 use borrow.Author.Rules.{rules}

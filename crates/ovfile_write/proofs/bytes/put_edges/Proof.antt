@@ -1,6 +1,7 @@
 -- `ovfile_write::bytes::put_edges` meets its contract. Assumes nothing.
+use Rattle.std.specs.Prelude.{◌-◌}
 use mathlib.Core.Path.{ap, ◌∙◌}
-use Rattle.seq.specs.Seq.{ℕ, ◌-◌, sets, rows}
+use Rattle.seq.specs.Seq.{ℕ, sets, rows}
 use Rattle.paper.specs.Ovfile.{edge_size}
 use Rattle.ovfile.specs.Values.{edge_tables, layout}
 use Rattle.seq.specs.Loops.Storing.{Storing, store_starts, store_turns, store_ends}

@@ -1,6 +1,7 @@
 -- `ovfile_write::bytes::put_face` meets its contract. Assumes nothing.
+use Rattle.std.specs.Prelude.{◌∷◌}
 use mathlib.Core.Path.{◌∙◌}
-use Rattle.seq.specs.Seq.{[], ◌∷◌, sets, gather}
+use Rattle.seq.specs.Seq.{[], sets, gather}
 use Rattle.paper.specs.Bytes.{le}
 use borrow.Author.Rules.{rules}
 use Rattle.ovfile_write.proofs.bytes.put_face.Statement.{statement}

@@ -1,6 +1,7 @@
 -- `ovfile_write::bytes::put_faces` meets its contract. Assumes nothing.
+use Rattle.std.specs.Prelude.{◌-◌}
 use mathlib.Core.Path.{ap, ◌∙◌}
-use Rattle.seq.specs.Seq.{[], ℕ, ◌-◌, sets, rows}
+use Rattle.seq.specs.Seq.{[], ℕ, sets, rows}
 use Rattle.paper.specs.Ovfile.{face_size}
 use Rattle.tables.specs.Values.{tables_by}
 use Rattle.ovfile.specs.Values.{layout}

@@ -1,8 +1,9 @@
 -- `ovfile_write::bytes::put_vertex` meets its contract. Assumes nothing.
+use Rattle.std.specs.Prelude.{◌+◌, ◌*◌}
 use mathlib.Core.Path.{ap, ◌∙◌}
 use mir.Syntax.{w64}
 use mir.ValLaws.{to_z-of_z}
-use Rattle.seq.specs.Seq.{[], ◌+◌, ◌*◌, nat_abs, sets}
+use Rattle.seq.specs.Seq.{[], nat_abs, sets}
 use Rattle.paper.specs.Limits.{coordinate_bytes, denominator_bytes}
 use Rattle.tables.specs.Values.{tables_by}
 use Rattle.ovfile_write.proofs.PutLaws.{signed-bytes, vertex-put}

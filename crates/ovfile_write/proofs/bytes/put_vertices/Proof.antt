@@ -1,6 +1,7 @@
 -- `ovfile_write::bytes::put_vertices` meets its contract. Assumes nothing.
+use Rattle.std.specs.Prelude.{◌-◌}
 use mathlib.Core.Path.{ap, ◌∙◌}
-use Rattle.seq.specs.Seq.{[], List, ℕ, ℤ, ◌-◌, sets}
+use Rattle.seq.specs.Seq.{[], List, ℕ, ℤ, sets}
 use Rattle.paper.specs.Limits.{overlay_head}
 use Rattle.paper.specs.Ovfile.{vertex_size, vertex_bytes}
 use Rattle.tables.specs.Values.{tables_by}

@@ -1,5 +1,6 @@
 -- `ovfile_write::edges::bad_edge` meets its contract. Assumes nothing.
-use Rattle.seq.specs.Seq.{not, ◌||◌}
+use Rattle.std.specs.Prelude.{◌||◌}
+use Rattle.seq.specs.Seq.{not}
 use borrow.Author.Rules.{rules}
 use Rattle.ovfile_write.proofs.edges.bad_edge.Statement.{statement}
 use Rattle.ovfile_write.proofs.edges.bad_edge.Tie as tie

@@ -1,6 +1,7 @@
 -- `ovfile_write::edges::bad_half` meets its contract. Assumes nothing.
+use Rattle.std.specs.Prelude.{◌&&◌, ◌*◌}
 use mathlib.Core.Path.{ap, ◌∙◌}
-use Rattle.seq.specs.Seq.{not, ◌&&◌, ℕ, ◌*◌, ltb, eqb}
+use Rattle.seq.specs.Seq.{not, ℕ, ltb, eqb}
 use Rattle.ovfile.specs.Firsts.{column}
 use borrow.Author.Rules.{rules}
 use Rattle.ovfile_write.proofs.edges.bad_half.Statement.{statement}

@@ -1,8 +1,9 @@
 -- `ovfile_write::vertices::bad_vertex` meets its contract. Assumes nothing.
+use Rattle.std.specs.Prelude.{◌&&◌}
 use mathlib.Core.Path.{ap, ◌∙◌}
 use mir.Syntax.{w64}
 use mir.ValLaws.{to_z-of_z}
-use Rattle.seq.specs.Seq.{not, ◌&&◌, pos}
+use Rattle.seq.specs.Seq.{not, pos}
 use Rattle.paper.specs.Limits.{coordinate_bytes, denominator_bytes}
 use Rattle.paper.specs.Bytes.{the_fits_signed, fits_unsigned}
 use Rattle.ovfile_write.proofs.JudgeLaws.{same_number}

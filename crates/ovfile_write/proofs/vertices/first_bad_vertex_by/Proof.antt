@@ -1,6 +1,6 @@
 -- `ovfile_write::vertices::first_bad_vertex_by` meets its contract: nothing below the counter has been found. Assumes nothing.
+use Rattle.std.specs.Prelude.{◌-◌}
 use mathlib.Core.Path.{sym, ◌∙◌}
-use Rattle.seq.specs.Seq.{◌-◌}
 use Rattle.seq.specs.Loops.Searching.{Searching, search_starts, search_turns, search_finds, search_ends}
 use Rattle.ovfile_write.specs.Judged.{bad_vertex_by}
 use borrow.Author.Rules.{rules}

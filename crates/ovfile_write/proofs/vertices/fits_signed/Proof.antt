@@ -1,9 +1,10 @@
 -- `ovfile_write::vertices::fits_signed` meets its contract. Assumes nothing.
+use Rattle.std.specs.Prelude.{◌/◌}
 use mathlib.Core.Path.{ap, ◌∙◌}
 use lib.Signed.{lt_z_yes, lt_z_no}
 use mir.Syntax.{w64}
 use mir.ValLaws.{to_z-of_z}
-use Rattle.seq.specs.Seq.{nat_abs, ◌/◌, leb, ltb}
+use Rattle.seq.specs.Seq.{nat_abs, leb, ltb}
 use Rattle.exact.specs.Mach.{trbs, taken, left}
 use Rattle.ovfile_write.proofs.JudgeLaws.{signed_low, signed_high}
 use borrow.Author.Rules.{rules}

@@ -1,6 +1,7 @@
 -- `ovfile_write::writer::judge` meets its contract. Assumes nothing.
+use Rattle.std.specs.Prelude.{◌∷◌}
 use mathlib.Core.Path.{◌≡◌, sym, ap, ◌∙◌}
-use Rattle.seq.specs.Seq.{[], ◌∷◌, length}
+use Rattle.seq.specs.Seq.{[], length}
 use Rattle.paper.specs.Refusal.{given, first_of}
 use Rattle.paper.specs.Tables as paper
 use Rattle.paper.specs.Ovfile.{over}

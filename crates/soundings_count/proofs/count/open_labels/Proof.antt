@@ -1,7 +1,8 @@
 -- `soundings_count::count::open_labels` meets its contract. Assumes nothing.
+use Rattle.std.specs.Prelude.{◌∷◌}
 use mathlib.Core.Path.{ap, ◌∙◌}
 use Prim.Native.Nat.{ℕ}
-use Rattle.seq.specs.Seq.{List, ◌∷◌, [], row_stored}
+use Rattle.seq.specs.Seq.{List, [], row_stored}
 use native.Mathlib.Omega.{arith}
 use borrow.Author.Rules.{rules}
 use Rattle.soundings_count.proofs.count.open_labels.Statement.{statement}

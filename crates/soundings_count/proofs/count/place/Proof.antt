@@ -1,9 +1,10 @@
 -- `soundings_count::count::place` meets its contract: all rows below `low` are less, and that at `high` is not. Assumes nothing.
+use Rattle.std.specs.Prelude.{◌∷◌}
 use mathlib.Core.Path.{sym, ◌∙◌, ap}
 use Prim.Native.Nat.{◌-◌}
 use Rattle.seq.specs.Halves.{Halving, halve_starts, halve_up, halve_down, halve_ends}
 use Rattle.soundings_count.specs.InOrder.{reached_at, rows_last}
-use Rattle.seq.specs.Seq.{not, ◌∷◌, []}
+use Rattle.seq.specs.Seq.{not, []}
 use Rattle.paper.specs.Soundings.{less_list}
 use Rattle.soundings_count.specs.Entries.{the_labels_at}
 use borrow.Author.Rules.{rules}

@@ -1,8 +1,9 @@
 -- `text::line::words` meets its contract: before turn i the first i bytes stand. Assumes nothing.
+use Rattle.std.specs.Prelude.{◌-◌}
 use mathlib.Core.Path.{refl}
 use native.Mathlib.Omega.{arith}
 use borrow.Author.Rules.{rules}
-use Rattle.seq.specs.Seq.{◌-◌, length}
+use Rattle.seq.specs.Seq.{length}
 use Rattle.seq.specs.Loops.Copying.{Copying, copy_starts, copy_turns, copy_ends}
 use Rattle.text.proofs.line.words.Statement.{statement}
 use Rattle.text.proofs.line.words.Tie as tie

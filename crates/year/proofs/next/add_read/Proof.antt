@@ -1,8 +1,9 @@
 -- `year::next::add_read` meets its contract. Assumes nothing.
+use Rattle.std.specs.Prelude.{◌-◌}
 use mathlib.Core.Path.{◌≡◌, refl, sym, ap, ◌∙◌}
 use Prim.Native.Nat.{◌≤◌}
 use native.Mathlib.Omega.{arith}
-use Rattle.seq.specs.Seq.{none, some, ◌-◌}
+use Rattle.seq.specs.Seq.{none, some}
 use Rattle.paper.specs.Tables.{Counts}
 use Rattle.paper.specs.Reader.{counts_in}
 use Rattle.map_file.specs.Verdict.{verdict}
