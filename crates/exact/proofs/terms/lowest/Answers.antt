@@ -1,6 +1,5 @@
 -- `exact::terms::lowest` meets its contract. What the calls give is the greatest common divisor of |x|, |y| and d; where it is 1 the point stays as it is. It is positive, and at most d,
 -- so that it fits; the quotients have the range of what is divided. Assumes nothing.
-use borrow.Author.Rules.{rules}
 use mathlib.Core.Path.{◌≡◌, sym, ap, ◌∙◌, subst}
 use Prim.Native.Nat.{ℕ, ◌<◌, ◌≤◌, ◌^◌}
 use native.Mathlib.Nat.{le_of_dvd}
@@ -11,11 +10,11 @@ use mir.Syntax.{w64}
 use mir.Val.{SFits, to_z, of_z}
 use mir.ValLaws.{to_z-of_z}
 use Rattle.exact.specs.Gcd.{gcd_of, gcd3, gcd3_d, gcd3-pos}
-use Rattle.exact.specs.Lowest.{Pt, pt, lowest, lowest-coprime, abs-pos}
+use Rattle.exact.specs.Lowest.{pt, lowest, lowest-coprime, abs-pos}
 use Rattle.exact.specs.Odd.{gcd3-turned, gcd_one}
 use Rattle.exact.specs.Range.{quot_range}
-use Rattle.exact.proofs.terms.lowest.Statement.{statement}
-use Rattle.exact.proofs.terms.lowest.Tie as tie
+use Rattle.exact.proofs.terms.lowest.Goals as goal
+use Rattle.exact.proofs.terms.lowest.Goals.{Start, After-gcd-c, After-gcd-n, After-of_u64-g}
 
 -- a quotient on the machine, by a number r that is a positive g
 module _ (r : ℤ) (g : ℕ) (e : r ≡ pos g) (l : g < 2 ^ 63) where
@@ -42,90 +41,73 @@ divisor-fits x y d h f = go d h f (le_of_dvd (abs-pos d h) (gcd3_d (nat_abs x) (
     go (pos n) h f l = omega (arith, f.sfits)
     go (negsuc n) h f l = absurd h.lt
 
-abbrev start : tie.After-gcd → tie.Start
+abbrev start : After-gcd-c → Start
 start c = c.before.before.before
 
 -- what the first calls give
-first : (c : tie.After-gcd) → c.gcd.result ≡ gcd_of (nat_abs (start c).args.x) (nat_abs (start c).args.d)
+first : (c : After-gcd-c) → c.gcd-c.result ≡ gcd_of (nat_abs (start c).args.x) (nat_abs (start c).args.d)
 first c =
     let s = start c in
-    let mx = c.before.before.magnitude.ensures ∙ ap nat_abs (to_z-of_z w64 s.args.x s.fits.x) in
-    let md = c.before.magnitude2.ensures ∙ ap nat_abs (to_z-of_z w64 s.args.d s.fits.d) in
-    c.gcd.ensures ∙ (λ i. gcd_of (mx i) (md i))
+    let mx = c.before.before.magnitude.ensures ∙ ap nat_abs (to_z-of_z w64 s.args.x s.ranges.x) in
+    let md = c.before.magnitude-2.ensures ∙ ap nat_abs (to_z-of_z w64 s.args.d s.ranges.d) in
+    c.gcd-c.ensures ∙ (λ i. gcd_of (mx i) (md i))
 
 -- a point that is not changed
-unchanged : (s : tie.Start) → gcd3 (nat_abs s.args.x) (nat_abs s.args.y) (nat_abs s.args.d) ≡ 1
+unchanged : (s : Start) → gcd3 (nat_abs s.args.x) (nat_abs s.args.y) (nat_abs s.args.d) ≡ 1
     → pt (to_z w64 (of_z w64 s.args.x)) (to_z w64 (of_z w64 s.args.y)) (to_z w64 (of_z w64 s.args.d)) ≡ lowest s.args.x s.args.y s.args.d
 unchanged s e =
     (λ i. pt (to_z-of_z w64 s.args.x s.ranges.x i) (to_z-of_z w64 s.args.y s.ranges.y i) (to_z-of_z w64 s.args.d s.ranges.d i))
     ∙ sym (lowest-coprime s.args.x s.args.y s.args.d e)
 
-returns : tie.Need-returns
-returns c =
+pub returns-then-c-eq1 : goal.returns-then-c-eq1
+returns-then-c-eq1 c =
     let s = start c.before in
-    unchanged s (sym (gcd3-turned (nat_abs s.args.x) (nat_abs s.args.y) (nat_abs s.args.d)) ∙ ap (gcd_of (nat_abs s.args.y)) (sym (first c.before) ∙ c.if1.true) ∙ gcd_one (nat_abs s.args.y))
+    unchanged s (sym (gcd3-turned (nat_abs s.args.x) (nat_abs s.args.y) (nat_abs s.args.d)) ∙ ap (gcd_of (nat_abs s.args.y)) (sym (first c.before) ∙ c.if-c-eq1.true) ∙ gcd_one (nat_abs s.args.y))
 
-abbrev begin : tie.After-gcd2 → tie.Start
+abbrev begin : After-gcd-n → Start
 begin c = start c.before.before.before
 
-abbrev divisor : tie.After-gcd2 → ℕ
+abbrev divisor : After-gcd-n → ℕ
 divisor c = gcd3 (nat_abs (begin c).args.x) (nat_abs (begin c).args.y) (nat_abs (begin c).args.d)
 
 -- what all calls give
-calls : (c : tie.After-gcd2) → c.gcd2.result ≡ divisor c
+calls : (c : After-gcd-n) → c.gcd-n.result ≡ divisor c
 calls c =
     let s = begin c in
-    let my = c.before.magnitude3.ensures ∙ ap nat_abs (to_z-of_z w64 s.args.y s.fits.y) in
-    c.gcd2.ensures ∙ (λ i. gcd_of (my i) (first c.before.before.before i)) ∙ gcd3-turned (nat_abs s.args.x) (nat_abs s.args.y) (nat_abs s.args.d)
+    let my = c.before.magnitude-3.ensures ∙ ap nat_abs (to_z-of_z w64 s.args.y s.ranges.y) in
+    c.gcd-n.ensures ∙ (λ i. gcd_of (my i) (first c.before.before.before i)) ∙ gcd3-turned (nat_abs s.args.x) (nat_abs s.args.y) (nat_abs s.args.d)
 
-small : (c : tie.After-gcd2) → divisor c < 2 ^ 63
+small : (c : After-gcd-n) → divisor c < 2 ^ 63
 small c = divisor-fits (begin c).args.x (begin c).args.y (begin c).args.d (begin c).requires (begin c).ranges.d
 
-positive : (c : tie.After-gcd2) → 0 < divisor c
+positive : (c : After-gcd-n) → 0 < divisor c
 positive c = gcd3-pos (nat_abs (begin c).args.x) (nat_abs (begin c).args.y) (nat_abs (begin c).args.d) (abs-pos (begin c).args.d (begin c).requires)
 
-returns-2 : tie.Need-returns-2
-returns-2 c = unchanged (begin c.before) (sym (calls c.before) ∙ c.if2.true)
+pub returns-then-n-eq1 : goal.returns-then-n-eq1
+returns-then-n-eq1 c = unchanged (begin c.before) (sym (calls c.before) ∙ c.if-n-eq1.true)
 
-of-u64-requires : tie.Need-of-u64-requires
-of-u64-requires c κs = subst (λ (n : ℕ). n < 2 ^ 63) (sym (calls c.before)) (small c.before)
+pub of_u64-g-requires : goal.of_u64-g-requires
+of_u64-g-requires c = subst (λ (n : ℕ). n < 2 ^ 63) (sym (calls c.before)) (small c.before)
 
-given : (c : tie.After-of-u64) → c.of-u64.result ≡ pos (divisor c.before.before)
-given c = c.of-u64.ensures ∙ ap pos (calls c.before.before)
+given : (c : After-of_u64-g) → c.of_u64-g.result ≡ pos (divisor c.before.before)
+given c = c.of_u64-g.ensures ∙ ap pos (calls c.before.before)
 
-quotient : (c : tie.After-of-u64) (x : ℤ) → SFits w64 x → (0 < of_z w64 c.of-u64.result) × SFits w64 (quot_z (to_z w64 (of_z w64 x)) (to_z w64 (of_z w64 c.of-u64.result)))
+quotient : (c : After-of_u64-g) (x : ℤ) → SFits w64 x → (0 < of_z w64 c.of_u64-g.result) × SFits w64 (quot_z (to_z w64 (of_z w64 x)) (to_z w64 (of_z w64 c.of_u64-g.result)))
 quotient c x f =
-    let r = c.of-u64.result in let g = divisor c.before.before in
+    let r = c.of_u64-g.result in let g = divisor c.before.before in
     (divisor-pos r g (given c) (small c.before.before) (positive c.before.before), quot_fits r g (given c) (small c.before.before) x f)
 
-div-t10 : tie.Need-nonzero-div-t10
-div-t10 c = quotient c (begin c.before.before).args.x (begin c.before.before).ranges.x
+pub nonzero_div-result : goal.nonzero_div-result
+nonzero_div-result c = quotient c (begin c.before.before).args.x (begin c.before.before).ranges.x
 
-div-t11 : tie.Need-nonzero-div-t11
-div-t11 c = quotient c (begin c.before.before).args.y (begin c.before.before).ranges.y
+pub nonzero_div-result-2 : goal.nonzero_div-result-2
+nonzero_div-result-2 c = quotient c (begin c.before.before).args.y (begin c.before.before).ranges.y
 
-div-t12 : tie.Need-nonzero-div-t12
-div-t12 c = quotient c (begin c.before.before).args.d (begin c.before.before).ranges.d
+pub nonzero_div-result-3 : goal.nonzero_div-result-3
+nonzero_div-result-3 c = quotient c (begin c.before.before).args.d (begin c.before.before).ranges.d
 
-returns-3 : tie.Need-returns-3
-returns-3 c =
+pub returns : goal.returns
+returns c =
     let s = begin c.before.before in
-    let back = quot-back c.of-u64.result (divisor c.before.before) (given c) (small c.before.before) in
-    λ i. pt (back s.args.x s.fits.x i) (back s.args.y s.fits.y i) (back s.args.d s.fits.d i)
-
-pub lowest-spec : {M : Type 1} → statement M
-lowest-spec =
-    tie.close
-    (tie.spec
-    (λ c κs. search rules)
-    (λ c κs. search rules)
-    (λ c κs. search rules)
-    returns
-    (λ c κs. search rules)
-    (λ c κs. search rules)
-    returns-2
-    of-u64-requires
-    div-t10
-    div-t11
-    div-t12
-    returns-3)
+    let back = quot-back c.of_u64-g.result (divisor c.before.before) (given c) (small c.before.before) in
+    λ i. pt (back s.args.x s.ranges.x i) (back s.args.y s.ranges.y i) (back s.args.d s.ranges.d i)
