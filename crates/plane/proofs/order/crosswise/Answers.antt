@@ -1,0 +1,38 @@
+-- `plane::order::crosswise` meets its contract, by the short way and by the long one. Assumes nothing.
+use mathlib.Core.Path.{sym, ◌∙◌, ap}
+use borrow.Author.Rules.{rules}
+use Rattle.exact.specs.Exact.{sgn}
+use Rattle.plane.proofs.Fractions.{Short, short_of, first_fits, second_fits, short, factors, long}
+use Rattle.plane.proofs.order.crosswise.Goals as goal
+use Rattle.plane.proofs.order.crosswise.Goals.{Then-short_way}
+
+-- by the short way both products fit
+is-short : (c : Then-short_way) → let a = c.args in Short a.n a.d a.m a.e
+is-short c =
+    let s = c.before.before in
+    let a = s.args in
+    short_of a.n a.d a.m a.e s.requires.0 s.requires.1 (sym c.short_way.ensures ∙ c.if-short_way.true)
+
+pub overflow_mul-n : goal.overflow_mul-n
+overflow_mul-n c =
+    let s = c.before.before in
+    let a = s.args in
+    first_fits a.n a.d a.m a.e s.requires.0 s.requires.1 (is-short c)
+
+pub overflow_mul-m : goal.overflow_mul-m
+overflow_mul-m c =
+    let s = c.before.before in
+    let a = s.args in
+    second_fits a.n a.d a.m a.e s.requires.0 s.requires.1 (is-short c)
+
+pub products-requires : goal.products-requires
+products-requires c = let s = c.before.before in let a = s.args in factors a.n a.d a.m a.e s.requires.0 s.requires.1
+
+pub returns-then-short_way : goal.returns-then-short_way
+returns-then-short_way c =
+    let s = c.before.before.before in
+    let a = s.args in
+    c.order.ensures ∙ ap sgn (short a.n a.d a.m a.e s.requires.0 s.requires.1 (is-short c.before))
+
+pub returns-else-short_way : goal.returns-else-short_way
+returns-else-short_way c = let s = c.before.before.before in let a = s.args in c.products.ensures ∙ ap sgn (long a.n a.d a.m a.e s.requires.0 s.requires.1)
