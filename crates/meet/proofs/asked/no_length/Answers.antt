@@ -11,8 +11,8 @@ use Rattle.laws_plane.specs.Points.{same_self}
 use Rattle.laws_plane.specs.Ends.{corner_same}
 use Rattle.plane.specs.Values.{vec_of}
 use borrow.Author.Rules.{rules}
-use Rattle.meet.proofs.asked.no_length.Statement.{statement}
-use Rattle.meet.proofs.asked.no_length.Tie as tie
+use Rattle.meet.proofs.asked.no_length.Goals as goal
+use Rattle.meet.proofs.asked.no_length.Goals.{Start}
 
 module _ (a b : Vec) where
   two : (a ≡ b → ⊥) → false ≡ same (whole a) (whole b)
@@ -29,27 +29,23 @@ module _ (x y : ℤ) where
   equal : SFits w64 x → SFits w64 y → of_z w64 x ≡ of_z w64 y → x ≡ y
   equal f g e = sym (to_z-of_z w64 x f) ∙ ap (to_z w64) e ∙ to_z-of_z w64 y g
 
-returns : tie.Need-returns
+pub returns-then-a-b : goal.returns-then-a-b
+returns-then-a-b c =
+    let st : Start = search rules in
+    let a = st.args.a in
+    let b = st.args.b in
+    two (vec_of a) (vec_of b) (λ e. not_equal a.y b.y c.if-a-b.true (ap (λ (v : Vec). v.y) e))
+
+pub returns-then-a-b-2 : goal.returns-then-a-b-2
+returns-then-a-b-2 c =
+    let st : Start = search rules in
+    let a = st.args.a in
+    let b = st.args.b in
+    two (vec_of a) (vec_of b) (λ e. not_equal a.x b.x c.if-a-b-2.true (ap (λ (v : Vec). v.x) e))
+
+pub returns : goal.returns
 returns c =
-    let st : tie.Start = search rules in
+    let st : Start = search rules in
     let a = st.args.a in
     let b = st.args.b in
-    two (vec_of a) (vec_of b) (λ e. not_equal a.y b.y c.if1.true (ap (λ (v : Vec). v.y) e))
-
-returns-2 : tie.Need-returns-2
-returns-2 c =
-    let st : tie.Start = search rules in
-    let a = st.args.a in
-    let b = st.args.b in
-    two (vec_of a) (vec_of b) (λ e. not_equal a.x b.x c.if2.true (ap (λ (v : Vec). v.x) e))
-
-returns-3 : tie.Need-returns-3
-returns-3 c =
-    let st : tie.Start = search rules in
-    let else1 : tie.Else1 = search rules in
-    let a = st.args.a in
-    let b = st.args.b in
-    one (vec_of a) (vec_of b) (equal a.x b.x (search rules) (search rules) c.if2.false) (equal a.y b.y (search rules) (search rules) else1.if1.left)
-
-pub no-length-spec : {M : Type 1} → statement M
-no-length-spec = tie.close (tie.spec returns returns-2 returns-3)
+    one (vec_of a) (vec_of b) (equal a.x b.x (search rules) (search rules) c.if-a-b-2.false) (equal a.y b.y (search rules) (search rules) c.if-a-b.false)

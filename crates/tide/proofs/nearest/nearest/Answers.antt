@@ -10,27 +10,27 @@ use native.Mathlib.Omega.{arith}
 use lib.Dec.{T}
 use lib.Ieee.{binary64, fits, to_bits}
 use Rattle.laws_tide.specs.Pattern.{whole_of, by_pattern, no_nan, whole_at_most, below_zero, above_zero}
-use Rattle.tide.proofs.nearest.nearest.Statement.{statement}
-use Rattle.tide.proofs.nearest.nearest.Tie as tie
+use Rattle.tide.proofs.nearest.nearest.Goals as goal
+use Rattle.tide.proofs.nearest.nearest.Goals.{Start}
 
-held : (c : tie.Start) → T (fits binary64 c.args.x)
-held c = subst T (sym c.well-formed.0.1) tt
+held : (c : Start) → T (fits binary64 c.args.x)
+held c = subst T (sym c.well_formed.0.1) tt
 
-float-to-bits-bits : tie.Need-float-to-bits-bits
-float-to-bits-bits c = no_nan 2147483647 c.args.x c.requires
+pub float_to_bits-bits : goal.float_to_bits-bits
+float_to_bits-bits c = no_nan 2147483647 c.args.x c.requires
 
-magnitude-requires : tie.Need-magnitude-requires
-magnitude-requires c κs = (by_pattern c.args.x (held c) c.requires).0
+pub magnitude-n-requires : goal.magnitude-n-requires
+magnitude-n-requires c = (by_pattern c.args.x (held c) c.requires).0
 
 -- what is called gives the pattern's whole number, which an i32 holds
-small : (c : tie.Start) (r : ℕ) → r ≡ whole_of (to_bits binary64 c.args.x) → r < 2 ^ 31
+small : (c : Start) (r : ℕ) → r ≡ whole_of (to_bits binary64 c.args.x) → r < 2 ^ 31
 small c r e = at_most r (subst (λ (k : ℕ). k ≤ 2147483647) (sym e) (whole_at_most c.args.x (held c) c.requires))
   where
     at_most : (r : ℕ) → r ≤ 2147483647 → r < 2 ^ 31
     at_most r h = omega arith
 
-cast-n : tie.Need-overflow-cast-n
-cast-n c = record { sfits = small c.before c.magnitude.result c.magnitude.ensures }
+pub overflow_cast-n : goal.overflow_cast-n
+overflow_cast-n c = record { sfits = small (goal.at.overflow_cast-n c).Start c.magnitude-n.result c.magnitude-n.ensures }
 
 -- 0 - r, as the machine works it out, is -r
 minus : (r : ℕ) → r < 2 ^ 31 → pos 0 -ℤ to_z w32 r ≡ neg_ℤ (pos r)
@@ -43,26 +43,23 @@ minus-fits r h = subst (SFits w32) (sym (minus r h)) (record { sfits = go r h })
     go zero h = h
     go (suc r) h = omega arith
 
-sub-result : tie.Need-overflow-sub-result
-sub-result c =
-    let m = c.before.magnitude in
-    minus-fits m.result (small c.before.before m.result m.ensures)
+pub overflow_sub-result : goal.overflow_sub-result
+overflow_sub-result c =
+    let m = c.magnitude-n in
+    minus-fits m.result (small (goal.at.overflow_sub-result c).Start m.result m.ensures)
 
-returns : tie.Need-returns
-returns c =
-    let z = c.before.before in
-    let m = c.before.magnitude in
+pub returns-then-bits-ge-SIGN : goal.returns-then-bits-ge-SIGN
+returns-then-bits-ge-SIGN c =
+    let z = (goal.at.returns-then-bits-ge-SIGN c).Start in
+    let m = c.magnitude-n in
     let l = small z m.result m.ensures in
     to_z-of_z w32 (pos 0 -ℤ to_z w32 m.result) (minus-fits m.result l)
     ∙ minus m.result l
     ∙ ap (λ (k : ℕ). neg_ℤ (pos k)) m.ensures
-    ∙ below_zero z.args.x (held z) z.requires c.if1.true
+    ∙ below_zero z.args.x (held z) z.requires c.if-bits-ge-SIGN.true
 
-returns-2 : tie.Need-returns-2
-returns-2 c =
-    let z = c.before.before in
-    let m = c.before.magnitude in
-    to_z_pos w32 m.result (small z m.result m.ensures) ∙ ap pos m.ensures ∙ above_zero z.args.x (held z) z.requires c.if1.false
-
-pub nearest-spec : {M : Type 1} → statement M
-nearest-spec = tie.close (tie.spec float-to-bits-bits magnitude-requires cast-n sub-result returns returns-2)
+pub returns-else-bits-ge-SIGN : goal.returns-else-bits-ge-SIGN
+returns-else-bits-ge-SIGN c =
+    let z = (goal.at.returns-else-bits-ge-SIGN c).Start in
+    let m = c.magnitude-n in
+    to_z_pos w32 m.result (small z m.result m.ensures) ∙ ap pos m.ensures ∙ above_zero z.args.x (held z) z.requires c.if-bits-ge-SIGN.false
