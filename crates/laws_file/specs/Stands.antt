@@ -70,12 +70,11 @@ module _ (s : List ℕ) where
 
 pub stands_after : (a s : List ℕ) → Stands (a ++ s) (length a) s
 stands_after a [] = tt
-stands_after a (x ∷ s) =
-    (
-      get_or-append_seam a x s 0,
-      subst (λ (k : ℕ). Stands (a ++ (x ∷ s)) k s) one_more
+stands_after a (x ∷ s) = (
+  get_or-append_seam a x s 0,
+  subst (λ (k : ℕ). Stands (a ++ (x ∷ s)) k s) one_more
       (subst (λ (t : List ℕ). Stands t (length (a ++ (x ∷ []))) s) (append_snoc a x s) (stands_after (a ++ (x ∷ [])) s)),
-    )
+)
   where
     one_more : length (a ++ (x ∷ [])) ≡ suc (length a)
     one_more = rw (length-append a (x ∷ []), add-one (length a))

@@ -3,9 +3,9 @@
 use Rattle.std.specs.Prelude.{◌≡◌, refl, ◌≤◌, ◌<◌, ◌∷◌, ◌++◌, ◌+◌, ◌*◌, ◌-◌}
 use Rattle.std.proofs.Common.{sym, ◌∙◌, ap, subst, add-one, arith}
 use Rattle.std.proofs.Math.Decide.{dec_lt}
-use Rattle.seq.specs.Seq.{Bool, true, false, not, List, [], ℕ, zero, suc, length, get_or, the_some_below, table}
+use Rattle.seq.specs.Seq.{Bool, true, false, not, List, [], ℕ, zero, suc, get_or, the_some_below}
 use Rattle.seq.specs.Terms.{Ordered}
-use Rattle.seq.specs.Tests.{was-false, was-true}
+use Rattle.seq.specs.Tests.{was-true}
 use Rattle.seq.specs.Least.{no_some, no_some_is}
 use Rattle.seq.specs.Sorted.{rising-ordered}
 use Rattle.seq.specs.Halves.{rises-rising}

@@ -1,9 +1,9 @@
 -- The order of pairs, and a table of pairs in strict order: once a row is not less than a pair, none after it is, so that a search by halves finds the pair's place. Assumes nothing.
-use Rattle.std.specs.Prelude.{◌≡◌, refl, ◌<◌, ◌&&◌, ◌||◌, ◌∷◌}
-use Rattle.std.proofs.Common.{◌∙◌, ap, inl, inr, ⊎_elim, arith, ltb-true, eqb-true, lt-ltb, eq-eqb}
-use Rattle.seq.specs.Seq.{Bool, true, false, not, List, [], ℕ, eqb, ltb, table}
+use Rattle.std.specs.Prelude.{◌≡◌, refl, ◌&&◌, ◌∷◌}
+use Rattle.std.proofs.Common.{◌∙◌, ap, ⊎_elim, arith, ltb-true, eqb-true, lt-ltb, eq-eqb}
+use Rattle.seq.specs.Seq.{Bool, true, not, List, [], ℕ, eqb, ltb, table}
 use Rattle.seq.specs.Tests.{clash, not-true, was-false, or_l, or_r, or_cases, and_parts, and_both}
-use Rattle.seq.specs.Terms.{Every, Ordered}
+use Rattle.seq.specs.Terms.{Ordered}
 use Rattle.seq.specs.Sorted.{ordered-rising}
 use Rattle.seq.specs.Members.{in_every}
 use Rattle.seq.specs.Halves.{Lasts, rising-rises}

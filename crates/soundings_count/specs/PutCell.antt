@@ -1,9 +1,9 @@
 -- A pair counted into a table of n pairs, as the code does it: its place found, and there the count grows or a row is put in. Assumes nothing.
 use Rattle.std.specs.Prelude.{◌≡◌, refl, ◌≤◌, ◌<◌, set, ◌&&◌, ◌||◌, ◌∷◌, ◌+◌, ◌*◌}
 use Rattle.std.proofs.Common.{sym, ◌∙◌, ap, ⊎_elim, add-zero, add-one, arith, ltb-true, eqb-true, lt-ltb, le-ltb, eq-eqb, ne_eqb, length-set, get_or-set_same, get_or-set_other, ext_get_or}
-use Rattle.std.proofs.Math.Decide.{dec_lt, ℕ_discrete}
+use Rattle.std.proofs.Math.Decide.{ℕ_discrete}
 use Rattle.seq.specs.Tests.{clash, or_cases, and_parts, and_both}
-use Rattle.seq.specs.Seq.{Bool, true, false, List, [], ℕ, zero, suc, eqb, ltb, length, get_or, cell, table, insert_by, row_stored}
+use Rattle.seq.specs.Seq.{Bool, true, false, List, [], ℕ, zero, suc, eqb, ltb, length, get_or, cell, insert_by, row_stored}
 use Rattle.seq.specs.Terms.{Asymmetric}
 use Rattle.seq.specs.Table.{length-table, table_at}
 use Rattle.seq.specs.Lifted.{length-lifted, lifted_below, lifted_in, put_at, length_put_at, table_put_at}
