@@ -1,6 +1,6 @@
 /* Bonnetewe: an exact, proved overlay of three maps, and heights of tide, for C. Two maps are three with an empty third.
  *
- * `rt staticlib bonnetewe` proves the library and writes target/staticlib/libbonnetewe.a, for x86-64 Linux. It allocates nothing and keeps nothing between
+ * `rt lib` in crates/bonnetewe proves the library and writes crates/bonnetewe/out/libbonnetewe.a, for x86-64 Linux. It allocates nothing and keeps nothing between
  * calls. Of the C library it needs memcpy, memmove and memset, which the compiler may call for it, and nothing else. Each function takes any bytes, any numbers and tables of any lengths; what it answers and what every lent table holds
  * afterwards is fixed by the definitions in crates/paper/specs. crates/bonnetewe/src has the promises.
  *
@@ -21,7 +21,7 @@
  * face, which runs clockwise; a face's row counts them, and they are found among the half-edges by their face. D: the denominator of both coordinates is one number, above 0
  * and at most 2,048,000,000; a corner of a map has D 1, and two points are the same just where X, Y and D are.
  *
- * To link: cc your.c target/staticlib/libbonnetewe.a -o your, and nothing else (c++ in the same way); -I include for this header.
+ * To link: cc your.c crates/bonnetewe/out/libbonnetewe.a -o your, and nothing else (c++ in the same way); -I include for this header.
  */
 #ifndef BONNETEWE_H
 #define BONNETEWE_H
