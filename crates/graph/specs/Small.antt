@@ -1,5 +1,5 @@
 -- A small graph has at most a thirty-second of what an overlay may have: small tables have room for it. Assumes nothing.
-use Rattle.std.specs.Prelude.{◌≤◌, ◌+◌, ◌/◌}
+use Rattle.std.specs.Prelude.{◌+◌, ◌/◌}
 use Rattle.seq.specs.Seq.{ℕ}
 use Rattle.paper.specs.Limits.{overlay_vertices, overlay_edges}
 

@@ -1,0 +1,51 @@
+-- `graph::look::look` meets its contract. Assumes nothing.
+use mathlib.Core.Path.{sym, ◌∙◌}
+use Prim.Native.Nat.{◌<◌}
+use native.Mathlib.Omega.{arith}
+use borrow.Author.Rules.{rules}
+use Rattle.seq.specs.Seq.{ℕ}
+use Rattle.seq.specs.Loops.Picking.{pick_starts, pick-most, pick_takes, pick-skips, pick-lacks, pick_has}
+use Rattle.plane.specs.Values.{pt_of, vec_of}
+use Rattle.graph.specs.Flat.{Carried}
+use Rattle.graph.specs.Heading.{flat_ends, flat-carried}
+use Rattle.graph.specs.Look.{flat-best}
+use Rattle.graph.proofs.look.look.Goals as goal
+use Rattle.graph.proofs.look.look.Goals.{Start, then-candidate, else-candidate}
+
+-- the edges are carried
+carried : (s : Start) (k : ℕ) → k < s.args.e → Carried s.args.carriers.now k
+carried s = flat-carried s.args.points.now s.args.origins.now s.args.carriers.now s.args.n s.args.e s.requires.fact_1
+
+pub candidate-requires : goal.candidate-requires
+candidate-requires c =
+    let k = c.loop-k.k in
+    let l = c.loop-k-test.true in
+    let ends = flat_ends c.args.points.now c.args.origins.now c.args.carriers.now c.args.n c.args.e c.requires.fact_1 k l in
+    (omega (arith, c.requires.fact_2), ends.0, ends.1, carried (goal.at.candidate-requires c).Start k l, c.requires.fact_3, c.requires.fact_4)
+
+pub nearest-r-requires : goal.nearest-r-requires
+nearest-r-requires c =
+    let l = c.loop-k in
+    (carried (goal.at.nearest-r-requires c).Start l.k c.loop-k-test.true, λ q. carried (goal.at.nearest-r-requires c).Start l.r q, pick-most l.invariant, c.requires.fact_3)
+
+pub loop-k-preserved : goal.loop-k-preserved
+loop-k-preserved c =
+    let r = c.loop-k.invariant in
+    let b = c.loop-k-test.true in
+    let q = sym c.candidate.ensures in
+    elim c.if-candidate.branch [ then-candidate w ↦ pick_takes r b (q ∙ w.if-candidate.true) (w.r-is ∙ w.nearest-r.ensures) | else-candidate w ↦ pick-skips r b (q ∙ w.if-candidate.false) w.r-is ]
+
+pub overflow_cast-result : goal.overflow_cast-result
+overflow_cast-result c =
+    omega (arith, c.requires.fact_2, pick-most c.loop-k.invariant)
+
+pub returns-then-r-e : goal.returns-then-r-e
+returns-then-r-e c =
+    pick-lacks c.loop-k.invariant (search rules) c.if-r-e.true ∙ flat-best c.args.points.now c.args.origins.now c.args.carriers.now c.args.n c.args.e c.requires.fact_1 (pt_of c.args.p) c.requires.fact_3 (vec_of c.args.d)
+
+pub returns-else-r-e : goal.returns-else-r-e
+returns-else-r-e c =
+    pick_has c.loop-k.invariant (search rules) c.if-r-e.false ∙ flat-best c.args.points.now c.args.origins.now c.args.carriers.now c.args.n c.args.e c.requires.fact_1 (pt_of c.args.p) c.requires.fact_3 (vec_of c.args.d)
+
+pub loop-k-init : goal.loop-k-init
+loop-k-init c = pick_starts

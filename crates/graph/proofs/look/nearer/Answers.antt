@@ -1,0 +1,52 @@
+-- `graph::look::nearer` meets its contract, whatever the answer of `products`. Assumes nothing.
+use mathlib.Core.Path.{◌≡◌, sym, ◌∙◌, ap}
+use lib.IntN.{pos, ◌-ℤ◌, ◌*ℤ◌}
+use lib.Signed.{lt_z}
+use Rattle.exact.specs.Compare.{sign_of}
+use Rattle.exact.specs.Mach.{tr, tru, plain, atmost, under}
+use Rattle.exact.specs.Sign.{sgn, pick, is_plus}
+use Rattle.paper.specs.Plane.{vec, cross, the_left_by}
+use Rattle.plane.proofs.Machine.{back, vec_back}
+use Rattle.plane.proofs.Signs.{plus-test}
+use Rattle.plane.specs.Values.{seg_of, pt_of}
+use Rattle.graph.proofs.look.nearer.Goals as goal
+use Rattle.graph.proofs.look.nearer.Goals.{After-products}
+
+pub products-requires : goal.products-requires
+products-requires c =
+    let sv = c.requires.0.up_is.y_is in
+    let tv = c.requires.1.up_is.y_is in
+    record { a_is = atmost (search tru depth 20) tt; b_is = under (search tru depth 20) tt; c_is = atmost (search tru depth 20) tt; d_is = under (search tru depth 20) tt }
+
+-- what `products` told
+told : (c : After-products) → let a = c.args in
+    sign_of c.products.result ≡ sgn (the_left_by (seg_of a.s) (pt_of a.p) *ℤ a.t.v -ℤ the_left_by (seg_of a.t) (pt_of a.p) *ℤ a.s.v)
+told c =
+    let a = c.args in
+    let l = c.left_by in
+    let m = c.left_by-2 in
+    let near = l.ensures.bound in
+    let far = m.ensures.bound in
+    let sv = c.requires.0.up_is.y_is in
+    let tv = c.requires.1.up_is.y_is in
+    let y : back l.result *ℤ back a.t.v -ℤ back m.result *ℤ back a.s.v ≡ l.result *ℤ a.t.v -ℤ m.result *ℤ a.s.v = plain (search tr depth 20) tt in
+    c.products.ensures ∙ ap sgn (y ∙ (λ j. l.ensures.is j *ℤ a.t.v -ℤ m.ensures.is j *ℤ a.s.v))
+
+pub returns-in-Less : goal.returns-in-Less
+returns-in-Less c =
+    let a = c.args in
+    λ i. is_plus (pick ((sym (ap sign_of c.in-Less.is) ∙ told (goal.at.returns-in-Less c).After-products) i) (sgn (cross (seg_of a.s).up (seg_of a.t).up)))
+
+pub returns-in-Equal : goal.returns-in-Equal
+returns-in-Equal c =
+    let a = c.args in
+    let turn : cross (vec (back a.s.u) (back a.s.v)) (vec (back a.t.u) (back a.t.v)) ≡ cross (seg_of a.s).up (seg_of a.t).up =
+    λ i. cross (vec_back a.s.u a.s.v c.requires.0.up_is i) (vec_back a.t.u a.t.v c.requires.1.up_is i) in
+    let x : back c.cross_of.result ≡ c.cross_of.result = plain (search tr depth 20) tt in
+    (λ i. lt_z (pos 0) ((x ∙ c.cross_of.ensures.is ∙ turn) i)) ∙ plus-test (cross (seg_of a.s).up (seg_of a.t).up)
+    ∙ (λ i. is_plus (pick ((sym (ap sign_of c.in-Equal.is) ∙ told (goal.at.returns-in-Equal c).After-products) i) (sgn (cross (seg_of a.s).up (seg_of a.t).up))))
+
+pub returns-in-Greater : goal.returns-in-Greater
+returns-in-Greater c =
+    let a = c.args in
+    λ i. is_plus (pick ((sym (ap sign_of c.in-Greater.is) ∙ told (goal.at.returns-in-Greater c).After-products) i) (sgn (cross (seg_of a.s).up (seg_of a.t).up)))

@@ -1,0 +1,11 @@
+-- `graph::rising::rise` meets its contract. Assumes nothing.
+use Rattle.std.specs.Prelude.{◌-◌}
+use Prim.Native.Nat.{◌<◌}
+use Rattle.graph.specs.Rising.{Rises}
+use Rattle.graph.proofs.rising.rise.Given as goal
+
+abbrev pub invariant-loop-v : goal.invariant-loop-v
+invariant-loop-v l = (0 < l.v) × Rises l.points l.v
+
+abbrev pub decreases-loop-v : goal.decreases-loop-v
+decreases-loop-v l = l.n - l.v
