@@ -30,7 +30,7 @@ returns c =
     let x : back q.result ≡ q.result = plain (search tr depth 20) tt in
     let y : back (back (back m.result *ℤ back t.v) -ℤ back (back o.result *ℤ back s.v)) ≡ m.result *ℤ t.v -ℤ o.result *ℤ s.v = plain (search tr depth 20) tt in
     let turn : cross (vec (back s.u) (back s.v)) (vec (back t.u) (back t.v)) ≡ cross (seg_of s).up (seg_of t).up =
-    λ i. cross (vec_back s.u s.v start.requires.0.up_is i) (vec_back t.u t.v start.requires.1.up_is i) in
+    λ i. cross (vec_back s.u s.v c.requires.0.up_is i) (vec_back t.u t.v c.requires.1.up_is i) in
     c.rises.ensures ∙ (λ i. rises (vec ((x ∙ q.ensures.is ∙ turn) i) ((y ∙ (λ j. m.ensures.is j *ℤ t.v -ℤ o.ensures.is j *ℤ s.v)) i)))
 
 pub overflow_mul-mine : goal.overflow_mul-mine

@@ -12,6 +12,6 @@ returns c =
     let x : back a.x ≡ a.x = plain (search tr depth 20) tt in
     let y : back a.y ≡ a.y = plain (search tr depth 20) tt in
     record {
-      is = plain (search tr depth 20) tt ∙ c.left_of.ensures.is ∙ (λ i. the_left_by (seg_back s.x s.y s.u s.v st.requires.0 i) (whole (vec (x i) (y i))));
+      is = plain (search tr depth 20) tt ∙ c.left_of.ensures.is ∙ (λ i. the_left_by (seg_back s.x s.y s.u s.v c.requires.0 i) (whole (vec (x i) (y i))));
       bound = atmost (search tru depth 20) tt;
     }

@@ -22,24 +22,24 @@ carrier_at-requires c =
 
 pub overflow_cast-result : goal.overflow_cast-result
 overflow_cast-result c =
-    omega (arith, c.requires.fact_2.0, c.loop-i.invariant.upto)
+    omega (arith, c.requires.fact_2, c.loop-i.invariant.upto)
 
 pub returns-then-starts_above : goal.returns-then-starts_above
 returns-then-starts_above c =
-    read_ends _ _ _ c.loop-i.invariant (λ q. sym (sym then.if-starts_above.true ∙ test.starts_above.ensures ∙ ap (above (vec_of s.args.c)) row.carrier_at.ensures.0)) _ refl refl
+    read_ends _ _ _ c.loop-i.invariant (λ q. sym (sym c.if-starts_above.true ∙ c.starts_above.ensures ∙ ap (above (vec_of c.args.c)) c.carrier_at.ensures.is)) _ refl refl
 
 pub take-r-requires : goal.take-r-requires
 take-r-requires c =
     let k = carried c.args.rails.now c.args.e c.requires.fact_1 in
-    (k c.loop-i.i (search rules), (λ q. k l.loop-i.r q), read-le _ _ _ l.loop-i.invariant, s.requires.fact_2.1)
+    (k c.loop-i.i (search rules), (λ q. k c.loop-i.r q), read-le _ _ _ c.loop-i.invariant, c.requires.fact_3)
 
 pub loop-i-preserved : goal.loop-i-preserved
 loop-i-preserved c =
-    read_turns _ _ _ c.loop-i.invariant _ (search rules) (sym (sym c.if-starts_above.false ∙ c.starts_above.ensures ∙ ap (above (vec_of c.args.c)) c.carrier_at.ensures.0)) c.take-r.ensures
+    read_turns _ _ _ c.loop-i.invariant _ (search rules) (sym (sym c.if-starts_above.false ∙ c.starts_above.ensures ∙ ap (above (vec_of c.args.c)) c.carrier_at.ensures.is)) c.take-r.ensures
 
 pub overflow_cast-result-2 : goal.overflow_cast-result-2
 overflow_cast-result-2 c =
-    omega (arith, c.requires.fact_2.0, c.loop-i.invariant.upto)
+    omega (arith, c.requires.fact_2, c.loop-i.invariant.upto)
 
 pub returns : goal.returns
 returns c =

@@ -16,10 +16,10 @@ pub returns-then-closer : goal.returns-then-closer
 returns-then-closer c =
     let a = c.args in
     better_by (closer_at a.rails.now (vec_of a.c)) a.none a.i a.r c.if-r-none.false
-    ((λ i. closer (vec_of a.c) (sym after-carrier-at.carrier_at.ensures.0 i) (sym c.carrier_at-2.ensures.is i)) ∙ sym c.closer.ensures ∙ c.if-closer.true)
+    ((λ i. closer (vec_of a.c) (sym c.carrier_at.ensures.is i) (sym c.carrier_at-2.ensures.is i)) ∙ sym c.closer.ensures ∙ c.if-closer.true)
 
 pub returns-else-closer : goal.returns-else-closer
 returns-else-closer c =
     let a = c.args in
     better_by (closer_at a.rails.now (vec_of a.c)) a.none a.i a.r c.if-r-none.false
-    ((λ i. closer (vec_of a.c) (sym after-carrier-at.carrier_at.ensures.0 i) (sym c.carrier_at-2.ensures.is i)) ∙ sym c.closer.ensures ∙ c.if-closer.false)
+    ((λ i. closer (vec_of a.c) (sym c.carrier_at.ensures.is i) (sym c.carrier_at-2.ensures.is i)) ∙ sym c.closer.ensures ∙ c.if-closer.false)

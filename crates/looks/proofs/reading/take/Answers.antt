@@ -10,10 +10,10 @@ pub returns-then-passes : goal.returns-then-passes
 returns-then-passes c =
     let a = c.args in
     let b = better (closer_at a.rails.now (vec_of a.c)) a.none a.i a.r in
-    c.nearest.ensures ∙ ap (λ (x : Bool). cond x b a.r) (sym then.if-passes.true ∙ test.passes.ensures ∙ ap (passes (vec_of a.c)) row.carrier_at.ensures.0)
+    c.nearest.ensures ∙ ap (λ (x : Bool). cond x b a.r) (sym c.if-passes.true ∙ c.passes.ensures ∙ ap (passes (vec_of a.c)) c.carrier_at.ensures.is)
 
 pub returns : goal.returns
 returns c =
     let a = c.args in
     let b = better (closer_at a.rails.now (vec_of a.c)) a.none a.i a.r in
-    ap (λ (x : Bool). cond x b a.r) (sym c.if-passes.false ∙ test.passes.ensures ∙ ap (passes (vec_of a.c)) row.carrier_at.ensures.0)
+    ap (λ (x : Bool). cond x b a.r) (sym c.if-passes.false ∙ c.passes.ensures ∙ ap (passes (vec_of a.c)) c.carrier_at.ensures.is)
