@@ -1,7 +1,7 @@
 -- The vertices on each edge as a thread: a table of nodes, rows of a vertex and a link, and for each edge a link to the node of its last vertex; a link is the row + 1, or 0. Along the links the vertices
 -- on the edge stand from the last down. A thread is kept while there are fewer nodes than `room`; after that nothing is said of it. Assumes nothing.
-use Rattle.std.specs.Prelude.{◌≡◌, ◌≤◌, ◌<◌, ◌||◌, ◌∷◌, ◌++◌, ◌+◌, ◌-◌, ◌*◌}
-use Rattle.seq.specs.Seq.{Bool, true, false, cond, List, [], ℕ, zero, suc, ℤ, eqb, length, get_or, rows}
+use Rattle.std.specs.Prelude.{◌≡◌, ◌≤◌, ◌<◌, ◌||◌, ◌∷◌, ◌++◌, ◌+◌, ◌*◌}
+use Rattle.seq.specs.Seq.{Bool, false, cond, List, [], ℕ, zero, suc, ℤ, eqb, length, get_or, rows}
 use Rattle.paper.specs.Limits.{maps, absent}
 use Rattle.paper.specs.Plane.{on_seg}
 use Rattle.paper.specs.Pieces.{Piece, only, links}

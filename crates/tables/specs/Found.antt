@@ -1,6 +1,6 @@
 -- The overlay edge record in the definitions' terms, and from five stored numbers. Assumes nothing.
 use Rattle.std.specs.Prelude.{◌∷◌, ◌+◌, ◌*◌, ◌^◌}
-use Rattle.seq.specs.Seq.{Bool, cond, List, [], Option, none, some, Option·map, ℕ, zero, suc, leb, get_or, all_below}
+use Rattle.seq.specs.Seq.{Bool, cond, [], Option, none, some, Option·map, ℕ, zero, suc, leb, get_or, all_below}
 use Rattle.paper.specs.Limits.{maps}
 use Rattle.paper.specs.Record as paper
 use Rattle.tables.specs.declared.edge_record.Source.{Source}

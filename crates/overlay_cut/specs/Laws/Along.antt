@@ -2,7 +2,7 @@
 -- them are those of the edges. Assumes nothing.
 use Rattle.std.specs.Prelude.{◌≡◌, refl, ◌≤◌, ◌<◌, ◌∷◌, ◌++◌, ◌+◌, ◌-◌, ◌*◌}
 use Rattle.std.proofs.Common.{sym, ◌∙◌, ap, subst, append_assoc, append-nil, arith, lt-ltb, le-ltb}
-use Rattle.seq.specs.Seq.{Bool, true, false, cond, List, [], Option, ℕ, zero, suc, ℤ, ltb, length, get_or, select, rows}
+use Rattle.seq.specs.Seq.{Bool, true, false, cond, List, [], Option, ℕ, zero, suc, ℤ, ltb, get_or, select}
 use Rattle.seq.specs.Rows.{rows_ext}
 use Rattle.paper.specs.Limits.{maps}
 use Rattle.paper.specs.Plane.{on_seg}
@@ -12,7 +12,7 @@ use Rattle.overlay_cut.specs.Capped.{put_all-++}
 use Rattle.overlay_cut.specs.Links.{pieced}
 use Rattle.overlay_cut.specs.Cutting.{puts, upper, links-join}
 use Rattle.overlay_cut.specs.Cuts.{Starts, start_of, edges_from, cut_row, cut_part, cut_all, part_within}
-use Rattle.overlay_cut.specs.Threads.{down, along, thread, thread_of, Threaded, Spools, rising, Under, Thread, Strung, thread_row, thread_part, thread_all}
+use Rattle.overlay_cut.specs.Threads.{down, thread, Threaded, Spools, rising, Under, Thread, Strung, thread_row, thread_part, thread_all}
 use Rattle.overlay_cut.specs.Laws.Threading.{along-enough}
 
 -- ── along a thread ──

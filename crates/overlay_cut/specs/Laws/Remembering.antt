@@ -2,7 +2,7 @@
 use Rattle.std.specs.Prelude.{◌≡◌, refl, ◌≤◌, ◌<◌, set, ◌||◌, ◌∷◌, ◌+◌, ◌-◌, ◌*◌}
 use Rattle.std.proofs.Common.{sym, ◌∙◌, ap, subst, add-one, arith, eqb-true, eq-eqb, ne_eqb, length-set, get_or-set_same, get_or-set_other}
 use Rattle.std.proofs.Math.Decide.{ℕ_discrete, dec_lt}
-use Rattle.seq.specs.Seq.{Bool, true, false, cond, List, [], ℕ, zero, suc, ℤ, eqb, length, get_or}
+use Rattle.seq.specs.Seq.{Bool, true, false, cond, List, ℕ, ℤ, eqb, length, get_or}
 use Rattle.paper.specs.Plane.{on_seg}
 use Rattle.graph.specs.Flat.{the_point_at, carrier_at}
 use Rattle.overlay_cut.specs.Threads.{down, along, thread, thread_of, Chains, Threaded, ThreadedIf, heads, topped, named_in, Remembered, RememberedIf}

@@ -1,0 +1,138 @@
+-- `graph_faces::linking::enclose_in` meets its contract. First what is known from the start and of the table of what is known of each walk; then the needs, call by call. Assumes nothing.
+use Rattle.std.specs.Prelude.{◌+◌, ◌*◌}
+use mathlib.Core.Path.{◌≡◌}
+use Prim.Native.Nat.{◌≤◌, ◌<◌}
+use native.Mathlib.Omega.{arith}
+use Rattle.seq.specs.Count.{count-le}
+use Rattle.seq.specs.Seq.{Bool, List, ℕ, length, count, filled, ℤ}
+use Rattle.seq.specs.Filled.{Holds}
+use Rattle.paper.specs.Limits.{overlay_edges, absent}
+use Rattle.paper.specs.Graph.{Graph}
+use Rattle.paper.specs.Faces.{walks_of, lead_at, face_in}
+use Rattle.laws_graph.specs.Plane.{Plane}
+use Rattle.graph.specs.Flat.{flat_graph, Flat, Numbers}
+use Rattle.graph.specs.Rising.{RisesIf}
+use Rattle.graph_faces.specs.Sides.{Sighted}
+use Rattle.graph_faces.specs.Kinds.{Known, Faced, outer_lead, known_by, face_from}
+use Rattle.graph_faces.specs.Linked.{Led}
+use Rattle.graph_faces.specs.Laws.Linking.{over_is, lead-numbers, led-lead, led-top}
+use Rattle.graph_faces.specs.Laws.Numbered.{tops-numbers, faced, face-filled, face_under, count-flat, outers-flat, holes-filled}
+use Rattle.graph_faces.specs.Walked.{top_of}
+use Rattle.graph_faces.proofs.linking.enclose_in.Goals as goal
+use Rattle.graph_faces.proofs.linking.enclose_in.Goals.{Start}
+
+-- ── what is known ──
+module _ (s : Start) where
+  abbrev ps : List ℤ
+  ps = s.args.points.now
+
+  abbrev os : List ℕ
+  os = s.args.origins.now
+
+  abbrev cs : List ℤ
+  cs = s.args.carriers.now
+
+  abbrev n : ℕ
+  n = s.args.n
+
+  abbrev e : ℕ
+  e = s.args.e
+
+  abbrev lead : List ℕ
+  lead = s.args.lead.now
+
+  abbrev top : List ℕ
+  top = s.args.top.now
+
+  abbrev face₀ : List ℕ
+  face₀ = s.args.face.now
+
+  abbrev g : Graph
+  g = flat_graph ps os cs n e
+
+  abbrev F : Flat ps os cs n e
+  F = s.requires.fact_1
+
+  small : e ≤ overlay_edges
+  small = s.requires.fact_2.0
+
+  abbrev P : Plane g
+  P = s.requires.fact_2.1.0
+
+  abbrev A : Led g lead top
+  A = s.requires.fact_2.1.1.0
+
+  big : 2 * e ≤ absent
+  big = omega (arith, small)
+
+  L : Holds (lead_at (walks_of g)) lead (2 * e)
+  L = led-lead ps os cs n e F P lead top A
+
+  T : Holds (top_of g) top (2 * e)
+  T = led-top ps os cs n e F P lead top A
+
+  leads : Numbers lead (2 * e) (2 * e)
+  leads = lead-numbers ps os cs n e F P lead L
+
+  sighted : (c : Bool) → RisesIf c ps n → Sighted ps os cs n e c
+  sighted c r = record { flat = F; small = big; plane = P; rises = r }
+
+  -- with what is known of each walk
+  module _ (known : List ℕ) (K : Known (known_by ps os cs n e lead top) lead known (2 * e)) where
+    all-faced : Faced lead top known (2 * e)
+    all-faced = faced ps os cs n e F P big lead top L T known K leads
+
+    below : (r : ℕ) → r ≡ count (outer_lead lead top) (2 * e) → (h : ℕ) → h < 2 * e → face_from lead top known n h < r + 1
+    below r q h l = omega (arith, face_under ps os cs n e F P big lead top L T known K h l, q)
+
+    face_at_lem : (face : List ℕ) → face ≡ filled (2 * e) (face_from lead top known n) face₀ → face ≡ filled (2 * e) (face_in (walks_of g) (length g.points)) face₀
+    face_at_lem face = face-filled ps os cs n e F P big lead top L T known K face₀ face
+
+-- ── the needs ──
+pub tell-count-requires : goal.tell-count-requires
+tell-count-requires c =
+    let s = (goal.at.tell-count-requires c).Start in
+    let r = (goal.at.tell-count-requires c).After-rise-rising in
+    record {
+      fact_1 = sighted s r.rise-rising.result r.rise-rising.ensures.rises;
+      fact_2 = (leads s, tops-numbers (ps s) (os s) (cs s) (n s) (e s) (F s) (P s) (big s) (lead s) (top s) (L s) (T s));
+      fact_3 = (s.requires.fact_2.1.1.1.0, s.requires.fact_2.1.1.1.2);
+    }
+
+pub overflow_add-count : goal.overflow_add-count
+overflow_add-count c =
+    let s = (goal.at.overflow_add-count c).Start in
+    let t = (goal.at.overflow_add-count c).After-tell-count in
+    omega (arith, small s, t.tell-count.ensures.leaders.1, count-le (outer_lead (lead s) (top s)) (2 * e s))
+
+pub settle-requires : goal.settle-requires
+settle-requires c =
+    let s = (goal.at.settle-requires c).Start in
+    let t = (goal.at.settle-requires c).After-tell-count in
+    let known = t.tell-count.last.1.1.1.1.1.1.1.1.0 in
+    let K = t.tell-count.ensures.known in
+    let r = t.tell-count.ensures.leaders.1 in
+    record {
+      fact_1 = all-faced s known K;
+      fact_2 = big s;
+      fact_3 = below s known K t.tell-count.result r;
+      fact_4 = (s.requires.fact_2.1.1.1.1, omega (arith, s.requires.fact_2.1.1.1.3, r, count-le (outer_lead (lead s) (top s)) (2 * e s)));
+    }
+
+pub returns : goal.returns
+returns c =
+    let s = (goal.at.returns c).Start in
+    let t = (goal.at.returns c).After-tell-count in
+    let d = (goal.at.returns c).After-settle in
+    let known = t.tell-count.last.1.1.1.1.1.1.1.1.0 in
+    let K = t.tell-count.ensures.known in
+    let face = d.settle.last.1.1.1.1.1.0 in
+    record {
+      face_is = over_is (ps s) (os s) (cs s) (n s) (e s) (F s) (P s) (face_in (walks_of (g s)) (length (g s).points)) (face₀ s) face (face_at_lem s known K face d.settle.ensures.faces);
+      outers_is = outers-flat (ps s) (os s) (cs s) (n s) (e s) (F s) (P s) (big s) (lead s) (top s) (L s) (T s) s.args.leaders.now t.tell-count.last.1.1.1.1.1.1.1.1.1.0 t.tell-count.ensures.leaders.0;
+      count_is = count-flat (ps s) (os s) (cs s) (n s) (e s) (F s) (P s) (big s) (lead s) (top s) (L s) (T s) t.tell-count.result t.tell-count.ensures.leaders.1;
+      holes_is = holes-filled (ps s) (os s) (cs s) (n s) (e s) (F s) (P s) (big s) (lead s) (top s) (L s) (T s) known K t.tell-count.result s.args.inside.now d.settle.last.1.1.1.1.1.1.0 d.settle.ensures.inside;
+    }
+
+pub rise-rising-requires : goal.rise-rising-requires
+rise-rising-requires c = let s = (goal.at.rise-rising-requires c).Start in (F s).points

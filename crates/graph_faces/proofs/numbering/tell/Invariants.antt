@@ -1,0 +1,20 @@
+-- `graph_faces::numbering::tell` meets its contract. Assumes nothing.
+use Rattle.std.specs.Prelude.{◌-◌, ◌*◌}
+use mathlib.Core.Logic.{⊎_elim}
+use mathlib.Core.Path.{◌∙◌, ap}
+use Prim.Native.Nat.{◌<◌}
+use native.Mathlib.Numerals.{add-one}
+use native.Mathlib.Omega.{arith}
+use borrow.Author.Rules.{rules}
+use Rattle.seq.specs.Seq.{ℕ, suc}
+use Rattle.seq.specs.Loops.Selecting.{Selecting, count_most, count_ends, select_starts, select_ends}
+use Rattle.graph_faces.specs.Kinds.{Kinded, outer_lead, known_by, known_with}
+use Rattle.graph_faces.specs.Laws.Telling.{Telling, tell_starts, tell-takes, tell-skips, tell_ends, outer_turns, outer-skips}
+use Rattle.graph_faces.proofs.numbering.tell.Given as goal
+
+abbrev pub invariant-loop-h : goal.invariant-loop-h
+invariant-loop-h l =
+    Telling (known_by l.points l.origins l.carriers l.n l.e l.lead l.top) l.lead (2 * l.e) l.initial.known l.known l.h × Selecting (outer_lead l.lead l.top) (2 * l.e) l.initial.leaders l.leaders l.c l.h
+
+abbrev pub decreases-loop-h : goal.decreases-loop-h
+decreases-loop-h l = 2 * l.e - l.h

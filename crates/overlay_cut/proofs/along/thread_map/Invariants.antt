@@ -1,0 +1,16 @@
+-- `overlay_cut::along::thread_map` meets its contract. Assumes nothing.
+use mathlib.Core.Path.{◌≡◌}
+use Prim.Native.Nat.{◌≤◌}
+use lib.ListN.{length}
+use Rattle.overlay_cut.specs.Links.{pieced, Linked}
+use Rattle.overlay_cut.specs.Cutting.{puts, Cutting}
+use Rattle.overlay_cut.specs.Threads.{thread_row, thread_map}
+use Rattle.overlay_cut.proofs.along.thread_map.Given as goal
+
+abbrev pub invariant-loop-k : goal.invariant-loop-k
+invariant-loop-k l =
+    (l.k ≤ l.e) × (length l.rows ≡ length l.initial.rows) × (length l.links ≡ length l.initial.links) × Linked l.room l.rows l.links l.n l.total
+    × Cutting l.room (thread_row l.last l.nodes l.from l.m) (puts l.room (pieced l.initial.rows l.count) (thread_map l.last l.nodes l.from l.m l.e)) l.rows l.total l.k
+
+abbrev pub decreases-loop-k : goal.decreases-loop-k
+decreases-loop-k l = l.k

@@ -1,0 +1,11 @@
+-- `overlay_cut::edges::carriers` meets its contract. Assumes nothing.
+use Prim.Native.Nat.{◌-◌}
+use Rattle.overlay_cut.specs.Net.{carrier_in, seg_row}
+use Rattle.seq.specs.Loops.Storing.{Laying}
+use Rattle.overlay_cut.proofs.edges.carriers.Given as goal
+
+abbrev pub invariant-loop-k : goal.invariant-loop-k
+invariant-loop-k l = Laying 4 (λ j. seg_row (carrier_in l.pieces l.carriers l.starts j)) l.e l.initial.out l.out l.k
+
+abbrev pub decreases-loop-k : goal.decreases-loop-k
+decreases-loop-k l = l.e - l.k

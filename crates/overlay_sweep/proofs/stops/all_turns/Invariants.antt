@@ -1,0 +1,13 @@
+-- `overlay_sweep::stops::all_turns` meets its contract. Assumes nothing.
+use Prim.Native.Nat.{◌-◌}
+use Rattle.overlay_cut.specs.Rooms.{vertex_rows}
+use Rattle.overlay_sweep.specs.Threading.{Spun}
+use Rattle.overlay_sweep.specs.Loop.{Looping}
+use Rattle.overlay_sweep.proofs.stops.all_turns.Given as goal
+
+abbrev pub invariant-loop-n : goal.invariant-loop-n
+invariant-loop-n l =
+    Looping l.carriers l.e l.starts l.rows l.k l.waits l.initial.status l.status l.initial.fan l.fan l.initial.points l.points l.initial.out l.out l.c l.w l.n l.i × Spun l.carriers l.e l.room l.initial.last l.last l.initial.nodes l.nodes l.out l.t l.i
+
+abbrev pub decreases-loop-n : goal.decreases-loop-n
+decreases-loop-n l = vertex_rows - l.i

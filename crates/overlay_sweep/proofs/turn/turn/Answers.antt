@@ -1,0 +1,29 @@
+-- `overlay_sweep::turn::turn` meets its contract. Assumes nothing.
+use Rattle.overlay_sweep.specs.Turned.{numbers-fewer}
+use Rattle.overlay_sweep.proofs.turn.turn.Goals as goal
+use Rattle.overlay_sweep.proofs.turn.turn.Goals.{After-edges_through-at, After-exchange-x, After-thread-u, Start}
+
+pub edges_through-at-requires : goal.edges_through-at-requires
+edges_through-at-requires c =
+    let r = c.requires.fact_1 in
+    record { fact_1 = r.carriers; fact_2 = r.named; fact_3 = (r.waits, r.started); fact_4 = c.requires.fact_3; fact_5 = c.requires.fact_4 }
+
+pub thread-u-requires : goal.thread-u-requires
+thread-u-requires c =
+    let r = c.requires.fact_1 in
+    let m = c.edges_through-at.ensures in
+    let t = c.requires.fact_5 in
+    record { fact_1 = (numbers-fewer r.waits m.starts.scan.within, m.starts.scan.low); fact_2 = (numbers-fewer r.named m.through.scan.within, m.through.scan.low); fact_3 = t }
+
+pub exchange-x-requires : goal.exchange-x-requires
+exchange-x-requires c =
+    record { fact_1 = c.requires.fact_1; fact_2 = c.requires.fact_2; fact_3 = c.requires.fact_3; fact_4 = c.edges_through-at.ensures }
+
+pub returns : goal.returns
+returns c =
+    let at = c.edges_through-at in
+    let t = c.thread-u in
+    record {
+      turned = c.exchange-x.ensures;
+      threads = record { from = at.result.from; to = at.result.to; meets = at.ensures; remembered = t.ensures.0; within = t.ensures.1 };
+    }
