@@ -1,0 +1,17 @@
+-- `text::cells::gaps` meets its contract. Assumes nothing.
+use Rattle.std.specs.Prelude.{◌+◌, ◌-◌}
+use Prim.Native.Nat.{◌≤◌}
+use native.Mathlib.Omega.{arith}
+use borrow.Author.Rules.{rules}
+use mathlib.Core.Path.{◌∙◌, ap}
+use Rattle.seq.specs.Seq.{Bool, cond}
+use Rattle.seq.specs.Loops.Selecting.{Counting, count_starts, count_most, count_ends}
+use Rattle.paper.specs.Listing.{is_gap}
+use Rattle.text.proofs.GapsLaws.{gap_behind, gaps-turn}
+use Rattle.text.proofs.cells.gaps.Given as goal
+
+abbrev pub invariant-loop-f : goal.invariant-loop-f
+invariant-loop-f l = (1 ≤ l.f) × Counting (gap_behind l.faces) (l.count - 1) l.found (l.f - 1)
+
+abbrev pub decreases-loop-f : goal.decreases-loop-f
+decreases-loop-f l = l.count - l.f
