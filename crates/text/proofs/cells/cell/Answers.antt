@@ -1,6 +1,5 @@
 -- `text::cells::cell` meets its contract. Assumes nothing.
 use mathlib.Core.Path.{sym}
-use borrow.Author.Rules.{rules}
 use lib.ListN.{get_or-eq_default}
 use Rattle.text.proofs.cells.cell.Goals as goal
 

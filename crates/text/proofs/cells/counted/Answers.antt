@@ -1,5 +1,4 @@
 -- `text::cells::counted` meets its contract. Assumes nothing.
-use borrow.Author.Rules.{rules}
 use Rattle.text.proofs.GapsLaws.{one_more, no_more}
 use Rattle.text.proofs.cells.counted.Goals as goal
 

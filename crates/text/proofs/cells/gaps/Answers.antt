@@ -1,13 +1,11 @@
 -- `text::cells::gaps` meets its contract. Assumes nothing.
-use Rattle.std.specs.Prelude.{◌+◌, ◌-◌}
-use Prim.Native.Nat.{◌≤◌}
+use Rattle.std.specs.Prelude.{◌+◌}
 use native.Mathlib.Omega.{arith}
-use borrow.Author.Rules.{rules}
 use mathlib.Core.Path.{◌∙◌, ap}
 use Rattle.seq.specs.Seq.{Bool, cond}
-use Rattle.seq.specs.Loops.Selecting.{Counting, count_starts, count_most, count_ends}
+use Rattle.seq.specs.Loops.Selecting.{count_starts, count_most, count_ends}
 use Rattle.paper.specs.Listing.{is_gap}
-use Rattle.text.proofs.GapsLaws.{gap_behind, gaps-turn}
+use Rattle.text.proofs.GapsLaws.{gaps-turn}
 use Rattle.text.proofs.cells.gaps.Goals as goal
 
 pub counted-found-requires : goal.counted-found-requires

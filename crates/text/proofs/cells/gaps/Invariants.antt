@@ -1,13 +1,8 @@
 -- `text::cells::gaps` meets its contract. Assumes nothing.
-use Rattle.std.specs.Prelude.{◌+◌, ◌-◌}
+use Rattle.std.specs.Prelude.{◌-◌}
 use Prim.Native.Nat.{◌≤◌}
-use native.Mathlib.Omega.{arith}
-use borrow.Author.Rules.{rules}
-use mathlib.Core.Path.{◌∙◌, ap}
-use Rattle.seq.specs.Seq.{Bool, cond}
-use Rattle.seq.specs.Loops.Selecting.{Counting, count_starts, count_most, count_ends}
-use Rattle.paper.specs.Listing.{is_gap}
-use Rattle.text.proofs.GapsLaws.{gap_behind, gaps-turn}
+use Rattle.seq.specs.Loops.Selecting.{Counting}
+use Rattle.text.proofs.GapsLaws.{gap_behind}
 use Rattle.text.proofs.cells.gaps.Given as goal
 
 abbrev pub invariant-loop-f : goal.invariant-loop-f

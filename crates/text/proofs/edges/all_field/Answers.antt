@@ -1,7 +1,6 @@
 -- `text::edges::all_field` meets its contract. Assumes nothing.
 use native.Mathlib.Omega.{arith}
 use mathlib.Core.Path.{refl}
-use borrow.Author.Rules.{rules}
 use Rattle.paper.specs.Bytes.{ascii}
 use Rattle.paper.specs.Listing.{decimal}
 use Rattle.text.proofs.LineLaws.{put-field, put_as}

@@ -1,6 +1,5 @@
 -- `text::edges::edge_line` meets its contract. Assumes nothing.
 use native.Mathlib.Omega.{arith}
-use borrow.Author.Rules.{rules}
 use Rattle.text.proofs.LineLaws.{put-behind, put-line}
 use Rattle.text.proofs.edges.edge_line.Goals as goal
 

@@ -1,5 +1,4 @@
 -- `text::edges::ends_field` meets its contract. Assumes nothing.
-use borrow.Author.Rules.{rules}
 use Rattle.paper.specs.Bytes.{ascii}
 use Rattle.paper.specs.Listing.{decimal}
 use Rattle.text.proofs.LineLaws.{put-field}

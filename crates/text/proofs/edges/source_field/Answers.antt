@@ -1,7 +1,6 @@
 -- `text::edges::source_field` meets its contract. Assumes nothing.
 use mathlib.Core.Path.{sym, ap}
 use native.Mathlib.Omega.{arith}
-use borrow.Author.Rules.{rules}
 use Rattle.seq.specs.Seq.{List, ℕ}
 use Rattle.tables.specs.declared.edge_record.Source.{Source}
 use Rattle.tables.specs.Found.{source_from}

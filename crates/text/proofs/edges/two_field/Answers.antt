@@ -1,5 +1,4 @@
 -- `text::edges::two_field` meets its contract. Assumes nothing.
-use borrow.Author.Rules.{rules}
 use Rattle.paper.specs.Listing.{decimal}
 use Rattle.text.proofs.LineLaws.{put-field}
 use Rattle.text.proofs.edges.two_field.Goals as goal

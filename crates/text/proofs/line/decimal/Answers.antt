@@ -1,5 +1,4 @@
 -- `text::line::decimal` meets its contract: the digits that `io` writes are the decimal text. Assumes nothing.
-use borrow.Author.Rules.{rules}
 use native.Mathlib.Omega.{arith}
 use mathlib.Core.Path.{◌∙◌}
 use Rattle.text.proofs.LineLaws.{put_as}

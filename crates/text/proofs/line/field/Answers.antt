@@ -1,5 +1,4 @@
 -- `text::line::field` meets its contract. Assumes nothing.
-use borrow.Author.Rules.{rules}
 use Rattle.text.proofs.LineLaws.{put-behind}
 use Rattle.text.proofs.line.field.Goals as goal
 

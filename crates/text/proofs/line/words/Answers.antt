@@ -1,10 +1,7 @@
 -- `text::line::words` meets its contract: before turn i the first i bytes stand. Assumes nothing.
-use Rattle.std.specs.Prelude.{◌-◌}
 use mathlib.Core.Path.{refl}
 use native.Mathlib.Omega.{arith}
-use borrow.Author.Rules.{rules}
-use Rattle.seq.specs.Seq.{length}
-use Rattle.seq.specs.Loops.Copying.{Copying, copy_starts, copy_turns, copy_ends}
+use Rattle.seq.specs.Loops.Copying.{copy_starts, copy_turns, copy_ends}
 use Rattle.text.proofs.line.words.Goals as goal
 
 pub loop-i-init : goal.loop-i-init

@@ -1,6 +1,5 @@
 -- `text::lines::counts_line` meets its contract. Assumes nothing.
 use native.Mathlib.Omega.{arith}
-use borrow.Author.Rules.{rules}
 use Rattle.paper.specs.Bytes.{ascii}
 use Rattle.paper.specs.Listing.{decimal}
 use Rattle.text.proofs.LineLaws.{put-behind, put-field, put-line}

@@ -1,6 +1,5 @@
 -- `text::lines::face_line` meets its contract. Assumes nothing.
 use native.Mathlib.Omega.{arith}
-use borrow.Author.Rules.{rules}
 use Prim.Native.Nat.{◌≤◌}
 use Rattle.seq.specs.Seq.{cond, eqb, length}
 use Rattle.paper.specs.Bytes.{ascii}

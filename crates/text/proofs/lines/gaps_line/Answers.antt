@@ -1,6 +1,5 @@
 -- `text::lines::gaps_line` meets its contract. Assumes nothing.
 use native.Mathlib.Omega.{arith}
-use borrow.Author.Rules.{rules}
 use Rattle.text.proofs.LineLaws.{put-behind, put-line}
 use Rattle.text.proofs.lines.gaps_line.Goals as goal
 

@@ -1,5 +1,4 @@
 -- `text::lines::least_field` meets its contract. Assumes nothing.
-use borrow.Author.Rules.{rules}
 use native.Mathlib.Omega.{arith}
 use Rattle.text.proofs.LineLaws.{put_as, least_none, least_some}
 use Rattle.text.proofs.lines.least_field.Goals as goal

@@ -1,6 +1,5 @@
 -- `text::whole::listing` meets its contract. Assumes nothing.
 use native.Mathlib.Omega.{arith}
-use borrow.Author.Rules.{rules}
 use Rattle.paper.specs.Tables.{Counts}
 use Rattle.text.proofs.LineLaws.{put_as, put-behind, put-line, listing-parts}
 use Rattle.text.proofs.whole.listing.Goals as goal

@@ -1,6 +1,5 @@
 -- `text::whole::put_counts` meets its contract. Assumes nothing.
 use native.Mathlib.Omega.{arith}
-use borrow.Author.Rules.{rules}
 use Rattle.text.proofs.LineLaws.{put-lined}
 use Rattle.text.proofs.whole.put_counts.Goals as goal
 

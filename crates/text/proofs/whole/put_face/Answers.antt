@@ -1,6 +1,5 @@
 -- `text::whole::put_face` meets its contract. Assumes nothing.
 use native.Mathlib.Omega.{arith}
-use borrow.Author.Rules.{rules}
 use Rattle.text.proofs.LineLaws.{put-lined}
 use Rattle.text.proofs.whole.put_face.Goals as goal
 

@@ -1,11 +1,5 @@
 -- `text::whole::put_faces` meets its contract: before turn f the lines of the first f faces stand. Assumes nothing.
-use Rattle.std.specs.Prelude.{◌*◌, ◌-◌}
-use borrow.Author.Rules.{rules}
 use native.Mathlib.Omega.{arith}
-use Prim.Native.Nat.{◌≤◌}
-use Rattle.seq.specs.Seq.{rows}
-use Rattle.text.specs.Line.{Put}
-use Rattle.text.specs.Lines.{face_text}
 use Rattle.text.proofs.LineLaws.{put_none, put-face_more, put-faces_all}
 use Rattle.text.proofs.whole.put_faces.Goals as goal
 

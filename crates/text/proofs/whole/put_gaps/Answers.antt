@@ -1,7 +1,6 @@
 -- `text::whole::put_gaps` meets its contract. Assumes nothing.
 use mathlib.Core.Path.{ap}
 use native.Mathlib.Omega.{arith}
-use borrow.Author.Rules.{rules}
 use Rattle.text.specs.Lines.{gaps_text}
 use Rattle.text.proofs.LineLaws.{put_as, put-lined}
 use Rattle.text.proofs.whole.put_gaps.Goals as goal

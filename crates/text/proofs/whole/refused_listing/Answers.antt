@@ -1,6 +1,5 @@
 -- `text::whole::refused_listing` meets its contract. Assumes nothing.
 use native.Mathlib.Omega.{arith}
-use borrow.Author.Rules.{rules}
 use Rattle.text.proofs.LineLaws.{put-lined, put-line}
 use Rattle.text.proofs.whole.refused_listing.Goals as goal
 
