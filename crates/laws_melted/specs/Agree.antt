@@ -17,7 +17,7 @@ use Rattle.paper.specs.Melt.{melted_pieces, melted_graph, melted_of}
 use Rattle.laws_graph.specs.Plane.{Plane}
 use Rattle.laws_graph.specs.Follow.{followers_at, of_list, follower_below, predecessor_below, predecessor-follower, follower-predecessor}
 use Rattle.laws_graph.specs.Walks.{along_below, walk-along, walk-closes, walk-once, lead_is, lead_below, lead-lead, one_walk}
-use Rattle.laws_graph.specs.Faces.{face_of, face_below}
+use Rattle.laws_graph.specs.Faces.{face_below}
 use Rattle.laws_overlay.specs.Maps.{AllKeep}
 use Rattle.laws_overlay.specs.Cells.{face_labels}
 use Rattle.laws_labels.specs.Drawn.{Drawn, drawn-held, drawn-face, drawn-walk}
