@@ -2,7 +2,6 @@
 use Rattle.std.specs.Prelude.{◌*◌}
 use mathlib.Core.Path.{ap, ◌∙◌}
 use native.Mathlib.Omega.{arith}
-use borrow.Author.Rules.{rules}
 use Rattle.paper.specs.Refusal.{the_of_map}
 use Rattle.paper.specs.Map.{vertex_count, edges_in, fault}
 use Rattle.map_check.specs.Held.{stored}
@@ -11,14 +10,12 @@ use Rattle.overlay_maps.specs.Layers.{corners_of, origins_of, carriers_of, label
 use Rattle.overlay_maps.proofs.PartLaws.{lent_long, part-stored}
 use Rattle.overlay_maps.proofs.StackLaws.{corners_long, origins_long, carriers_long, labels_long}
 use Rattle.overlay_maps.proofs.HeldLaws.{stored_is}
-use Rattle.overlay_maps.proofs.stack.lay_behind.Statement.{statement}
-use Rattle.overlay_maps.proofs.stack.lay_behind.Tie as tie
+use Rattle.overlay_maps.proofs.stack.lay_behind.Goals as goal
 
-lay-map-requires : tie.Need-lay-map-requires
-lay-map-requires c κs =
-    let start = c.before.before.before.before.before.before.before in
-    let a = start.args in
-    let room = start.requires in
+pub lay_map-c-requires : goal.lay_map-c-requires
+lay_map-c-requires c =
+    let a = c.args in
+    let room = c.requires in
     let s = a.file.now in
     record {
       corners = lent_long a.corners.now (4 * a.v) (4 * stored vertex_count s) (omega (arith, room.corners));
@@ -27,13 +24,12 @@ lay-map-requires c κs =
       labels = lent_long a.labels.now (2 * a.e) (2 * stored edges_in s) (omega (arith, room.labels));
     }
 
-returns : tie.Need-returns
+pub returns : goal.returns
 returns c =
-    let start = c.before.before.before.before.before.before.before.before.before.before.before.before.before.before.before in
-    let a = start.args in
-    let room = start.requires in
+    let a = c.args in
+    let room = c.requires in
     let s = a.file.now in
-    let laid = c.before.before.before.before.before.before.before.lay-map.ensures in (
+    let laid = c.lay_map-c.ensures in (
       c.of_map.ensures ∙ ap (the_of_map a.map) (ap refused_in laid.0 ∙ refused_with_lem _ (fault s)),
       λ q.
           let v = stored_is s q vertex_count in
@@ -46,34 +42,3 @@ returns c =
             labels-are = part-stored a.labels.now (2 * a.e) (labels_of s) _ (omega (arith, room.labels, labels_long s, e)) m.labels-are;
           },
     )
-
-pub lay-behind-spec : {M : Type 1} → statement M
-lay-behind-spec =
-    tie.close
-    (tie.spec
-    (λ c. search rules)
-    (λ c. search rules)
-    (λ c. search rules)
-    (λ c. search rules)
-    (λ c. search rules)
-    (λ c. search rules)
-    (λ c. search rules)
-    (λ c. search rules)
-    (λ c. search rules)
-    (λ c. search rules)
-    (λ c. search rules)
-    (λ c. search rules)
-    (λ c. search rules)
-    (λ c. search rules)
-    (λ c. search rules)
-    (λ c. search rules)
-    (λ c. search rules)
-    (λ c. search rules)
-    (λ c. search rules)
-    lay-map-requires
-    (λ c κs. search rules)
-    (λ c. search rules)
-    (λ c. search rules)
-    (λ c. search rules)
-    (λ c. search rules)
-    returns)
