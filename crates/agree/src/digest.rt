@@ -1,9 +1,8 @@
 // The digest of an overlay's tables, and of a mended file with its list, as the second program reckons it (second/README.md): FNV-1a of 64 bits.
 use exact::magnitude;
 use limits::{EDGE_WIDTH, FACE_WIDTH, SOURCE_WIDTH, VERTEX_WIDTH};
-use map_file::byte_at;
 use ovfile::{i64_at, u16_at, u32_at};
-use std::num::{wrapping_add_u64, wrapping_sub_u64};
+use std::io::{Print, Result};
 use tables::{Answer, Counts};
 
 const START: u64 = 14695981039346656037;
@@ -13,18 +12,16 @@ fn times(x: u64) -> u64 {
     let low = x % 4294967296 * 435;
     let high = x / 4294967296 * 435 % 4294967296 * 4294967296;
     let shifted = x % 16777216 * 1099511627776;
-    wrapping_add_u64(wrapping_add_u64(low, high), shifted)
+    low.wrapping_add(high).wrapping_add(shifted)
 }
 
 // A number's bytes, low byte first.
 fn add(digest: u64, number: u64, bytes: u8) -> u64 {
     let mut sum = digest;
     let mut rest = number;
-    let mut k: u8 = 0;
-    while k < bytes {
+    for _ in 0..bytes {
         sum = times(sum ^ (rest % 256));
         rest /= 256;
-        k += 1;
     }
     sum
 }
@@ -32,7 +29,7 @@ fn add(digest: u64, number: u64, bytes: u8) -> u64 {
 // A signed number's 64 bits.
 fn bits(x: i64) -> u64 {
     if x < 0 {
-        wrapping_sub_u64(0, magnitude(x))
+        0u64.wrapping_sub(magnitude(x))
     } else {
         magnitude(x)
     }
@@ -40,30 +37,24 @@ fn bits(x: i64) -> u64 {
 
 fn add_i64s(digest: u64, t: &[i64], count: usize) -> u64 {
     let mut sum = digest;
-    let mut i = 0;
-    while i < count {
+    for i in 0..count {
         sum = add(sum, bits(i64_at(t, i)), 8);
-        i += 1;
     }
     sum
 }
 
 fn add_u16s(digest: u64, t: &[u16], count: usize) -> u64 {
     let mut sum = digest;
-    let mut i = 0;
-    while i < count {
+    for i in 0..count {
         sum = add(sum, u16_at(t, i) as u64, 2);
-        i += 1;
     }
     sum
 }
 
 fn add_u32s(digest: u64, t: &[u32], count: usize) -> u64 {
     let mut sum = digest;
-    let mut i = 0;
-    while i < count {
+    for i in 0..count {
         sum = add(sum, u32_at(t, i) as u64, 4);
-        i += 1;
     }
     sum
 }
@@ -109,10 +100,8 @@ pub fn of_outcome(
 
 fn add_u8s(digest: u64, t: &[u8]) -> u64 {
     let mut sum = digest;
-    let mut i = 0;
-    while i < t.len() {
-        sum = add(sum, byte_at(t, i) as u64, 1);
-        i += 1;
+    for b in t {
+        sum = add(sum, *b as u64, 1);
     }
     sum
 }
@@ -120,4 +109,9 @@ fn add_u8s(digest: u64, t: &[u8]) -> u64 {
 // All bytes of a lent file, and all numbers of a lent list.
 pub fn of_lent(file: &[u8], list: &[u16]) -> u64 {
     add_u16s(add_u8s(START, file), list, list.len())
+}
+
+// The 16 hexadecimal digits of a digest.
+pub fn say_digest(rt: &impl Print, sum: u64) -> Result<()> {
+    print!(rt; "{sum:016x}")
 }

@@ -8,8 +8,10 @@ mod mends; // files mended
 mod pack; // the numbers and files of a pack
 mod ways; // both ways to collect the vertices
 
-fn main() {
-    sheets::all(b"pairs", false);
-    mends::all();
-    sheets::all(b"melts", true);
+use std::io;
+
+fn main(rt: HostRuntime) -> io::Result<()> {
+    sheets::all(&rt, "pairs", false)?;
+    mends::all(&rt)?;
+    sheets::all(&rt, "melts", true)
 }

@@ -3,6 +3,7 @@ ghost use Rattle.std.specs.Prelude.{◌≤◌};
 ghost use Rattle.io.specs.Counts.{IsPrefixLen};
 
 use map_file::u16_at;
+use std::io::Read;
 
 // How many rows of each table are lent.
 #[derive(Clone, Copy)]
@@ -14,27 +15,27 @@ pub struct Rows {
 }
 
 // A number of 16 bits, low byte first.
-pub fn number(fd: i32) -> u16 {
+pub fn number<F: Read>(from: &mut F) -> u16 {
     let mut bytes = [0u8; 2];
-    io::read_full(fd, &mut bytes);
+    console::read_full(from, &mut bytes);
     u16_at(&bytes, 0)
 }
 
-pub fn lent(fd: i32) -> Rows {
+pub fn lent<F: Read>(from: &mut F) -> Rows {
     Rows {
-        vertices: number(fd),
-        halves: number(fd),
-        sources: number(fd),
-        faces: number(fd),
+        vertices: number(from),
+        halves: number(from),
+        sources: number(from),
+        faces: number(from),
     }
 }
 
 // Puts the next n bytes at the start of a buffer, and answers how many there are.
-pub fn fetch(fd: i32, n: u16, buf: &mut [u8]) -> usize
+pub fn fetch<F: Read>(from: &mut F, n: u16, buf: &mut [u8]) -> usize
     ensures { IsPrefixLen result buf.new }
 {
     let k = console::within(n as usize, buf);
-    let got = io::read_full(fd, &mut buf[0..k]);
+    let got = console::read_full(from, &mut buf[0..k]);
     console::within(got, buf)
 }
 

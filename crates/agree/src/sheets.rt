@@ -6,32 +6,35 @@ use limits::{
     OVERLAY_VERTICES, SOURCE_CELLS, SOURCE_WIDTH, VERTEX_CELLS, VERTEX_WIDTH,
 };
 use map_file::Refusal;
+use std::fs;
+use std::io::{Eprint, Print, Read, Result};
+use std::rt::Files;
 use tables::{Answer, Counts};
 
-fn say_done(c: Counts, digest: u64) {
-    say(b"done ");
-    say_number(c.vertices as u64);
-    say(b" ");
-    say_number(c.edges as u64);
-    say(b" ");
-    say_number(c.faces as u64);
-    say(b" ");
-    io::print_hex(libc::STDOUT_FILENO, digest, 16);
-    say(b"\n");
+fn say_done(rt: &impl Print, c: Counts, sum: u64) -> Result<()> {
+    say(rt, b"done ")?;
+    say_number(rt, c.vertices as u64)?;
+    say(rt, b" ")?;
+    say_number(rt, c.edges as u64)?;
+    say(rt, b" ")?;
+    say_number(rt, c.faces as u64)?;
+    say(rt, b" ")?;
+    digest::say_digest(rt, sum)?;
+    say(rt, b"\n")
 }
 
-fn put(text: &[u8], n: u16) {
-    say(text);
-    say_number(n as u64);
+fn put(rt: &impl Print, text: &[u8], n: u16) -> Result<()> {
+    say(rt, text)?;
+    say_number(rt, n as u64)
 }
 
 // What 01's line says, and the other edge behind it.
-fn say_refused(r: Refusal) {
-    put(b"refused ", r.number);
-    put(b" map ", r.map);
-    put(b" place ", r.place);
-    put(b" other ", r.other);
-    say(b"\n");
+fn say_refused(rt: &impl Print, r: Refusal) -> Result<()> {
+    put(rt, b"refused ", r.number)?;
+    put(rt, b" map ", r.map)?;
+    put(rt, b" place ", r.place)?;
+    put(rt, b" other ", r.other)?;
+    say(rt, b"\n")
 }
 
 // The operation that is asked for: the overlay, or what is left of it when it is melted (02, Ask 12).
@@ -54,6 +57,7 @@ fn ask(
 
 // The answer for three files, with these tables lent.
 fn answer(
+    rt: &impl Print,
     melts: bool,
     zones: &[u8],
     blocks: &[u8],
@@ -62,29 +66,29 @@ fn answer(
     halves: &mut [u16],
     sources: &mut [u32],
     faces: &mut [u16],
-) {
+) -> Result<()> {
     let r = ask(melts, zones, blocks, bed, vertices, halves, sources, faces);
     match r {
-        Answer::Done(c) => say_done(c, digest::of(c, vertices, halves, sources, faces)),
-        Answer::Refused(f) => say_refused(f),
+        Answer::Done(c) => say_done(rt, c, digest::of(c, vertices, halves, sources, faces)),
+        Answer::Refused(f) => say_refused(rt, f),
     }
 }
 
 // The next three maps: their lent tables' rows, their files.
-fn next(fd: i32, melts: bool) {
-    let rows = pack::lent(fd);
-    let n = pack::number(fd);
-    let m = pack::number(fd);
-    let k = pack::number(fd);
-    let mut zones = io::large_buffer();
-    let n = pack::fetch(fd, n, &mut zones);
-    let mut blocks = io::large_buffer();
-    let m = pack::fetch(fd, m, &mut blocks);
-    let mut bed = io::large_buffer();
-    let k = pack::fetch(fd, k, &mut bed);
+fn next<R: Print, F: Read>(rt: &R, from: &mut F, melts: bool) -> Result<()> {
+    let rows = pack::lent(from);
+    let n = pack::number(from);
+    let m = pack::number(from);
+    let k = pack::number(from);
+    let mut zones = console::large_buffer();
+    let n = pack::fetch(from, n, &mut zones);
+    let mut blocks = console::large_buffer();
+    let m = pack::fetch(from, m, &mut blocks);
+    let mut bed = console::large_buffer();
+    let k = pack::fetch(from, k, &mut bed);
     if !melts {
         if !ways::agree(&zones[..n], &blocks[..m], &bed[..k], rows) {
-            say(b"the ways differ: ");
+            say(rt, b"the ways differ: ")?;
         }
     }
     let mut vertices = [0i64; VERTEX_CELLS];
@@ -96,6 +100,7 @@ fn next(fd: i32, melts: bool) {
     let s = SOURCE_WIDTH * pack::least(rows.sources, OVERLAY_EDGES);
     let f = FACE_WIDTH * pack::least(rows.faces, OVERLAY_FACES);
     answer(
+        rt,
         melts,
         &zones[..n],
         &blocks[..m],
@@ -104,26 +109,25 @@ fn next(fd: i32, melts: bool) {
         &mut halves[0..h],
         &mut sources[0..s],
         &mut faces[0..f],
-    );
+    )
 }
 
-fn each(fd: i32, melts: bool, count: u16) {
-    let mut i: u16 = 0;
-    while i < count {
-        say_number(i as u64);
-        say(b" ");
-        next(fd, melts);
-        i += 1;
+fn each<R: Print, F: Read>(rt: &R, from: &mut F, melts: bool, count: u16) -> Result<()> {
+    for i in 0..count {
+        say_number(rt, i as u64)?;
+        say(rt, b" ")?;
+        next(rt, from, melts)?;
     }
+    Ok(())
 }
 
 // All sheets of the pack of this name.
-pub fn all(name: &[u8], melts: bool) {
-    let fd = os::open_read(name);
-    if fd < 0 {
-        os::fail(name);
-        return;
+pub fn all(rt: &(impl Files + Print + Eprint), name: &str, melts: bool) -> Result<()> {
+    match fs::open(rt, name) {
+        Ok(mut from) => {
+            let count = pack::number(&mut from);
+            each(rt, &mut from, melts, count)
+        }
+        Err(e) => console::fail(rt, name.as_bytes(), e),
     }
-    each(fd, melts, pack::number(fd));
-    libc::close(fd);
 }

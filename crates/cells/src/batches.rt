@@ -3,6 +3,7 @@ ghost use Rattle.soundings.specs.Unique.{Read};
 
 use limits::BATCH_BYTES;
 use soundings::{Count, add};
+use std::io;
 
 // 16 batches of 4,096 are more soundings than a list may hold.
 const BATCHES: usize = 16;
@@ -15,23 +16,21 @@ fn count_batch(count: Count, batch: &[u8]) -> Count
 }
 
 // Reads one batch more, and counts it. Where nothing is left it has no bytes.
-fn read_batch(fd: i32, count: Count) -> Count
+fn read_batch<F: io::Read>(file: &mut F, count: Count) -> Count
     ensures { Read count result }
 {
     let mut buf = [0u8; BATCH_BYTES];
-    let n = io::read_full(fd, &mut buf);
+    let n = console::read_full(file, &mut buf);
     count_batch(count, &buf[..n])
 }
 
 // The whole list, or so much of it that it is refused with 12 whatever comes.
-pub fn read_batches(fd: i32, start: Count) -> Count
+pub fn read_batches<F: io::Read>(file: &mut F, start: Count) -> Count
     ensures { Read start result }
 {
     let mut count = start;
-    let mut left = BATCHES;
-    while 0 < left {
-        count = read_batch(fd, count);
-        left -= 1;
+    for _ in 0..BATCHES {
+        count = read_batch(file, count);
     }
     count
 }

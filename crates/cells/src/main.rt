@@ -6,21 +6,25 @@ mod words; // what is printed
 mod batches; // the list, batch by batch
 mod maps; // the two maps, and what is answered
 
+use std::io;
+use std::io::Print;
+use std::rt::{Env, Files};
+
 // The buffers are longer than the longest map, so that a longer file is refused as the whole of it would be.
-fn count_args() {
-    let mut zones = io::buffer();
-    let n = console::load_arg(1, &mut zones);
-    let mut blocks = io::buffer();
-    let m = console::load_arg(2, &mut blocks);
-    maps::count(&zones[..n], &blocks[..m]);
+fn count_args(rt: &(impl Files + Env + Print)) -> io::Result<()> {
+    let mut zones = console::buffer();
+    let n = console::load_arg(rt, 1, &mut zones);
+    let mut blocks = console::buffer();
+    let m = console::load_arg(rt, 2, &mut blocks);
+    maps::count(rt, &zones[..n], &blocks[..m])
 }
 
-fn main() {
-    if os::arg_count() != 4 {
-        console::say(
+fn main(rt: HostRuntime) -> io::Result<()> {
+    if console::arg_count(&rt) != 4 {
+        return console::say(
+            &rt,
             b"cells ZONES BLOCKS LIST   count the soundings of a list by zone and block\n",
         );
-        return;
     }
-    count_args();
+    count_args(&rt)
 }

@@ -7,6 +7,7 @@ use limits::{MAP_EDGE_SIZE, MAP_HEAD, MAP_VERTEX_SIZE};
 use map_file::{u16_at, vertex_count};
 use meet::MeetAnswer;
 use plane::{Meeting, Point};
+use std::io::{Print, Result};
 
 // Where vertex v stands in a map file.
 pub fn vertex_at(v: u16) -> usize
@@ -54,62 +55,64 @@ fn meeting_of(file: &[u8], k: u16, j: u16) -> MeetAnswer {
 }
 
 // The first coordinate of a point in lowest terms: `7/3`, or `2`.
-fn say_first(q: Point) {
+fn say_first(rt: &impl Print, q: Point) -> Result<()> {
     if q.x < 0 {
-        say(b"-");
+        say(rt, b"-")?;
     }
-    say_number(magnitude(q.x));
+    say_number(rt, magnitude(q.x))?;
     if q.d != 1 {
-        say(b"/");
-        say_number(magnitude(q.d));
+        say(rt, b"/")?;
+        say_number(rt, magnitude(q.d))?;
     }
+    Ok(())
 }
 
 // x/d in its own lowest terms.
-fn say_fraction(x: i64, d: i64) {
+fn say_fraction(rt: &impl Print, x: i64, d: i64) -> Result<()> {
     if 0 < d {
-        say_first(exact::lowest(x, 0, d));
+        say_first(rt, exact::lowest(x, 0, d))?;
     }
+    Ok(())
 }
 
-fn say_edges(k: u16, how: &[u8], j: u16) {
-    say(b"edge ");
-    say_number(k as u64);
-    say(how);
-    say(b" edge ");
-    say_number(j as u64);
+fn say_edges(rt: &impl Print, k: u16, how: &[u8], j: u16) -> Result<()> {
+    say(rt, b"edge ")?;
+    say_number(rt, k as u64)?;
+    say(rt, how)?;
+    say(rt, b" edge ")?;
+    say_number(rt, j as u64)
 }
 
-fn say_at(p: Point) {
-    say(b" at ");
-    say_fraction(p.x, p.d);
-    say(b" ");
-    say_fraction(p.y, p.d);
+fn say_at(rt: &impl Print, p: Point) -> Result<()> {
+    say(rt, b" at ")?;
+    say_fraction(rt, p.x, p.d)?;
+    say(rt, b" ")?;
+    say_fraction(rt, p.y, p.d)
 }
 
 // Two edges that clash are not apart.
-fn say_meeting(k: u16, j: u16, m: Meeting) {
+fn say_meeting(rt: &impl Print, k: u16, j: u16, m: Meeting) -> Result<()> {
     match m {
         Meeting::Touching(p) => {
-            say_edges(k, b" touches", j);
-            say_at(p);
+            say_edges(rt, k, b" touches", j)?;
+            say_at(rt, p)
         }
         Meeting::Crossing(p) => {
-            say_edges(k, b" crosses", j);
-            say_at(p);
+            say_edges(rt, k, b" crosses", j)?;
+            say_at(rt, p)
         }
-        Meeting::Sharing => say_edges(k, b" shares a stretch with", j),
-        Meeting::Apart => say_edges(k, b" is apart from", j),
+        Meeting::Sharing => say_edges(rt, k, b" shares a stretch with", j),
+        Meeting::Apart => say_edges(rt, k, b" is apart from", j),
     }
 }
 
 // "edge 17 crosses edge 23 at 7/3 2": of a map file that is refused with 8 its place and the other edge. Such a file has passed rules 5 to 7, so that `meet` does
 // not refuse its edges.
-pub fn say_clash(file: &[u8], k: u16, j: u16) {
+pub fn say_clash(rt: &impl Print, file: &[u8], k: u16, j: u16) -> Result<()> {
     let met = meeting_of(file, k, j);
     match met {
-        MeetAnswer::Met(m) => say_meeting(k, j, m),
-        MeetAnswer::Refused(_) => say_edges(k, b" clashes with", j),
+        MeetAnswer::Met(m) => say_meeting(rt, k, j, m)?,
+        MeetAnswer::Refused(_) => say_edges(rt, k, b" clashes with", j)?,
     }
-    say(b"\n");
+    say(rt, b"\n")
 }

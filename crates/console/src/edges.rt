@@ -1,40 +1,40 @@
 // The edges of an overlay file, a line each.
 use crate::lines::{say, say_refused};
 use limits::{FACE_CELLS, HALF_CELLS, LINE, SOURCE_CELLS, VERTEX_CELLS};
+use std::io::{Print, Result};
 use tables::{Answer, Found};
 
 // The line of edge k, if there is one.
-fn say_edge(k: u16, found: Found) {
+fn say_edge(rt: &impl Print, k: u16, found: Found) -> Result<()> {
     match found {
         Found::Edge(e) => {
             let mut line = [0u8; LINE];
             let n = text::edge_line(k, e, &mut line);
-            say(&line[..n]);
+            say(rt, &line[..n])
         }
-        Found::Absent => {}
+        Found::Absent => Ok(()),
     }
 }
 
 // The first edges of the tables, in order.
-fn say_first(count: u16, halves: &[u16], sources: &[u32]) {
-    let mut k: u16 = 0;
-    while k < count {
+fn say_first(rt: &impl Print, count: u16, halves: &[u16], sources: &[u32]) -> Result<()> {
+    for k in 0..count {
         let found = tables::edge(halves, sources, k as usize);
-        say_edge(k, found);
-        k += 1;
+        say_edge(rt, k, found)?;
     }
+    Ok(())
 }
 
 // A line for each edge of the overlay that arbitrary bytes hold as an overlay file, or the line of what they are refused for.
-pub fn say_edges(file: &[u8]) -> Answer {
+pub fn say_edges(rt: &impl Print, file: &[u8]) -> Result<Answer> {
     let mut vertices = [0i64; VERTEX_CELLS];
     let mut halves = [0u16; HALF_CELLS];
     let mut sources = [0u32; SOURCE_CELLS];
     let mut faces = [0u16; FACE_CELLS];
     let answer = ovfile_read::read(file, &mut vertices, &mut halves, &mut sources, &mut faces);
     match answer {
-        Answer::Done(c) => say_first(c.edges, &halves, &sources),
-        Answer::Refused(r) => say_refused(r.number, r.map, r.place),
+        Answer::Done(c) => say_first(rt, c.edges, &halves, &sources)?,
+        Answer::Refused(r) => say_refused(rt, r.number, r.map, r.place)?,
     }
-    answer
+    Ok(answer)
 }

@@ -1,36 +1,65 @@
-// Files by name. "A file that cannot be opened counts as empty": as a file of 0 bytes.
+// Files by name. "A file that cannot be opened counts as empty": as a file of 0 bytes. A path is text: a name that is not UTF-8 names no file that can be opened.
 ghost use Rattle.io.specs.Counts.{IsPrefixLen};
 
+use crate::arguments::arg;
 use crate::lines::say;
+use std::fs;
+use std::io::{Eprint, Print, Read, Write};
+use std::rt::{Env, Files};
+
+// Reads until a buffer is full, the input ends or a read fails, and answers how many bytes stand at the buffer's start.
+pub fn read_full<R: Read>(file: &mut R, buf: &mut [u8]) -> usize
+    ensures { IsPrefixLen result buf.new }
+{
+    let mut done = 0;
+    while done < buf.len() {
+        let n = file.read(&mut buf[done..]).unwrap_or(0);
+        if n == 0 {
+            break;
+        }
+        done += n;
+    }
+    done
+}
+
+// The file of a name, opened for reading.
+fn open<R: Files>(rt: &R, path: &[u8]) -> std::io::Result<R::File> {
+    fs::open(rt, text_of(path)?)
+}
+
+// A name as text.
+fn text_of(path: &[u8]) -> std::io::Result<&str> {
+    match std::str::from_utf8(path) {
+        Ok(text) => Ok(text),
+        Err(_) => Err(std::io::Error::from(std::io::ErrorKind::InvalidInput)),
+    }
+}
 
 // Puts a file's first bytes into a buffer and answers how many there are. A buffer of one byte more than the longest valid file is enough: a longer file is
 // refused as its whole length would be.
-pub fn load(path: &[u8], buf: &mut [u8]) -> usize
+pub fn load<R: Files>(rt: &R, path: &[u8], buf: &mut [u8]) -> usize
     ensures { IsPrefixLen result buf.new }
 {
-    let fd = os::open_read(path);
-    if fd < 0 {
-        return 0;
+    match open(rt, path) {
+        Ok(mut file) => read_full(&mut file, buf),
+        Err(_) => 0,
     }
-    let n = io::read_full(fd, buf);
-    libc::close(fd);
-    n
 }
 
 // The same for the file that an argument of the program names.
-pub fn load_arg(i: usize, buf: &mut [u8]) -> usize
+pub fn load_arg<R: Files + Env>(rt: &R, i: usize, buf: &mut [u8]) -> usize
     ensures { IsPrefixLen result buf.new }
 {
     let mut path = io::buffer();
-    let n = os::arg(i, &mut path);
-    load(&path[..n], buf)
+    let n = arg(rt, i, &mut path);
+    load(rt, &path[..n], buf)
 }
 
-// The file that an argument of the program names, opened for reading; negative where it cannot be.
-pub fn open_arg(i: usize) -> i32 {
+// The file that an argument of the program names, opened for reading; an error where it cannot be.
+pub fn open_arg<R: Files + Env>(rt: &R, i: usize) -> std::io::Result<R::File> {
     let mut path = io::buffer();
-    let n = os::arg(i, &mut path);
-    os::open_read(&path[..n])
+    let n = arg(rt, i, &mut path);
+    open(rt, &path[..n])
 }
 
 // A number of a buffer's bytes: n, or all of them where n is more.
@@ -41,30 +70,37 @@ pub fn within(n: usize, buf: &[u8]) -> usize
 }
 
 // "cannot open NAME" for the file that an argument names, if that is so. It is asked after the answer, which has taken it as a file of 0 bytes.
-pub fn say_missing(i: usize) {
+pub fn say_missing(rt: &(impl Files + Env + Print), i: usize) -> std::io::Result<()> {
     let mut path = io::buffer();
-    let n = os::arg(i, &mut path);
-    let fd = os::open_read(&path[..n]);
-    if fd < 0 {
-        say(b"cannot open ");
-        say(&path[..n]);
-        say(b"\n");
-    } else {
-        libc::close(fd);
+    let n = arg(rt, i, &mut path);
+    match open(rt, &path[..n]) {
+        Ok(_) => Ok(()),
+        Err(_) => {
+            say(rt, b"cannot open ")?;
+            say(rt, &path[..n])?;
+            say(rt, b"\n")
+        }
     }
 }
 
+// Says on standard error why something cannot be done to the file of a name.
+pub fn fail(rt: &impl Eprint, name: &[u8], why: std::io::Error) -> std::io::Result<()> {
+    rt.eprint(text_of(name).unwrap_or("the file"))?;
+    eprintln!(rt; ": {why}")
+}
+
 // Writes a file that an argument names, or says why that cannot be done.
-pub fn save_arg(i: usize, file: &[u8]) {
+pub fn save_arg(rt: &(impl Files + Env + Eprint), i: usize, file: &[u8]) -> std::io::Result<()> {
     let mut path = io::buffer();
-    let n = os::arg(i, &mut path);
-    let fd = os::open_overwrite(&path[..n]);
-    if fd < 0 {
-        os::fail(&path[..n]);
-        return;
+    let n = arg(rt, i, &mut path);
+    match save(rt, &path[..n], file) {
+        Ok(()) => Ok(()),
+        Err(e) => fail(rt, &path[..n], e),
     }
-    if !io::write_all(fd, file) {
-        os::fail(&path[..n]);
-    }
-    libc::close(fd);
+}
+
+// Writes the file of a name: what stood there is gone.
+fn save(rt: &impl Files, path: &[u8], file: &[u8]) -> std::io::Result<()> {
+    let mut to = fs::create(rt, text_of(path)?)?;
+    to.write_all(file)
 }

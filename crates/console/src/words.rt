@@ -1,31 +1,23 @@
 // The program's arguments, compared.
+use crate::arguments::arg;
+use std::rt::Env;
 
 fn same(word: &[u8], text: &[u8]) -> bool {
-    if word.len() != text.len() {
-        return false;
-    }
-    let mut i = 0;
-    while i < text.len() {
-        if word[i] != text[i] {
-            return false;
-        }
-        i += 1;
-    }
-    true
+    word == text
 }
 
 // Whether an argument is this word.
-pub fn is_arg(i: usize, text: &[u8]) -> bool {
+pub fn is_arg(rt: &impl Env, i: usize, text: &[u8]) -> bool {
     let mut word = io::buffer();
-    let n = os::arg(i, &mut word);
+    let n = arg(rt, i, &mut word);
     same(&word[..n], text)
 }
 
 // Whether two arguments are the same word.
-pub fn same_args(i: usize, j: usize) -> bool {
+pub fn same_args(rt: &impl Env, i: usize, j: usize) -> bool {
     let mut first = io::buffer();
-    let n = os::arg(i, &mut first);
+    let n = arg(rt, i, &mut first);
     let mut second = io::buffer();
-    let m = os::arg(j, &mut second);
+    let m = arg(rt, j, &mut second);
     same(&first[..n], &second[..m])
 }

@@ -2,19 +2,22 @@
 #![tactic(auto)]
 
 use console::load_arg;
+use std::io;
+use std::io::Print;
+use std::rt::{Env, Files};
 
 // The overlay file that an argument names.
-fn list_arg(i: usize) {
-    let mut file = io::large_buffer();
-    let n = load_arg(i, &mut file);
-    console::say_edges(&file[..n]);
+fn list_arg(rt: &(impl Files + Env + Print), i: usize) -> io::Result<()> {
+    let mut file = console::large_buffer();
+    let n = load_arg(rt, i, &mut file);
+    console::say_edges(rt, &file[..n])?;
+    Ok(())
 }
 
-fn main() {
-    let n = os::arg_count();
-    let mut i = 1;
-    while i < n {
-        list_arg(i);
-        i += 1;
+fn main(rt: HostRuntime) -> io::Result<()> {
+    let n = console::arg_count(&rt);
+    for i in 1..n {
+        list_arg(&rt, i)?;
     }
+    Ok(())
 }

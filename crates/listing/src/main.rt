@@ -5,15 +5,16 @@
 use console::{load, say};
 use limits::LISTING;
 use overlay_maps::EMPTY;
+use std::io;
 
-fn main() {
-    let mut zones = io::buffer();
-    let n = load(b"zones.zmp", &mut zones);
-    let mut blocks = io::buffer();
-    let m = load(b"blocks.zmp", &mut blocks);
+fn main(rt: HostRuntime) -> io::Result<()> {
+    let mut zones = console::buffer();
+    let n = load(&rt, b"zones.zmp", &mut zones);
+    let mut blocks = console::buffer();
+    let m = load(&rt, b"blocks.zmp", &mut blocks);
     let bed = EMPTY;
     let mut out = [0u8; LISTING];
     let listed = lists::from_maps::list(&zones[..n], &blocks[..m], &bed, &mut out);
     let length = listed.length;
-    say(&out[..length]);
+    say(&rt, &out[..length])
 }

@@ -3,22 +3,24 @@
 
 use console::{load_arg, say};
 use limits::LISTING;
+use std::io;
+use std::io::Print;
+use std::rt::{Env, Files};
 
 // The overlay file that an argument names.
-fn list_arg(i: usize) {
-    let mut file = io::large_buffer();
-    let n = load_arg(i, &mut file);
+fn list_arg(rt: &(impl Files + Env + Print), i: usize) -> io::Result<()> {
+    let mut file = console::large_buffer();
+    let n = load_arg(rt, i, &mut file);
     let mut out = [0u8; LISTING];
     let listed = lists::from_file::list(&file[..n], &mut out);
     let length = listed.length;
-    say(&out[..length]);
+    say(rt, &out[..length])
 }
 
-fn main() {
-    let n = os::arg_count();
-    let mut i = 1;
-    while i < n {
-        list_arg(i);
-        i += 1;
+fn main(rt: HostRuntime) -> io::Result<()> {
+    let n = console::arg_count(&rt);
+    for i in 1..n {
+        list_arg(&rt, i)?;
     }
+    Ok(())
 }

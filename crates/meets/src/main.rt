@@ -3,57 +3,58 @@
 // What is printed is held to the second program's answers.
 #![tactic(auto)]
 
-use libc::STDOUT_FILENO;
 use map_file::{Refusal, u16_at};
 use meet::MeetAnswer;
 use plane::{Meeting, Point};
+use std::fs;
+use std::io::{Print, Read, Result};
 
 // The bytes of one pair of edges.
 const RECORD: usize = 16;
 
-fn say(text: &[u8]) {
-    io::write_all(STDOUT_FILENO, text);
+fn say(rt: &impl Print, text: &[u8]) -> Result<()> {
+    console::say(rt, text)
 }
 
-fn say_number(text: &[u8], n: u16) {
-    say(text);
-    io::print_decimal(STDOUT_FILENO, n as u64);
+fn say_number(rt: &impl Print, text: &[u8], n: u16) -> Result<()> {
+    say(rt, text)?;
+    console::say_number(rt, n as u64)
 }
 
-fn say_signed(x: i64) {
+fn say_signed(rt: &impl Print, x: i64) -> Result<()> {
     if x < 0 {
-        say(b" -");
+        say(rt, b" -")?;
     } else {
-        say(b" ");
+        say(rt, b" ")?;
     }
-    io::print_decimal(STDOUT_FILENO, exact::magnitude(x));
+    console::say_number(rt, exact::magnitude(x))
 }
 
-fn say_point(p: Point) {
-    say_signed(p.x);
-    say_signed(p.y);
-    say_signed(p.d);
+fn say_point(rt: &impl Print, p: Point) -> Result<()> {
+    say_signed(rt, p.x)?;
+    say_signed(rt, p.y)?;
+    say_signed(rt, p.d)
 }
 
-fn say_meeting(m: Meeting) {
+fn say_meeting(rt: &impl Print, m: Meeting) -> Result<()> {
     match m {
-        Meeting::Apart => say(b"apart"),
+        Meeting::Apart => say(rt, b"apart"),
         Meeting::Touching(p) => {
-            say(b"touching");
-            say_point(p);
+            say(rt, b"touching")?;
+            say_point(rt, p)
         }
         Meeting::Crossing(p) => {
-            say(b"crossing");
-            say_point(p);
+            say(rt, b"crossing")?;
+            say_point(rt, p)
         }
-        Meeting::Sharing => say(b"sharing"),
+        Meeting::Sharing => say(rt, b"sharing"),
     }
 }
 
-fn say_refused(r: Refusal) {
-    say_number(b"refused ", r.number);
-    say_number(b" map ", r.map);
-    say_number(b" place ", r.place);
+fn say_refused(rt: &impl Print, r: Refusal) -> Result<()> {
+    say_number(rt, b"refused ", r.number)?;
+    say_number(rt, b" map ", r.map)?;
+    say_number(rt, b" place ", r.place)
 }
 
 // The signed number in the two bytes from a place on.
@@ -66,7 +67,7 @@ fn signed_at(bytes: &[u8], at: usize) -> i16 {
     }
 }
 
-fn answer(bytes: &[u8]) {
+fn answer(rt: &impl Print, bytes: &[u8]) -> Result<()> {
     let r = meet::meet(
         signed_at(bytes, 0),
         signed_at(bytes, 2),
@@ -78,42 +79,38 @@ fn answer(bytes: &[u8]) {
         signed_at(bytes, 14),
     );
     match r {
-        MeetAnswer::Met(m) => say_meeting(m),
-        MeetAnswer::Refused(f) => say_refused(f),
+        MeetAnswer::Met(m) => say_meeting(rt, m)?,
+        MeetAnswer::Refused(f) => say_refused(rt, f)?,
     }
-    say(b"\n");
+    say(rt, b"\n")
 }
 
 // The next pair. Answers whether there may be more.
-fn next(fd: i32) -> bool {
+fn next<R: Print, F: Read>(rt: &R, file: &mut F) -> Result<bool> {
     let mut bytes = [0u8; RECORD];
-    let n = io::read_full(fd, &mut bytes);
+    let n = console::read_full(file, &mut bytes);
     if n == RECORD {
-        answer(&bytes);
-        return true;
+        answer(rt, &bytes)?;
+        return Ok(true);
     }
     if 0 < n {
-        say(b"short\n");
+        say(rt, b"short\n")?;
     }
-    false
+    Ok(false)
 }
 
-fn each(fd: i32) {
-    let mut left: u64 = 18446744073709551615;
-    while 0 < left {
-        if !next(fd) {
-            return;
+fn each<R: Print, F: Read>(rt: &R, file: &mut F) -> Result<()> {
+    for _ in 0..u64::MAX {
+        if !next(rt, file)? {
+            return Ok(());
         }
-        left -= 1;
     }
+    Ok(())
 }
 
-fn main() {
-    let fd = os::open_read(b"pairs");
-    if fd < 0 {
-        os::fail(b"pairs");
-        return;
+fn main(rt: HostRuntime) -> Result<()> {
+    match fs::open(&rt, "pairs") {
+        Ok(mut file) => each(&rt, &mut file),
+        Err(e) => console::fail(&rt, b"pairs", e),
     }
-    each(fd);
-    libc::close(fd);
 }

@@ -3,52 +3,52 @@ use console::{say, say_number};
 use map_check::Checked;
 use map_file::Refusal;
 use ovfile::u16_at;
+use std::io::{Print, Result};
 
-fn say_step(step: u16) {
+fn say_step(rt: &impl Print, step: u16) -> Result<()> {
     match step {
-        1 => say(b" vertex merged\n"),
-        2 => say(b" edge without length dropped\n"),
-        3 => say(b" edge doubled dropped\n"),
-        _ => say(b" vertex without edge dropped\n"),
+        1 => say(rt, b" vertex merged\n"),
+        2 => say(rt, b" edge without length dropped\n"),
+        3 => say(rt, b" edge doubled dropped\n"),
+        _ => say(rt, b" vertex without edge dropped\n"),
     }
 }
 
 // Entry i of the list.
-fn say_entry(list: &[u16], i: u16) {
+fn say_entry(rt: &impl Print, list: &[u16], i: u16) -> Result<()> {
     let step = u16_at(list, 2 * i as usize);
     let number = u16_at(list, 2 * i as usize + 1);
-    say_number(step as u64);
-    say(b" ");
-    say_number(number as u64);
-    say_step(step);
+    say_number(rt, step as u64)?;
+    say(rt, b" ")?;
+    say_number(rt, number as u64)?;
+    say_step(rt, step)
 }
 
 // The first n entries.
-pub fn say_list(list: &[u16], n: u16) {
-    let mut i: u16 = 0;
-    while i < n {
-        say_entry(list, i);
-        i += 1;
+pub fn say_list(rt: &impl Print, list: &[u16], n: u16) -> Result<()> {
+    for i in 0..n {
+        say_entry(rt, list, i)?;
     }
+    Ok(())
 }
 
 // The line of 01, and then a sentence.
-pub fn say_refused(r: Refusal) {
-    console::say_refused(r.number, r.map, r.place);
-    console::say_mend_sentence(r.number, r.map, r.place);
+pub fn say_refused(rt: &impl Print, r: Refusal) -> Result<()> {
+    console::say_refused(rt, r.number, r.map, r.place)?;
+    console::say_mend_sentence(rt, r.number, r.map, r.place)
 }
 
 // `ok V E`, or what the mended file is refused for.
-pub fn say_check(file: &[u8]) {
+pub fn say_check(rt: &impl Print, file: &[u8]) -> Result<()> {
     let r = map_check::check(file);
     match r {
         Checked::Good(c) => {
-            say(b"ok ");
-            say_number(c.vertices as u64);
-            say(b" ");
-            say_number(c.edges as u64);
-            say(b"\n");
+            say(rt, b"ok ")?;
+            say_number(rt, c.vertices as u64)?;
+            say(rt, b" ")?;
+            say_number(rt, c.edges as u64)?;
+            say(rt, b"\n")
         }
-        Checked::Bad(f) => console::say_refused(f.number, f.map, f.place),
+        Checked::Bad(f) => console::say_refused(rt, f.number, f.map, f.place),
     }
 }

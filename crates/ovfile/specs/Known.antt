@@ -6,7 +6,7 @@ use Rattle.seq.specs.Seq.{ℕ}
 use Rattle.paper.specs.Limits as limits
 use Rattle.paper.specs.Limits.{overlay_head}
 use Rattle.paper.specs.Tables.{Counts}
-use Rattle.paper.specs.Ovfile.{Layout, vertex_size, edge_size, face_size, edges_at, faces_at}
+use Rattle.paper.specs.Ovfile.{Layout, vertex_size, edge_size, edges_at, faces_at}
 
 pub record Known (l : Layout) : Type 0 where
   pub coordinate : l.coordinate < 8

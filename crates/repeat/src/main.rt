@@ -11,20 +11,23 @@ use console::{load_arg, say, say_number};
 use limits::{FACE_CELLS, HALF_CELLS, SOURCE_CELLS, VERTEX_CELLS};
 use overlay_graph::Way;
 use overlay_maps::EMPTY;
+use std::io;
+use std::io::Print;
+use std::rt::{CpuClock, Env, Files};
 use tables::Answer;
 
-fn say_answer(answer: Answer) {
+fn say_answer(rt: &impl Print, answer: Answer) -> io::Result<()> {
     match answer {
         Answer::Done(c) => {
-            say(b"done ");
-            say_number(c.vertices as u64);
-            say(b" ");
-            say_number(c.edges as u64);
-            say(b" ");
-            say_number(c.faces as u64);
-            say(b"\n");
+            say(rt, b"done ")?;
+            say_number(rt, c.vertices as u64)?;
+            say(rt, b" ")?;
+            say_number(rt, c.edges as u64)?;
+            say(rt, b" ")?;
+            say_number(rt, c.faces as u64)?;
+            say(rt, b"\n")
         }
-        Answer::Refused(r) => console::say_refused(r.number, r.map, r.place),
+        Answer::Refused(r) => console::say_refused(rt, r.number, r.map, r.place),
     }
 }
 
@@ -49,44 +52,49 @@ fn run(way: Way, zones: &[u8], blocks: &[u8]) -> Answer {
 
 // So many runs, and the answer of one more.
 fn runs(way: Way, zones: &[u8], blocks: &[u8], n: u32) -> Answer {
-    let mut i: u32 = 0;
-    while i < n {
+    for _ in 0..n {
         run(way, zones, blocks);
-        i += 1;
     }
     run(way, zones, blocks)
 }
 
 // By one way, under its name.
-fn measure(name: &[u8], way: Way, zones: &[u8], blocks: &[u8], n: u32)
+fn measure(
+    rt: &(impl CpuClock + Print),
+    name: &[u8],
+    way: Way,
+    zones: &[u8],
+    blocks: &[u8],
+    n: u32,
+) -> io::Result<()>
     requires { n ≤ 1000000 }
 {
-    let start = libc::clock();
+    let start = rt.process_cpu_time()?;
     let answer = runs(way, zones, blocks, n);
-    let end = libc::clock();
-    say(name);
-    time::say_seconds(start, end, n + 1);
-    say_answer(answer);
+    let end = rt.process_cpu_time()?;
+    say(rt, name)?;
+    time::say_seconds(rt, start, end, n + 1)?;
+    say_answer(rt, answer)
 }
 
-fn measure_both(n: u32)
+fn measure_both(rt: &(impl Files + Env + CpuClock + Print), n: u32) -> io::Result<()>
     requires { n ≤ 1000000 }
 {
-    let mut zones = io::buffer();
-    let z = load_arg(1, &mut zones);
-    let mut blocks = io::buffer();
-    let b = load_arg(2, &mut blocks);
-    measure(b"plain ", Way::Plain, &zones[..z], &blocks[..b], n);
-    measure(b"swept ", Way::Swept, &zones[..z], &blocks[..b], n);
+    let mut zones = console::buffer();
+    let z = load_arg(rt, 1, &mut zones);
+    let mut blocks = console::buffer();
+    let b = load_arg(rt, 2, &mut blocks);
+    measure(rt, b"plain ", Way::Plain, &zones[..z], &blocks[..b], n)?;
+    measure(rt, b"swept ", Way::Swept, &zones[..z], &blocks[..b], n)
 }
 
-fn main() {
-    let n = words::count_arg(3);
+fn main(rt: HostRuntime) -> io::Result<()> {
+    let n = words::count_arg(&rt, 3);
     if n == 0 {
-        say(
+        return say(
+            &rt,
             b"repeat ZONES BLOCKS N   the seconds of one overlay of two map files, the plain way and by the sweep, by N runs of each\n",
         );
-        return;
     }
-    measure_both(n - 1);
+    measure_both(&rt, n - 1)
 }

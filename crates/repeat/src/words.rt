@@ -1,6 +1,8 @@
 // The number of runs that an argument asks for.
 ghost use Rattle.std.specs.Prelude.{◌≤◌};
 
+use std::rt::Env;
+
 const MOST: u32 = 1000000;
 
 // A number with one digit more behind it; at most MOST.
@@ -16,19 +18,17 @@ fn parse(word: &[u8]) -> u32
     ensures { result ≤ 1000000 }
 {
     let mut n: u32 = 0;
-    let mut i = 0;
-    while i < word.len() {
-        n = more(n, word[i]);
-        i += 1;
+    for digit in word {
+        n = more(n, *digit);
     }
     n
 }
 
 // 0 where there is no such argument.
-pub fn count_arg(i: usize) -> u32
+pub fn count_arg(rt: &impl Env, i: usize) -> u32
     ensures { result ≤ 1000000 }
 {
-    let mut word = io::buffer();
-    let n = os::arg(i, &mut word);
+    let mut word = console::buffer();
+    let n = console::arg(rt, i, &mut word);
     parse(&word[..n])
 }

@@ -1,50 +1,50 @@
 // The line of an answer.
 use console::{say, say_number, say_refused};
 use exact::magnitude;
-use libc::STDOUT_FILENO;
+use std::io::{Print, Result};
 use tide::{Height, TideAnswer, TideRule, to_bits};
 
-fn say_bits(x: f64) {
-    say(b" ");
-    io::print_hex(STDOUT_FILENO, to_bits(x), 16);
+fn say_bits(rt: &impl Print, x: f64) -> Result<()> {
+    let bits = to_bits(x);
+    print!(rt; " {bits:016x}")
 }
 
-fn say_signed(n: i32) {
+fn say_signed(rt: &impl Print, n: i32) -> Result<()> {
     if n < 0 {
-        say(b" -");
+        say(rt, b" -")?;
     } else {
-        say(b" ");
+        say(rt, b" ")?;
     }
-    say_number(magnitude(n as i64));
+    say_number(rt, magnitude(n as i64))
 }
 
-fn say_rule(rule: TideRule) {
+fn say_rule(rt: &impl Print, rule: TideRule) -> Result<()> {
     match rule {
-        TideRule::Unset => say(b" none"),
+        TideRule::Unset => say(rt, b" none"),
         TideRule::Ratio(k) => {
-            say(b" ratio");
-            say_bits(k);
+            say(rt, b" ratio")?;
+            say_bits(rt, k)
         }
         TideRule::Weights(a, b) => {
-            say(b" weights");
-            say_bits(a);
-            say_bits(b);
+            say(rt, b" weights")?;
+            say_bits(rt, a)?;
+            say_bits(rt, b)
         }
     }
 }
 
-fn say_height(h: Height) {
+fn say_height(rt: &impl Print, h: Height) -> Result<()> {
     let rule = h.rule;
-    say(b"height");
-    say_bits(h.height);
-    say_signed(h.millimetres);
-    say_rule(rule);
-    say(b"\n");
+    say(rt, b"height")?;
+    say_bits(rt, h.height)?;
+    say_signed(rt, h.millimetres)?;
+    say_rule(rt, rule)?;
+    say(rt, b"\n")
 }
 
-pub fn say_answer(answer: TideAnswer) {
+pub fn say_answer(rt: &impl Print, answer: TideAnswer) -> Result<()> {
     match answer {
-        TideAnswer::Done(h) => say_height(h),
-        TideAnswer::Refused(r) => say_refused(r.number, r.map, r.place),
+        TideAnswer::Done(h) => say_height(rt, h),
+        TideAnswer::Refused(r) => say_refused(rt, r.number, r.map, r.place),
     }
 }

@@ -7,37 +7,38 @@ mod line; // the line of an answer
 
 use crate::line::say_answer;
 use crate::record::{reading, rule};
+use std::io;
+use std::io::{Print, Read};
 
-fn report(record: &[u8]) {
+fn report(rt: &impl Print, record: &[u8]) -> io::Result<()> {
     let answer = tide::height(rule(record), reading(record, 0), reading(record, 1));
-    say_answer(answer);
+    say_answer(rt, answer)
 }
 
 // Reads a record and reports; false at the end of the file.
-fn report_next(fd: i32) -> bool {
+fn report_next<R: Print, F: Read>(rt: &R, file: &mut F) -> io::Result<bool> {
     let mut record = [0u8; 32];
-    let n = io::read_full(fd, &mut record);
+    let n = console::read_full(file, &mut record);
     if n < 32 {
-        return false;
+        return Ok(false);
     }
-    report(&record);
-    true
+    report(rt, &record)?;
+    Ok(true)
 }
 
-fn report_all(fd: i32) {
-    let mut left = 0xffff_ffff_ffff_ffffu64;
-    while left > 0 && report_next(fd) {
-        left -= 1;
+fn report_all<R: Print, F: Read>(rt: &R, file: &mut F) -> io::Result<()> {
+    for _ in 0..u64::MAX {
+        if !report_next(rt, file)? {
+            return Ok(());
+        }
     }
+    Ok(())
 }
 
-fn main() {
-    let mut path = io::buffer();
-    let n = os::arg(1, &mut path);
-    let fd = os::open_read(&path[..n]);
-    if fd < 0 {
-        return;
+// Of a file that cannot be opened nothing is said.
+fn main(rt: HostRuntime) -> io::Result<()> {
+    match console::open_arg(&rt, 1) {
+        Ok(mut file) => report_all(&rt, &mut file),
+        Err(_) => Ok(()),
     }
-    report_all(fd);
-    libc::close(fd);
 }

@@ -6,9 +6,11 @@ ghost use Rattle.std.specs.Prelude.{◌≡◌, ◌<◌, length};
 ghost use Rattle.paper.specs.Limits.{year_pairs};
 
 use console::{load_arg, say, say_number, say_refused};
-use libc::STDERR_FILENO;
 use limits::{TALLY_WIDTH, YEAR_PAIRS};
 use names::name;
+use std::io;
+use std::io::{Eprint, Print};
+use std::rt::{Env, Files};
 use year::{Closed, Year, add, begin, close};
 
 // One byte more than the longest list of names that is taken.
@@ -21,44 +23,43 @@ fn names_buffer() -> [u8; NAMES]
     [0; NAMES]
 }
 
-fn tell(text: &[u8]) {
-    io::write_all(STDERR_FILENO, text);
+fn tell(rt: &impl Eprint, text: &str) -> io::Result<()> {
+    rt.eprint(text)
 }
 
 // How many files were read, for a long run.
-fn tell_progress(files: usize) {
+fn tell_progress(rt: &impl Eprint, files: usize) -> io::Result<()> {
     if files % 100 == 0 {
-        io::print_decimal(STDERR_FILENO, files as u64);
-        tell(b" files read\n");
+        rt.eprint(files)?;
+        tell(rt, " files read\n")?;
     }
+    Ok(())
 }
 
 // The overlay file that an argument names, added.
-fn add_arg(i: usize, so_far: Year) -> Year {
-    let mut file = io::large_buffer();
-    let n = load_arg(i, &mut file);
+fn add_arg(rt: &(impl Files + Env), i: usize, so_far: Year) -> Year {
+    let mut file = console::large_buffer();
+    let n = load_arg(rt, i, &mut file);
     add(so_far, &file[..n])
 }
 
 // All of them, in order, one in memory at a time.
-fn add_args(n: usize) -> Year {
+fn add_args(rt: &(impl Files + Env + Eprint), n: usize) -> io::Result<Year> {
     let mut so_far = begin();
-    let mut i = 3;
-    while i < n {
-        so_far = add_arg(i, so_far);
-        tell_progress(i - 2);
-        i += 1;
+    for i in 3..n {
+        so_far = add_arg(rt, i, so_far);
+        tell_progress(rt, i - 2)?;
     }
-    so_far
+    Ok(so_far)
 }
 
 fn cell(rows: &[u32], at: usize) -> u32 {
     if at < rows.len() { rows[at] } else { 0 }
 }
 
-fn say_cell(rows: &[u32], at: usize) {
-    say_number(cell(rows, at) as u64);
-    say(b" ");
+fn say_cell(rt: &impl Print, rows: &[u32], at: usize) -> io::Result<()> {
+    say_number(rt, cell(rows, at) as u64)?;
+    say(rt, b" ")
 }
 
 // Labels are of 16 bits.
@@ -67,50 +68,65 @@ fn label(rows: &[u32], at: usize) -> u16 {
 }
 
 // `ZONE BLOCK SHEETS FACES NAME`: the name's bytes as they stand in their list.
-fn say_row<'a>(rows: &[u32], r: usize, zones: &'a [u8], blocks: &'a [u8])
+fn say_row<'a>(
+    rt: &impl Print,
+    rows: &[u32],
+    r: usize,
+    zones: &'a [u8],
+    blocks: &'a [u8],
+) -> io::Result<()>
     requires { r < year_pairs }
 {
     let at = TALLY_WIDTH * r;
-    say_cell(rows, at);
-    say_cell(rows, at + 1);
-    say_cell(rows, at + 2);
-    say_cell(rows, at + 3);
-    say(name(zones, blocks, label(rows, at), label(rows, at + 1)));
-    say(b"\n");
+    say_cell(rt, rows, at)?;
+    say_cell(rt, rows, at + 1)?;
+    say_cell(rt, rows, at + 2)?;
+    say_cell(rt, rows, at + 3)?;
+    say(rt, name(zones, blocks, label(rows, at), label(rows, at + 1)))?;
+    say(rt, b"\n")
 }
 
-fn say_rows<'a>(rows: &[u32], pairs: usize, zones: &'a [u8], blocks: &'a [u8]) {
-    let mut r = 0;
-    while r < pairs {
+fn say_rows<'a>(
+    rt: &impl Print,
+    rows: &[u32],
+    pairs: usize,
+    zones: &'a [u8],
+    blocks: &'a [u8],
+) -> io::Result<()> {
+    for r in 0..pairs {
         if r < YEAR_PAIRS {
-            say_row(rows, r, zones, blocks);
+            say_row(rt, rows, r, zones, blocks)?;
         }
-        r += 1;
     }
+    Ok(())
 }
 
-fn say_year<'a>(so_far: Year, zones: &'a [u8], blocks: &'a [u8]) {
+fn say_year<'a>(
+    rt: &impl Print,
+    so_far: Year,
+    zones: &'a [u8],
+    blocks: &'a [u8],
+) -> io::Result<()> {
     let rows = so_far.rows;
     match close(so_far, zones, blocks) {
-        Closed::Refused(r) => say_refused(r.number, r.map, r.place),
+        Closed::Refused(r) => say_refused(rt, r.number, r.map, r.place),
         Closed::Done(t) => {
-            say_rows(&rows, t.pairs as usize, zones, blocks);
-            say(b"gaps ");
-            say_number(t.gaps as u64);
-            say(b"\n");
+            say_rows(rt, &rows, t.pairs as usize, zones, blocks)?;
+            say(rt, b"gaps ")?;
+            say_number(rt, t.gaps as u64)?;
+            say(rt, b"\n")
         }
     }
 }
 
-fn main() {
+fn main(rt: HostRuntime) -> io::Result<()> {
     let mut zones = names_buffer();
-    let z = load_arg(1, &mut zones);
+    let z = load_arg(&rt, 1, &mut zones);
     let mut blocks = names_buffer();
-    let b = load_arg(2, &mut blocks);
+    let b = load_arg(&rt, 2, &mut blocks);
     if z == NAMES || b == NAMES {
-        tell(b"a list of names is longer than 131072 bytes\n");
-        return;
+        return tell(&rt, "a list of names is longer than 131072 bytes\n");
     }
-    let so_far = add_args(os::arg_count());
-    say_year(so_far, &zones[..z], &blocks[..b]);
+    let so_far = add_args(&rt, console::arg_count(&rt))?;
+    say_year(&rt, so_far, &zones[..z], &blocks[..b])
 }

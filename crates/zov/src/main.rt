@@ -13,47 +13,57 @@ mod words; // the program's arguments
 mod maps; // map files
 mod overlays; // overlay files
 
+use std::io;
+use std::io::Print;
 use words::Task;
 
 // How to use it.
-fn usage() {
+fn usage(rt: &impl Print) -> io::Result<()> {
     console::say(
+        rt,
         b"zov ZONES BLOCKS [OUT.zov]   list the overlay of two map files; write its overlay file\n",
-    );
-    console::say(b"zov --bed BED ZONES BLOCKS [OUT.zov]   the same with a third map\n");
+    )?;
     console::say(
+        rt,
+        b"zov --bed BED ZONES BLOCKS [OUT.zov]   the same with a third map\n",
+    )?;
+    console::say(
+        rt,
         b"zov --melt [--bed BED] ZONES BLOCKS [OUT.zov]   the same without the lines that separate nothing\n",
-    );
-    console::say(b"zov --list FILE.zov          list an overlay file\n");
+    )?;
+    console::say(rt, b"zov --list FILE.zov          list an overlay file\n")?;
     console::say(
+        rt,
         b"zov --edges FILE.zov         list its edges: number, lower and upper vertex, sources\n",
-    );
-    console::say(b"zov --check FILE...          check map files, a line for each\n");
-    console::say(b"zov --help, zov --version    this; the version\n");
+    )?;
+    console::say(rt, b"zov --check FILE...          check map files, a line for each\n")?;
+    console::say(rt, b"zov --help, zov --version    this; the version\n")
 }
 
 // The same with a heading, for one who asks.
-fn help() {
-    console::say(b"zov: an exact, proved overlay of maps\n");
-    usage();
+fn help(rt: &impl Print) -> io::Result<()> {
+    console::say(rt, b"zov: an exact, proved overlay of maps\n")?;
+    usage(rt)
 }
 
-fn main() {
-    let n = os::arg_count();
-    let task = words::asked(n);
+fn main(rt: HostRuntime) -> io::Result<()> {
+    let n = console::arg_count(&rt);
+    let task = words::asked(&rt, n);
     match task {
-        Task::Usage => usage(),
-        Task::Help => help(),
-        Task::Version => console::say(b"zov 0.13\n"),
+        Task::Usage => usage(&rt),
+        Task::Help => help(&rt),
+        Task::Version => console::say(&rt, b"zov 0.13\n"),
         Task::OneFile => console::say(
+            &rt,
             b"--list and --edges take one overlay file; nothing is read\n",
         ),
         Task::SameName => console::say(
+            &rt,
             b"the overlay file would overwrite one of the maps; nothing is read or written\n",
         ),
-        Task::List => overlays::list_arg(2),
-        Task::Edges => overlays::edges_arg(2),
-        Task::Check => maps::check_args(2, n),
-        Task::Overlay(maps) => overlays::lay(maps),
+        Task::List => overlays::list_arg(&rt, 2),
+        Task::Edges => overlays::edges_arg(&rt, 2),
+        Task::Check => maps::check_args(&rt, 2, n),
+        Task::Overlay(maps) => overlays::lay(&rt, maps),
     }
 }

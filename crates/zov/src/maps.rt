@@ -2,18 +2,20 @@
 use console::{load_arg, say, say_number};
 use map_check::Checked;
 use map_file::Refusal;
+use std::io::{Print, Result};
+use std::rt::{Env, Files};
 
 // The name of the file that an argument names.
-pub fn say_name(i: usize) {
-    let mut name = io::buffer();
-    let n = os::arg(i, &mut name);
-    say(&name[..n]);
-    say(b": ");
+pub fn say_name(rt: &(impl Env + Print), i: usize) -> Result<()> {
+    let mut name = console::buffer();
+    let n = console::arg(rt, i, &mut name);
+    say(rt, &name[..n])?;
+    say(rt, b": ")
 }
 
-fn put(text: &[u8], n: u16) {
-    say(text);
-    say_number(n as u64);
+fn put(rt: &impl Print, text: &[u8], n: u16) -> Result<()> {
+    say(rt, text)?;
+    say_number(rt, n as u64)
 }
 
 // Whether the sentence of a refusal needs the map's file: it says where.
@@ -25,80 +27,79 @@ pub fn has_place(number: u16) -> bool {
 }
 
 // Where a map file is refused with 5, 6, 8 or 9: the vertex, or how the two edges meet.
-pub fn say_where(r: Refusal, file: &[u8]) {
+pub fn say_where(rt: &impl Print, r: Refusal, file: &[u8]) -> Result<()> {
     if r.number == 8 {
-        console::say_clash(file, r.place, r.other);
+        console::say_clash(rt, file, r.place, r.other)
     } else {
-        console::say_corner(file, r.number, r.place);
+        console::say_corner(rt, file, r.number, r.place)
     }
 }
 
 // What 01's line says, and then a sentence.
-fn say_bad(r: Refusal, file: &[u8]) {
-    put(b"refused ", r.number);
-    put(b" map ", r.map);
-    put(b" place ", r.place);
-    say(b": ");
+fn say_bad(rt: &impl Print, r: Refusal, file: &[u8]) -> Result<()> {
+    put(rt, b"refused ", r.number)?;
+    put(rt, b" map ", r.map)?;
+    put(rt, b" place ", r.place)?;
+    say(rt, b": ")?;
     if has_place(r.number) {
-        say_where(r, file);
+        say_where(rt, r, file)
     } else {
-        console::say_sentence(r.number, r.map, r.place);
+        console::say_sentence(rt, r.number, r.map, r.place)
     }
 }
 
-fn say_good(vertices: u16, edges: u16) {
-    put(b"ok ", vertices);
-    put(b" ", edges);
-    say(b"\n");
+fn say_good(rt: &impl Print, vertices: u16, edges: u16) -> Result<()> {
+    put(rt, b"ok ", vertices)?;
+    put(rt, b" ", edges)?;
+    say(rt, b"\n")
 }
 
 // A line for the map file that an argument names: its name, and `ok V E` or what it is refused for. Answers whether it is good.
-fn check_arg(i: usize) -> bool {
-    say_name(i);
-    let mut file = io::buffer();
-    let n = load_arg(i, &mut file);
+fn check_arg(rt: &(impl Files + Env + Print), i: usize) -> Result<bool> {
+    say_name(rt, i)?;
+    let mut file = console::buffer();
+    let n = load_arg(rt, i, &mut file);
     let r = map_check::check(&file[..n]);
     match r {
         Checked::Good(c) => {
-            say_good(c.vertices, c.edges);
-            true
+            say_good(rt, c.vertices, c.edges)?;
+            Ok(true)
         }
         Checked::Bad(f) => {
-            say_bad(f, &file[..n]);
-            console::say_missing(i);
-            false
+            say_bad(rt, f, &file[..n])?;
+            console::say_missing(rt, i)?;
+            Ok(false)
         }
     }
 }
 
 // How many of the arguments from one on name a good file.
-fn check_each(first: usize, count: usize) -> usize {
+fn check_each(rt: &(impl Files + Env + Print), first: usize, count: usize) -> Result<usize> {
     let mut good = 0;
-    let mut i = first;
-    while i < count {
-        if check_arg(i) {
+    for i in first..count {
+        if check_arg(rt, i)? {
             good += 1;
         }
-        i += 1;
     }
-    good
+    Ok(good)
 }
 
 // The last line, where there are several files.
-fn say_tally(files: usize, good: usize) {
+fn say_tally(rt: &impl Print, files: usize, good: usize) -> Result<()> {
     if files < 2 {
-        return;
+        return Ok(());
     }
-    say_number(files as u64);
-    say(b" files, ");
-    say_number(good as u64);
-    say(b" good\n");
+    say_number(rt, files as u64)?;
+    say(rt, b" files, ")?;
+    say_number(rt, good as u64)?;
+    say(rt, b" good\n")
 }
 
 // The arguments from one on, a line each; of several files a last line with how many are good.
-pub fn check_args(first: usize, count: usize) {
-    let good = check_each(first, count);
+pub fn check_args(rt: &(impl Files + Env + Print), first: usize, count: usize) -> Result<()> {
+    let good = check_each(rt, first, count)?;
     if first < count {
-        say_tally(count - first, good);
+        say_tally(rt, count - first, good)?;
     }
+    Ok(())
 }

@@ -2,6 +2,7 @@
 ghost use Rattle.std.specs.Prelude.{◌≤◌};
 
 use console::{is_arg, same_args};
+use std::rt::Env;
 
 // Whether the overlay is to be melted, and the words that name the maps and OUT; `bed` is 0 where there is no third map, and `out` where nothing is to be written.
 #[derive(Clone, Copy)]
@@ -27,9 +28,9 @@ pub enum Task {
 }
 
 // Whether an argument begins like an option. A file of such a name is given as `./--name`.
-fn is_option(i: usize) -> bool {
-    let mut word = io::buffer();
-    os::arg(i, &mut word);
+fn is_option(rt: &impl Env, i: usize) -> bool {
+    let mut word = console::buffer();
+    console::arg(rt, i, &mut word);
     if word[0] != b'-' {
         return false;
     }
@@ -37,35 +38,35 @@ fn is_option(i: usize) -> bool {
 }
 
 // Whether one of the three words from `first` on is an option; one that is not there is none.
-fn any_option(first: usize) -> bool
+fn any_option(rt: &impl Env, first: usize) -> bool
     requires { first ≤ 4 }
 {
-    if is_option(first) {
+    if is_option(rt, first) {
         return true;
     }
-    if is_option(first + 1) {
+    if is_option(rt, first + 1) {
         return true;
     }
-    is_option(first + 2)
+    is_option(rt, first + 2)
 }
 
 // Whether OUT is one of the maps by name.
-fn same_name(maps: Maps) -> bool {
-    if same_args(maps.zones, maps.out) {
+fn same_name(rt: &impl Env, maps: Maps) -> bool {
+    if same_args(rt, maps.zones, maps.out) {
         return true;
     }
-    if same_args(maps.blocks, maps.out) {
+    if same_args(rt, maps.blocks, maps.out) {
         return true;
     }
     if maps.bed == 0 {
         return false;
     }
-    same_args(maps.bed, maps.out)
+    same_args(rt, maps.bed, maps.out)
 }
 
 // The overlay written, unless its file is one of the maps.
-fn write_task(maps: Maps) -> Task {
-    if same_name(maps) {
+fn write_task(rt: &impl Env, maps: Maps) -> Task {
+    if same_name(rt, maps) {
         return Task::SameName;
     }
     Task::Overlay(maps)
@@ -77,11 +78,11 @@ fn one_file(n: usize, task: Task) -> Task {
 }
 
 // Of n words: zones and blocks from word `first` on, and where to write their overlay.
-fn overlay_task(melts: bool, n: usize, first: usize, bed: usize) -> Task
+fn overlay_task(rt: &impl Env, melts: bool, n: usize, first: usize, bed: usize) -> Task
     requires { first ≤ 4 }
 {
     let blocks = first + 1;
-    if any_option(first) {
+    if any_option(rt, first) {
         return Task::Usage;
     }
     if n == first + 2 {
@@ -94,7 +95,7 @@ fn overlay_task(melts: bool, n: usize, first: usize, bed: usize) -> Task
         });
     }
     if n == first + 3 {
-        return write_task(Maps {
+        return write_task(rt, Maps {
             melts,
             zones: first,
             blocks,
@@ -106,61 +107,61 @@ fn overlay_task(melts: bool, n: usize, first: usize, bed: usize) -> Task
 }
 
 // What the option that is the first argument asks for.
-fn option_task(n: usize) -> Task {
-    if is_arg(1, b"--check") {
+fn option_task(rt: &impl Env, n: usize) -> Task {
+    if is_arg(rt, 1, b"--check") {
         return Task::Check;
     }
-    if is_arg(1, b"--list") {
+    if is_arg(rt, 1, b"--list") {
         return one_file(n, Task::List);
     }
-    if is_arg(1, b"--edges") {
+    if is_arg(rt, 1, b"--edges") {
         return one_file(n, Task::Edges);
     }
-    if is_arg(1, b"--bed") {
-        return bed_task(false, n, 2);
+    if is_arg(rt, 1, b"--bed") {
+        return bed_task(rt, false, n, 2);
     }
-    if is_arg(1, b"--melt") {
-        return melt_task(n);
+    if is_arg(rt, 1, b"--melt") {
+        return melt_task(rt, n);
     }
     Task::Usage
 }
 
 // Three map files, the third first, which word `bed` names.
-fn bed_task(melts: bool, n: usize, bed: usize) -> Task
+fn bed_task(rt: &impl Env, melts: bool, n: usize, bed: usize) -> Task
     requires { bed ≤ 3 }
 {
-    if is_option(bed) {
+    if is_option(rt, bed) {
         return Task::Usage;
     }
-    overlay_task(melts, n, bed + 1, bed)
+    overlay_task(rt, melts, n, bed + 1, bed)
 }
 
 // Cells melted together, of two or three map files.
-fn melt_task(n: usize) -> Task {
-    if is_arg(2, b"--bed") {
-        return bed_task(true, n, 3);
+fn melt_task(rt: &impl Env, n: usize) -> Task {
+    if is_arg(rt, 2, b"--bed") {
+        return bed_task(rt, true, n, 3);
     }
-    overlay_task(true, n, 2, 0)
+    overlay_task(rt, true, n, 2, 0)
 }
 
 // The task of the program's name and one word.
-fn word_task() -> Task {
-    if is_arg(1, b"--help") {
+fn word_task(rt: &impl Env) -> Task {
+    if is_arg(rt, 1, b"--help") {
         return Task::Help;
     }
-    if is_arg(1, b"--version") {
+    if is_arg(rt, 1, b"--version") {
         return Task::Version;
     }
     Task::Usage
 }
 
 // The task of n words, the program's own name among them.
-pub fn asked(n: usize) -> Task {
+pub fn asked(rt: &impl Env, n: usize) -> Task {
     if n < 3 {
-        return word_task();
+        return word_task(rt);
     }
-    if is_option(1) {
-        return option_task(n);
+    if is_option(rt, 1) {
+        return option_task(rt, n);
     }
-    overlay_task(false, n, 1, 0)
+    overlay_task(rt, false, n, 1, 0)
 }

@@ -1,7 +1,7 @@
 -- A list of the cells whose edges may clash with that in cell i, made cell by cell:    n[c] = j; c += 1, or c += 0 where the boxes are apart
 -- (`pick_turns`); and that edges whose boxes lie beside each other do not clash (`beside-clear`). Assumes nothing.
 use Rattle.std.specs.Prelude.{◌≡◌, refl, [], ◌∷◌, ◌⊎◌, ◌≤◌, ◌<◌, set, ◌≤ℤ◌, ◌<ℤ◌, ◌+◌, ◌+ℤ◌}
-use Rattle.std.proofs.Common.{sym, ◌∙◌, ap, subst, inl, inr, ⊎_elim, arith, get_or-set_same, get_or-set_other, ltb-true}
+use Rattle.std.proofs.Common.{sym, ◌∙◌, subst, inl, inr, ⊎_elim, arith, get_or-set_same, get_or-set_other, ltb-true}
 use Rattle.std.proofs.Math.Decide.{dec_lt}
 use Rattle.std.specs.Int.Signed.{lt_z}
 use Rattle.exact.specs.Abs.{abs_is_self, abs-lo}

@@ -1,0 +1,22 @@
+-- `mend::outcome::mend` meets its contract: rules 1 to 4 first. Assumes nothing.
+use mathlib.Core.Path.{sym, ap, ◌∙◌}
+use borrow.Author.Rules.{rules}
+use Rattle.seq.specs.Seq.{length}
+use Rattle.map_file.specs.Verdict.{verdict}
+use Rattle.mend.proofs.OutcomeLaws.{mend_unformed}
+use Rattle.mend.proofs.outcome.mend.Goals as goal
+
+pub form_fault-check-requires : goal.form_fault-check-requires
+form_fault-check-requires c = c.read_header-h.ensures
+
+pub mend_read-requires : goal.mend_read-requires
+mend_read-requires c = record { fact_1 = c.read_header-h.ensures; fact_2 = sym c.form_fault-check.ensures ∙ ap verdict c.in-Fine.is }
+
+pub returns-in-Bad : goal.returns-in-Bad
+returns-in-Bad c =
+    let a = c.args in
+    let told = c.check-1.given in
+    c.refuse.ensures ∙ mend_unformed (length a.out.now) (length a.list.now) a.file.now _ (sym c.form_fault-check.ensures ∙ ap verdict told.1)
+
+pub returns-in-Fine : goal.returns-in-Fine
+returns-in-Fine c = c.mend_read.ensures

@@ -1,0 +1,14 @@
+-- `mend::outcome::refuse` meets its contract. Assumes nothing.
+use mathlib.Core.Path.{sym, ◌∙◌}
+use Rattle.seq.specs.Seq.{length}
+use Rattle.seq.specs.Wiped.{padded_none}
+use Rattle.paper.specs.Refusal.{refused}
+use Rattle.map_file.specs.Verdict.{refusal_of}
+use Rattle.mend.proofs.outcome.refuse.Goals as goal
+
+pub returns : goal.returns
+returns c =
+    let s = (goal.at.returns c).Start in
+    let n = length s.args.out.now in
+    let l = length s.args.list.now in
+    λ i. record { answer = refused (refusal_of s.args.r); file = (c.wipe_u8.ensures ∙ sym (padded_none 0 n)) i; list = (c.wipe_u16.ensures ∙ sym (padded_none 0 l)) i }

@@ -1,0 +1,33 @@
+-- `mend::steps::without_edges` meets its contract: below the counter the cells are their steps, and the other cells as they were. Assumes nothing.
+use Rattle.std.specs.Prelude.{◌-◌}
+use native.Mathlib.Omega.{arith}
+use borrow.Author.Rules.{rules}
+use Rattle.seq.specs.Loops.Filling.{Filling, fill_starts, fill_turns, fill_ends}
+use Rattle.seq.specs.Seq.{cond}
+use Rattle.mend.specs.Steps.{merged_in}
+use Rattle.mend.proofs.steps.without_edges.Goals as goal
+
+pub offset_bounds-steps-i : goal.offset_bounds-steps-i
+offset_bounds-steps-i c =
+    let at = (goal.at.offset_bounds-steps-i c).At-loop-v in
+    omega (arith, at.loop-v.invariant.room, at.loop-v.invariant.kept)
+
+pub bounds-steps-i : goal.bounds-steps-i
+bounds-steps-i c =
+    let at = (goal.at.bounds-steps-i c).At-loop-v in
+    omega (arith, at.loop-v.invariant.room, at.loop-v.invariant.kept)
+
+pub loop-v-preserved : goal.loop-v-preserved
+loop-v-preserved c =
+    let at = (goal.at.loop-v-preserved c).At-loop-v in
+    let one = (goal.at.loop-v-preserved c).After-without_edge in
+    fill_turns at.loop-v.invariant (omega arith) one.without_edge.ensures
+
+pub loop-v-init : goal.loop-v-init
+loop-v-init c = fill_starts (search rules)
+
+pub shape_of-steps : goal.shape_of-steps
+shape_of-steps c = c.loop-v.invariant.kept
+
+pub returns : goal.returns
+returns c = fill_ends c.loop-v.invariant (omega arith)

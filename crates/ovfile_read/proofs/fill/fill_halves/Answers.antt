@@ -1,0 +1,27 @@
+-- `ovfile_read::fill::fill_halves` meets its contract. Assumes nothing.
+use Rattle.std.specs.Prelude.{◌*◌}
+use mathlib.Core.Path.{◌≡◌, refl, ap}
+use native.Mathlib.Omega.{arith}
+use Rattle.paper.specs.Tables.{Counts}
+use Rattle.paper.specs.Reader.{counts_in, half_read, tables_in}
+use Rattle.ovfile.specs.Values.{layout_from}
+use Rattle.ovfile_read.specs.Filled.{followers_in}
+use Rattle.seq.specs.Loops.Storing.{laid-wiped}
+use Rattle.ovfile_read.proofs.fill.fill_halves.Goals as goal
+use Rattle.ovfile_read.proofs.fill.fill_halves.Goals.{After-counts-c}
+
+counted : (c : After-counts-c) → c.counts-c.result.edges ≡ (counts_in c.args.file.now).edges
+counted c = ap (λ (n : Counts). n.edges) c.counts-c.ensures
+
+pub wipe_from_u16-requires : goal.wipe_from_u16-requires
+wipe_from_u16-requires c =
+    omega (arith, counted (goal.at.wipe_from_u16-requires c).After-counts-c, c.requires.2)
+
+pub returns : goal.returns
+unfolding tables_in
+returns c =
+    let s = c.args.file.now in
+    let lo = layout_from c.args.layout in
+    let k : 10 * c.counts-c.result.edges ≡ 5 * (2 * (counts_in s).edges) = omega (arith, counted (goal.at.returns c).After-counts-c) in
+    laid-wiped 0 5 (half_read lo s (followers_in lo s)) (λ k. refl) (2 * (counts_in s).edges) c.args.halves.now c.requires.2
+    c.lay_halves.ensures c.wipe_from_u16.ensures k

@@ -1,0 +1,28 @@
+-- `ovfile_read::fill::fill_sources` meets its contract. Assumes nothing.
+use Rattle.std.specs.Prelude.{◌*◌}
+use mathlib.Core.Path.{◌≡◌, refl, ap}
+use native.Mathlib.Omega.{arith}
+use Rattle.seq.specs.Seq.{ℕ, table}
+use Rattle.paper.specs.Limits.{maps}
+use Rattle.paper.specs.Tables.{Counts}
+use Rattle.paper.specs.Reader.{counts_in, stored_source, tables_in}
+use Rattle.ovfile.specs.Values.{layout_from}
+use Rattle.seq.specs.Loops.Storing.{laid-wiped}
+use Rattle.ovfile_read.proofs.fill.fill_sources.Goals as goal
+use Rattle.ovfile_read.proofs.fill.fill_sources.Goals.{After-counts-c}
+
+counted : (c : After-counts-c) → c.counts-c.result.edges ≡ (counts_in c.args.file.now).edges
+counted c = ap (λ (n : Counts). n.edges) c.counts-c.ensures
+
+pub wipe_from_u32-requires : goal.wipe_from_u32-requires
+wipe_from_u32-requires c =
+    omega (arith, counted (goal.at.wipe_from_u32-requires c).After-counts-c, c.requires.1)
+
+pub returns : goal.returns
+unfolding tables_in
+returns c =
+    let a = c.args in
+    let s = a.file.now in
+    let lo = layout_from a.layout in
+    laid-wiped 0 maps (λ k. table (stored_source lo a.file.now k) maps) (λ k. refl) (counts_in s).edges a.sources.now (omega (arith, c.requires.1))
+    c.lay_sources.ensures c.wipe_from_u32.ensures (ap (λ (n : ℕ). maps * n) (counted (goal.at.returns c).After-counts-c))

@@ -1,0 +1,14 @@
+-- `ovfile_read::fill::lay_faces` meets its contract. Assumes nothing.
+use Rattle.std.specs.Prelude.{◌-◌}
+use Rattle.paper.specs.Limits.{maps}
+use Rattle.paper.specs.Tables.{face_width}
+use Rattle.paper.specs.Reader.{counts_in, face_read}
+use Rattle.ovfile.specs.Values.{layout_from}
+use Rattle.seq.specs.Loops.Storing.{Laying}
+use Rattle.ovfile_read.proofs.fill.lay_faces.Given as goal
+
+abbrev pub invariant-loop-f : goal.invariant-loop-f
+invariant-loop-f l = Laying (face_width maps) (face_read maps (layout_from l.layout) l.file) (counts_in l.file).faces l.initial.faces l.faces l.f
+
+abbrev pub decreases-loop-f : goal.decreases-loop-f
+decreases-loop-f l = l.n - l.f

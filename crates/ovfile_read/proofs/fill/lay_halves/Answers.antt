@@ -1,0 +1,48 @@
+-- `ovfile_read::fill::lay_halves` meets its contract. Assumes nothing.
+use Rattle.std.specs.Prelude.{◌∷◌, ◌*◌}
+use mathlib.Core.Path.{◌≡◌, refl, sym, ap, ◌∙◌}
+use Prim.Native.Nat.{◌<◌}
+use native.Mathlib.Omega.{arith}
+use Rattle.seq.specs.Seq.{[]}
+use Rattle.seq.specs.Table.{table_at}
+use Rattle.paper.specs.Tables.{Counts}
+use Rattle.paper.specs.Reader.{counts_in, stored_follower}
+use Rattle.ovfile.specs.Values.{layout_from}
+use Rattle.seq.specs.Loops.Storing.{lay_starts, lay_turns, store_ends}
+use Rattle.ovfile.proofs.SoundLaws.{twin-le}
+use borrow.Author.Rules.{rules}
+use Rattle.ovfile_read.proofs.fill.lay_halves.Goals as goal
+use Rattle.ovfile_read.proofs.fill.lay_halves.Goals.{After-counts}
+
+counted : (c : After-counts) → c.counts.result.edges ≡ (counts_in c.args.file.now).edges
+counted c = ap (λ (n : Counts). n.edges) c.counts.ensures
+
+pub overflow_cast-twin : goal.overflow_cast-twin
+overflow_cast-twin c =
+    omega (arith, c.twin.ensures, twin-le c.loop-h.h, counted (goal.at.overflow_cast-twin c).After-counts, c.requires.1.edges)
+
+pub store5_u16-requires : goal.store5_u16-requires
+store5_u16-requires c =
+    omega (arith, c.loop-h.invariant.room, c.loop-h.invariant.kept, counted (goal.at.store5_u16-requires c).After-counts)
+
+pub loop-h-preserved : goal.loop-h-preserved
+loop-h-preserved c =
+    let file = c.args.file.now in
+    let below : c.loop-h.h < 2 * (counts_in file).edges = omega (arith, counted (goal.at.loop-h-preserved c).After-counts) in
+    lay_turns c.loop-h.invariant (λ k. refl) below c.store5_u16.ensures
+    (λ i. c.origin.ensures i
+    ∷ c.twin.ensures i
+    ∷ (c.follower.ensures ∙ sym (table_at (stored_follower (layout_from c.args.layout) file) (2 * (counts_in file).edges) c.loop-h.h 0 below)) i
+    ∷ (c.u16_at.ensures ∙ c.requires.2.at c.loop-h.h below) i
+    ∷ c.face.ensures i
+    ∷ [])
+
+pub returns : goal.returns
+returns c =
+    store_ends c.loop-h.invariant (omega (arith, counted (goal.at.returns c).After-counts))
+
+pub loop-h-init : goal.loop-h-init
+loop-h-init c = lay_starts (search rules)
+
+pub shape_of-halves : goal.shape_of-halves
+shape_of-halves c = c.loop-h.invariant.kept

@@ -1,0 +1,58 @@
+-- `ovfile_read::fill::lay_vertices` meets its contract. Assumes nothing.
+use Rattle.std.specs.Prelude.{◌∷◌, ◌+◌, ◌*◌}
+use mathlib.Core.Path.{◌≡◌, refl, ap, ◌∙◌}
+use native.Mathlib.Omega.{arith}
+use mir.Syntax.{w64}
+use mir.ValLaws.{to_z-of_z}
+use Rattle.seq.specs.Seq.{[], ℕ, pos}
+use Rattle.paper.specs.Bytes.{signed_at, number}
+use Rattle.paper.specs.Tables.{Counts}
+use Rattle.paper.specs.Reader.{counts_in}
+use Rattle.laws_file.specs.Bytes.{number_below}
+use Rattle.ovfile.specs.Values.{layout_from}
+use Rattle.ovfile.specs.Known.{vertices-near}
+use Rattle.seq.specs.Loops.Storing.{lay_starts, lay_turns, store_ends}
+use borrow.Author.Rules.{rules}
+use Rattle.ovfile_read.proofs.fill.lay_vertices.Goals as goal
+use Rattle.ovfile_read.proofs.fill.lay_vertices.Goals.{After-counts-n}
+
+counted : (c : After-counts-n) → c.counts-n.result.vertices ≡ (counts_in c.args.file.now).vertices
+counted c = ap (λ (n : Counts). n.vertices) c.counts-n.ensures
+
+-- a vertex's place, and the places behind it, are far below what 64 bits hold
+pub overflow_add-p : goal.overflow_add-p
+overflow_add-p c =
+    omega (arith, c.vertex_place-p.ensures, vertices-near (layout_from c.args.layout) c.requires.0 c.loop-v.v (omega arith), c.requires.0.coordinate)
+
+pub overflow_add-p-in-loop-v : goal.overflow_add-p-in-loop-v
+overflow_add-p-in-loop-v c =
+    omega (arith, c.vertex_place-p.ensures, vertices-near (layout_from c.args.layout) c.requires.0 c.loop-v.v (omega arith), c.requires.0.coordinate)
+
+pub of_u64-d-requires : goal.of_u64-d-requires
+of_u64-d-requires c =
+    omega (arith, c.number_at.ensures, number_below 4 c.args.file.now (c.vertex_place-p.result + 2 * c.args.layout.coordinate) (λ i. (c.shared_slice_known-1.given i).fits))
+
+pub store4_i64-requires : goal.store4_i64-requires
+store4_i64-requires c =
+    omega (arith, c.loop-v-test.true, c.loop-v.invariant.room, c.loop-v.invariant.kept, counted (goal.at.store4_i64-requires c).After-counts-n)
+
+pub loop-v-preserved : goal.loop-v-preserved
+loop-v-preserved c =
+    let s = c.args.file.now in
+    let w = c.args.layout.coordinate in
+    let place = c.vertex_place-p.ensures in
+    let x = to_z-of_z w64 _ (record { sfits = c.signed_at-x.type_inv }) ∙ c.signed_at-x.ensures ∙ ap (signed_at w s) place in
+    let y = to_z-of_z w64 _ (record { sfits = c.signed_at-y.type_inv }) ∙ c.signed_at-y.ensures ∙ ap (λ (q : ℕ). signed_at w s (q + w)) place in
+    let denominator = to_z-of_z w64 _ (record { sfits = c.of_u64-d.type_inv }) ∙ c.of_u64-d.ensures ∙ ap pos (c.number_at.ensures ∙ ap (λ (q : ℕ). number 4 s (q + 2 * w)) place) in
+    let out = to_z-of_z w64 _ (record { sfits = c.of_u16.type_inv }) ∙ c.of_u16.ensures ∙ ap pos c.u16_at.ensures in
+    lay_turns c.loop-v.invariant (λ k. refl) (omega (arith, counted (goal.at.loop-v-preserved c).After-counts-n)) c.store4_i64.ensures (λ i. x i ∷ y i ∷ denominator i ∷ out i ∷ [])
+
+pub returns : goal.returns
+returns c =
+    store_ends c.loop-v.invariant (omega (arith, counted (goal.at.returns c).After-counts-n))
+
+pub loop-v-init : goal.loop-v-init
+loop-v-init c = lay_starts (search rules)
+
+pub shape_of-vertices : goal.shape_of-vertices
+shape_of-vertices c = c.loop-v.invariant.kept

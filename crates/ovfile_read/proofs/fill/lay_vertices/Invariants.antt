@@ -1,0 +1,13 @@
+-- `ovfile_read::fill::lay_vertices` meets its contract. Assumes nothing.
+use Rattle.std.specs.Prelude.{◌-◌}
+use Rattle.paper.specs.Reader.{counts_in}
+use Rattle.ovfile.specs.Values.{layout_from}
+use Rattle.ovfile_read.specs.Filled.{vertex_by}
+use Rattle.seq.specs.Loops.Storing.{Laying}
+use Rattle.ovfile_read.proofs.fill.lay_vertices.Given as goal
+
+abbrev pub invariant-loop-v : goal.invariant-loop-v
+invariant-loop-v l = Laying 4 (vertex_by (layout_from l.layout) l.file l.least) (counts_in l.file).vertices l.initial.vertices l.vertices l.v
+
+abbrev pub decreases-loop-v : goal.decreases-loop-v
+decreases-loop-v l = l.n - l.v

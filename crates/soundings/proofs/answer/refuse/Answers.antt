@@ -1,0 +1,20 @@
+-- `soundings::answer::refuse` meets its contract. Assumes nothing.
+use mathlib.Core.Path.{sym, ◌∙◌}
+use lib.ListN.{length}
+use Rattle.seq.specs.Wiped.{padded_none}
+use Rattle.paper.specs.Refusal.{refused}
+use Rattle.map_file.specs.Verdict.{refusal_of}
+use native.Mathlib.Omega.{arith}
+use Rattle.soundings.proofs.answer.refuse.Goals as goal
+
+pub returns : goal.returns
+returns c =
+    let s = (goal.at.returns c).Start in
+    let u = (goal.at.returns c).After-wipe_u16 in
+    let v = (goal.at.returns c).After-wipe_u32 in
+    let a = s.args in
+    λ i. record {
+      answer = refused (refusal_of a.r);
+      labels = (u.wipe_u16.ensures ∙ sym (padded_none 0 (length a.labels.now))) i;
+      counts = (v.wipe_u32.ensures ∙ sym (padded_none 0 (length a.counts.now))) i;
+    }

@@ -1,0 +1,37 @@
+-- `soundings::closing::answer` meets its contract. Assumes nothing.
+use mathlib.Core.Path.{sym, ◌∙◌, ap}
+use lib.ListN.{length}
+use Rattle.paper.specs.Soundings.{counted}
+use Rattle.map_file.specs.Verdict.{verdict}
+use Rattle.laws_soundings.specs.Run.{cells_by}
+use Rattle.soundings_count.specs.Entries.{entries_in}
+use Rattle.soundings.specs.Answer.{room_by}
+use Rattle.soundings.proofs.closing.answer.Goals as goal
+
+pub lay_pairs-requires : goal.lay_pairs-requires
+lay_pairs-requires c =
+    let s = (goal.at.lay_pairs-requires c).Start in
+    let n = s.requires.fact_2 (ap verdict c.in-Fine.is) in
+    record { fact_1 = s.requires.fact_1; fact_2 = n.0; fact_3 = n.1; fact_4 = n.2; fact_5 = n.3 }
+
+pub returns-in-Bad : goal.returns-in-Bad
+returns-in-Bad c =
+    let a = c.args in
+    c.refuse.ensures ∙ sym (ap (counted (room_by (length a.labels.now) (length a.counts.now)) (cells_by a.p.entries a.p.soundings a.p.read) (entries_in a.own.now a.times.now a.p.entries)) (ap verdict c.in-Bad.is))
+
+pub returns-in-Fine : goal.returns-in-Fine
+returns-in-Fine c =
+    let a = c.args in
+    c.lay_pairs.ensures ∙ sym (ap (counted (room_by (length a.labels.now) (length a.counts.now)) (cells_by a.p.entries a.p.soundings a.p.read) (entries_in a.own.now a.times.now a.p.entries)) (ap verdict c.in-Fine.is))
+
+pub shape_of-labels-in-Bad : goal.shape_of-labels-in-Bad
+shape_of-labels-in-Bad c = c.refuse.auto.1.0
+
+pub shape_of-counts-in-Bad : goal.shape_of-counts-in-Bad
+shape_of-counts-in-Bad c = c.refuse.auto.1.1.0
+
+pub shape_of-labels-in-Fine : goal.shape_of-labels-in-Fine
+shape_of-labels-in-Fine c = c.lay_pairs.auto.1.1.1.0
+
+pub shape_of-counts-in-Fine : goal.shape_of-counts-in-Fine
+shape_of-counts-in-Fine c = c.lay_pairs.auto.1.1.1.1.0

@@ -1,0 +1,11 @@
+-- `year::faces::add_faces` meets its contract. Assumes nothing.
+use Prim.Native.Nat.{◌-◌}
+use Rattle.year.specs.Faced.{Adding}
+use Rattle.ovfile.specs.Values.{layout_from}
+use Rattle.year.proofs.faces.add_faces.Given as goal
+
+abbrev pub invariant-loop-f : goal.invariant-loop-f
+invariant-loop-f l = Adding (layout_from l.layout) l.file l.n l.number l.initial.rows l.pairs l.rows l.total l.f
+
+abbrev pub decreases-loop-f : goal.decreases-loop-f
+decreases-loop-f l = l.n - l.f
