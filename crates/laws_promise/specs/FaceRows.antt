@@ -105,7 +105,7 @@ module _ (ms : List Map) (K : AllKeep ms) (ps : List Piece) (g : Graph) (N : Pie
 
     label-here : (i : ℕ) → i < length ms → Labelled ms c t i (least_of n t (suc f)) (face_cell n t (suc f) i)
     label-here i b =
-        let e : face_cell n t (suc f) i ≡ get_or (labels_of ms o x) i 0 = H.label_at (suc f) i l b in
+        let e : face_cell n t (suc f) i ≡ get_or (labels_of ms o x) i 0 = H.label_at_lem (suc f) i l b in
         at (λ h. Labelled ms c t i h (face_cell n t (suc f) i)) (subst (Labelled ms c t i x) (sym e) (pair-labelled x i x_below b))
 
   -- a face other than 0 is f + 1
@@ -194,7 +194,7 @@ module _ (ms : List Map) (K : AllKeep ms) (ps : List Piece) (g : Graph) (N : Pie
   pub face-rows : FaceRows ms c t
   face-rows = record {
     outside-there = omega (arith, H.faces-are);
-    outside-label = λ i b. H.label_at 0 i (omega (arith, H.faces-are)) b ∙ get_or-replicate n i 0 0 b;
+    outside-label = λ i b. H.label_at_lem 0 i (omega (arith, H.faces-are)) b ∙ get_or-replicate n i 0 0 b;
     outside-least = H.least_at 0 (omega (arith, H.faces-are));
     least_below = of_face (λ f. least_of n t f < 2 * c.edges) below_at;
     least-least = of_face (λ f. Least c t (least_of n t f)) least_at;

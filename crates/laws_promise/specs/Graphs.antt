@@ -20,7 +20,6 @@ use Rattle.laws_graph.specs.Walks.{Along, along_below, along-walk, walk-along, l
 use Rattle.laws_graph.specs.Holes.{smallest_is, smallest_first, smallest_same, hole-makes, makes-best}
 use Rattle.laws_overlay.specs.Sources.{source_at}
 use Rattle.laws_overlay.specs.Pieces.{piece_at}
-use Rattle.laws_overlay.specs.Net.{edge_is}
 use Rattle.laws_labels.specs.Demand3.{followers_in}
 use Rattle.laws_promise.specs.Defined.{the_point_at, way_at, OnWalk, minus_one, source_of, the_edge_in, graph_in, Hole, Least}
 use Rattle.laws_promise.specs.Rows.{Pieced, Rows}
