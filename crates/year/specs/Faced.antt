@@ -1,5 +1,5 @@
 -- The pairs of a file, as its faces store them, and the loops over them: faces added to the table of pairs, gaps counted. Assumes nothing.
-use Rattle.std.specs.Prelude.{◌≡◌, refl, ◌≤◌, ◌<◌, ◌∷◌, ◌++◌, ◌+◌, ◌-◌}
+use Rattle.std.specs.Prelude.{◌≡◌, refl, ◌≤◌, ◌<◌, ◌∷◌, ◌+◌, ◌-◌}
 use Rattle.std.proofs.Common.{sym, ◌∙◌, ap, subst, add-one, arith, eq-eqb, ne_eqb}
 use Rattle.seq.specs.Seq.{cond, List, [], ℕ, suc, length, table}
 use Rattle.seq.specs.Table.{length-table, table_more}

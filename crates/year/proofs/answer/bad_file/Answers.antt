@@ -1,7 +1,6 @@
 -- `year::answer::bad_file` meets its contract. Assumes nothing.
 use mathlib.Core.Path.{◌∙◌}
 use Rattle.year.specs.Closing.{bad_none, bad_some}
-use borrow.Author.Rules.{rules}
 use Rattle.year.proofs.answer.bad_file.Goals as goal
 
 pub returns-then-bad-eq0 : goal.returns-then-bad-eq0

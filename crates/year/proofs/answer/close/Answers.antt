@@ -1,7 +1,6 @@
 -- `year::answer::close` meets its contract. Assumes nothing.
 use Rattle.year.specs.Closing.{refused_is, done_few, done_is}
 use native.Mathlib.Omega.{arith}
-use borrow.Author.Rules.{rules}
 use Rattle.year.proofs.answer.close.Goals as goal
 
 pub overflow_cast-result : goal.overflow_cast-result

@@ -3,7 +3,6 @@ use mathlib.Core.Path.{ap, ◌∙◌}
 use Rattle.seq.specs.Seq.{Bool}
 use Rattle.paper.specs.Refusal.{given}
 use Rattle.map_file.proofs.VerdictLaws.{last, before}
-use borrow.Author.Rules.{rules}
 use Rattle.year.proofs.answer.fault.Goals as goal
 
 pub returns : goal.returns

@@ -1,6 +1,5 @@
 -- `year::answer::torn` meets its contract. Assumes nothing.
 use Rattle.year.specs.Closing.{torn_first, torn-second}
-use borrow.Author.Rules.{rules}
 use Rattle.year.proofs.answer.torn.Goals as goal
 
 pub returns-then-whole : goal.returns-then-whole

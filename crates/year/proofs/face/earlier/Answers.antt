@@ -1,6 +1,5 @@
 -- `year::face::earlier` meets its contract. Assumes nothing.
 use Rattle.year.specs.Compared.{earlier-level, earlier-apart}
-use borrow.Author.Rules.{rules}
 use Rattle.year.proofs.face.earlier.Goals as goal
 
 pub returns-then-first-zone : goal.returns-then-first-zone

@@ -3,7 +3,6 @@ use mathlib.Core.Path.{◌∙◌, ap}
 use Rattle.seq.specs.Seq.{List, ℕ, row_stored}
 use Rattle.laws_year.specs.Step.{first_face}
 use Rattle.year.specs.TallyRows.{tally_width, cells_of}
-use borrow.Author.Rules.{rules}
 use Rattle.year.proofs.face.open_row.Goals as goal
 
 pub returns : goal.returns

@@ -1,5 +1,4 @@
 -- `year::face::place` meets its contract. Assumes nothing.
-use borrow.Author.Rules.{rules}
 use Rattle.year.proofs.face.place.Goals as goal
 
 pub place_by_halves-requires : goal.place_by_halves-requires

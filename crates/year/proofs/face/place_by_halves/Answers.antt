@@ -1,11 +1,8 @@
 -- `year::face::place_by_halves` meets its contract: all rows below `low` are earlier, and that at `high` is not. Assumes nothing.
 use mathlib.Core.Path.{sym, ◌∙◌, ap}
-use Prim.Native.Nat.{◌-◌}
 use native.Mathlib.Omega.{arith}
-use Rattle.seq.specs.Seq.{Bool, not, List, ℕ}
-use Rattle.seq.specs.PairOrder.{pair_before}
-use Rattle.seq.specs.Halves.{Halving, halve_starts, halve_up, halve_down, halve_ends}
-use Rattle.year.specs.TallyRows.{pair_at}
+use Rattle.seq.specs.Seq.{not}
+use Rattle.seq.specs.Halves.{halve_starts, halve_up, halve_down, halve_ends}
 use Rattle.year.specs.Risen.{rows_last}
 use borrow.Author.Rules.{rules}
 use Rattle.year.proofs.face.place_by_halves.Goals as goal

@@ -1,10 +1,7 @@
 -- `year::face::place_in_turn` meets its contract: every row that the loop has passed is earlier. Assumes nothing.
 use mathlib.Core.Path.{sym, ◌∙◌, ap}
-use Prim.Native.Nat.{◌-◌}
 use Rattle.seq.specs.Seq.{not}
-use Rattle.seq.specs.PairOrder.{pair_before}
-use Rattle.seq.specs.Loops.Searching.{Searching, search_starts, search_turns, search_finds, search_ends}
-use Rattle.year.specs.TallyRows.{pair_at}
+use Rattle.seq.specs.Loops.Searching.{search_starts, search_turns, search_finds, search_ends}
 use borrow.Author.Rules.{rules}
 use Rattle.year.proofs.face.place_in_turn.Goals as goal
 

@@ -1,11 +1,9 @@
 -- `year::face::place_in_turn` meets its contract: every row that the loop has passed is earlier. Assumes nothing.
-use mathlib.Core.Path.{sym, ◌∙◌, ap}
 use Prim.Native.Nat.{◌-◌}
 use Rattle.seq.specs.Seq.{not}
 use Rattle.seq.specs.PairOrder.{pair_before}
-use Rattle.seq.specs.Loops.Searching.{Searching, search_starts, search_turns, search_finds, search_ends}
+use Rattle.seq.specs.Loops.Searching.{Searching}
 use Rattle.year.specs.TallyRows.{pair_at}
-use borrow.Author.Rules.{rules}
 use Rattle.year.proofs.face.place_in_turn.Given as goal
 
 abbrev pub invariant-loop-k : goal.invariant-loop-k

@@ -1,6 +1,5 @@
 -- `year::face::sheets` meets its contract. Assumes nothing.
 use Rattle.year.specs.Compared.{sheets_same, sheets_more}
-use borrow.Author.Rules.{rules}
 use Rattle.year.proofs.face.sheets.Goals as goal
 
 pub returns-then-rows-at : goal.returns-then-rows-at

@@ -1,7 +1,5 @@
 -- `year::faces::add_faces` meets its contract. Assumes nothing.
-use Prim.Native.Nat.{◌-◌}
-use Rattle.year.specs.Faced.{Adding, add_starts, add_few, add-ordered, add_turns, add_ends}
-use Rattle.ovfile.specs.Values.{layout_from}
+use Rattle.year.specs.Faced.{add_starts, add_few, add-ordered, add_turns, add_ends}
 use borrow.Author.Rules.{rules}
 use native.Mathlib.Omega.{arith}
 use Rattle.year.proofs.faces.add_faces.Goals as goal

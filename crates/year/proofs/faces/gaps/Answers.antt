@@ -1,7 +1,5 @@
 -- `year::faces::gaps` meets its contract. Assumes nothing.
-use Prim.Native.Nat.{◌-◌}
-use Rattle.year.specs.Faced.{Gapping, gap_starts, gap_turns, gap_ends}
-use Rattle.ovfile.specs.Values.{layout_from}
+use Rattle.year.specs.Faced.{gap_starts, gap_turns, gap_ends}
 use borrow.Author.Rules.{rules}
 use native.Mathlib.Omega.{arith}
 use Rattle.year.proofs.faces.gaps.Goals as goal

@@ -1,9 +1,7 @@
 -- `year::faces::gaps` meets its contract. Assumes nothing.
 use Prim.Native.Nat.{◌-◌}
-use Rattle.year.specs.Faced.{Gapping, gap_starts, gap_turns, gap_ends}
+use Rattle.year.specs.Faced.{Gapping}
 use Rattle.ovfile.specs.Values.{layout_from}
-use borrow.Author.Rules.{rules}
-use native.Mathlib.Omega.{arith}
 use Rattle.year.proofs.faces.gaps.Given as goal
 
 abbrev pub invariant-loop-f : goal.invariant-loop-f

@@ -11,7 +11,6 @@ use Rattle.laws_year.specs.Capped.{cap_read}
 use Rattle.year.specs.Faced.{others, pairs_from}
 use Rattle.year.specs.Stated.{state_of}
 use Rattle.year.specs.OneFile.{fault_of, sheet-refused, sheet-fine, fine_few, bad-added}
-use borrow.Author.Rules.{rules}
 use Rattle.year.proofs.next.add_read.Goals as goal
 use Rattle.year.proofs.next.add_read.Goals.{After-others, In-Fine}
 

@@ -4,7 +4,6 @@ use mathlib.Core.Path.{refl}
 use Rattle.ovfile.specs.Values.{layout_from}
 use Rattle.year.specs.Risen.{ordered-kept}
 use Rattle.year.specs.OneFile.{gaps-small, sheet-added}
-use borrow.Author.Rules.{rules}
 use Rattle.year.proofs.next.add_sheet.Goals as goal
 
 pub in_order-ordered-requires : goal.in_order-ordered-requires

@@ -1,6 +1,5 @@
 -- `year::next::first_bad` meets its contract. Assumes nothing.
 use Rattle.year.specs.Stated.{first_none, first_some}
-use borrow.Author.Rules.{rules}
 use Rattle.year.proofs.next.first_bad.Goals as goal
 
 pub returns-then-bad-eq0 : goal.returns-then-bad-eq0

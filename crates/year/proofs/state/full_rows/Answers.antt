@@ -1,9 +1,7 @@
 -- `year::state::full_rows` meets its contract. Assumes nothing.
-use mathlib.Core.Logic.{⊎_elim}
 use mathlib.Core.Path.{sym, ◌∙◌}
-use Prim.Native.Nat.{◌-◌}
 use native.Mathlib.Omega.{arith}
-use Rattle.year.specs.Stated.{Fulls, fulls_start, fulls_few, fulls_takes, fulls_skips, fulls_end}
+use Rattle.year.specs.Stated.{fulls_start, fulls_few, fulls_takes, fulls_skips, fulls_end}
 use borrow.Author.Rules.{rules}
 use Rattle.year.proofs.state.full_rows.Goals as goal
 use Rattle.year.proofs.state.full_rows.Goals.{else-full, then-full}
