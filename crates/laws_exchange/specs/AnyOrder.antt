@@ -3,7 +3,7 @@
 -- `exchanged_room`. Bad maps: `exchanged-bad`, `first_handed_in`. The definition's side: Orders and Exchanged of laws_orders. Assumes nothing.
 use Rattle.std.specs.Prelude.{◌≡◌, ◌⊎◌, ◌<◌, ◌+◌, ◌*◌}
 use Rattle.std.proofs.Common.{sym, ◌∙◌, ap, subst, inl, inr, arith}
-use Rattle.seq.specs.Seq.{List, [], none, some, ℕ, suc, length, get_or}
+use Rattle.seq.specs.Seq.{List, [], some, ℕ, suc, length, get_or}
 use Rattle.paper.specs.Refusal.{Refusal, done, refused}
 use Rattle.paper.specs.Map.{check, fault, vertex_count, edges_in}
 use Rattle.paper.specs.Tables.{Counts, Tables, source_cell, face_cell}

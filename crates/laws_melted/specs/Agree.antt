@@ -84,7 +84,7 @@ module _ (ms : List Map) (K : AllKeep ms) (ps : List Piece) (g : Graph) (D : Dra
   whole-table xs e = ap (table (λ i. get_or xs i 0)) (sym e) ∙ table_of xs 0
 
   stored-labels : (f : ℕ) → f < c.faces → stored n t f ≡ table (λ i. get_or (face_labels ms o f) i 0) n
-  stored-labels f l = table-ext (face_cell n t f) (λ i. get_or (face_labels ms o f) i 0) n (λ i li. R.label_at f i l li)
+  stored-labels f l = table-ext (face_cell n t f) (λ i. get_or (face_labels ms o f) i 0) n (λ i li. R.label_at_lem f i l li)
 
   pub rows_agree : Agrees (length ms) c t (labels_of ms (overlay_by ps (walks_of g)))
   rows_agree = record {

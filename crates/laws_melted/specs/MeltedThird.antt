@@ -139,11 +139,11 @@ module _ (fs : List (List ℕ)) where
     -- of the cells of a face
     label_of_lem : (f i : ℕ) → f < c.faces → i < length ns → face_cell (length ns) u f i ≡ get_or (face_labels ns (melted_of ns) f) i 0
     unfolding melted_of
-    label_of_lem = U.label_at
+    label_of_lem = U.label_at_lem
 
     label_by_lem : (f i : ℕ) → f < c.faces → i < n' → face_cell n' t f i ≡ get_or (face_labels ms (melted_of ms) f) i 0
     unfolding melted_of
-    label_by_lem = T.label_at
+    label_by_lem = T.label_at_lem
 
     half_of : (f : ℕ) → f < c.faces → face_cell (length ns) u f (length ns) ≡ face_half ns (melted_of ns) f
     unfolding melted_of
