@@ -1,6 +1,5 @@
 -- `overlay_graph::collecting::collect_maps` meets its contract. Assumes nothing.
 use native.Mathlib.Omega.{arith}
-use borrow.Author.Rules.{rules}
 use Rattle.overlay_maps.specs.Layers.{Layers, layers_by}
 use Rattle.overlay_graph.specs.Laws.Standing.{corners-near, starts, upright}
 use Rattle.overlay_graph.specs.Laws.CutLaws.{collected-once, collected-near, ordered_is, collected_over}

@@ -1,5 +1,4 @@
 -- `overlay_graph::collecting::sweep_maps` meets its contract. Assumes nothing.
-use borrow.Author.Rules.{rules}
 use Rattle.overlay_maps.specs.Layers.{Layers, layers_by}
 use Rattle.overlay_graph.specs.Laws.Sweeping.{layers-given, layers-swept}
 use Rattle.overlay_graph.proofs.collecting.sweep_maps.Goals as goal

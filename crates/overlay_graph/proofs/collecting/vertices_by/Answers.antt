@@ -1,6 +1,5 @@
 -- `overlay_graph::collecting::vertices_by` meets its contract. Assumes nothing.
 use native.Mathlib.Omega.{arith}
-use borrow.Author.Rules.{rules}
 use Rattle.overlay_graph.proofs.collecting.vertices_by.Goals as goal
 
 pub collect_maps-n-requires : goal.collect_maps-n-requires

@@ -1,7 +1,6 @@
 -- `overlay_graph::cutting::cut_few` meets its contract. Assumes nothing.
 use Prim.Native.Nat.{ℕ, ◌+◌, ◌-◌}
 use native.Mathlib.Omega.{arith}
-use borrow.Author.Rules.{rules}
 use Rattle.paper.specs.Limits.{maps}
 use Rattle.graph.specs.Small.{small_vertices, small_edges}
 use Rattle.overlay_maps.specs.Layers.{Layers, layers_by}

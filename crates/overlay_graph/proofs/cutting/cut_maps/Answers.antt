@@ -1,6 +1,5 @@
 -- `overlay_graph::cutting::cut_maps` meets its contract. Assumes nothing.
 use native.Mathlib.Omega.{arith}
-use borrow.Author.Rules.{rules}
 use Prim.Native.Nat.{ℕ}
 use lib.ListN.{length-replicate, get_or-replicate}
 use Rattle.overlay_cut.specs.Rooms.{vertex_rows, edge_rows}
@@ -20,10 +19,10 @@ vertices_by-swept-requires c =
       fact_1 = c.requires.fact_1;
       fact_2 = c.requires.fact_2.0;
       fact_3 =
-        record {
-          spools = record { edges = omega (arith, few, length-replicate {A = ℕ} 900 0); nodes = omega (arith, c.requires.fact_2.1); few = omega arith };
-          none = λ k h. get_or-replicate {A = ℕ} 900 k 0 0 (omega (arith, few));
-        };
+          record {
+            spools = record { edges = omega (arith, few, length-replicate {A = ℕ} 900 0); nodes = omega (arith, c.requires.fact_2.1); few = omega arith };
+            none = λ k h. get_or-replicate {A = ℕ} 900 k 0 0 (omega (arith, few));
+          };
     }
 
 pub returns-then-n-ge-VERTEX_ROWS : goal.returns-then-n-ge-VERTEX_ROWS
@@ -41,13 +40,13 @@ pieces-e-requires c =
       fact_1 = (ordered-near (l (goal.at.pieces-e-requires c).Start) c.requires.fact_1 vertex_rows ps v.result.stops C few (omega (arith, few, c.requires.fact_2.0, v.auto.points)), omega (arith, few), ordered-rise (l (goal.at.pieces-e-requires c).Start) c.requires.fact_1 vertex_rows ps v.result.stops C few);
       fact_2 = (starts (l (goal.at.pieces-e-requires c).Start) c.requires.fact_1, ordered-ended (l (goal.at.pieces-e-requires c).Start) c.requires.fact_1 vertex_rows ps v.result.stops C few);
       fact_3 = (
-            record {
-              edges = omega (arith, edges_few, v.auto.last, length-replicate {A = ℕ} 900 0);
-              nodes = omega (arith, c.requires.fact_2.1, v.auto.nodes);
-              few = omega arith;
-            },
-            v.ensures.threads,
-          );
+        record {
+          edges = omega (arith, edges_few, v.auto.last, length-replicate {A = ℕ} 900 0);
+          nodes = omega (arith, c.requires.fact_2.1, v.auto.nodes);
+          few = omega arith;
+        },
+        v.ensures.threads,
+      );
       fact_4 = omega arith;
       fact_5 = omega (arith, c.requires.fact_2.1, v.auto.nodes);
     }

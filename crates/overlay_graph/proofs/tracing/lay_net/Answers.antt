@@ -1,5 +1,4 @@
 -- `overlay_graph::tracing::lay_net` meets its contract. Assumes nothing.
-use borrow.Author.Rules.{rules}
 use Rattle.overlay_maps.specs.Layers.{Layers, layers_by}
 use Rattle.overlay_graph.specs.Cut.{cut_by}
 use Rattle.overlay_graph.specs.Laws.Standing.{starts}

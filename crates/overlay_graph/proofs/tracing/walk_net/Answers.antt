@@ -1,6 +1,5 @@
 -- `overlay_graph::tracing::walk_net` meets its contract. Assumes nothing.
 use native.Mathlib.Omega.{arith}
-use borrow.Author.Rules.{rules}
 use Rattle.overlay_graph.proofs.tracing.walk_net.Goals as goal
 
 pub walk_net_in-requires : goal.walk_net_in-requires

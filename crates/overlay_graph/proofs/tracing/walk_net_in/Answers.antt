@@ -1,5 +1,4 @@
 -- `overlay_graph::tracing::walk_net_in` meets its contract. Assumes nothing.
-use borrow.Author.Rules.{rules}
 use Rattle.graph_faces.specs.Laws.Linking.{linked-led}
 use Rattle.overlay_graph.proofs.tracing.walk_net_in.Goals as goal
 
