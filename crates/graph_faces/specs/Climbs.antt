@@ -14,7 +14,7 @@ use Rattle.laws_graph.specs.Halves.{Which, which, twin-second}
 use Rattle.laws_graph.specs.Follow.{follower-origin, follower_below}
 use Rattle.laws_graph.specs.Walks.{Along, along-step, along-trans, along_below, lead-along, lead_below, lead-least}
 use Rattle.laws_graph.specs.Holes.{smallest_is, smallest_below}
-use Rattle.graph.specs.Flat.{origin_at, the_point_at, flat_graph, Flat}
+use Rattle.graph.specs.Flat.{origin_at, flat_graph, Flat}
 use Rattle.graph.specs.Laws.Decode.{flat-points, flat-halves, flat_origin, flat_start}
 use Rattle.graph.specs.Rising.{Rises, number_before}
 use Rattle.graph_faces.specs.Walked.{top_of}

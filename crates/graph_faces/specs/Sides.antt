@@ -1,5 +1,5 @@
 -- An edge whose ends both come after a vertex, or neither does, is not strictly west of it: where the points rise this is told by vertex numbers (`one_side_none`). Assumes nothing.
-use Rattle.std.specs.Prelude.{◌≡◌, refl, ◌≤◌, ◌<◌, ◌&&◌, ◌+◌, ◌*◌}
+use Rattle.std.specs.Prelude.{◌≡◌, ◌≤◌, ◌<◌, ◌&&◌, ◌+◌, ◌*◌}
 use Rattle.std.proofs.Common.{sym, ◌∙◌, ap, arith}
 use Rattle.std.specs.Int.Signed.{lt_z}
 use Rattle.seq.specs.Seq.{Bool, true, false, cond, not, List, ℕ, ltb, ℤ, pos}

@@ -2,7 +2,7 @@
 use Rattle.std.specs.Prelude.{◌≡◌, refl, ◌≤◌, ◌<◌, set, ◌&&◌, ◌+◌}
 use Rattle.std.proofs.Common.{sym, ◌∙◌, ap, subst, arith, eq-eqb, ne_eqb, length-set, get_or-set_same, get_or-set_other}
 use Rattle.std.proofs.Math.Decide.{ℕ_discrete}
-use Rattle.seq.specs.Seq.{Bool, true, false, cond, not, List, ℕ, eqb, length, get_or}
+use Rattle.seq.specs.Seq.{Bool, true, false, cond, not, List, ℕ, length, get_or}
 use Rattle.seq.specs.Loops.Selecting.{Selecting, select-takes, select-skips}
 use Rattle.graph_faces.specs.Kinds.{Known, hole_of, outer_lead}
 

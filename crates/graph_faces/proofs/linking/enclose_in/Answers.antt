@@ -54,13 +54,13 @@ module _ (s : Start) where
   F = s.requires.fact_1
 
   small : e ≤ overlay_edges
-  small = s.requires.fact_2.0
+  small = s.requires.fact_2
 
   abbrev P : Plane g
-  P = s.requires.fact_2.1.0
+  P = s.requires.fact_3
 
   abbrev A : Led g lead top
-  A = s.requires.fact_2.1.1.0
+  A = s.requires.fact_4
 
   big : 2 * e ≤ absent
   big = omega (arith, small)
@@ -91,48 +91,39 @@ module _ (s : Start) where
 -- ── the needs ──
 pub tell-count-requires : goal.tell-count-requires
 tell-count-requires c =
-    let s = (goal.at.tell-count-requires c).Start in
-    let r = (goal.at.tell-count-requires c).After-rise-rising in
     record {
-      fact_1 = sighted s r.rise-rising.result r.rise-rising.ensures.rises;
-      fact_2 = (leads s, tops-numbers (ps s) (os s) (cs s) (n s) (e s) (F s) (P s) (big s) (lead s) (top s) (L s) (T s));
-      fact_3 = (s.requires.fact_2.1.1.1.0, s.requires.fact_2.1.1.1.2);
+      fact_1 = sighted (goal.at.tell-count-requires c).Start c.rise-rising.result c.rise-rising.ensures.rises;
+      fact_2 = (leads (goal.at.tell-count-requires c).Start, tops-numbers (ps (goal.at.tell-count-requires c).Start) (os (goal.at.tell-count-requires c).Start) (cs (goal.at.tell-count-requires c).Start) (n (goal.at.tell-count-requires c).Start) (e (goal.at.tell-count-requires c).Start) (F (goal.at.tell-count-requires c).Start) (P (goal.at.tell-count-requires c).Start) (big (goal.at.tell-count-requires c).Start) (lead (goal.at.tell-count-requires c).Start) (top (goal.at.tell-count-requires c).Start) (L (goal.at.tell-count-requires c).Start) (T (goal.at.tell-count-requires c).Start));
+      fact_3 = (c.requires.fact_5.0, c.requires.fact_5.2);
     }
 
 pub overflow_add-count : goal.overflow_add-count
 overflow_add-count c =
-    let s = (goal.at.overflow_add-count c).Start in
-    let t = (goal.at.overflow_add-count c).After-tell-count in
-    omega (arith, small s, t.tell-count.ensures.leaders.1, count-le (outer_lead (lead s) (top s)) (2 * e s))
+    omega (arith, small (goal.at.overflow_add-count c).Start, c.tell-count.ensures.counted, count-le (outer_lead (lead (goal.at.overflow_add-count c).Start) (top (goal.at.overflow_add-count c).Start)) (2 * e (goal.at.overflow_add-count c).Start))
 
 pub settle-requires : goal.settle-requires
 settle-requires c =
-    let s = (goal.at.settle-requires c).Start in
-    let t = (goal.at.settle-requires c).After-tell-count in
-    let known = t.tell-count.last.1.1.1.1.1.1.1.1.0 in
-    let K = t.tell-count.ensures.known in
-    let r = t.tell-count.ensures.leaders.1 in
+    let known = c.tell-count.new.known in
+    let K = c.tell-count.ensures.known in
+    let r = c.tell-count.ensures.counted in
     record {
-      fact_1 = all-faced s known K;
-      fact_2 = big s;
-      fact_3 = below s known K t.tell-count.result r;
-      fact_4 = (s.requires.fact_2.1.1.1.1, omega (arith, s.requires.fact_2.1.1.1.3, r, count-le (outer_lead (lead s) (top s)) (2 * e s)));
+      fact_1 = all-faced (goal.at.settle-requires c).Start known K;
+      fact_2 = big (goal.at.settle-requires c).Start;
+      fact_3 = below (goal.at.settle-requires c).Start known K c.tell-count.result r;
+      fact_4 = (c.requires.fact_5.1, omega (arith, c.requires.fact_5.3, r, count-le (outer_lead (lead (goal.at.settle-requires c).Start) (top (goal.at.settle-requires c).Start)) (2 * e (goal.at.settle-requires c).Start)));
     }
 
 pub returns : goal.returns
 returns c =
-    let s = (goal.at.returns c).Start in
-    let t = (goal.at.returns c).After-tell-count in
-    let d = (goal.at.returns c).After-settle in
-    let known = t.tell-count.last.1.1.1.1.1.1.1.1.0 in
-    let K = t.tell-count.ensures.known in
-    let face = d.settle.last.1.1.1.1.1.0 in
+    let known = c.tell-count.new.known in
+    let K = c.tell-count.ensures.known in
+    let face = c.settle.new.faces in
     record {
-      face_is = over_is (ps s) (os s) (cs s) (n s) (e s) (F s) (P s) (face_in (walks_of (g s)) (length (g s).points)) (face₀ s) face (face_at_lem s known K face d.settle.ensures.faces);
-      outers_is = outers-flat (ps s) (os s) (cs s) (n s) (e s) (F s) (P s) (big s) (lead s) (top s) (L s) (T s) s.args.leaders.now t.tell-count.last.1.1.1.1.1.1.1.1.1.0 t.tell-count.ensures.leaders.0;
-      count_is = count-flat (ps s) (os s) (cs s) (n s) (e s) (F s) (P s) (big s) (lead s) (top s) (L s) (T s) t.tell-count.result t.tell-count.ensures.leaders.1;
-      holes_is = holes-filled (ps s) (os s) (cs s) (n s) (e s) (F s) (P s) (big s) (lead s) (top s) (L s) (T s) known K t.tell-count.result s.args.inside.now d.settle.last.1.1.1.1.1.1.0 d.settle.ensures.inside;
+      face_is = over_is (ps (goal.at.returns c).Start) (os (goal.at.returns c).Start) (cs (goal.at.returns c).Start) (n (goal.at.returns c).Start) (e (goal.at.returns c).Start) (F (goal.at.returns c).Start) (P (goal.at.returns c).Start) (face_in (walks_of (g (goal.at.returns c).Start)) (length (g (goal.at.returns c).Start).points)) (face₀ (goal.at.returns c).Start) face (face_at_lem (goal.at.returns c).Start known K face c.settle.ensures.faces);
+      outers_is = outers-flat (ps (goal.at.returns c).Start) (os (goal.at.returns c).Start) (cs (goal.at.returns c).Start) (n (goal.at.returns c).Start) (e (goal.at.returns c).Start) (F (goal.at.returns c).Start) (P (goal.at.returns c).Start) (big (goal.at.returns c).Start) (lead (goal.at.returns c).Start) (top (goal.at.returns c).Start) (L (goal.at.returns c).Start) (T (goal.at.returns c).Start) c.args.leaders.now c.tell-count.new.leaders c.tell-count.ensures.leaders;
+      count_is = count-flat (ps (goal.at.returns c).Start) (os (goal.at.returns c).Start) (cs (goal.at.returns c).Start) (n (goal.at.returns c).Start) (e (goal.at.returns c).Start) (F (goal.at.returns c).Start) (P (goal.at.returns c).Start) (big (goal.at.returns c).Start) (lead (goal.at.returns c).Start) (top (goal.at.returns c).Start) (L (goal.at.returns c).Start) (T (goal.at.returns c).Start) c.tell-count.result c.tell-count.ensures.counted;
+      holes_is = holes-filled (ps (goal.at.returns c).Start) (os (goal.at.returns c).Start) (cs (goal.at.returns c).Start) (n (goal.at.returns c).Start) (e (goal.at.returns c).Start) (F (goal.at.returns c).Start) (P (goal.at.returns c).Start) (big (goal.at.returns c).Start) (lead (goal.at.returns c).Start) (top (goal.at.returns c).Start) (L (goal.at.returns c).Start) (T (goal.at.returns c).Start) known K c.tell-count.result c.args.inside.now c.settle.new.inside c.settle.ensures.inside;
     }
 
 pub rise-rising-requires : goal.rise-rising-requires
-rise-rising-requires c = let s = (goal.at.rise-rising-requires c).Start in (F s).points
+rise-rising-requires c = (F (goal.at.rise-rising-requires c).Start).points

@@ -4,19 +4,15 @@ use Rattle.graph_faces.proofs.linking.link.Goals as goal
 
 pub link_in-requires : goal.link_in-requires
 link_in-requires c =
-    let s = (goal.at.link_in-requires c).Start in
-    let a = (goal.at.link_in-requires c).After-is_small in
-    let b = (goal.at.link_in-requires c).Then-is_small in
-    let w = a.is_small.ensures b.if-is_small.true in
-    record { fact_1 = s.requires.fact_1; fact_2 = s.requires.fact_2.1.0; fact_3 = s.requires.fact_2.1.1.0; fact_4 = (omega (arith, w.1), omega (arith, w.0)); fact_5 = s.requires.fact_2.1.1.1 }
+    let w = c.is_small.ensures c.if-is_small.true in
+    record { fact_1 = c.requires.fact_1; fact_2 = c.requires.fact_3; fact_3 = c.requires.fact_4; fact_4 = (omega (arith, w.1), omega (arith, w.0)); fact_5 = c.requires.fact_5 }
 
 pub link_in-requires-else-is_small : goal.link_in-requires-else-is_small
 link_in-requires-else-is_small c =
-    let s = (goal.at.link_in-requires-else-is_small c).Start in
     record {
-      fact_1 = s.requires.fact_1;
-      fact_2 = s.requires.fact_2.1.0;
-      fact_3 = s.requires.fact_2.1.1.0;
-      fact_4 = (omega (arith, s.requires.fact_2.1.0), omega (arith, s.requires.fact_2.0));
-      fact_5 = s.requires.fact_2.1.1.1;
+      fact_1 = c.requires.fact_1;
+      fact_2 = c.requires.fact_3;
+      fact_3 = c.requires.fact_4;
+      fact_4 = (omega (arith, c.requires.fact_3), omega (arith, c.requires.fact_2));
+      fact_5 = c.requires.fact_5;
     }

@@ -3,7 +3,6 @@ use Rattle.std.specs.Prelude.{◌*◌}
 use mathlib.Core.Path.{◌≡◌}
 use Prim.Native.Nat.{◌≤◌}
 use native.Mathlib.Omega.{arith}
-use borrow.Author.Rules.{rules}
 use Rattle.seq.specs.Seq.{List, Option·getD, ℕ, take, leader, length, filled, laid, ℤ}
 use Rattle.seq.specs.Filled.{Holds}
 use Rattle.paper.specs.Limits.{overlay_edges, absent}
@@ -58,16 +57,16 @@ module _ (s : Start) where
   F = s.requires.fact_1
 
   small : e ≤ overlay_edges
-  small = s.requires.fact_2.0
+  small = s.requires.fact_2
 
   abbrev P : Plane g
-  P = s.requires.fact_2.1.0
+  P = s.requires.fact_3
 
   abbrev wide : 2 * (2 * e) ≤ length ways₀
-  wide = s.requires.fact_2.1.1.0.0
+  wide = s.requires.fact_4.0
 
   abbrev long : 2 * e ≤ length next₀
-  long = s.requires.fact_2.1.1.1.0
+  long = s.requires.fact_5.0
 
   big : 2 * e ≤ absent
   big = omega (arith, small)
@@ -85,12 +84,12 @@ module _ (s : Start) where
       headings = near;
       apart = ways-apart ps os cs n e F P ways₀ wide ways W;
       small = big;
-      long_heads = s.requires.fact_2.1.1.0.1;
+      long_heads = s.requires.fact_4.1;
       long_next = long;
     }
 
     outs : (out : List ℕ) → out ≡ filled n (greatest_at os ways (2 * e)) out₀ → Holds (λ v. Option·getD (greatest_out g v) absent) out n
-    outs out O = greatest-holds ps os cs n e F P ways heads out₀ s.requires.fact_2.1.1.0.1 out O
+    outs out O = greatest-holds ps os cs n e F P ways heads out₀ s.requires.fact_4.1 out O
 
     module _ (next : List ℕ) (N : next ≡ filled (2 * e) (follower_at os ways (2 * e)) next₀) where
       next_at : next ≡ filled (2 * e) (follower g) next₀
@@ -101,89 +100,62 @@ module _ (s : Start) where
 
       module _ (lead : List ℕ) (L : lead ≡ filled (2 * e) (leader (take (2 * e) next)) lead₀) where
         lead_at_lem : lead ≡ filled (2 * e) (lead_at (walks_of g)) lead₀
-        lead_at_lem = lead-filled ps os cs n e F P next nexts lead₀ s.requires.fact_2.1.1.1.1 lead L
+        lead_at_lem = lead-filled ps os cs n e F P next nexts lead₀ s.requires.fact_5.1 lead L
 
         leads : Holds (lead_at (walks_of g)) lead (2 * e)
-        leads = lead-holds ps os cs n e F P next nexts lead₀ s.requires.fact_2.1.1.1.1 lead L
-
--- ── the needs ──
--- from each call back to the one before it
-abbrev begun : After-rise-rising → Start
-begun c = search rules
-
-abbrev risen : After-headings_by → After-rise-rising
-risen c = search rules
-
-abbrev headed : After-follow_stars → After-headings_by
-headed c = search rules
-
-abbrev followed : After-leads → After-follow_stars
-followed c = search rules
-
-abbrev marked : After-tops_of → After-leads
-marked c = search rules
+        leads = lead-holds ps os cs n e F P next nexts lead₀ s.requires.fact_5.1 lead L
 
 pub headings_by-requires : goal.headings_by-requires
 headings_by-requires c =
-    let s = (goal.at.headings_by-requires c).Start in
-    let r = (goal.at.headings_by-requires c).After-rise-rising in
-    record { fact_1 = F s; fact_2 = r.rise-rising.ensures.rises; fact_3 = big s; fact_4 = wide s }
+    record {
+      fact_1 = F (goal.at.headings_by-requires c).Start;
+      fact_2 = c.rise-rising.ensures.rises;
+      fact_3 = big (goal.at.headings_by-requires c).Start;
+      fact_4 = wide (goal.at.headings_by-requires c).Start;
+    }
 
 pub follow_stars-requires : goal.follow_stars-requires
 follow_stars-requires c =
-    let s = (goal.at.follow_stars-requires c).Start in
-    let w = (goal.at.follow_stars-requires c).After-headings_by in
-    let W = w.headings_by in
-    roomy s W.last.1.1.1.1.1.1.0 W.ensures
+    let W = c.headings_by in
+    roomy (goal.at.follow_stars-requires c).Start W.new.out W.ensures
 
 pub leads-requires : goal.leads-requires
 leads-requires c =
-    let s = (goal.at.leads-requires c).Start in
-    let w = (goal.at.leads-requires c).After-headings_by in
-    let f = (goal.at.leads-requires c).After-follow_stars in
-    let W = w.headings_by in
-    let N = f.follow_stars in
-    let next = N.last.1.1.1.1.1.0 in
+    let W = c.headings_by in
+    let N = c.follow_stars in
+    let next = N.new.next in
     record {
-      fact_1 = next_permuted (ps s) (os s) (cs s) (n s) (e s) (F s) (P s) next (nexts s W.last.1.1.1.1.1.1.0 W.ensures next N.ensures.next);
-      fact_2 = big s;
-      fact_3 = s.requires.fact_2.1.1.1.1;
+      fact_1 = next_permuted (ps (goal.at.leads-requires c).Start) (os (goal.at.leads-requires c).Start) (cs (goal.at.leads-requires c).Start) (n (goal.at.leads-requires c).Start) (e (goal.at.leads-requires c).Start) (F (goal.at.leads-requires c).Start) (P (goal.at.leads-requires c).Start) next (nexts (goal.at.leads-requires c).Start W.new.out W.ensures next N.ensures.next);
+      fact_2 = big (goal.at.leads-requires c).Start;
+      fact_3 = c.requires.fact_5.1;
     }
 
 pub tops_of-requires : goal.tops_of-requires
 tops_of-requires c =
-    let l = (goal.at.tops_of-requires c).After-leads in
-    let f = followed l in
-    let w = headed f in
-    let r = risen w in
-    let s = begun r in
-    let W = w.headings_by in
-    let N = f.follow_stars in
-    let L = l.leads in
-    let ways = W.last.1.1.1.1.1.1.0 in
-    let led = leads s ways W.ensures N.last.1.1.1.1.1.0 N.ensures.next L.last.1.1.0 L.ensures in
-    let out = outs s ways W.ensures N.last.1.1.1.1.0 N.ensures.greatest in
-    record { fact_1 = F s; fact_2 = (small s, s.requires.fact_2.1.1.1.2); fact_3 = P s; fact_4 = r.rise-rising.ensures.rises; fact_5 = (led, out) }
+    let s = (goal.at.tops_of-requires c).Start in
+    let W = c.headings_by in
+    let N = c.follow_stars in
+    let L = c.leads in
+    let ways = W.new.out in
+    let led = leads s ways W.ensures N.new.next N.ensures.next L.new.lead L.ensures in
+    let out = outs s ways W.ensures N.new.heads N.ensures.greatest in
+    record { fact_1 = F s; fact_2 = (small s, s.requires.fact_5.2); fact_3 = P s; fact_4 = c.rise-rising.ensures.rises; fact_5 = (led, out) }
 
 pub returns : goal.returns
 returns c =
-    let t = (goal.at.returns c).After-tops_of in
-    let l = marked t in
-    let f = followed l in
-    let w = headed f in
-    let s = begun (risen w) in
-    let W = w.headings_by in
-    let N = f.follow_stars in
-    let L = l.leads in
-    let ways = W.last.1.1.1.1.1.1.0 in
-    let next = N.last.1.1.1.1.1.0 in
-    let lead = L.last.1.1.0 in
-    let top = t.tops_of.last.1.1.1.1.1.1.1.1.0 in
+    let s = (goal.at.returns c).Start in
+    let W = c.headings_by in
+    let N = c.follow_stars in
+    let L = c.leads in
+    let ways = W.new.out in
+    let next = N.new.next in
+    let lead = L.new.lead in
+    let top = c.tops_of.new.top in
     record {
       next_is = over_is (ps s) (os s) (cs s) (n s) (e s) (F s) (P s) (follower (g s)) (next₀ s) next (next_at s ways W.ensures next N.ensures.next);
       lead_is = leads_over (ps s) (os s) (cs s) (n s) (e s) (F s) (P s) (lead₀ s) lead (lead_at_lem s ways W.ensures next N.ensures.next lead L.ensures);
-      top_is = over_is (ps s) (os s) (cs s) (n s) (e s) (F s) (P s) (top_of (g s)) (top₀ s) top t.tops_of.ensures;
+      top_is = over_is (ps s) (os s) (cs s) (n s) (e s) (F s) (P s) (top_of (g s)) (top₀ s) top c.tops_of.ensures;
     }
 
 pub rise-rising-requires : goal.rise-rising-requires
-rise-rising-requires c = let s = (goal.at.rise-rising-requires c).Start in (F s).points
+rise-rising-requires c = (F (goal.at.rise-rising-requires c).Start).points

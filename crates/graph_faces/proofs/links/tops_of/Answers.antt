@@ -6,7 +6,7 @@ use native.Mathlib.Omega.{arith}
 use Rattle.seq.specs.Seq.{List, Option·getD, ℕ, length, replicate, filled, ℤ}
 use Rattle.seq.specs.Filled.{Holds, filled-ext}
 use Rattle.paper.specs.Limits.{absent}
-use Rattle.paper.specs.Graph.{Graph, greatest_out}
+use Rattle.paper.specs.Graph.{greatest_out}
 use Rattle.paper.specs.Faces.{walks_of, lead_at}
 use Rattle.laws_graph.specs.Plane.{Plane}
 use Rattle.graph.specs.Flat.{flat_graph, Flat, Numbers}
@@ -45,16 +45,16 @@ module _ (s : Start) where
   F = s.requires.fact_1
 
   abbrev P : Plane (flat_graph s.args.points.now s.args.origins.now s.args.carriers.now s.args.n s.args.e)
-  P = s.requires.fact_2.1.0
+  P = s.requires.fact_3
 
   abbrev L : Holds (lead_at (walks_of (flat_graph s.args.points.now s.args.origins.now s.args.carriers.now s.args.n s.args.e))) s.args.lead.now (2 * s.args.e)
-  L = s.requires.fact_2.1.1.1.0
+  L = s.requires.fact_5.0
 
   abbrev G : Holds (λ v. Option·getD (greatest_out (flat_graph s.args.points.now s.args.origins.now s.args.carriers.now s.args.n s.args.e) v) absent) s.args.greatest.now s.args.n
-  G = s.requires.fact_2.1.1.1.1
+  G = s.requires.fact_5.1
 
   big : 2 * s.args.e ≤ absent
-  big = omega (arith, s.requires.fact_2.0.0)
+  big = omega (arith, s.requires.fact_2.0)
 
   leaders : Numbers s.args.lead.now (2 * s.args.e) (2 * s.args.e)
   leaders = lead-numbers ps os cs n e F P lead L
@@ -63,50 +63,50 @@ module _ (s : Start) where
   starts = record { long = F.origins.long; named = λ i l. omega (arith, F.origins.named i l, G.long) }
 
   lows : (low : List ℕ) → low ≡ filled (2 * s.args.e) (low_at s.args.points.now s.args.origins.now s.args.lead.now (2 * s.args.e)) (replicate 4000 0) → Holds (low_at s.args.points.now s.args.origins.now s.args.lead.now (2 * s.args.e)) low (2 * s.args.e)
-  lows low O = low_holds ps os cs n e F P lead 4000 (omega (arith, s.requires.fact_2.0.0)) low O
+  lows low O = low_holds ps os cs n e F P lead 4000 (omega (arith, s.requires.fact_2.0)) low O
 
 -- ── the needs ──
 pub tops_by_leads-requires : goal.tops_by_leads-requires
 tops_by_leads-requires c =
-    let s = (goal.at.tops_by_leads-requires c).Start in
-    record { fact_1 = leaders s; fact_2 = big s; fact_3 = starts s; fact_4 = s.requires.fact_2.0.1 }
+    record {
+      fact_1 = leaders (goal.at.tops_by_leads-requires c).Start;
+      fact_2 = big (goal.at.tops_by_leads-requires c).Start;
+      fact_3 = starts (goal.at.tops_by_leads-requires c).Start;
+      fact_4 = c.requires.fact_2.1;
+    }
 
 pub lows-requires : goal.lows-requires
 lows-requires c =
-    let s = (goal.at.lows-requires c).Start in
     record {
-      fact_1 = flat_starts (ps s) (os s) (cs s) (n s) (e s) (F s);
-      fact_2 = leaders s;
-      fact_3 = big s;
-      fact_4 = omega (arith, s.requires.fact_2.0.0);
-      fact_5 = (s.requires.fact_2.1.1.0, (F s).origins);
+      fact_1 = flat_starts (ps (goal.at.lows-requires c).Start) (os (goal.at.lows-requires c).Start) (cs (goal.at.lows-requires c).Start) (n (goal.at.lows-requires c).Start) (e (goal.at.lows-requires c).Start) (F (goal.at.lows-requires c).Start);
+      fact_2 = leaders (goal.at.lows-requires c).Start;
+      fact_3 = big (goal.at.lows-requires c).Start;
+      fact_4 = omega (arith, c.requires.fact_2.0);
+      fact_5 = (c.requires.fact_4, (F (goal.at.lows-requires c).Start).origins);
     }
 
 pub tops-requires : goal.tops-requires
 tops-requires c =
-    let s = (goal.at.tops-requires c).Start in
-    let b = (goal.at.tops-requires c).After-lows in
-    let B = b.lows in
-    let low = B.last.1.1.1.1.1.1.0 in
-    let O = lows s low B.ensures in
-    record { fact_1 = leaders s; fact_2 = O.long; fact_3 = low_cells (ps s) (os s) (cs s) (n s) (e s) (F s) (P s) (lead s) low (L s) O; fact_4 = starts s; fact_5 = s.requires.fact_2.0.1 }
+    let B = c.lows in
+    let low = B.new.out in
+    let O = lows (goal.at.tops-requires c).Start low B.ensures in
+    record {
+      fact_1 = leaders (goal.at.tops-requires c).Start;
+      fact_2 = O.long;
+      fact_3 = low_cells (ps (goal.at.tops-requires c).Start) (os (goal.at.tops-requires c).Start) (cs (goal.at.tops-requires c).Start) (n (goal.at.tops-requires c).Start) (e (goal.at.tops-requires c).Start) (F (goal.at.tops-requires c).Start) (P (goal.at.tops-requires c).Start) (lead (goal.at.tops-requires c).Start) low (L (goal.at.tops-requires c).Start) O;
+      fact_4 = starts (goal.at.tops-requires c).Start;
+      fact_5 = c.requires.fact_2.1;
+    }
 
 pub returns-then-climb : goal.returns-then-climb
 returns-then-climb c =
-    let s = (goal.at.returns-then-climb c).Start in
-    let k = (goal.at.returns-then-climb c).After-climb in
-    let b = (goal.at.returns-then-climb c).Then-climb in
-    let t = (goal.at.returns-then-climb c).After-tops_by_leads in
-    let C = k.climb.ensures b.if-climb.true in
-    t.tops_by_leads.ensures
-    ∙ filled-ext (top_by_lead (os s) (lead s) (greatest s)) (top_of (flat_graph (ps s) (os s) (cs s) (n s) (e s))) (2 * e s) s.args.top.now
-    (λ h l. climb-top (ps s) (os s) (cs s) (n s) (e s) (F s) (P s) (s.requires.fact_2.1.1.0 C.0) C.1 h l (lead s) (greatest s) (L s) (G s))
+    let C = c.climb.ensures c.if-climb.true in
+    c.tops_by_leads.ensures
+    ∙ filled-ext (top_by_lead (os (goal.at.returns-then-climb c).Start) (lead (goal.at.returns-then-climb c).Start) (greatest (goal.at.returns-then-climb c).Start)) (top_of (flat_graph (ps (goal.at.returns-then-climb c).Start) (os (goal.at.returns-then-climb c).Start) (cs (goal.at.returns-then-climb c).Start) (n (goal.at.returns-then-climb c).Start) (e (goal.at.returns-then-climb c).Start))) (2 * e (goal.at.returns-then-climb c).Start) c.args.top.now
+    (λ h l. climb-top (ps (goal.at.returns-then-climb c).Start) (os (goal.at.returns-then-climb c).Start) (cs (goal.at.returns-then-climb c).Start) (n (goal.at.returns-then-climb c).Start) (e (goal.at.returns-then-climb c).Start) (F (goal.at.returns-then-climb c).Start) (P (goal.at.returns-then-climb c).Start) (c.requires.fact_4 C.0) C.1 h l (lead (goal.at.returns-then-climb c).Start) (greatest (goal.at.returns-then-climb c).Start) (L (goal.at.returns-then-climb c).Start) (G (goal.at.returns-then-climb c).Start))
 
 pub returns-else-climb : goal.returns-else-climb
 returns-else-climb c =
-    let s = (goal.at.returns-else-climb c).Start in
-    let b = (goal.at.returns-else-climb c).After-lows in
-    let t = (goal.at.returns-else-climb c).After-tops in
-    let B = b.lows in
-    let low = B.last.1.1.1.1.1.1.0 in
-    top-filled (ps s) (os s) (cs s) (n s) (e s) (F s) (P s) (lead s) low (L s) (lows s low B.ensures) (greatest s) (G s) s.args.top.now _ t.tops.ensures
+    let B = c.lows in
+    let low = B.new.out in
+    top-filled (ps (goal.at.returns-else-climb c).Start) (os (goal.at.returns-else-climb c).Start) (cs (goal.at.returns-else-climb c).Start) (n (goal.at.returns-else-climb c).Start) (e (goal.at.returns-else-climb c).Start) (F (goal.at.returns-else-climb c).Start) (P (goal.at.returns-else-climb c).Start) (lead (goal.at.returns-else-climb c).Start) low (L (goal.at.returns-else-climb c).Start) (lows (goal.at.returns-else-climb c).Start low B.ensures) (greatest (goal.at.returns-else-climb c).Start) (G (goal.at.returns-else-climb c).Start) c.args.top.now _ c.tops.ensures

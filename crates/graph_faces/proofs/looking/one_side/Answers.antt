@@ -9,24 +9,20 @@ use Rattle.graph_faces.proofs.looking.one_side.Goals as goal
 
 pub overflow_cast-to : goal.overflow_cast-to
 overflow_cast-to c =
-    let s = (goal.at.overflow_cast-to c).Start in
-    omega (arith, c.shared_slice_known-1.given (2 * s.args.k + 1))
+    omega (arith, c.shared_slice_known-1.given (2 * c.args.k + 1))
 
 pub overflow_cast-origins : goal.overflow_cast-origins
 overflow_cast-origins c =
-    let s = (goal.at.overflow_cast-origins c).Start in
-    omega (arith, c.shared_slice_known-2-1.given (2 * s.args.k))
+    omega (arith, c.shared_slice_known-2-1.given (2 * c.args.k))
 
 pub returns-then-v-origins : goal.returns-then-v-origins
 returns-then-v-origins c =
-    let s = (goal.at.returns-then-v-origins c).Start in
-    let a = s.args in
+    let a = c.args in
     let to = ltb a.v (origin_at a.origins.now (2 * a.k + 1)) in
     ap (λ (b : Bool). cond b to (not to)) (sym (lt-ltb a.v (origin_at a.origins.now (2 * a.k)) c.if-v-origins.true))
 
 pub returns-else-v-origins : goal.returns-else-v-origins
 returns-else-v-origins c =
-    let s = (goal.at.returns-else-v-origins c).Start in
-    let a = s.args in
+    let a = c.args in
     let to = ltb a.v (origin_at a.origins.now (2 * a.k + 1)) in
     ap (λ (b : Bool). cond b to (not to)) (sym (le-ltb a.v (origin_at a.origins.now (2 * a.k)) (omega (arith, c.if-v-origins.false))))

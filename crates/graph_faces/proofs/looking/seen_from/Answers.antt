@@ -23,60 +23,48 @@ east-le ps os k = east_by k (the_up_at ps os (2 * k))
 
 pub east_side-requires : goal.east_side-requires
 east_side-requires c =
-    let s = (goal.at.east_side-requires c).Start in
-    let at = (goal.at.east_side-requires c).After-point_at-p in
-    let found = (goal.at.east_side-requires c).After-look_from-seen in
-    let a = s.args in
-    let F = s.requires.fact_1.flat in
+    let a = c.args in
+    let F = c.requires.fact_1.flat in
     let k = c.in-Edge.k in
-    let p = pt_of at.point_at-p.result in
-    let near = subst Near (sym at.point_at-p.ensures) (F.points.near a.v s.requires.fact_2) in
-    let q = sym found.look_from-seen.ensures ∙ ap the_seen_of c.in-Edge.is in
+    let p = pt_of c.point_at-p.result in
+    let near = subst Near (sym c.point_at-p.ensures) (F.points.near a.v c.requires.fact_2) in
+    let q = sym c.look_from-seen.ensures ∙ ap the_seen_of c.in-Edge.is in
     let l = seen_below a.points.now a.origins.now a.carriers.now a.n a.e F p near nowhere k q in
     let ends = flat_ends a.points.now a.origins.now a.carriers.now a.n a.e F k l in
-    (omega (arith, s.requires.fact_1.small), ends.0, ends.1)
+    (omega (arith, c.requires.fact_1.small), ends.0, ends.1)
 
 pub overflow_cast-result : goal.overflow_cast-result
 overflow_cast-result c =
-    let s = (goal.at.overflow_cast-result c).Start in
-    let at = (goal.at.overflow_cast-result c).After-point_at-p in
-    let found = (goal.at.overflow_cast-result c).After-look_from-seen in
-    let a = s.args in
-    let F = s.requires.fact_1.flat in
+    let a = c.args in
+    let F = c.requires.fact_1.flat in
     let k = c.in-Edge.k in
-    let p = pt_of at.point_at-p.result in
-    let near = subst Near (sym at.point_at-p.ensures) (F.points.near a.v s.requires.fact_2) in
-    let q = sym found.look_from-seen.ensures ∙ ap the_seen_of c.in-Edge.is in
-    omega (arith, s.requires.fact_1.small, seen_below a.points.now a.origins.now a.carriers.now a.n a.e F p near nowhere k q, c.east_side.ensures, east-le a.points.now a.origins.now k)
+    let p = pt_of c.point_at-p.result in
+    let near = subst Near (sym c.point_at-p.ensures) (F.points.near a.v c.requires.fact_2) in
+    let q = sym c.look_from-seen.ensures ∙ ap the_seen_of c.in-Edge.is in
+    omega (arith, c.requires.fact_1.small, seen_below a.points.now a.origins.now a.carriers.now a.n a.e F p near nowhere k q, c.east_side.ensures, east-le a.points.now a.origins.now k)
 
 pub returns-in-Nothing : goal.returns-in-Nothing
 returns-in-Nothing c =
-    let s = (goal.at.returns-in-Nothing c).Start in
-    let at = (goal.at.returns-in-Nothing c).After-point_at-p in
-    let found = (goal.at.returns-in-Nothing c).After-look_from-seen in
-    let a = s.args in
-    let F = s.requires.fact_1.flat in
+    let a = c.args in
+    let F = c.requires.fact_1.flat in
     let g = flat_graph a.points.now a.origins.now a.carriers.now a.n a.e in
-    let p = pt_of at.point_at-p.result in
-    let near = subst Near (sym at.point_at-p.ensures) (F.points.near a.v s.requires.fact_2) in
+    let p = pt_of c.point_at-p.result in
+    let near = subst Near (sym c.point_at-p.ensures) (F.points.near a.v c.requires.fact_2) in
     ap (λ (o : Option ℕ). Option·getD o absent)
-    (ap (Option·map (east_side g)) (sym (ap the_seen_of c.in-Nothing.is) ∙ found.look_from-seen.ensures) ∙ flat-west a.points.now a.origins.now a.carriers.now a.n a.e F p near nowhere
-    ∙ ap (λ (q : Pt). west g q nowhere) at.point_at-p.ensures)
+    (ap (Option·map (east_side g)) (sym (ap the_seen_of c.in-Nothing.is) ∙ c.look_from-seen.ensures) ∙ flat-west a.points.now a.origins.now a.carriers.now a.n a.e F p near nowhere
+    ∙ ap (λ (q : Pt). west g q nowhere) c.point_at-p.ensures)
 
 pub returns-in-Edge : goal.returns-in-Edge
 returns-in-Edge c =
-    let s = (goal.at.returns-in-Edge c).Start in
-    let at = (goal.at.returns-in-Edge c).After-point_at-p in
-    let found = (goal.at.returns-in-Edge c).After-look_from-seen in
-    let a = s.args in
-    let F = s.requires.fact_1.flat in
+    let a = c.args in
+    let F = c.requires.fact_1.flat in
     let g = flat_graph a.points.now a.origins.now a.carriers.now a.n a.e in
     let k = c.in-Edge.k in
-    let p = pt_of at.point_at-p.result in
-    let near = subst Near (sym at.point_at-p.ensures) (F.points.near a.v s.requires.fact_2) in
-    let q = sym found.look_from-seen.ensures ∙ ap the_seen_of c.in-Edge.is in
+    let p = pt_of c.point_at-p.result in
+    let near = subst Near (sym c.point_at-p.ensures) (F.points.near a.v c.requires.fact_2) in
+    let q = sym c.look_from-seen.ensures ∙ ap the_seen_of c.in-Edge.is in
     ap (λ (o : Option ℕ). Option·getD o absent)
-    (ap some c.east_side.ensures ∙ seen-east a.points.now a.origins.now a.carriers.now a.n a.e F p near nowhere k q ∙ ap (λ (q : Pt). west g q nowhere) at.point_at-p.ensures)
+    (ap some c.east_side.ensures ∙ seen-east a.points.now a.origins.now a.carriers.now a.n a.e F p near nowhere k q ∙ ap (λ (q : Pt). west g q nowhere) c.point_at-p.ensures)
 
 pub point_at-p-requires : goal.point_at-p-requires
-point_at-p-requires c = let s = (goal.at.point_at-p-requires c).Start in omega (arith, s.requires.fact_1.flat.points.long, s.requires.fact_2)
+point_at-p-requires c = omega (arith, c.requires.fact_1.flat.points.long, c.requires.fact_2)

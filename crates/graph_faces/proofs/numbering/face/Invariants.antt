@@ -1,11 +1,7 @@
 -- `graph_faces::numbering::face` meets its contract. Assumes nothing.
-use mathlib.Core.Path.{◌≡◌, refl, sym, ◌∙◌}
+use mathlib.Core.Path.{◌≡◌}
 use Prim.Native.Nat.{◌<◌}
-use native.Mathlib.Omega.{arith}
-use borrow.Author.Rules.{rules}
-use borrow.Author.Tests.{not-true, not-false}
-use Rattle.seq.specs.Seq.{get_or}
-use Rattle.graph_faces.specs.Kinds.{face_from, faced_kinded, face-outer, face-outside, face_on, face_none}
+use Rattle.graph_faces.specs.Kinds.{face_from}
 use Rattle.graph_faces.proofs.numbering.face.Given as goal
 
 abbrev pub invariant-loop-left : goal.invariant-loop-left

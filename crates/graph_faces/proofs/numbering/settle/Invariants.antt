@@ -1,14 +1,8 @@
 -- `graph_faces::numbering::settle` meets its contract. Assumes nothing.
 use Rattle.std.specs.Prelude.{◌-◌}
-use mathlib.Core.Logic.{⊎_elim}
-use mathlib.Core.Path.{sym, ◌∙◌, subst}
-use Prim.Native.Nat.{◌<◌}
-use native.Mathlib.Omega.{arith}
-use borrow.Author.Rules.{rules}
-use Rattle.seq.specs.Seq.{ℕ}
-use Rattle.seq.specs.Loops.Filling.{Filling, fill_starts, fill_turns, fill_ends}
-use Rattle.seq.specs.Loops.Tallying.{Tallying, tally_starts, tally-most, tally-takes, tally-skips, tally_ends}
-use Rattle.graph_faces.specs.Kinds.{hole_lead, face_from, faced_kinded}
+use Rattle.seq.specs.Loops.Filling.{Filling}
+use Rattle.seq.specs.Loops.Tallying.{Tallying}
+use Rattle.graph_faces.specs.Kinds.{hole_lead, face_from}
 use Rattle.graph_faces.proofs.numbering.settle.Given as goal
 
 abbrev pub invariant-loop-h : goal.invariant-loop-h

@@ -1,15 +1,8 @@
 -- `graph_faces::numbering::tell` meets its contract. Assumes nothing.
 use Rattle.std.specs.Prelude.{◌-◌, ◌*◌}
-use mathlib.Core.Logic.{⊎_elim}
-use mathlib.Core.Path.{◌∙◌, ap}
-use Prim.Native.Nat.{◌<◌}
-use native.Mathlib.Numerals.{add-one}
-use native.Mathlib.Omega.{arith}
-use borrow.Author.Rules.{rules}
-use Rattle.seq.specs.Seq.{ℕ, suc}
-use Rattle.seq.specs.Loops.Selecting.{Selecting, count_most, count_ends, select_starts, select_ends}
-use Rattle.graph_faces.specs.Kinds.{Kinded, outer_lead, known_by, known_with}
-use Rattle.graph_faces.specs.Laws.Telling.{Telling, tell_starts, tell-takes, tell-skips, tell_ends, outer_turns, outer-skips}
+use Rattle.seq.specs.Loops.Selecting.{Selecting}
+use Rattle.graph_faces.specs.Kinds.{outer_lead, known_by}
+use Rattle.graph_faces.specs.Laws.Telling.{Telling}
 use Rattle.graph_faces.proofs.numbering.tell.Given as goal
 
 abbrev pub invariant-loop-h : goal.invariant-loop-h

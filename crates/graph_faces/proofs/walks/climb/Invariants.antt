@@ -1,12 +1,8 @@
 -- `graph_faces::walks::climb` meets its contract. Assumes nothing.
-use Rattle.std.specs.Prelude.{◌+◌, ◌*◌, ◌-◌}
+use Rattle.std.specs.Prelude.{◌-◌}
 use mathlib.Core.Path.{◌≡◌}
-use Prim.Native.Nat.{◌≤◌, ◌<◌}
-use native.Mathlib.Omega.{arith}
-use borrow.Author.Rules.{rules}
-use Rattle.seq.specs.Seq.{true, length}
-use Rattle.seq.specs.Tests.{never, was-true}
-use Rattle.graph_faces.specs.Climbs.{Climbing, climb_starts, climb_turns, climb_ends}
+use Rattle.seq.specs.Seq.{true}
+use Rattle.graph_faces.specs.Climbs.{Climbing}
 use Rattle.graph_faces.proofs.walks.climb.Given as goal
 
 abbrev pub invariant-loop-k : goal.invariant-loop-k

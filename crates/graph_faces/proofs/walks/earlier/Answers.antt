@@ -10,23 +10,15 @@ returns-then-r-eq-ABSENT c = let a = c.args in better_none (earlier_at a.points.
 
 pub starts_first-requires : goal.starts_first-requires
 starts_first-requires c =
-    let s = (goal.at.starts_first-requires c).Start in
-    let b = (goal.at.starts_first-requires c).Else-r-eq-ABSENT in
-    let p = s.requires in
-    record { fact_1 = p.fact_2.0; fact_2 = (p.fact_1.1, p.fact_1.2 b.if-r-eq-ABSENT.false); fact_3 = (p.fact_2.1.0, p.fact_2.1.1 b.if-r-eq-ABSENT.false) }
+    let p = c.requires in
+    record { fact_1 = p.fact_2; fact_2 = (p.fact_1.1, p.fact_1.2 c.if-r-eq-ABSENT.false); fact_3 = (p.fact_3.0, p.fact_3.1 c.if-r-eq-ABSENT.false) }
 
 pub returns-then-starts_first : goal.returns-then-starts_first
 returns-then-starts_first c =
-    let s = (goal.at.returns-then-starts_first c).Start in
-    let b = (goal.at.returns-then-starts_first c).Else-r-eq-ABSENT in
-    let f = (goal.at.returns-then-starts_first c).After-starts_first in
-    let a = s.args in
-    better_by (earlier_at a.points.now a.origins.now) absent a.h a.r b.if-r-eq-ABSENT.false (sym f.starts_first.ensures ∙ c.if-starts_first.true)
+    let a = c.args in
+    better_by (earlier_at a.points.now a.origins.now) absent a.h a.r c.if-r-eq-ABSENT.false (sym c.starts_first.ensures ∙ c.if-starts_first.true)
 
 pub returns-else-starts_first : goal.returns-else-starts_first
 returns-else-starts_first c =
-    let s = (goal.at.returns-else-starts_first c).Start in
-    let b = (goal.at.returns-else-starts_first c).Else-r-eq-ABSENT in
-    let f = (goal.at.returns-else-starts_first c).After-starts_first in
-    let a = s.args in
-    better_by (earlier_at a.points.now a.origins.now) absent a.h a.r b.if-r-eq-ABSENT.false (sym f.starts_first.ensures ∙ c.if-starts_first.false)
+    let a = c.args in
+    better_by (earlier_at a.points.now a.origins.now) absent a.h a.r c.if-r-eq-ABSENT.false (sym c.starts_first.ensures ∙ c.if-starts_first.false)

@@ -1,6 +1,5 @@
 -- `graph_faces::walks::leads` meets its contract. Assumes nothing.
-use Rattle.std.specs.Prelude.{◌+◌, ◌-◌}
-use mathlib.Core.Logic.{⊎_elim}
+use Rattle.std.specs.Prelude.{◌+◌}
 use mathlib.Core.Path.{◌≡◌, sym, ◌∙◌, ap}
 use Prim.Native.Nat.{◌≤◌, ◌<◌}
 use native.Mathlib.Omega.{arith}
@@ -8,6 +7,7 @@ use Rattle.seq.specs.Seq.{get_or, walk, leader, List, ℕ, length, take, filled}
 use Rattle.paper.specs.Limits.{absent}
 use Rattle.graph_faces.specs.Lead.{marks, Leading, Permutes, length_front, lead_starts, lead-skips, lead-marks, lead_ends}
 use Rattle.graph_faces.proofs.walks.leads.Goals as goal
+use Rattle.graph_faces.proofs.walks.leads.Goals.{else-lead-h, then-lead-h}
 
 -- the loop over the first m cells of t, from the table o with d made of it
 module _ (t : List ℕ) (m : ℕ) (P : Permutes t m) (small : m ≤ absent) (o d : List ℕ) (room : m ≤ length o) (is : d ≡ filled m (λ x. absent) o) where
@@ -34,26 +34,17 @@ module _ (t : List ℕ) (m : ℕ) (P : Permutes t m) (small : m ≤ absent) (o d
 
 pub loop-h-init : goal.loop-h-init
 loop-h-init c =
-    let s = (goal.at.loop-h-init c).Start in
     let d = c.fill in
-    starts s.args.next.now s.args.m s.requires.fact_1 s.requires.fact_2.0 s.args.lead.now d.new.0 s.requires.fact_2.1 d.ensures
+    starts c.args.next.now c.args.m c.requires.fact_1 c.requires.fact_2 c.args.lead.now d.new.out c.requires.fact_3 d.ensures
 
 pub loop-h-preserved : goal.loop-h-preserved
 loop-h-preserved c =
-    let after-fill = (goal.at.loop-h-preserved c).After-fill in
-    let at-loop = (goal.at.loop-h-preserved c).At-loop-h in
-    let s = (goal.at.loop-h-preserved c).Start in
-    let d = after-fill.fill in
-    let l = at-loop.loop-h in
+    let d = c.fill in
+    let l = c.loop-h in
     let b = c.loop-h-test.true in
-    ⊎_elim
-    (λ w. rw (w.5 ∙ w.2.ensures) (finds s.args.next.now s.args.m s.requires.fact_1 s.requires.fact_2.0 s.args.lead.now d.last.0 s.requires.fact_2.1 d.ensures l.lead l.h l.invariant b w.0.taken))
-    (λ w. rw w.1 (skips s.args.next.now s.args.m s.requires.fact_1 s.requires.fact_2.0 s.args.lead.now d.last.0 s.requires.fact_2.1 d.ensures l.lead l.h l.invariant b w.0.left))
-    c.if-lead-h.branch
+    elim c.if-lead-h.branch [ then-lead-h w ↦ rw (w.lead-is ∙ w.mark.ensures) (finds c.args.next.now c.args.m c.requires.fact_1 c.requires.fact_2 c.args.lead.now d.new.out c.requires.fact_3 d.ensures l.lead l.h l.invariant b w.if-lead-h.true) | else-lead-h w ↦ rw w.lead-is (skips c.args.next.now c.args.m c.requires.fact_1 c.requires.fact_2 c.args.lead.now d.new.out c.requires.fact_3 d.ensures l.lead l.h l.invariant b w.if-lead-h.false) ]
 
 pub returns : goal.returns
 returns c =
-    let after-fill = (goal.at.returns c).After-fill in
-    let s = (goal.at.returns c).Start in
-    let d = after-fill.fill in
-    ends s.args.next.now s.args.m s.requires.fact_1 s.requires.fact_2.0 s.args.lead.now d.last.0 s.requires.fact_2.1 d.ensures c.loop-h.lead c.loop-h.h c.loop-h.invariant (omega arith)
+    let d = c.fill in
+    ends c.args.next.now c.args.m c.requires.fact_1 c.requires.fact_2 c.args.lead.now d.new.out c.requires.fact_3 d.ensures c.loop-h.lead c.loop-h.h c.loop-h.invariant (omega arith)

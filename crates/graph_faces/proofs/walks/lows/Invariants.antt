@@ -1,11 +1,7 @@
 -- `graph_faces::walks::lows` meets its contract. Assumes nothing.
 use Rattle.std.specs.Prelude.{◌-◌}
-use mathlib.Core.Path.{◌≡◌, refl}
-use Prim.Native.Nat.{◌<◌}
-use native.Mathlib.Omega.{arith}
-use borrow.Author.Rules.{rules}
-use Rattle.seq.specs.Seq.{get_or, length}
-use Rattle.seq.specs.Loops.Choosing.{Choosing, choose_has, choose_starts, choose_turns, choose_ends}
+use Rattle.seq.specs.Seq.{get_or}
+use Rattle.seq.specs.Loops.Choosing.{Choosing}
 use Rattle.paper.specs.Limits.{absent}
 use Rattle.graph_faces.specs.Turns.{earlier_at}
 use Rattle.graph_faces.proofs.walks.lows.Given as goal

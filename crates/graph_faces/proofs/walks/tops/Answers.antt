@@ -1,67 +1,60 @@
 -- `graph_faces::walks::tops` meets its contract. Assumes nothing.
-use Rattle.std.specs.Prelude.{◌-◌}
 use mathlib.Core.Path.{refl}
 use Prim.Native.Nat.{◌<◌}
 use native.Mathlib.Omega.{arith}
 use borrow.Author.Rules.{rules}
 use Rattle.seq.specs.Seq.{ℕ, get_or, length}
-use Rattle.seq.specs.Loops.Filling.{Filling, fill_starts, fill_turns, fill_ends}
-use Rattle.graph_faces.specs.Turns.{top_at}
+use Rattle.seq.specs.Loops.Filling.{fill_starts, fill_turns, fill_ends}
 use Rattle.graph_faces.proofs.walks.tops.Goals as goal
 use Rattle.graph_faces.proofs.walks.tops.Goals.{In-loop-h, Start}
-
-abbrev started : In-loop-h → Start
-started c = c.before.before
 
 -- the leader, the lowest of its walk, and where that starts
 module _ (c : In-loop-h) where
   abbrev low : ℕ
-  low = get_or (started c).args.low.now (get_or (started c).args.lead.now c.loop-h.h 0) 0
+  low = get_or c.args.low.now (get_or c.args.lead.now c.loop-h.h 0) 0
 
-  lead-fits : get_or (started c).args.lead.now c.loop-h.h 0 < length (started c).args.low.now
-  lead-fits = omega (arith, (started c).requires.fact_1.named c.loop-h.h c.loop-h-test.true)
+  lead-fits : get_or c.args.lead.now c.loop-h.h 0 < length c.args.low.now
+  lead-fits = omega (arith, c.requires.fact_1.named c.loop-h.h c.loop-h-test.true)
 
-  low_fits : low < length (started c).args.origins.now
-  low_fits = omega (arith, (started c).requires.fact_2.1.0 c.loop-h.h c.loop-h-test.true, (started c).requires.fact_2.1.1.0.long)
+  low_fits : low < length c.args.origins.now
+  low_fits = omega (arith, c.requires.fact_3 c.loop-h.h c.loop-h-test.true, c.requires.fact_4.long)
 
-  start_fits : get_or (started c).args.origins.now low 0 < length (started c).args.greatest.now
-  start_fits = omega (arith, (started c).requires.fact_2.1.1.0.named low ((started c).requires.fact_2.1.0 c.loop-h.h c.loop-h-test.true))
+  start_fits : get_or c.args.origins.now low 0 < length c.args.greatest.now
+  start_fits = omega (arith, c.requires.fact_4.named low (c.requires.fact_3 c.loop-h.h c.loop-h-test.true))
 
 pub loop-h-preserved : goal.loop-h-preserved
 loop-h-preserved c =
-    let at-loop = (goal.at.loop-h-preserved c).At-loop-h in
-    let in-loop = (goal.at.loop-h-preserved c).In-loop-h in
-    fill_turns at-loop.loop-h.invariant in-loop.loop-h-test.true refl
+    fill_turns c.loop-h.invariant c.loop-h-test.true refl
 
 pub loop-h-init : goal.loop-h-init
-loop-h-init c = fill_starts c.requires.fact_2.1.1.1
+loop-h-init c = fill_starts c.requires.fact_5
 
 pub overflow_cast-l : goal.overflow_cast-l
-overflow_cast-l c = omega (arith, lead-fits (search rules))
+overflow_cast-l c = omega (arith, lead-fits (goal.at.overflow_cast-l c).In-loop-h)
 
 pub offset_bounds-low-l : goal.offset_bounds-low-l
-offset_bounds-low-l c = omega (arith, lead-fits (search rules))
+offset_bounds-low-l c = omega (arith, lead-fits (goal.at.offset_bounds-low-l c).In-loop-h)
 
 pub bounds-low-l : goal.bounds-low-l
-bounds-low-l c = omega (arith, lead-fits (search rules))
+bounds-low-l c = omega (arith, lead-fits (goal.at.bounds-low-l c).In-loop-h)
 
 pub overflow_cast-x : goal.overflow_cast-x
-overflow_cast-x c = omega (arith, low_fits (search rules))
+overflow_cast-x c = omega (arith, low_fits (goal.at.overflow_cast-x c).In-loop-h)
 
 pub offset_bounds-origins-x : goal.offset_bounds-origins-x
-offset_bounds-origins-x c = omega (arith, low_fits (search rules))
+offset_bounds-origins-x c = omega (arith, low_fits (goal.at.offset_bounds-origins-x c).In-loop-h)
 
 pub bounds-origins-x : goal.bounds-origins-x
-bounds-origins-x c = omega (arith, low_fits (search rules))
+bounds-origins-x c = omega (arith, low_fits (goal.at.bounds-origins-x c).In-loop-h)
 
 pub overflow_cast-v : goal.overflow_cast-v
-overflow_cast-v c = omega (arith, start_fits (search rules))
+overflow_cast-v c = omega (arith, start_fits (goal.at.overflow_cast-v c).In-loop-h)
 
 pub offset_bounds-greatest-v : goal.offset_bounds-greatest-v
-offset_bounds-greatest-v c = omega (arith, start_fits (search rules))
+offset_bounds-greatest-v c = omega (arith, start_fits (goal.at.offset_bounds-greatest-v c).In-loop-h)
 
 pub bounds-greatest-v : goal.bounds-greatest-v
-bounds-greatest-v c = omega (arith, start_fits (search rules))
+bounds-greatest-v c = omega (arith, start_fits (goal.at.bounds-greatest-v c).In-loop-h)
 
 pub returns : goal.returns
 returns c = fill_ends c.loop-h.invariant (search rules)

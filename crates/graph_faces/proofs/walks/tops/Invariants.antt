@@ -1,11 +1,6 @@
 -- `graph_faces::walks::tops` meets its contract. Assumes nothing.
 use Rattle.std.specs.Prelude.{◌-◌}
-use mathlib.Core.Path.{refl}
-use Prim.Native.Nat.{◌<◌}
-use native.Mathlib.Omega.{arith}
-use borrow.Author.Rules.{rules}
-use Rattle.seq.specs.Seq.{ℕ, get_or, length}
-use Rattle.seq.specs.Loops.Filling.{Filling, fill_starts, fill_turns, fill_ends}
+use Rattle.seq.specs.Loops.Filling.{Filling}
 use Rattle.graph_faces.specs.Turns.{top_at}
 use Rattle.graph_faces.proofs.walks.tops.Given as goal
 

@@ -1,11 +1,6 @@
 -- `graph_faces::walks::tops_by_leads` meets its contract. Assumes nothing.
-use Rattle.std.specs.Prelude.{◌*◌, ◌/◌, ◌-◌}
-use mathlib.Core.Path.{refl}
-use Prim.Native.Nat.{◌<◌}
-use native.Mathlib.Omega.{arith}
-use borrow.Author.Rules.{rules}
-use Rattle.seq.specs.Seq.{ℕ, get_or, length}
-use Rattle.seq.specs.Loops.Filling.{Filling, fill_starts, fill_turns, fill_ends}
+use Rattle.std.specs.Prelude.{◌-◌}
+use Rattle.seq.specs.Loops.Filling.{Filling}
 use Rattle.graph_faces.specs.Climbs.{top_by_lead}
 use Rattle.graph_faces.proofs.walks.tops_by_leads.Given as goal
 

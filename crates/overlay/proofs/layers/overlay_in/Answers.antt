@@ -1,0 +1,45 @@
+-- `overlay::layers::overlay_in` meets its contract: the tables have room for the maps, and hold them where all pass. Assumes nothing.
+use Rattle.std.specs.Prelude.{◌∷◌}
+use mathlib.Core.Path.{refl, sym, ◌∙◌, ap}
+use borrow.Author.Rules.{rules}
+use Rattle.seq.specs.Seq.{List, []}
+use Rattle.paper.specs.Map.{Map}
+use Rattle.paper.specs.Lent.{lengths_of}
+use Rattle.map_file.specs.Verdict.{verdict}
+use Rattle.tables.specs.Values.{tables_by}
+use Rattle.overlay_maps.proofs.StackLaws.{all_pass}
+use Rattle.overlay_maps.proofs.RoomLaws.{layer_room}
+use Rattle.overlay_maps.proofs.HeldLaws.{held-maps, layers-held}
+use Rattle.overlay_fill.specs.Judged.{overlaid}
+use Rattle.overlay_fill.proofs.JudgeLaws.{maps-refused, maps-pass}
+use Rattle.overlay.proofs.layers.overlay_in.Goals as goal
+
+pub lay_maps-c-requires : goal.lay_maps-c-requires
+lay_maps-c-requires c =
+    let files = c.args.zones.now ∷ c.args.blocks.now ∷ c.args.bed.now ∷ [] in
+    layer_room files c.requires
+
+pub from_layers-requires : goal.from_layers-requires
+from_layers-requires c =
+    let a = c.args in
+    let laid = c.lay_maps-c.ensures in
+    let none = sym laid.0 ∙ ap verdict c.in-Fine.is in
+    let files = a.zones.now ∷ a.blocks.now ∷ a.bed.now ∷ [] in
+    layers-held files _ _ (laid.1 none) refl (layer_room files c.requires) (all_pass files none)
+
+pub returns-in-Bad : goal.returns-in-Bad
+returns-in-Bad c =
+    let a = c.args in
+    c.refuse.ensures
+    ∙ maps-refused (a.zones.now ∷ a.blocks.now ∷ a.bed.now ∷ []) (lengths_of (tables_by a.vertices.now a.halves.now a.sources.now a.faces.now)) _ (sym c.lay_maps-c.ensures.0 ∙ ap verdict c.in-Bad.is)
+
+pub returns-in-Fine : goal.returns-in-Fine
+returns-in-Fine c =
+    let a = c.args in
+    let laid = c.lay_maps-c.ensures in
+    let none = sym laid.0 ∙ ap verdict c.in-Fine.is in
+    let files = a.zones.now ∷ a.blocks.now ∷ a.bed.now ∷ [] in
+    let lengths = lengths_of (tables_by a.vertices.now a.halves.now a.sources.now a.faces.now) in
+    c.from_layers.ensures
+    ∙ ap (λ (ms : List Map). overlaid ms lengths) (held-maps files _ _ (laid.1 none) refl)
+    ∙ maps-pass files lengths refl none

@@ -1,0 +1,12 @@
+-- `overlay_maps::west::look` meets its contract. Assumes nothing.
+use Rattle.std.specs.Prelude.{◌-◌}
+use Rattle.seq.specs.Loops.Picking.{Picking}
+use Rattle.plane.specs.Values.{pt_of, vec_of}
+use Rattle.graph.specs.Look.{candidate_at, nearer_at}
+use Rattle.overlay_maps.proofs.west.look.Given as goal
+
+abbrev pub invariant-loop-k : goal.invariant-loop-k
+invariant-loop-k l = Picking (candidate_at l.points l.origins l.carriers (pt_of l.p) (vec_of l.d)) (nearer_at l.carriers (pt_of l.p)) l.e l.r l.k
+
+abbrev pub decreases-loop-k : goal.decreases-loop-k
+decreases-loop-k l = l.e - l.k

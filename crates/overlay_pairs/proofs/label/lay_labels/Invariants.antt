@@ -1,0 +1,17 @@
+-- `overlay_pairs::label::lay_labels` meets its contract: before turn j the first j cells stand. Assumes nothing.
+use Rattle.std.specs.Prelude.{◌/◌, ◌%◌}
+use Prim.Native.Nat.{◌*◌, ◌-◌}
+use native.Mathlib.Omega.{arith}
+use borrow.Author.Rules.{rules}
+use Rattle.seq.specs.Loops.Filling.{Filling, fill_starts, fill_turns, fill_ends}
+use Rattle.paper.specs.Limits.{maps}
+use Rattle.overlay_maps.specs.Layers.{layers_by}
+use Rattle.overlay_pairs.specs.Labels.{label_cell}
+use Rattle.overlay_pairs.proofs.label.lay_labels.Given as goal
+
+abbrev pub invariant-loop-j : goal.invariant-loop-j
+invariant-loop-j l =
+    Filling (label_cell (layers_by l.vstarts l.estarts l.corners l.origins l.carriers l.labels) l.points l.ends l.lines l.pieces l.outers) (maps * l.n) l.initial.out l.out l.j
+
+abbrev pub decreases-loop-j : goal.decreases-loop-j
+decreases-loop-j l = l.cells - l.j

@@ -1,0 +1,13 @@
+-- `overlay_pairs::rows::lay_holes` meets its contract. Assumes nothing.
+use mathlib.Core.Path.{refl}
+use Prim.Native.Nat.{ℕ, ◌-◌}
+use lib.ListN.{get_or}
+use borrow.Author.Rules.{rules}
+use Rattle.seq.specs.Loops.Filling.{Filling, fill_starts, fill_turns, fill_ends}
+use Rattle.overlay_pairs.proofs.rows.lay_holes.Given as goal
+
+abbrev pub invariant-loop-f : goal.invariant-loop-f
+invariant-loop-f l = Filling (λ (i : ℕ). get_or l.holes i 0) l.n l.initial.out l.out l.f
+
+abbrev pub decreases-loop-f : goal.decreases-loop-f
+decreases-loop-f l = l.n - l.f
