@@ -1,6 +1,5 @@
 -- `overlay_fill::fill::few` meets its contract. Assumes nothing.
 use native.Mathlib.Omega.{arith}
-use borrow.Author.Rules.{rules}
 use Rattle.exact.specs.Tests.{never}
 use Rattle.overlay_fill.proofs.fill.few.Goals as goal
 

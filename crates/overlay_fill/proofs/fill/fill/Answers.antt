@@ -1,6 +1,5 @@
 -- `overlay_fill::fill::fill` meets its contract: the tables have room, small ones where the sheet is small. Assumes nothing.
 use native.Mathlib.Omega.{arith}
-use borrow.Author.Rules.{rules}
 use Rattle.overlay_fill.proofs.fill.fill.Goals as goal
 
 pub fill_with-requires : goal.fill_with-requires

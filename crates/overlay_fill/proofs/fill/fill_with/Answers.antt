@@ -135,7 +135,7 @@ shape_of-faces c = c.store_faces.auto.faces
 -- ── what is stored ──
 module _ (c : After-rows_in) where
   abbrev s : Start
-  s = c.before.before.before.before.before.before.before.before.before.before.before.before.before.before.before.before.before.before.before.before.before.before.before.before.before.before.before.before.before.before
+  s = c.before.before.before.before.before.before.before.before.before.before.before.before.before.before.before.before.before.before.before.before.before.before.before.before.before.before.before.before.before.before.before
 
   abbrev T : Traced
   T =

@@ -2,7 +2,6 @@
 use mathlib.Core.Path.{◌∙◌}
 use mathlib.Core.List.{[], ◌∷◌}
 use Rattle.paper.specs.Refusal.{first_of}
-use borrow.Author.Rules.{rules}
 use Rattle.overlay_fill.proofs.judge.over_room.Goals as goal
 
 pub returns : goal.returns

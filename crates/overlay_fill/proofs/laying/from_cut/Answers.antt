@@ -3,7 +3,6 @@ use Rattle.std.specs.Prelude.{◌+◌, ◌*◌}
 use mathlib.Core.Path.{refl}
 use Prim.Native.Nat.{◌≤◌}
 use native.Mathlib.Omega.{arith}
-use borrow.Author.Rules.{rules}
 use Rattle.seq.specs.Seq.{ℕ, suc, replicate}
 use Rattle.graph_faces.specs.Linked.{half_rows}
 use Rattle.overlay_graph.specs.Traced.{Blank}

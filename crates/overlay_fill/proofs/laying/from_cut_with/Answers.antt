@@ -3,7 +3,6 @@ use Rattle.std.specs.Prelude.{◌+◌, ◌*◌}
 use mathlib.Core.Path.{◌∙◌, ap}
 use Prim.Native.Nat.{◌≤◌}
 use native.Mathlib.Omega.{arith}
-use borrow.Author.Rules.{rules}
 use Rattle.seq.specs.Seq.{List, ℕ, ℤ}
 use Rattle.paper.specs.Limits.{overlay_edges}
 use Rattle.paper.specs.Map.{Map}

@@ -1,7 +1,6 @@
 -- `overlay_fill::laying::refuse` meets its contract. Assumes nothing.
 use Rattle.paper.specs.Refusal.{refused}
 use Rattle.map_file.specs.Verdict.{refusal_of}
-use borrow.Author.Rules.{rules}
 use Rattle.overlay_fill.proofs.laying.refuse.Goals as goal
 
 pub returns : goal.returns
