@@ -1,9 +1,8 @@
 -- `overlay_pairs::along::sourced_along` meets its contract: wherever the loop is, it is on the walk of h. Assumes nothing.
 use mathlib.Core.Path.{refl}
 use native.Mathlib.Omega.{arith}
-use borrow.Author.Rules.{rules}
 use lib.ListN.{get_or}
-use Rattle.overlay_pairs.specs.Labels.{OnWalk, walk_turns, sourced-itself}
+use Rattle.overlay_pairs.specs.Labels.{walk_turns, sourced-itself}
 use Rattle.overlay_pairs.proofs.along.sourced_along.Goals as goal
 
 pub source_in-requires : goal.source_in-requires

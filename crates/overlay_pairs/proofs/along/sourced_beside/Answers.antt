@@ -1,8 +1,7 @@
 -- `overlay_pairs::along::sourced_beside` meets its contract. Assumes nothing.
-use mathlib.Core.Path.{◌≡◌, sym, subst}
+use mathlib.Core.Path.{sym, subst}
 use mathlib.Core.Logic.{inl}
 use native.Mathlib.Omega.{arith}
-use borrow.Author.Rules.{rules}
 use Rattle.seq.specs.Seq.{ℕ}
 use Rattle.overlay_pairs.specs.Labels.{OnWalk, Walked, beside-twin}
 use Rattle.overlay_pairs.proofs.along.sourced_beside.Goals as goal

@@ -4,7 +4,6 @@ use Rattle.std.specs.Prelude.{◌+◌}
 use mathlib.Core.Path.{◌≡◌, sym, ◌∙◌, ap, subst}
 use Prim.Native.Nat.{◌-◌, ◌<◌}
 use native.Mathlib.Omega.{arith}
-use borrow.Author.Rules.{rules}
 use lib.ListN.{length, get_or}
 use Rattle.seq.specs.Seq.{ℕ}
 use Rattle.overlay_maps.specs.Layers.{Layers, layers_by}

@@ -1,8 +1,7 @@
 -- `overlay_pairs::label::half_label` meets its contract: by its source, and where it has none by what is seen. Assumes nothing.
-use mathlib.Core.Path.{◌≡◌, sym, ◌∙◌, ap}
+use mathlib.Core.Path.{◌∙◌, ap}
 use Prim.Native.Nat.{◌-◌}
 use native.Mathlib.Omega.{arith}
-use borrow.Author.Rules.{rules}
 use Rattle.paper.specs.Map.{Map}
 use Rattle.overlay_maps.specs.Label.{own_label}
 use Rattle.overlay_maps.specs.Place.{label_at}

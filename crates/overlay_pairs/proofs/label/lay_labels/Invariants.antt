@@ -1,9 +1,6 @@
 -- `overlay_pairs::label::lay_labels` meets its contract: before turn j the first j cells stand. Assumes nothing.
-use Rattle.std.specs.Prelude.{◌/◌, ◌%◌}
 use Prim.Native.Nat.{◌*◌, ◌-◌}
-use native.Mathlib.Omega.{arith}
-use borrow.Author.Rules.{rules}
-use Rattle.seq.specs.Loops.Filling.{Filling, fill_starts, fill_turns, fill_ends}
+use Rattle.seq.specs.Loops.Filling.{Filling}
 use Rattle.paper.specs.Limits.{maps}
 use Rattle.overlay_maps.specs.Layers.{layers_by}
 use Rattle.overlay_pairs.specs.Labels.{label_cell}

@@ -1,7 +1,6 @@
 -- `overlay_pairs::label::place_of` meets its contract. Assumes nothing.
 use mathlib.Core.Path.{refl}
 use native.Mathlib.Omega.{arith}
-use borrow.Author.Rules.{rules}
 use Rattle.overlay_pairs.proofs.label.place_of.Goals as goal
 
 pub start-low-requires : goal.start-low-requires

@@ -1,6 +1,5 @@
 -- `overlay_pairs::label::upward` meets its contract. Assumes nothing.
 use mathlib.Core.Path.{sym, ◌∙◌, ap, subst}
-use borrow.Author.Rules.{rules}
 use Rattle.paper.specs.Plane.{Seg}
 use Rattle.plane.specs.Bounds.{Direction}
 use Rattle.plane.proofs.Machine.{vec_back}

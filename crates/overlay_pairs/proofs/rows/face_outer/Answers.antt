@@ -1,6 +1,5 @@
 -- `overlay_pairs::rows::face_outer` meets its contract: face 0, and another. Assumes nothing.
 use mathlib.Core.Path.{◌∙◌}
-use borrow.Author.Rules.{rules}
 use Rattle.overlay_pairs.specs.Labels.{outside-outer, inner-outer}
 use Rattle.overlay_pairs.proofs.rows.face_outer.Goals as goal
 

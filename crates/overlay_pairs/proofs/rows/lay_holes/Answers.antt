@@ -1,9 +1,7 @@
 -- `overlay_pairs::rows::lay_holes` meets its contract. Assumes nothing.
 use mathlib.Core.Path.{refl}
-use Prim.Native.Nat.{ℕ, ◌-◌}
-use lib.ListN.{get_or}
 use borrow.Author.Rules.{rules}
-use Rattle.seq.specs.Loops.Filling.{Filling, fill_starts, fill_turns, fill_ends}
+use Rattle.seq.specs.Loops.Filling.{fill_starts, fill_turns, fill_ends}
 use Rattle.overlay_pairs.proofs.rows.lay_holes.Goals as goal
 
 pub loop-f-init : goal.loop-f-init

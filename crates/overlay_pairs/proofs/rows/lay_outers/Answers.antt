@@ -1,8 +1,6 @@
 -- `overlay_pairs::rows::lay_outers` meets its contract. Assumes nothing.
-use Prim.Native.Nat.{◌-◌}
 use borrow.Author.Rules.{rules}
-use Rattle.seq.specs.Loops.Filling.{Filling, fill_starts, fill_turns, fill_ends}
-use Rattle.overlay_pairs.specs.Labels.{outer_of}
+use Rattle.seq.specs.Loops.Filling.{fill_starts, fill_turns, fill_ends}
 use Rattle.overlay_pairs.proofs.rows.lay_outers.Goals as goal
 
 pub loop-f-init : goal.loop-f-init
