@@ -1,14 +1,8 @@
 -- `thin::moving::move_points` meets its contract: before a turn the rows of the marked vertices below the counter are moved. Assumes nothing.
-use mathlib.Core.Logic.{⊎_elim}
-use mathlib.Core.Path.{◌≡◌, refl, ◌∙◌}
-use Prim.Native.Nat.{◌-◌}
-use lib.ListN.{length}
+use mathlib.Core.Path.{refl, ◌∙◌}
 use borrow.Author.Tests.{lt-ltb, le-ltb}
 use Rattle.seq.specs.Loops.Selecting.{count_most}
-use Rattle.graph.specs.Flat.{the_point_at}
-use Rattle.thin.specs.Thinned.{marked}
-use Rattle.thin.specs.Laws.Moving.{Moving, move_starts, move-takes, move-skips, move_ends, point-kept, point-stored}
-use borrow.Author.Rules.{rules}
+use Rattle.thin.specs.Laws.Moving.{move_starts, move-takes, move-skips, move_ends, point-kept, point-stored}
 use native.Mathlib.Omega.{arith}
 use Rattle.thin.proofs.moving.move_points.Goals as goal
 use Rattle.thin.proofs.moving.move_points.Goals.{then-marks-v-gt0, else-marks-v-gt0}
