@@ -1,5 +1,4 @@
 -- `overlay::overlay` meets its contract, which is that of `overlay_with`. Assumes nothing.
-use borrow.Author.Rules.{rules}
 use Rattle.overlay.proofs.overlay.Goals as goal
 
 pub returns : goal.returns

@@ -1,7 +1,6 @@
 -- `overlay::layers::few_rows` meets its contract. Assumes nothing.
 use Rattle.std.specs.Prelude.{◌∷◌, ◌+◌}
 use native.Mathlib.Omega.{arith}
-use borrow.Author.Rules.{rules}
 use Rattle.seq.specs.Seq.{[]}
 use Rattle.overlay.proofs.LayersLaws.{few_rows_lem, many-rows}
 use Rattle.overlay.proofs.layers.few_rows.Goals as goal

@@ -1,7 +1,6 @@
 -- `overlay::layers::overlay_in` meets its contract: the tables have room for the maps, and hold them where all pass. Assumes nothing.
 use Rattle.std.specs.Prelude.{◌∷◌}
 use mathlib.Core.Path.{refl, sym, ◌∙◌, ap}
-use borrow.Author.Rules.{rules}
 use Rattle.seq.specs.Seq.{List, []}
 use Rattle.paper.specs.Map.{Map}
 use Rattle.paper.specs.Lent.{lengths_of}

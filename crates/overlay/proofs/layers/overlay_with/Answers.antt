@@ -1,7 +1,6 @@
 -- `overlay::layers::overlay_with` meets its contract: the tables that it lends have room for the maps, small ones where the headers count few rows. Assumes nothing.
 use Rattle.std.specs.Prelude.{◌∷◌}
 use mathlib.Core.Path.{refl, sym, ◌∙◌}
-use borrow.Author.Rules.{rules}
 use Rattle.seq.specs.Seq.{[]}
 use Rattle.graph.specs.Small.{small_vertices, small_edges}
 use Rattle.overlay_maps.proofs.RoomLaws.{cleared_full, cleared-counted}

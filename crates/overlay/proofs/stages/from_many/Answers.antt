@@ -1,6 +1,5 @@
 -- `overlay::stages::from_many` meets its contract: full tables have the rows of any overlay. Assumes nothing.
 use native.Mathlib.Omega.{arith}
-use borrow.Author.Rules.{rules}
 use Rattle.overlay.proofs.stages.from_many.Goals as goal
 
 pub cut_maps-cut-requires : goal.cut_maps-cut-requires
