@@ -1,11 +1,6 @@
 -- `thin::keeping::mark_ends` meets its contract: before a turn the ends of the edges below the counter that stay are marked. Assumes nothing.
-use mathlib.Core.Logic.{⊎_elim}
 use mathlib.Core.Path.{sym, ◌∙◌}
-use Prim.Native.Nat.{◌-◌}
-use Rattle.overlay_cut.specs.PieceRows.{piece_at}
-use Rattle.thin.specs.Thinned.{separates_in}
-use Rattle.thin.specs.Laws.Marking.{Marking, mark_starts, mark-takes, mark-skips, mark_ends, ends_more}
-use borrow.Author.Rules.{rules}
+use Rattle.thin.specs.Laws.Marking.{mark_starts, mark-takes, mark-skips, mark_ends, ends_more}
 use native.Mathlib.Omega.{arith}
 use Rattle.thin.proofs.keeping.mark_ends.Goals as goal
 use Rattle.thin.proofs.keeping.mark_ends.Goals.{then-stays, else-stays}

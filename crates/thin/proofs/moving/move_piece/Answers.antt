@@ -6,7 +6,6 @@ use Rattle.seq.specs.Seq.{row_stored}
 use Rattle.overlay_cut.specs.PieceRows.{piece_width, piece_at}
 use Rattle.thin.specs.Laws.Moving.{low_cell}
 use native.Mathlib.Omega.{arith}
-use borrow.Author.Rules.{rules}
 use Rattle.thin.proofs.moving.move_piece.Goals as goal
 
 pub overflow_cast-lower : goal.overflow_cast-lower

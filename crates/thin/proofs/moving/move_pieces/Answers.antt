@@ -1,13 +1,7 @@
 -- `thin::moving::move_pieces` meets its contract: before a turn the rows of the edges below the counter that stay are moved. Assumes nothing.
-use mathlib.Core.Logic.{⊎_elim}
-use mathlib.Core.Path.{◌≡◌, refl, sym, ◌∙◌}
-use Prim.Native.Nat.{◌-◌}
-use lib.ListN.{length}
+use mathlib.Core.Path.{refl, sym, ◌∙◌}
 use Rattle.seq.specs.Loops.Selecting.{count_most}
-use Rattle.overlay_cut.specs.PieceRows.{piece_at}
-use Rattle.thin.specs.Thinned.{separates_in, moved_piece}
-use Rattle.thin.specs.Laws.Moving.{Moving, move_starts, move-takes, move-skips, move_ends, piece-kept, piece-stored}
-use borrow.Author.Rules.{rules}
+use Rattle.thin.specs.Laws.Moving.{move_starts, move-takes, move-skips, move_ends, piece-kept, piece-stored}
 use native.Mathlib.Omega.{arith}
 use Rattle.thin.proofs.moving.move_pieces.Goals as goal
 use Rattle.thin.proofs.moving.move_pieces.Goals.{then-stays, else-stays}
@@ -35,16 +29,16 @@ loop-k-preserved c =
     let pieces = c.args.pieces.now in
     let numbers = c.args.numbers.now in
     elim c.if-stays.branch [
-    | then-stays w ↦ rw (w.out-is, w.c-is) (
-      piece-kept pieces numbers c.loop-k.out _ c.loop-k.k c.loop-k.c w.move_piece.ensures ∙ r.0,
-      move-takes r.1 (omega arith) (q ∙ w.if-stays.true)
-          (piece-stored pieces numbers c.loop-k.out _ c.loop-k.k c.loop-k.c w.move_piece.ensures (omega (arith, count_most r.1.counted, r.0))),
-    )
-    | else-stays w ↦ rw (w.out-is, w.c-is) (r.0, move-skips r.1 (omega arith) (q ∙ w.if-stays.false))
+      | then-stays w ↦ rw (w.out-is, w.c-is) (
+        piece-kept pieces numbers c.loop-k.out _ c.loop-k.k c.loop-k.c w.move_piece.ensures ∙ r.0,
+        move-takes r.1 (omega arith) (q ∙ w.if-stays.true)
+            (piece-stored pieces numbers c.loop-k.out _ c.loop-k.k c.loop-k.c w.move_piece.ensures (omega (arith, count_most r.1.counted, r.0))),
+      )
+      | else-stays w ↦ rw (w.out-is, w.c-is) (r.0, move-skips r.1 (omega arith) (q ∙ w.if-stays.false))
     ]
 
 pub shape_of-out : goal.shape_of-out
 shape_of-out c = c.loop-k.invariant.0
 
 pub returns : goal.returns
-returns c = move_ends c.loop-k.invariant.1 (omega arith)
+returns c = let e = move_ends c.loop-k.invariant.1 (omega arith) in record { is = e.0; rows = e.1 }

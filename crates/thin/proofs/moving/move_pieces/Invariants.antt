@@ -1,14 +1,10 @@
 -- `thin::moving::move_pieces` meets its contract: before a turn the rows of the edges below the counter that stay are moved. Assumes nothing.
-use mathlib.Core.Logic.{⊎_elim}
-use mathlib.Core.Path.{◌≡◌, refl, sym, ◌∙◌}
+use mathlib.Core.Path.{◌≡◌}
 use Prim.Native.Nat.{◌-◌}
 use lib.ListN.{length}
-use Rattle.seq.specs.Loops.Selecting.{count_most}
 use Rattle.overlay_cut.specs.PieceRows.{piece_at}
 use Rattle.thin.specs.Thinned.{separates_in, moved_piece}
-use Rattle.thin.specs.Laws.Moving.{Moving, move_starts, move-takes, move-skips, move_ends, piece-kept, piece-stored}
-use borrow.Author.Rules.{rules}
-use native.Mathlib.Omega.{arith}
+use Rattle.thin.specs.Laws.Moving.{Moving}
 use Rattle.thin.proofs.moving.move_pieces.Given as goal
 
 abbrev pub invariant-loop-k : goal.invariant-loop-k

@@ -5,7 +5,6 @@ use Prim.Native.Nat.{◌+◌, ◌*◌}
 use lib.IntN.{pos}
 use Rattle.seq.specs.Seq.{row_stored}
 use Rattle.graph.proofs.Rows.{read, read_first}
-use borrow.Author.Rules.{rules}
 use Rattle.thin.proofs.moving.move_point.Goals as goal
 
 pub returns : goal.returns

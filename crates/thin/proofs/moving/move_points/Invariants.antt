@@ -1,15 +1,10 @@
 -- `thin::moving::move_points` meets its contract: before a turn the rows of the marked vertices below the counter are moved. Assumes nothing.
-use mathlib.Core.Logic.{⊎_elim}
-use mathlib.Core.Path.{◌≡◌, refl, ◌∙◌}
+use mathlib.Core.Path.{◌≡◌}
 use Prim.Native.Nat.{◌-◌}
 use lib.ListN.{length}
-use borrow.Author.Tests.{lt-ltb, le-ltb}
-use Rattle.seq.specs.Loops.Selecting.{count_most}
 use Rattle.graph.specs.Flat.{the_point_at}
 use Rattle.thin.specs.Thinned.{marked}
-use Rattle.thin.specs.Laws.Moving.{Moving, move_starts, move-takes, move-skips, move_ends, point-kept, point-stored}
-use borrow.Author.Rules.{rules}
-use native.Mathlib.Omega.{arith}
+use Rattle.thin.specs.Laws.Moving.{Moving}
 use Rattle.thin.proofs.moving.move_points.Given as goal
 
 abbrev pub invariant-loop-v : goal.invariant-loop-v

@@ -3,7 +3,6 @@ use Rattle.paper.specs.Limits.{overlay_vertices}
 use Rattle.overlay_graph.specs.Cut.{cut_by}
 use Rattle.thin.specs.Laws.Tables.{zeros-hold, ends_numbered, thinned}
 use native.Mathlib.Omega.{arith}
-use borrow.Author.Rules.{rules}
 use Rattle.thin.proofs.thinning.thin.Goals as goal
 
 pub mark_ends-requires : goal.mark_ends-requires
