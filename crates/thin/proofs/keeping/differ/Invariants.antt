@@ -3,7 +3,8 @@ use mathlib.Core.Path.{ap}
 use Prim.Native.Nat.{◌-◌}
 use borrow.Author.Tests.{eq-eqb, ne_eqb}
 use Rattle.seq.specs.Seq.{not, eqb, cell}
-use Rattle.seq.specs.Loops.Searching.{Searching, search_starts, search_turns, search_has, search_lacks}
+use Rattle.seq.specs.Loops.Searching.{Searching, search_starts}
+use Rattle.seq.proofs.Loops.Searching.{search_turns, search_has, search_lacks}
 use Rattle.paper.specs.Limits.{maps}
 use borrow.Author.Rules.{rules}
 use native.Mathlib.Omega.{arith}

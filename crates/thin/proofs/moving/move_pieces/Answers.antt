@@ -35,12 +35,12 @@ loop-k-preserved c =
     let pieces = c.args.pieces.now in
     let numbers = c.args.numbers.now in
     elim c.if-stays.branch [
-    | then-stays w ↦ rw (w.out-is, w.c-is) (
-      piece-kept pieces numbers c.loop-k.out _ c.loop-k.k c.loop-k.c w.move_piece.ensures ∙ r.0,
-      move-takes r.1 (omega arith) (q ∙ w.if-stays.true)
-          (piece-stored pieces numbers c.loop-k.out _ c.loop-k.k c.loop-k.c w.move_piece.ensures (omega (arith, count_most r.1.counted, r.0))),
-    )
-    | else-stays w ↦ rw (w.out-is, w.c-is) (r.0, move-skips r.1 (omega arith) (q ∙ w.if-stays.false))
+      | then-stays w ↦ rw (w.out-is, w.c-is) (
+        piece-kept pieces numbers c.loop-k.out _ c.loop-k.k c.loop-k.c w.move_piece.ensures ∙ r.0,
+        move-takes r.1 (omega arith) (q ∙ w.if-stays.true)
+            (piece-stored pieces numbers c.loop-k.out _ c.loop-k.k c.loop-k.c w.move_piece.ensures (omega (arith, count_most r.1.counted, r.0))),
+      )
+      | else-stays w ↦ rw (w.out-is, w.c-is) (r.0, move-skips r.1 (omega arith) (q ∙ w.if-stays.false))
     ]
 
 pub shape_of-out : goal.shape_of-out

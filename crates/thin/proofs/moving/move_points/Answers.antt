@@ -29,12 +29,12 @@ loop-v-preserved c =
     let r = c.loop-v.invariant in
     let points = c.args.points.now in
     elim c.if-marks-v-gt0.branch [
-    | then-marks-v-gt0 w ↦ rw (w.out-is, w.c-is) (
-      point-kept points c.loop-v.out _ c.loop-v.v c.loop-v.c w.move_point.ensures ∙ r.0,
-      move-takes r.1 (omega arith) (lt-ltb _ _ w.if-marks-v-gt0.true)
-          (point-stored points c.loop-v.out _ c.loop-v.v c.loop-v.c w.move_point.ensures (omega (arith, count_most r.1.counted, r.0))),
-    )
-    | else-marks-v-gt0 w ↦ rw (w.out-is, w.c-is) (r.0, move-skips r.1 (omega arith) (le-ltb _ _ w.if-marks-v-gt0.false))
+      | then-marks-v-gt0 w ↦ rw (w.out-is, w.c-is) (
+        point-kept points c.loop-v.out _ c.loop-v.v c.loop-v.c w.move_point.ensures ∙ r.0,
+        move-takes r.1 (omega arith) (lt-ltb _ _ w.if-marks-v-gt0.true)
+            (point-stored points c.loop-v.out _ c.loop-v.v c.loop-v.c w.move_point.ensures (omega (arith, count_most r.1.counted, r.0))),
+      )
+      | else-marks-v-gt0 w ↦ rw (w.out-is, w.c-is) (r.0, move-skips r.1 (omega arith) (le-ltb _ _ w.if-marks-v-gt0.false))
     ]
 
 pub shape_of-out : goal.shape_of-out
