@@ -20,7 +20,8 @@ use Rattle.laws_graph.specs.Walks.{along_below, walk-along, walk-closes, walk-on
 use Rattle.laws_graph.specs.Faces.{face_below}
 use Rattle.laws_overlay.specs.Maps.{AllKeep}
 use Rattle.laws_overlay.specs.Cells.{face_labels}
-use Rattle.laws_labels.specs.Drawn.{Drawn, drawn-held, drawn-face, drawn-walk}
+use Rattle.laws_labels.specs.Drawn.{Drawn}
+use Rattle.laws_labels.proofs.Drawn.{drawn-held, drawn-face, drawn-walk}
 use Rattle.laws_labels.specs.Demand3.{followers_in, stored, Closes, OneWalk, Agrees}
 use Rattle.laws_melt.specs.Melts.{melted-drawn}
 use Rattle.laws_promise.specs.Rows.{Rows}

@@ -23,7 +23,8 @@ use Rattle.laws_overlay.specs.Cells.{face_labels, face_half}
 use Rattle.laws_overlay.specs.EmptyMap.{with_empty, with_none, one_more, layer_before, layer-own}
 use Rattle.laws_overlay.specs.EmptyTables.{with_nones}
 use Rattle.laws_overlay.specs.Files.{maps_of, maps-count}
-use Rattle.laws_orders.specs.TwoMaps.{SameRoom, OneMore, with_last, last_empty}
+use Rattle.laws_orders.specs.TwoMaps.{SameRoom, OneMore, with_last}
+use Rattle.laws_orders.proofs.TwoMaps.{last_empty}
 use Rattle.laws_melt.specs.MeltEmpty.{melted-empty}
 use Rattle.tables.specs.declared.answer.Answer as code
 use Rattle.tables.specs.Values.{answer_of}

@@ -87,8 +87,8 @@ from_cut-requires c =
     let long = s.requires.fact_5 in record {
       fact_1 = (O s).held;
       fact_2 =
-        left_drawable (L s) (C s) s.requires.fact_1 a.ends.now a.lines.now a.next.now a.outers.now a.count (O s) a.face.now s.requires.fact_3 (triples r) _ r.lay_labels.ensures k t.ensures
-            (omega (arith, long.2, t.auto.newpoints)) (omega (arith, long.3, t.auto.newpieces));
+          left_drawable (L s) (C s) s.requires.fact_1 a.ends.now a.lines.now a.next.now a.outers.now a.count (O s) a.face.now s.requires.fact_3 (triples r) _ r.lay_labels.ensures k t.ensures
+          (omega (arith, long.2, t.auto.newpoints)) (omega (arith, long.3, t.auto.newpieces));
       fact_3 = left_within (L s) (C s) s.requires.fact_1 a.ends.now a.lines.now a.next.now a.outers.now a.count (O s) a.face.now s.requires.fact_3 (triples r) _ r.lay_labels.ensures k t.ensures (lent s) s.requires.fact_4;
     }
 

@@ -2,7 +2,7 @@
 use mathlib.Core.Path.{sym, ◌∙◌}
 use native.Mathlib.Omega.{arith}
 use borrow.Author.Tests.{ltb-false}
-use Rattle.seq.specs.Least.{least-le}
+use Rattle.seq.proofs.Least.{least-le}
 use Rattle.seq.specs.Seq.{least}
 use Rattle.mend.specs.Keys.{like_in}
 use Rattle.mend.proofs.merge.lowest.Goals as goal
