@@ -1,7 +1,6 @@
 -- `melt::left::melt_faces` meets its contract. First the records of the tables and what is known of the labels; then the needs, call by call. Assumes nothing.
 use mathlib.Core.Path.{◌∙◌, ap}
 use native.Mathlib.Omega.{arith}
-use borrow.Author.Rules.{rules}
 use Rattle.seq.specs.Seq.{List, ℕ}
 use Rattle.paper.specs.Map.{Map}
 use Rattle.paper.specs.Faces.{Overlay}
@@ -39,7 +38,7 @@ module _ (s : Start) where
 -- the labels of every face are laid
 module _ (c : After-lay_labels) where
   abbrev begun : Start
-  begun = c.before.before.before.before.before.before.before.before.before.before.before.before.before.before.before.before
+  begun = c.before.before.before.before.before.before.before.before.before.before.before.before.before.before.before.before.before
 
   abbrev triples : List ℕ
   triples = c.lay_labels.new.out
@@ -87,8 +86,8 @@ from_cut-requires c =
     let long = s.requires.fact_5 in record {
       fact_1 = (O s).held;
       fact_2 =
-        left_drawable (L s) (C s) s.requires.fact_1 a.ends.now a.lines.now a.next.now a.outers.now a.count (O s) a.face.now s.requires.fact_3 (triples r) _ r.lay_labels.ensures k t.ensures
-            (omega (arith, long.2, t.auto.newpoints)) (omega (arith, long.3, t.auto.newpieces));
+          left_drawable (L s) (C s) s.requires.fact_1 a.ends.now a.lines.now a.next.now a.outers.now a.count (O s) a.face.now s.requires.fact_3 (triples r) _ r.lay_labels.ensures k t.ensures
+          (omega (arith, long.2, t.auto.newpoints)) (omega (arith, long.3, t.auto.newpieces));
       fact_3 = left_within (L s) (C s) s.requires.fact_1 a.ends.now a.lines.now a.next.now a.outers.now a.count (O s) a.face.now s.requires.fact_3 (triples r) _ r.lay_labels.ensures k t.ensures (lent s) s.requires.fact_4;
     }
 
