@@ -4,9 +4,10 @@ use Rattle.std.specs.Prelude.{◌≡◌, ◌≤◌, ◌<◌}
 use Rattle.std.proofs.Common.{sym, ◌∙◌, ap, arith, ext_get_or, le-ltb, ne_eqb}
 use Rattle.std.proofs.Math.Decide.{dec_lt}
 use Rattle.seq.specs.Seq.{Bool, cond, List, ℕ, eqb, ltb, length, get_or, least, filled, firsts}
-use Rattle.seq.specs.Least.{least_none}
+use Rattle.seq.proofs.Least.{least_none}
 use Rattle.seq.specs.Filled.{length-filled, filled_at, filled_past}
-use Rattle.seq.specs.Firsts.{length-firsts, firsts_all}
+use Rattle.seq.specs.Firsts.{length-firsts}
+use Rattle.seq.proofs.Firsts.{firsts_all}
 use Rattle.graph.specs.Flat.{Numbers}
 
 -- where v first stands in the first m cells; `none` where it does not

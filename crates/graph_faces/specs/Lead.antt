@@ -8,7 +8,8 @@ use Rattle.seq.specs.Terms.{Among, Injects, step}
 use Rattle.seq.specs.Tests.{bool-ext}
 use Rattle.seq.specs.Perm.{iter-into}
 use Rattle.seq.specs.Filled.{filled_at, filled_past, length-filled, filled_is, filled-twice}
-use Rattle.seq.specs.Walks.{walk-done, walk_next, on_walk, walk_on, leader-reach, leader-le, leader_below, leader_same, leader_one}
+use Rattle.seq.specs.Walks.{walk-done, walk_next}
+use Rattle.seq.proofs.Walks.{on_walk, walk_on, leader-reach, leader-le, leader_below, leader_same, leader_one}
 use Rattle.paper.specs.Limits.{absent}
 
 -- ── one walk ──

@@ -3,30 +3,27 @@
 -- vertex of h's walk, says what that vertex is, whether the walk is a hole walk and which half-edge makes it one. Assumes nothing.
 use Rattle.std.specs.Prelude.{◌≡◌, refl, ◌<◌, ◌<ℤ◌, ◌∷◌, ◌*◌}
 use Rattle.std.proofs.Common.{sym, ◌∙◌, ap, subst, inl, arith, eqb-true, eq-eqb}
-use Rattle.seq.specs.Seq.{Bool, true, List, [], Option, none, some, Option·getD, ℕ, eqb, length, get_or, take, among, leader, best, ℤ, pos}
-use Rattle.seq.specs.Terms.{Has, TopIs, BestIs, Strict, Injects, step}
+use Rattle.seq.specs.Seq.{true, List, [], Option, none, some, Option·getD, ℕ, eqb, length, take, among, leader, best, ℤ}
+use Rattle.seq.specs.Terms.{Has, BestIs, Injects, step}
 use Rattle.seq.specs.Tests.{bool-ext}
-use Rattle.seq.specs.Best.{best-top}
 use Rattle.seq.specs.BestLoop.{best-ext}
 use Rattle.seq.specs.Position.{among-elem, elem-among}
 use Rattle.seq.specs.Members.{among_one}
 use Rattle.seq.specs.Loops.Choosing.{has_key}
 use Rattle.paper.specs.Limits.{absent}
-use Rattle.paper.specs.Plane.{less_angle, before}
+use Rattle.paper.specs.Plane.{less_angle}
 use Rattle.paper.specs.Graph.{Graph, the_half_count, origin, follower, followers, walk, smallest, leaves, heading, greatest_out, makes_hole}
 use Rattle.paper.specs.Faces.{walks_of, lead_at, hole_at}
-use Rattle.laws_plane.specs.Points.{before_irr, before_trans}
 use Rattle.laws_graph.specs.Plane.{Plane}
 use Rattle.laws_graph.specs.Follow.{followers_inject, lesser, greatest_is}
-use Rattle.laws_graph.specs.Walks.{Along, lead_is, lead_below, lead_same, lead_one, along-walk, walk-along, along_below, hole_is}
-use Rattle.laws_graph.specs.Holes.{smallest-start, smallest_is, smallest_below}
-use Rattle.graph.specs.Flat.{origin_at, start_at, flat_graph, Flat}
-use Rattle.graph.specs.Laws.Decode.{flat-points, flat-halves, flat_origin, flat_start}
+use Rattle.laws_graph.specs.Walks.{lead_is, lead_same, lead_one, along-walk, walk-along, along_below, hole_is}
+use Rattle.laws_graph.specs.Holes.{smallest-start}
+use Rattle.graph.specs.Flat.{origin_at, flat_graph, Flat}
+use Rattle.graph.specs.Laws.Decode.{flat-halves, flat_origin}
 use Rattle.seq.specs.Filled.{Holds, front-table}
 use Rattle.graph.specs.Follow.{Heads}
 use Rattle.graph_faces.specs.Lead.{Permutes}
 use Rattle.graph.specs.Stars.{greater_at, greatest_at}
-use Rattle.graph_faces.specs.Turns.{earlier_at, low_at, top_at}
 
 -- the half-edge of greatest angle out of the smallest vertex of h's walk
 abbrev pub top_of : Graph → ℕ → ℕ
@@ -88,7 +85,7 @@ module _ (g : Graph) (P : Plane g) where
 -- ── from the flat tables ──
 
 module _ (ps : List ℤ) (os : List ℕ) (cs : List ℤ) (n e : ℕ) (F : Flat ps os cs n e) where
-  abbrev g : Graph
+  abbrev pub g : Graph
   g = flat_graph ps os cs n e
 
   pub flat-greatest : (hs : List ℤ) → Heads ps os cs n e hs → (v : ℕ) → greatest_at os hs (2 * e) v ≡ Option·getD (greatest_out g v) absent
@@ -100,57 +97,5 @@ module _ (ps : List ℤ) (os : List ℕ) (cs : List ℤ) (n e : ℕ) (F : Flat p
       ∙ ap (best (leaves g v) (λ h r. less_angle (heading g r) (heading g h))) (sym (flat-halves ps os cs n e)))
 
   module _ (P : Plane g) (ls : List ℕ) (L : Holds (lead_at (walks_of g)) ls (2 * e)) (h : ℕ) (l : h < 2 * e) where
-    below : h < the_half_count g
+    pub below : h < the_half_count g
     below = omega (arith, flat-halves ps os cs n e)
-
-    -- of the half-edges with h's leader
-    abbrev mates : ℕ → Bool
-    mates x = eqb (get_or ls x 0) (lead_at (walks_of g) h)
-
-    order : Strict mates (earlier_at ps os) (2 * e)
-    order = record {
-      irr = λ x b. before_irr (start_at ps os x);
-      trans = λ x y z bx by bz. before_trans (start_at ps os x) (start_at ps os y) (start_at ps os z) (real x bx.below) (real y by.below) (real z bz.below);
-    }
-      where
-        real : (x : ℕ) → x < 2 * e → pos 0 <ℤ (start_at ps os x).D
-        real x b = (F.points.near (origin_at os x) (F.origins.named x b)).positive
-
-    mate : (x : ℕ) → x < 2 * e → mates x ≡ true → Along g h x
-    mate x b q =
-        let k : x < the_half_count g = omega (arith, flat-halves ps os cs n e) in
-        lead_one g P h x below k (sym (sym (L.at x b) ∙ eqb-true (get_or ls x 0) (lead_at (walks_of g) h) q))
-
-    along-mate : (x : ℕ) → Along g h x → Has mates (2 * e) x
-    along-mate x a =
-        let b : x < 2 * e = omega (arith, along_below g P below a, flat-halves ps os cs n e) in
-        record { below = b; has = eq-eqb (get_or ls x 0) (lead_at (walks_of g) h) (L.at x b ∙ lead_same g P h x below a) }
-
-    low_by : (o : Option ℕ) → TopIs mates (earlier_at ps os) (2 * e) o → (Option·getD o absent < 2 * e) × (origin g (Option·getD o absent) ≡ smallest g (followers g) h)
-    low_by none t = absurd (t h (along-mate h (0, refl)))
-    low_by (some x) t = (
-      t.is.below,
-      sym (smallest_is g P h below x (mate x t.is.below t.is.has)
-          (λ j a. let m = along-mate j a in
-          (λ i. before (flat_start ps os cs n e F.origins j m.below i) (flat_start ps os cs n e F.origins x t.is.below i)) ∙ t.none_better j m)),
-    )
-
-    -- the low half-edge of h's walk is one of the half-edges, and starts at the smallest vertex
-    pub low_origin : (low_at ps os ls (2 * e) (lead_at (walks_of g) h) < 2 * e) × (origin g (low_at ps os ls (2 * e) (lead_at (walks_of g) h)) ≡ smallest g (followers g) h)
-    low_origin = low_by (best mates (earlier_at ps os) (2 * e)) (best-top mates (earlier_at ps os) (2 * e) order)
-
-    -- so the tables give the half-edge of greatest angle out of it
-    pub flat-top : (lo gs : List ℕ) → Holds (low_at ps os ls (2 * e)) lo (2 * e) → Holds (λ v. Option·getD (greatest_out g v) absent) gs n → top_at os ls lo gs h ≡ top_of g h
-    flat-top lo gs O G =
-        let r = low_origin in
-        let m : lead_at (walks_of g) h < 2 * e = omega (arith, lead_below g P h below, flat-halves ps os cs n e) in
-        let v : origin_at os (get_or lo (get_or ls h 0) 0) ≡ smallest g (followers g) h =
-        ap (origin_at os) (ap (λ (x : ℕ). get_or lo x 0) (L.at h l) ∙ O.at (lead_at (walks_of g) h) m) ∙ sym (flat_origin ps os cs n e _ r.0) ∙ r.1 in
-        ap (λ (x : ℕ). get_or gs x 0) v ∙ G.at (smallest g (followers g) h) (omega (arith, smallest_below g P h below, flat-points ps os cs n e))
-
-    -- and each cell that is read is there
-    pub low_cell : (lo : List ℕ) → Holds (low_at ps os ls (2 * e)) lo (2 * e) → get_or lo (get_or ls h 0) 0 < 2 * e
-    low_cell lo O =
-        let m : lead_at (walks_of g) h < 2 * e = omega (arith, lead_below g P h below, flat-halves ps os cs n e) in
-        let q : get_or lo (get_or ls h 0) 0 ≡ low_at ps os ls (2 * e) (lead_at (walks_of g) h) = ap (λ (x : ℕ). get_or lo x 0) (L.at h l) ∙ O.at (lead_at (walks_of g) h) m in
-        omega (arith, low_origin.0)

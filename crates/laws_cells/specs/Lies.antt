@@ -4,39 +4,32 @@
 -- files, whenever it is done: the labels of a sounding are those stored for the face that it lies in (`cell-stored`), for a list `cells-stored`; it lies in a face (`lies_somewhere`) and in no second (`lies-once`).
 -- Soundings are counted by two maps and the overlay has three: in some of its maps, `first_stored`; in two of three, `pair-stored`, `pairs-stored`, and the counts that come out, `times-stored`. Assumes nothing.
 use Rattle.std.specs.Prelude.{◌≡◌, refl, ◌<◌, ◌∷◌, ◌++◌, ◌*◌}
-use Rattle.std.proofs.Common.{sym, ◌∙◌, ap, subst, inl, arith, length-append}
-use Rattle.std.specs.Int.Signed.{≤ℤ_refl}
-use Rattle.std.proofs.Math.ListN.{get_or-append}
-use Rattle.seq.specs.Seq.{List, [], Option, none, some, ℕ, length, get_or, pos, replicate, table, or_zero}
-use Rattle.seq.specs.Table.{table_at, table-ext}
+use Rattle.std.proofs.Common.{sym, ◌∙◌, ap, subst, inl}
+use Rattle.seq.specs.Seq.{List, [], Option, none, some, ℕ, length, or_zero}
 use Rattle.paper.specs.Limits.{maps}
 use Rattle.paper.specs.Plane.{Vec, whole}
 use Rattle.paper.specs.Graph.{Graph, west}
 use Rattle.paper.specs.Refusal.{done}
-use Rattle.paper.specs.Map.{Map, map_of, label}
-use Rattle.paper.specs.Pieces.{Piece, layer, vertices_of, edges_of}
-use Rattle.paper.specs.Faces.{overlay_of}
+use Rattle.paper.specs.Map.{Map}
+use Rattle.paper.specs.Pieces.{Piece, vertices_of, edges_of}
 use Rattle.paper.specs.Tables.{Counts, Tables, face_of, face_cell}
 use Rattle.paper.specs.Lent.{Lengths}
-use Rattle.paper.specs.Soundings.{soundings_in, sounding_at, east, cell_of, cells, Entry, CountRoom, Cells, soundings}
+use Rattle.paper.specs.Soundings.{east, Entry, CountRoom, Cells, soundings}
 use Rattle.laws_plane.specs.Ends.{0<1}
 use Rattle.laws_graph.specs.West.{look_below}
 use Rattle.laws_overlay.specs.Maps.{AllKeep}
 use Rattle.laws_overlay.specs.Inside.{overlaid}
-use Rattle.laws_overlay.specs.Files.{maps_of, maps-count, layer_is, files-keep}
-use Rattle.laws_labels.specs.Drawn.{seen_labels}
-use Rattle.laws_labels.specs.Agree.{overlay-seen}
-use Rattle.laws_labels.specs.Demand3.{stored}
-use Rattle.laws_soundings.specs.Tally.{times_of, occurs}
-use Rattle.laws_soundings.specs.Told.{row_entries, told-times}
+use Rattle.laws_overlay.specs.Files.{maps_of, files-keep}
+use Rattle.laws_soundings.specs.Told.{row_entries}
 use Rattle.laws_promise.specs.Looking.{Looks}
-use Rattle.laws_promise.specs.Looks.{looks-once, west-looks}
+use Rattle.laws_promise.proofs.Looks.{looks-once, west-looks}
 use Rattle.laws_promise.specs.Defined.{graph_in, Defined}
 use Rattle.laws_promise.specs.Held.{Held, overlay-pieced}
 use Rattle.laws_promise.specs.Ways.{of_net}
-use Rattle.laws_promise.specs.Graphs.{graph_is}
+use Rattle.laws_promise.proofs.Graphs.{graph_is}
 use Rattle.laws_promise.specs.Demands.{counts_for, Overlaid, done_is-overlaid}
-use Rattle.laws_promise.specs.Promised.{held, done_is-defined}
+use Rattle.laws_promise.specs.Promised.{held}
+use Rattle.laws_promise.proofs.Promised.{done_is-defined}
 use Rattle.tables.specs.declared.answer.Answer as code
 use Rattle.tables.specs.Values.{answer_of}
 use Rattle.tables.specs.Promise.{Promised}
@@ -54,22 +47,22 @@ pub record LiesIn (ms : List Map) (c : Counts) (t : Tables) (v : Vec) (f : ℕ) 
 -- ── of any number of maps ──
 
 module _ (l : Lengths) (files : List (List ℕ)) (r : code.Answer) (t : Tables) (promise : Promised l files r t) (c : Counts) (e : answer_of r ≡ done c) where
-  abbrev ms : List Map
+  abbrev pub ms : List Map
   ms = maps_of files
 
-  abbrev g : Graph
+  abbrev pub g : Graph
   g = overlaid (maps_of files)
 
   abbrev ps : List Piece
   ps = edges_of (maps_of files) (vertices_of (maps_of files))
 
-  overlay : Overlaid l files c t
+  pub overlay : Overlaid l files c t
   overlay = done_is-overlaid l files r t promise c e
 
   defined : Defined l files c t
   defined = done_is-defined l files r t promise c e
 
-  keep : AllKeep (maps_of files)
+  pub keep : AllKeep (maps_of files)
   keep = files-keep files overlay.passes
 
   in_tables : Held (maps_of files) c t
@@ -78,33 +71,16 @@ module _ (l : Lengths) (files : List (List ℕ)) (r : code.Answer) (t : Tables) 
       (subst (λ (u : Tables). Held ms (counts_for files) u) (sym overlay.tables-are) (held files overlay.passes l))
 
   -- what the definition sees in the overlay is what is seen in the tables
-  abbrev seen_from : Vec → Option ℕ
+  abbrev pub seen_from : Vec → Option ℕ
   seen_from v = west g (whole v) east
 
-  looks-there : (v : Vec) → Looks (graph_in (maps_of files) c t) (whole v) east (seen_from v)
+  pub looks-there : (v : Vec) → Looks (graph_in (maps_of files) c t) (whole v) east (seen_from v)
   looks-there v =
       subst (λ (x : Graph). Looks x (whole v) east (seen_from v)) (sym (graph_is ms ps g (overlay-pieced ms keep) c t in_tables))
       (west-looks g (overlay-pieced ms keep).plane (whole v) 0<1 (overlay-pieced ms keep).clear east (inl refl))
 
-  seen-counted : (v : Vec) (h : ℕ) → seen_from v ≡ some h → h < 2 * c.edges
+  pub seen-counted : (v : Vec) (h : ℕ) → seen_from v ≡ some h → h < 2 * c.edges
   seen-counted v h q = of_net ms ps g (overlay-pieced ms keep) c t in_tables (look_below g (whole v) east h q)
-
-  -- and its labels are stored
-  stored-seen : (v : Vec) (s : Option ℕ) → seen_from v ≡ s → seen_labels ms (overlay_of ms) s ≡ stored (length files) t (face_seen t s)
-  stored-seen v none q = ap (λ (n : ℕ). replicate n 0) (maps-count files) ∙ sym overlay.agrees.outside
-  stored-seen v (some h) q = sym (overlay.agrees.stored-pair h (seen-counted v h q))
-
-  -- the labels of a sounding are those stored for the face that it lies in
-  pub cell-stored : (v : Vec) (f : ℕ) → LiesIn (maps_of files) c t v f → cell_of (maps_of files) v ≡ stored (length files) t f
-  cell-stored v f A =
-      overlay-seen ms keep (whole v) 0<1 east (≤ℤ_refl (pos 0))
-      ∙ stored-seen v (seen_from v) refl
-      ∙ ap (λ (s : Option ℕ). stored (length files) t (face_seen t s)) (looks-once (graph_in ms c t) (whole v) east (seen_from v) A.seen (looks-there v) A.looks)
-      ∙ ap (stored (length files) t) (sym A.face)
-
-  -- of a list of soundings, each in its face
-  pub cells-stored : (s : List ℕ) (face : ℕ → ℕ) → ((j : ℕ) → j < soundings_in s → LiesIn (maps_of files) c t (sounding_at s j) (face j)) → cells (maps_of files) s ≡ table (λ j. stored (length files) t (face j)) (soundings_in s)
-  cells-stored s face A = table-ext (λ j. cell_of ms (sounding_at s j)) (λ j. stored (length files) t (face j)) (soundings_in s) (λ j b. cell-stored (sounding_at s j) (face j) (A j b))
 
   -- "Each sounding gets one": it lies in a face of those in the tables
   pub lies_somewhere : (v : Vec) → (f : ℕ) × LiesIn (maps_of files) c t v f × (f < c.faces)
@@ -120,27 +96,9 @@ module _ (l : Lengths) (files : List (List ℕ)) (r : code.Answer) (t : Tables) 
 
 -- ── in some of the overlay's maps ──
 
--- the label of a sounding in one map
-abbrev label_at : Vec → Map → ℕ
-label_at v m = or_zero (label m) (west m.graph (whole v) east)
-
 module _ (l : Lengths) (fs gs : List (List ℕ)) (r : code.Answer) (t : Tables) (promise : Promised l (fs ++ gs) r t) (c : Counts) (e : answer_of r ≡ done c) where
-  abbrev n : ℕ
+  abbrev pub n : ℕ
   n = length (fs ++ gs)
-
-  -- its labels in the maps fs, whatever maps gs come after them
-  pub first_stored : (v : Vec) (f : ℕ) → LiesIn (maps_of (fs ++ gs)) c t v f → cell_of (maps_of fs) v ≡ table (face_cell (length (fs ++ gs)) t f) (length fs)
-  first_stored v f A =
-      ap (table (λ i. label_at v (layer (maps_of fs) i))) (maps-count fs)
-      ∙ table-ext (λ i. label_at v (layer (maps_of fs) i)) (face_cell n t f) (length fs) one
-    where
-      one : (i : ℕ) → i < length fs → label_at v (layer (maps_of fs) i) ≡ face_cell n t f i
-      one i b =
-          let a : i < n = omega (arith, length-append fs gs) in
-          ap (label_at v) (layer_is fs i ∙ ap map_of (sym (get_or-append fs gs [] i b)) ∙ sym (layer_is (fs ++ gs) i))
-          ∙ sym (table_at (λ k. label_at v (layer (maps_of (fs ++ gs)) k)) (length (maps_of (fs ++ gs))) i 0 (subst (λ (k : ℕ). i < k) (sym (maps-count (fs ++ gs))) a))
-          ∙ ap (λ (xs : List ℕ). get_or xs i 0) (cell-stored l (fs ++ gs) r t promise c e v f A)
-          ∙ table_at (face_cell n t f) n i 0 a
 
 -- ── Ask 3's pair ──
 
@@ -151,17 +109,3 @@ stored_pair t f = face_cell maps t f 0 ∷ face_cell maps t f 1 ∷ []
 -- the rows of pairs and counts that come out for the zones a, the blocks b and a list s of soundings, in lent tables of the lengths k, where the counts n are answered
 abbrev pub pair_rows : CountRoom → List ℕ → List ℕ → List ℕ → Cells → List Entry
 pair_rows k a b s n = let o = soundings k (a ∷ b ∷ []) s in row_entries (length (a ∷ b ∷ [])) o.labels o.counts n.entries
-
--- in the overlay of three maps, whatever the third is
-module _ (l : Lengths) (a b z : List ℕ) (r : code.Answer) (t : Tables) (promise : Promised l (a ∷ b ∷ z ∷ []) r t) (c : Counts) (e : answer_of r ≡ done c) where
-  pub pair-stored : (v : Vec) (f : ℕ) → LiesIn (maps_of (a ∷ b ∷ z ∷ [])) c t v f → cell_of (maps_of (a ∷ b ∷ [])) v ≡ stored_pair t f
-  pair-stored = first_stored l (a ∷ b ∷ []) (z ∷ []) r t promise c e
-
-  -- of a list s of soundings, each in its face
-  module _ (s : List ℕ) (face : ℕ → ℕ) (A : (j : ℕ) → j < soundings_in s → LiesIn (maps_of (a ∷ b ∷ z ∷ [])) c t (sounding_at s j) (face j)) where
-    pub pairs-stored : cells (maps_of (a ∷ b ∷ [])) s ≡ table (λ j. stored_pair t (face j)) (soundings_in s)
-    pairs-stored = table-ext (λ j. cell_of (maps_of (a ∷ b ∷ [])) (sounding_at s j)) (λ j. stored_pair t (face j)) (soundings_in s) (λ j q. pair-stored (sounding_at s j) (face j) (A j q))
-
-    -- "each pair that occurs with its count": how many of the soundings lie in faces that the pair x is stored for
-    pub times-stored : (k : CountRoom) (n : Cells) → (soundings k (a ∷ b ∷ []) s).answer ≡ done n → (x : List ℕ) → times_of x (pair_rows k a b s n) ≡ occurs x (table (λ j. stored_pair t (face j)) (soundings_in s))
-    times-stored k n d x = told-times (a ∷ b ∷ []) s k n d x ∙ ap (occurs x) pairs-stored

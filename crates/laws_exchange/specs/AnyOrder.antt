@@ -3,7 +3,7 @@
 -- `exchanged_room`. Bad maps: `exchanged-bad`, `first_handed_in`. The definition's side: Orders and Exchanged of laws_orders. Assumes nothing.
 use Rattle.std.specs.Prelude.{◌≡◌, ◌⊎◌, ◌<◌, ◌+◌, ◌*◌}
 use Rattle.std.proofs.Common.{sym, ◌∙◌, ap, subst, inl, inr, arith}
-use Rattle.seq.specs.Seq.{List, [], none, some, ℕ, suc, length, get_or}
+use Rattle.seq.specs.Seq.{List, [], some, ℕ, suc, length, get_or}
 use Rattle.paper.specs.Refusal.{Refusal, done, refused}
 use Rattle.paper.specs.Map.{check, fault, vertex_count, edges_in}
 use Rattle.paper.specs.Tables.{Counts, Tables, source_cell, face_cell}
@@ -12,11 +12,14 @@ use Rattle.paper.specs.Overlay.{lent}
 use Rattle.laws_refusals.specs.Refusals.{refused_some}
 use Rattle.laws_overlay.specs.Files.{maps_of, maps-count, files-keep}
 use Rattle.laws_overlay.specs.Parts.{half-there}
-use Rattle.laws_overlay.specs.Exchange.{renumber_label}
+use Rattle.laws_overlay.proofs.Exchange.{renumber_label}
 use Rattle.laws_labels.specs.Done.{done-passes, done-counts}
-use Rattle.laws_orders.specs.Orders.{FilesRenumbered, named, maps-renumbered, orders-done, orders-bad}
+use Rattle.laws_orders.specs.Orders.{FilesRenumbered, named, maps-renumbered, orders-done}
+use Rattle.laws_orders.proofs.Orders.{orders-bad}
 use Rattle.laws_orders.specs.Exchanged.{SameTables, done_too, exchanged-tables}
-use Rattle.laws_orders.specs.FromCheck.{Good, AllGood, FirstBad, ByCheck, ForRoom, good-passes, check-refuses, refused_for, by_check-refused}
+use Rattle.laws_orders.specs.FromCheck.{Good, AllGood, FirstBad, ByCheck, ForRoom, good-passes}
+use Rattle.laws_orders.proofs.FromCheck.{check-refuses}
+use Rattle.laws_orders.proofs.CheckRefused.{refused_for, by_check-refused}
 use Rattle.laws_promise.specs.Demands.{pair_for, refused_is_first}
 use Rattle.tables.specs.declared.answer.Answer as code
 use Rattle.tables.specs.Values.{answer_of}

@@ -9,7 +9,8 @@ use Rattle.paper.specs.Tables.{Counts, Tables}
 use Rattle.paper.specs.Lent.{Lengths, Outcome, zero_tables}
 use Rattle.paper.specs.Overlay.{lent}
 use Rattle.laws_orders.specs.TwoMaps as laws
-use Rattle.laws_orders.specs.TwoMaps.{SameRoom, OneMore, two_maps}
+use Rattle.laws_orders.specs.TwoMaps.{SameRoom, OneMore}
+use Rattle.laws_orders.proofs.TwoMaps.{two_maps}
 use Rattle.laws_promise.specs.Demands.{pair_for}
 use Rattle.tables.specs.declared.answer.Answer as code
 use Rattle.tables.specs.Values.{answer_of}

@@ -1,7 +1,7 @@
 -- "Laying the empty map over a map must give each half-edge that map's label and 0" (02, Ask 11), of what comes out: file i is a map and all others are the empty map (`OnlyMap`). Where the overlay is done each half-edge lies
 -- along an edge of that map, and what its face stores is the label of that edge on its side for the map, and 0 for every other (`OverEmpty`, `over_empty`); it is what `Defined` calls its labels. From `Defined`, so from
 -- the promise (`over_empty-done`). It is done wherever the map passes and there is room (`passes_is-defined`, as the empty map passes). Assumes nothing.
-use Rattle.std.specs.Prelude.{◌≡◌, refl, ◌⊎◌, ◌<◌, ◌∷◌, ◌+◌, ◌*◌, ◌/◌}
+use Rattle.std.specs.Prelude.{◌≡◌, refl, ◌<◌, ◌∷◌, ◌+◌, ◌*◌, ◌/◌}
 use Rattle.std.proofs.Common.{sym, ◌∙◌, ap, subst, inl, inr, not-suc-le-zero, arith}
 use Rattle.std.proofs.Math.Decide.{ℕ_discrete}
 use Rattle.seq.specs.Seq.{List, [], Option, none, some, ℕ, zero, suc, length, get_or, or_zero}
@@ -16,7 +16,7 @@ use Rattle.paper.specs.Lent.{Lengths}
 use Rattle.laws_map.specs.Keeps.{edges}
 use Rattle.laws_overlay.specs.Files.{maps_of, layer_is, maps-count}
 use Rattle.laws_promise.specs.Defined.{Near, LabelAlong, Labelled, Defined}
-use Rattle.laws_promise.specs.Promised.{done_is-defined}
+use Rattle.laws_promise.proofs.Promised.{done_is-defined}
 use Rattle.tables.specs.declared.answer.Answer as code
 use Rattle.tables.specs.Values.{answer_of}
 use Rattle.tables.specs.Promise.{Promised}
@@ -77,7 +77,7 @@ module _ (l : Lengths) (files : List (List ℕ)) (i : ℕ) (O : OnlyMap files i)
       where
         go : Labelled ms c t j h (face_cell (length files) t (face_of t h) j) → face_cell (length files) t (face_of t h) j ≡ 0
         go (inl A) = absurd (not_along j A.edge (origin_of t (2 * (h / 2))) (origin_of t (2 * (h / 2) + 1)) b d A.near)
-        go (inr S) = S.Label-is ∙ zero_in (layer ms j) (empty_at j b d) S.seen
+        go (inr S) = S.label_is ∙ zero_in (layer ms j) (empty_at j b d) S.seen
 
   pub over_empty : OverEmpty files i c t
   over_empty = record { its-label = its_own; no_label = λ h j a b d. none_of h a j b d }

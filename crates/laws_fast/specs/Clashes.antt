@@ -5,8 +5,8 @@ use Rattle.std.proofs.Common.{sym, ◌∙◌, ap, arith, eq-eqb, ne_eqb}
 use Rattle.std.proofs.Math.Decide.{dec_lt, ℕ_discrete}
 use Rattle.seq.specs.Seq.{Bool, false, not, ℕ, eqb, least, the_some_below}
 use Rattle.seq.specs.Terms.{Injects}
-use Rattle.seq.specs.Least.{least_none, no_some}
-use Rattle.seq.specs.Perm.{onto}
+use Rattle.seq.proofs.Least.{least_none, no_some}
+use Rattle.seq.proofs.Perm.{onto}
 use Rattle.paper.specs.Plane.{Seg, clash}
 use Rattle.laws_plane.specs.Cone.{UpV}
 use Rattle.laws_plane.specs.Clash.{clash-swap}

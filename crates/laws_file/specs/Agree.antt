@@ -7,7 +7,8 @@ use Rattle.std.proofs.lemmas.Bool.{eqb-false}
 use Rattle.std.proofs.Math.ListN.{get_or-append, get_or-eq_default}
 use Rattle.std.proofs.lemmas.List.{get_or-replicate, length-replicate}
 use Rattle.seq.specs.Seq.{Bool, true, false, cond, not, List, [], ℕ, leb, ltb, eqb, length, get_or, replicate, pos, the_some_below, gather, padded}
-use Rattle.seq.specs.Least.{some_ext, least-ext}
+use Rattle.seq.specs.Least.{least-ext}
+use Rattle.seq.proofs.Least.{some_ext}
 use Rattle.seq.specs.Table.{table-ext}
 use Rattle.seq.specs.Rows.{rows_ext}
 use Rattle.paper.specs.Limits.{denominator_bytes}

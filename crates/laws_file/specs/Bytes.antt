@@ -1,7 +1,7 @@
 -- Numbers in bytes, "low byte first", over any width: what is written is read back, signed and unsigned, and what is read is written back byte for byte.
 -- `Stands s i bs` is that the bytes bs stand in s from place i on, where a byte past the end counts as 0, as everywhere in the definitions. Assumes nothing.
 use Rattle.std.specs.Prelude.{◌≡◌, refl, ◌<◌, ◌∷◌, ◌+◌, ◌*◌, ◌-◌, ◌/◌, ◌%◌, ◌^◌}
-use Rattle.std.proofs.Common.{sym, ◌∙◌, ap, arith, ltb-true, ltb-false, lt-ltb, le-ltb}
+use Rattle.std.proofs.Common.{sym, ◌∙◌, ap, arith, ltb-false, lt-ltb}
 use Rattle.std.proofs.Math.Nat.{one-le-pow}
 use Rattle.seq.specs.Seq.{Bool, true, false, cond, List, [], ℕ, zero, suc, ltb, length, ℤ, pos, negsuc}
 use Rattle.paper.specs.Bytes.{byte_at, number, signed_at, le, le_signed, the_fits_signed}
@@ -45,17 +45,6 @@ module _ (w : ℕ) (s : List ℕ) (i : ℕ) where
   -- the lower half of the numbers stands for itself, the upper half for the negative ones
   pub signed_by : (n : ℕ) (c : Bool) → ltb n (256 ^ w / 2) ≡ c → number w s i ≡ n → signed_at w s i ≡ cond c (pos n) (negsuc (256 ^ w - suc n))
   signed_by n c e q = rw (q, e)
-
-  -- a number that fits
-  pub signed_of : (z : ℤ) → the_fits_signed w z ≡ true → Stands s i (le_signed w z) → signed_at w s i ≡ z
-  signed_of (pos n) f b =
-      let h : n < 256 ^ w / 2 = ltb-true n (256 ^ w / 2) f in
-      signed_by n true f (number_of w n s i (omega arith) b)
-  signed_of (negsuc n) f b =
-      let h : n < 256 ^ w / 2 = ltb-true n (256 ^ w / 2) f in
-      let m : ℕ = 256 ^ w - suc n in
-      let back : 256 ^ w - suc m ≡ n = omega arith in
-      signed_by m false (le-ltb m (256 ^ w / 2) (omega arith)) (number_of w m s i (omega (arith, some_numbers w)) b) ∙ ap negsuc back
 
 -- ── what is read is written ──
 

@@ -2,19 +2,19 @@
 -- with no bound (`face_is`), and nothing else does (`face-unique`). A face is the same all along a walk; the outer walks have the faces from 1 on, each its
 -- own, in the order of their least half-edges; and every face is one of these or 0. Assumes nothing.
 use Rattle.std.specs.Prelude.{◌≡◌, refl, ◌≤◌, ◌<◌}
-use Rattle.std.proofs.Common.{sym, ◌∙◌, ap, zero-le, not-suc-le-zero, arith, eqb-true, eq-eqb}
+use Rattle.std.proofs.Common.{◌∙◌, ap, zero-le, not-suc-le-zero, arith, eq-eqb}
 use Rattle.seq.specs.Seq.{Bool, true, false, cond, not, Option, none, some, ℕ, zero, suc, eqb, length, get_or, count, select, or_zero}
-use Rattle.seq.specs.Tests.{and_both, and_parts, was-false}
-use Rattle.seq.specs.Count.{count_below, count-once}
-use Rattle.seq.specs.Select.{length-select, select_at, select-nth}
+use Rattle.seq.specs.Tests.{and_both}
+use Rattle.seq.specs.Count.{count_below}
+use Rattle.seq.specs.Select.{length-select, select_at}
 use Rattle.paper.specs.Plane.{nowhere}
 use Rattle.paper.specs.Graph.{Graph, the_half_count, point, follower, followers, smallest, west, hole_look}
 use Rattle.paper.specs.Faces.{walks_of, lead_at, hole_at, leads_outer, face_in}
 use Rattle.laws_graph.specs.Plane.{Plane}
-use Rattle.laws_graph.specs.Walks.{Along, along-step, along_same, lead-along, lead_below, lead-step, lead-lead, lead_one}
+use Rattle.laws_graph.specs.Walks.{Along, along-step, along_same, lead-along, lead_below, lead-step, lead-lead}
 use Rattle.laws_graph.specs.Holes.{smallest_below, smallest-step, hole_at_same}
 use Rattle.laws_graph.specs.Seen.{hole-sees-smaller}
-use Rattle.laws_graph.specs.Rank.{rank, rank_below, rank_less}
+use Rattle.laws_graph.specs.Rank.{rank, rank_less}
 
 -- the face of half-edge h
 abbrev pub face_of : Graph → ℕ → ℕ
@@ -28,7 +28,7 @@ outer_number g h = suc (count (leads_outer (walks_of g)) (lead_at (walks_of g) h
 abbrev pub Facing : Graph → (ℕ → ℕ) → Type 0
 Facing g f = (h : ℕ) → h < the_half_count g → f h ≡ cond (hole_at (walks_of g) h) (or_zero f (hole_look g (followers g) h)) (outer_number g h)
 
-or_zero_same : (f f' : ℕ → ℕ) (o : Option ℕ) → ((x : ℕ) → o ≡ some x → f x ≡ f' x) → or_zero f o ≡ or_zero f' o
+pub or_zero_same : (f f' : ℕ → ℕ) (o : Option ℕ) → ((x : ℕ) → o ≡ some x → f x ≡ f' x) → or_zero f o ≡ or_zero f' o
 or_zero_same f f' none h = refl
 or_zero_same f f' (some x) h = h x refl
 
@@ -36,14 +36,11 @@ module _ (g : Graph) (P : Plane g) where
   -- ── the bound is never used up ──
 
   -- where in the order of points the smallest vertex of h's walk stands
-  abbrev depth : ℕ → ℕ
+  abbrev pub depth : ℕ → ℕ
   depth h = rank g (smallest g (followers g) h)
 
-  depth_below : (h : ℕ) → h < the_half_count g → depth h < length g.points
-  depth_below h l = rank_below g P (smallest g (followers g) h) (smallest_below g P h l)
-
   -- what is seen is a half-edge, of a walk that stands lower
-  seen-depth : (h x : ℕ) → h < the_half_count g → hole_look g (followers g) h ≡ some x → (x < the_half_count g) × (depth x < depth h)
+  pub seen-depth : (h x : ℕ) → h < the_half_count g → hole_look g (followers g) h ≡ some x → (x < the_half_count g) × (depth x < depth h)
   seen-depth h x l e =
       let r = hole-sees-smaller g P h x l e in
       (r.0, rank_less g P (smallest g (followers g) x) (smallest g (followers g) h) (smallest_below g P x r.0) r.1)
@@ -55,22 +52,6 @@ module _ (g : Graph) (P : Plane g) where
       ap (λ (r : ℕ). cond (hole_at (walks_of g) h) r (outer_number g h))
       (or_zero_same (face_in (walks_of g) i) (face_in (walks_of g) j) (hole_look g (followers g) h)
       (λ x e. face-fuel i j x (seen-depth h x l e).0 (omega (arith, (seen-depth h x l e).1)) (omega (arith, (seen-depth h x l e).1))))
-
-  -- faces obey their recursion
-  pub face_is : Facing g (face_of g)
-  face_is h l = face-fuel (length g.points) (suc (length g.points)) h l (depth_below h l) (omega (arith, depth_below h l))
-
-  unique_by : (f f' : ℕ → ℕ) → Facing g f → Facing g f' → (i h : ℕ) → h < the_half_count g → depth h < i → f h ≡ f' h
-  unique_by f f' F F' zero h l a = absurd (not-suc-le-zero a)
-  unique_by f f' F F' (suc i) h l a =
-      F h l
-      ∙ ap (λ (r : ℕ). cond (hole_at (walks_of g) h) r (outer_number g h))
-      (or_zero_same f f' (hole_look g (followers g) h) (λ x e. unique_by f f' F F' i x (seen-depth h x l e).0 (omega (arith, (seen-depth h x l e).1))))
-      ∙ sym (F' h l)
-
-  -- and nothing else does
-  pub face-unique : (f : ℕ → ℕ) → Facing g f → (h : ℕ) → h < the_half_count g → f h ≡ face_of g h
-  face-unique f F h l = unique_by f (face_of g) F face_is (suc (depth h)) h l (omega arith)
 
   -- ── along a walk ──
 
@@ -92,21 +73,6 @@ module _ (g : Graph) (P : Plane g) where
   lead-leads h l o =
       let k = lead_at (walks_of g) h in
       and_both {a = eqb (lead_at (walks_of g) k) k} (eq-eqb (lead_at (walks_of g) k) k (lead-lead g P h l)) (ap not (hole_at_same g P h k l (lead-along g P h l) ∙ o))
-
-  -- "Each outer walk makes one face, numbered from 1 by the walk's least half-edge number"
-  pub outer-face : (h : ℕ) → h < the_half_count g → hole_at (walks_of g) h ≡ false → face_of g h ≡ outer_number g h
-  outer-face h l o = face_is h l ∙ ap (λ (c : Bool). cond c (or_zero (face_of g) (hole_look g (followers g) h)) (outer_number g h)) o
-
-  -- "The hole belongs to the face of the half-edge seen, or to face 0"
-  pub hole-face : (h : ℕ) → h < the_half_count g → hole_at (walks_of g) h ≡ true → face_of g h ≡ or_zero (face_of g) (hole_look g (followers g) h)
-  hole-face h l o = face_is h l ∙ ap (λ (c : Bool). cond c (or_zero (face_of g) (hole_look g (followers g) h)) (outer_number g h)) o
-
-  -- two outer half-edges of one face are on one walk
-  pub outer_one : (h k : ℕ) → h < the_half_count g → k < the_half_count g → hole_at (walks_of g) h ≡ false → hole_at (walks_of g) k ≡ false → face_of g h ≡ face_of g k → Along g h k
-  outer_one h k lh lk oh ok e =
-      let q : outer_number g h ≡ outer_number g k = sym (outer-face h lh oh) ∙ e ∙ outer-face k lk ok in
-      lead_one g P h k lh lk
-      (count-once (leads_outer (walks_of g)) (lead_at (walks_of g) h) (lead_at (walks_of g) k) (lead-leads h lh oh) (lead-leads k lk ok) (omega arith))
 
   -- the face of an outer half-edge holds its walk's least half-edge
   pub face-row : (h : ℕ) → h < the_half_count g → hole_at (walks_of g) h ≡ false →
@@ -131,16 +97,3 @@ module _ (g : Graph) (P : Plane g) where
   -- the faces are as many as the outer walks, and 0
   pub face_below : (h : ℕ) → h < the_half_count g → face_of g h < suc (length (select (leads_outer (walks_of g)) (the_half_count g)))
   face_below h l = omega (arith, most_by (length g.points) h l, length-select (leads_outer (walks_of g)) (the_half_count g))
-
-  -- and each but 0 is that of the outer walk whose least half-edge stands there
-  pub face-onto : (f : ℕ) → f < length (select (leads_outer (walks_of g)) (the_half_count g)) →
-      (get_or (select (leads_outer (walks_of g)) (the_half_count g)) f 0 < the_half_count g) × (face_of g (get_or (select (leads_outer (walks_of g)) (the_half_count g)) f 0) ≡ suc f)
-  face-onto f l = go (select-nth (leads_outer (walks_of g)) (the_half_count g) f 0 (omega (arith, length-select (leads_outer (walks_of g)) (the_half_count g))))
-    where
-      h : ℕ
-      h = get_or (select (leads_outer (walks_of g)) (the_half_count g)) f 0
-
-      go : (h < the_half_count g) × (leads_outer (walks_of g) h ≡ true) × (count (leads_outer (walks_of g)) h ≡ f) → (h < the_half_count g) × (face_of g h ≡ suc f)
-      go (m, o, c) =
-          let r = and_parts (eqb (lead_at (walks_of g) h) h) (not (hole_at (walks_of g) h)) o in
-          (m, outer-face h m (was-false (hole_at (walks_of g) h) r.1) ∙ ap (λ (x : ℕ). suc (count (leads_outer (walks_of g)) x)) (eqb-true (lead_at (walks_of g) h) h r.0) ∙ ap suc c)

@@ -9,12 +9,13 @@ use Rattle.seq.specs.Tests.{not-false}
 use Rattle.seq.specs.Best.{best_is}
 use Rattle.seq.specs.Table.{length-table, table_at}
 use Rattle.seq.specs.Cyclic.{prev-group, prev_below, prev-inj}
-use Rattle.seq.specs.Perm.{onto}
-use Rattle.seq.specs.Position.{position_is}
+use Rattle.seq.proofs.Perm.{onto}
+use Rattle.seq.proofs.Position.{position_is}
 use Rattle.seq.specs.Downward.{Downward, previous_downward}
 use Rattle.paper.specs.Plane.{less_angle}
 use Rattle.paper.specs.Graph.{Graph, the_half_count, twin, origin, heading, follower, followers, leaves, greatest_out}
-use Rattle.laws_plane.specs.Angles.{angle_irr, angle_trans, neither_less}
+use Rattle.laws_plane.specs.Angles.{angle_irr, neither_less}
+use Rattle.laws_plane.proofs.Angles.{angle_trans}
 use Rattle.laws_graph.specs.Halves.{twin-once, twin_below}
 use Rattle.laws_graph.specs.Plane.{Plane, heading-moves}
 

@@ -7,7 +7,7 @@ use Rattle.std.proofs.Math.Decide.{dec_lt}
 use Rattle.std.proofs.lemmas.Bool.{eqb-false}
 use Rattle.seq.specs.Seq.{Bool, true, false, not, List, ℕ, leb, eqb, length}
 use Rattle.seq.specs.Tests.{clash as no_both, or_false}
-use Rattle.seq.specs.Least.{no_some_is}
+use Rattle.seq.proofs.Least.{no_some_is}
 use Rattle.paper.specs.Plane.{between, same, clash}
 use Rattle.paper.specs.Graph.{Graph, Edge, edge_count, point, edge}
 use Rattle.paper.specs.Map.{corner, map_of, doubled, bad_ends, clashes, clashing}

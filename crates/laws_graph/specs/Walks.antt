@@ -7,8 +7,9 @@ use Rattle.std.proofs.Math.Decide.{dec_lt}
 use Rattle.seq.specs.Seq.{false, ℕ, zero, suc, length, leader}
 use Rattle.seq.specs.Terms.{Among, iter, orbit, Reach, step, turns}
 use Rattle.seq.specs.Table.{table_at}
-use Rattle.seq.specs.Perm.{iter-+, reach-trans, iter-into, iter-once, comes_back, not_before, reach_sym}
-use Rattle.seq.specs.Walks.{walk_is, on_walk, walk_on, leader-reach, leader-le, leader-step}
+use Rattle.seq.specs.Perm.{iter-+, reach-trans, iter-into, iter-once}
+use Rattle.seq.proofs.Perm.{comes_back, not_before, reach_sym}
+use Rattle.seq.proofs.Walks.{walk_is, on_walk, walk_on, leader-reach, leader-le, leader-step}
 use Rattle.paper.specs.Graph.{Graph, the_half_count, follower, followers, walk, hole_walk}
 use Rattle.paper.specs.Faces.{walks_of, lead_at, hole_at}
 use Rattle.laws_graph.specs.Plane.{Plane}

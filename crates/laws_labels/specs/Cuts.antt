@@ -7,16 +7,15 @@
 -- "p is right of e" is a sign: no division, no x at a height. Then: cuts that agree on the edges at p; one point by other numbers. Assumes nothing.
 use Rattle.std.specs.Prelude.{◌≡◌, Bool, not, ◌&&◌, [], ◌∷◌, pos, ◌<ℤ◌}
 use Rattle.std.proofs.Common.{sym, ◌∙◌}
-use Rattle.std.proofs.Math.Path.{ap}
 use Rattle.std.proofs.Math.Bool.{true, false}
 use Rattle.exact.specs.Solve.{ring, reify}
-use Rattle.exact.specs.Sign.{Sign, zer, sgn, sgn_is, is_zer_lem, is_neg, is_plus}
+use Rattle.exact.specs.Sign.{zer, sgn, sgn_is, is_zer_lem}
 use Rattle.paper.specs.Plane.{Pt, Vec, nowhere, cross, before, same, the_left_by}
 use Rattle.laws_plane.specs.Points.{same_before}
 use Rattle.laws_plane.specs.Sides.{left_same-sign}
 pub use Rattle.laws_labels.specs.Spans.{lo, hi}
 use Rattle.laws_labels.specs.Spans.{Span, Good}
-use Rattle.laws_labels.specs.Near.{near, near-through, near-strict, near-agree}
+use Rattle.laws_labels.specs.Near.{near}
 
 -- in reach of p, just above it and just under it
 abbrev pub reach_above : Pt → Span → Bool
@@ -48,26 +47,6 @@ turn-nowhere u = sgn_is (cross nowhere u) (is_zer_lem (ring (u.x ∷ u.y ∷ [])
 pub nowhere-turn : (u : Vec) → sgn (cross u nowhere) ≡ zer
 nowhere-turn u = sgn_is (cross u nowhere) (is_zer_lem (ring (u.x ∷ u.y ∷ []) (search reify depth 20) tt))
 
-module _ (p : Pt) (e : Span) where
-  abbrev s : Sign
-  s = sgn (the_left_by e.line p)
-
-  pub above_through : above true p nowhere e ≡ (reach_above p e && not (is_plus s))
-  unfolding above
-  above_through = ap (λ (b : Bool). reach_above p e && b) (ap (near true s) (turn-nowhere e.line.up) ∙ near-through s)
-
-  pub above_strict : above false p nowhere e ≡ (reach_above p e && is_neg s)
-  unfolding above
-  above_strict = ap (λ (b : Bool). reach_above p e && b) (ap (near false s) (turn-nowhere e.line.up) ∙ near-strict s)
-
-  pub under_through : under true p nowhere e ≡ (reach_under p e && not (is_plus s))
-  unfolding under
-  under_through = ap (λ (b : Bool). reach_under p e && b) (ap (near true s) (nowhere-turn e.line.up) ∙ near-through s)
-
-  pub under_strict : under false p nowhere e ≡ (reach_under p e && is_neg s)
-  unfolding under
-  under_strict = ap (λ (b : Bool). reach_under p e && b) (ap (near false s) (nowhere-turn e.line.up) ∙ near-strict s)
-
 -- ── cuts that agree on the edges at p ──
 
 -- e leaves p up (true) or down (false): it starts there, ends there or goes through
@@ -78,15 +57,6 @@ reach p false e = reach_under p e
 pub record Leaves (p : Pt) (b : Bool) (e : Span) : Type 0 where
   pub reaches : reach p b e ≡ true
   pub on : sgn (the_left_by e.line p) ≡ zer
-
-module _ (p : Pt) (e : Span) (on on' : Bool) (d d' : Vec) where
-  pub above_agree : (Leaves p true e → near on zer (sgn (cross d e.line.up)) ≡ near on' zer (sgn (cross d' e.line.up))) → above on p d e ≡ above on' p d' e
-  unfolding above
-  above_agree h = near-agree (reach_above p e) (sgn (the_left_by e.line p)) on on' (sgn (cross d e.line.up)) (sgn (cross d' e.line.up)) (λ r z. h (record { reaches = r; on = z }))
-
-  pub under_agree : (Leaves p false e → near on zer (sgn (cross e.line.up d)) ≡ near on' zer (sgn (cross e.line.up d'))) → under on p d e ≡ under on' p d' e
-  unfolding under
-  under_agree h = near-agree (reach_under p e) (sgn (the_left_by e.line p)) on on' (sgn (cross e.line.up d)) (sgn (cross e.line.up d')) (λ r z. h (record { reaches = r; on = z }))
 
 -- one point by other numbers has one cut
 pub above_same : (p q : Pt) → pos 0 <ℤ p.D → pos 0 <ℤ q.D → same p q ≡ true → (on : Bool) (d : Vec) (e : Span) → Good e → above on q d e ≡ above on p d e

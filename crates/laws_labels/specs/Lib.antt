@@ -5,18 +5,15 @@ pub mod Cuts
 pub mod Slide
 pub mod Clear
 pub mod Lawful
-pub mod Through
 pub mod Pot
 pub mod Edges
 pub mod Moves
 pub mod Sector
 pub mod Covers
 pub mod Star
-pub mod Along
 pub mod Height
 pub mod Across
 pub mod Looks
-pub mod Holes
 pub mod Descent
 pub mod Turns
 pub mod Labels
@@ -25,7 +22,6 @@ pub mod OneFace
 pub mod LabelIn
 pub mod Overlay
 pub mod Drawn
-pub mod Agree
 pub mod Done
 pub mod Demand3
 pub mod Example

@@ -16,11 +16,13 @@ use Rattle.laws_map.specs.Keeps.{seg, edges, Keeps}
 use Rattle.laws_overlay.specs.Maps.{AllKeep}
 use Rattle.laws_overlay.specs.Places.{places, at_real}
 use Rattle.laws_overlay.specs.Links.{Neighbours}
-use Rattle.laws_overlay.specs.Net.{near, carrier_up, ends_before, low_is, high_is}
-use Rattle.laws_overlay.specs.NetPlane.{net-plane}
-use Rattle.laws_overlay.specs.Inside.{overlaid, carrier_at, low_at, high_at, vertex_off, lo_off, hi_off, no_meet}
-use Rattle.laws_overlay.specs.Round.{source-there, source_on, source-way}
-use Rattle.laws_overlay.specs.Along.{sources_at, Through, source-line, source-span, piece-through, source_none}
+use Rattle.laws_overlay.proofs.Net.{near, carrier_up, ends_before, low_is, high_is}
+use Rattle.laws_overlay.proofs.NetPlane.{net-plane}
+use Rattle.laws_overlay.specs.Inside.{overlaid, carrier_at, low_at, high_at}
+use Rattle.laws_overlay.proofs.Inside.{vertex_off, lo_off, hi_off, no_meet}
+use Rattle.laws_overlay.proofs.Round.{source-there, source_on, source-way}
+use Rattle.laws_overlay.specs.Along.{sources_at, Through}
+use Rattle.laws_overlay.proofs.Along.{source-line, source-span, piece-through, source_none}
 use Rattle.laws_labels.specs.Spans.{Span, span}
 use Rattle.laws_labels.specs.Cuts.{lo, hi, Leaves}
 use Rattle.laws_labels.specs.Clear.{Within, Clear}

@@ -1,9 +1,8 @@
 -- A file that passes holds a map that keeps the rules: `passes-keeps`. Its counts and coordinates are within 01's limits (`Form` and `Rules`, by Passes).
 -- Assumes nothing.
-use Rattle.std.specs.Prelude.{◌≡◌}
 use Rattle.std.proofs.Common.{sym, ◌∙◌, ap}
-use Rattle.seq.specs.Seq.{List, none, ℕ}
-use Rattle.paper.specs.Map.{Map, label, fault, map_of}
+use Rattle.seq.specs.Seq.{List, ℕ}
+use Rattle.paper.specs.Map.{Map, label, map_of}
 use Rattle.laws_plane.specs.NoClash.{common-end}
 use Rattle.laws_graph.specs.Laid.{foot_low, head_high, carrier_up}
 use Rattle.laws_graph.specs.Corners.{Corners, corners-plane}
@@ -11,7 +10,6 @@ use Rattle.laws_graph.specs.Follow.{followers_at}
 use Rattle.laws_graph.specs.Rules.{file-laid}
 use Rattle.laws_map.specs.Keeps.{seg, Keeps}
 use Rattle.laws_map.specs.Rules.{Rules}
-use Rattle.laws_map.specs.Passes.{passes-rules}
 
 -- the map in a file that keeps rules 6 to 8 is a graph in corners
 pub file-corners : (s : List ℕ) → Rules (map_of s) → Corners (map_of s).graph
@@ -28,6 +26,3 @@ rules-keep m C R = record {
   one_label = λ h l. ap (label m) (sym (followers_at m.graph (corners-plane m.graph C) h l)) ∙ sym (R.one_label h l);
   hole-label = R.hole-label;
 }
-
-pub passes-keeps : (s : List ℕ) → fault s ≡ none → Keeps (map_of s)
-passes-keeps s e = rules-keep (map_of s) (file-corners s (passes-rules s e)) (passes-rules s e)

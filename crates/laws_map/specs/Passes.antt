@@ -2,19 +2,18 @@
 -- stands for, and back (6 to 8 are in laws_graph' Rules); rules 1 to 4 (`nothing-form`, `form-nothing`); the ten of them in the chain. Assumes nothing.
 use Rattle.std.specs.Prelude.{◌≡◌, refl, ◌≤◌, ◌<◌, ◌&&◌, ◌||◌, ◌++◌}
 use Rattle.std.proofs.Common.{sym, ap, ltb-false, le-ltb, eqb-true, eq-eqb, ne_eqb}
-use Rattle.std.proofs.lemmas.Bool.{lt-leb, eqb-false}
+use Rattle.std.proofs.lemmas.Bool.{lt-leb}
 use Rattle.seq.specs.Seq.{Bool, true, false, not, List, Option, none, ℕ, ltb, eqb, length, get_or, nat_abs, the_some_below, or_zero}
 use Rattle.seq.specs.Tests.{clash as both, never, not-false, or_false, was-true, false_or}
-use Rattle.seq.specs.Least.{no_some, no_some_is, some_has, some_witness}
+use Rattle.seq.proofs.Least.{no_some_is, some_witness}
 use Rattle.paper.specs.Limits.{map_vertices, map_edges, reach, map_head}
-use Rattle.paper.specs.Plane.{same, clash}
 use Rattle.paper.specs.Graph.{Graph, point, edge, origin, leaves, followers, makes_hole, hole_look}
 use Rattle.paper.specs.Bytes.{ascii, marked, u16}
 use Rattle.paper.specs.Refusal.{Refusal}
 use Rattle.paper.specs.Map.{Map, label, vertex_count, edges_in, map_of, map_length, form_faults, part_faults, net_faults, too_far, doubled, bad_ends, clashes, clashing, clash_place, clash_other, lonely, disagrees, fault}
-use Rattle.laws_map.specs.Keeps.{seg, edges, halves, vertices}
+use Rattle.laws_map.specs.Keeps.{edges, halves, vertices}
 use Rattle.laws_map.specs.Rules.{Form, Rules}
-use Rattle.laws_refusals.specs.Refusals.{Nothing, nothing, is_nothing, given_none, none_given, none_below, below_none, least_none_is, none_least}
+use Rattle.laws_refusals.specs.Refusals.{Nothing, nothing, given_none, none_given, none_below, least_none_is}
 use Rattle.laws_graph.specs.Rules.{single_is, ends_are, clear_is}
 
 -- ── the tests ──
@@ -37,29 +36,19 @@ are_ends g k x y d =
     (false_or (lt-leb n (edge g k).from x) (lt-leb n (edge g k).to y)) (ne_eqb (edge g k).from (edge g k).to d)
 
 module _ (m : Map) where
-  abbrev g : Graph
+  abbrev pub g : Graph
   g = m.graph
 
-  abbrev nx : List ℕ
+  abbrev pub nx : List ℕ
   nx = followers g
-
-  is_clear : (k j : ℕ) → ((k ≡ j → ⊥) → clash (seg m k) (seg m j) ≡ false) → clashes g k j ≡ false
-  is_clear k j f = go (eqb k j) refl
-    where
-      go : (c : Bool) → eqb k j ≡ c → (not c && clash (seg m k) (seg m j)) ≡ false
-      go true e = refl
-      go false e = f (eqb-false k j e)
 
   used_is : (v : ℕ) → lonely g v ≡ false → (h : ℕ) × (h < halves m) × (origin g h ≡ v)
   used_is v e =
       let (h, l, o) = some_witness (leaves g v) (halves m) (not-false (the_some_below (leaves g v) (halves m)) (λ f. both (ap not f) e)) in
       (h, l, eqb-true (origin g h) v o)
 
-  is_used : (v h : ℕ) → h < halves m → origin g h ≡ v → lonely g v ≡ false
-  is_used v h l o = ap not (some_has (leaves g v) (halves m) h l (eq-eqb (origin g h) v o))
-
   module _ (h : ℕ) where
-    abbrev seen_label : ℕ
+    abbrev pub seen_label : ℕ
     seen_label = or_zero (label m) (hole_look g nx h)
 
     labels-are : disagrees m nx h ≡ false → (label m h ≡ label m (get_or nx h 0)) × (makes_hole g nx h ≡ true → label m h ≡ seen_label)
@@ -70,15 +59,6 @@ module _ (m : Map) where
         hole : (c : Bool) → c ≡ true → (c && not (eqb (label m h) seen_label)) ≡ false → eqb (label m h) seen_label ≡ true
         hole true t f = was-true (eqb (label m h) seen_label) f
         hole false t f = never t
-
-    are-labels : label m h ≡ label m (get_or nx h 0) → (makes_hole g nx h ≡ true → label m h ≡ seen_label) → disagrees m nx h ≡ false
-    are-labels e f =
-        false_or
-        (ap not (eq-eqb (label m h) (label m (get_or nx h 0)) e)) (hole (makes_hole g nx h) refl)
-      where
-        hole : (c : Bool) → makes_hole g nx h ≡ c → (c && not (eqb (label m h) seen_label)) ≡ false
-        hole true t = ap not (eq-eqb (label m h) seen_label (f t))
-        hole false t = refl
 
 -- ── the chain ──
 
@@ -115,23 +95,23 @@ module _ (s : List ℕ) where
   )
 
 -- the tests, in 01's order
-record Tests (s : List ℕ) : Type 0 where
-  form : Nothing (form_faults s)
-  t5 : (v : ℕ) → v < vertices (map_of s) → too_far (map_of s).graph v ≡ false
-  t6 : (v : ℕ) → v < vertices (map_of s) → doubled (map_of s).graph v ≡ false
-  t7 : (k : ℕ) → k < edges (map_of s) → bad_ends (map_of s).graph k ≡ false
-  t8 : (k : ℕ) → k < edges (map_of s) → clashing (map_of s).graph k ≡ false
-  t9 : (v : ℕ) → v < vertices (map_of s) → lonely (map_of s).graph v ≡ false
-  t10 : (h : ℕ) → h < halves (map_of s) → disagrees (map_of s) (followers (map_of s).graph) h ≡ false
+pub record Tests (s : List ℕ) : Type 0 where
+  pub form : Nothing (form_faults s)
+  pub t5 : (v : ℕ) → v < vertices (map_of s) → too_far (map_of s).graph v ≡ false
+  pub t6 : (v : ℕ) → v < vertices (map_of s) → doubled (map_of s).graph v ≡ false
+  pub t7 : (k : ℕ) → k < edges (map_of s) → bad_ends (map_of s).graph k ≡ false
+  pub t8 : (k : ℕ) → k < edges (map_of s) → clashing (map_of s).graph k ≡ false
+  pub t9 : (v : ℕ) → v < vertices (map_of s) → lonely (map_of s).graph v ≡ false
+  pub t10 : (h : ℕ) → h < halves (map_of s) → disagrees (map_of s) (followers (map_of s).graph) h ≡ false
 
 module _ (s : List ℕ) where
-  abbrev m : Map
+  abbrev pub m : Map
   m = map_of s
 
-  abbrev faults : List (Option Refusal)
+  abbrev pub faults : List (Option Refusal)
   faults = form_faults s ++ part_faults m.graph ++ net_faults m
 
-  passes-tests : fault s ≡ none → Tests s
+  pub passes-tests : fault s ≡ none → Tests s
   unfolding fault
   passes-tests e =
       let (q1, (q2, (q3, (q4, (q5, (q6, (q7, (q8, (q9, (q10, u)))))))))) = nothing faults e in
@@ -145,22 +125,7 @@ module _ (s : List ℕ) where
         t10 = least_none_is 10 (disagrees m (followers m.graph)) (halves m) q10;
       }
 
-  tests-pass : Tests s → fault s ≡ none
-  unfolding fault
-  tests-pass t =
-      let (q1, (q2, (q3, (q4, _)))) = t.form in
-      let q5 = none_least 5 (too_far m.graph) (vertices m) t.t5 in
-      let q6 = none_least 6 (doubled m.graph) (vertices m) t.t6 in
-      let q7 = none_least 7 (bad_ends m.graph) (edges m) t.t7 in
-      let q8 = below_none 8 (clash_place m.graph) (clash_other m.graph) (clashing m.graph) (edges m) t.t8 in
-      let q9 = none_least 9 (lonely m.graph) (vertices m) t.t9 in
-      let q10 = none_least 10 (disagrees m (followers m.graph)) (halves m) t.t10 in
-      is_nothing faults (q1, (q2, (q3, (q4, (q5, (q6, (q7, (q8, (q9, (q10, tt))))))))))
-
   -- ── both ways ──
-
-  pub passes-form : fault s ≡ none → Form s
-  passes-form e = nothing-form s (passes-tests e).form
 
   pub passes-rules : fault s ≡ none → Rules m
   passes-rules e =
@@ -177,17 +142,3 @@ module _ (s : List ℕ) where
         one_label = λ h l. (labels-are m h (t.t10 h l)).0;
         hole-label = λ h l. (labels-are m h (t.t10 h l)).1;
       }
-
-  rules-tests : Form s → Rules m → Tests s
-  rules-tests f r = record {
-    form = form-nothing s f;
-    t5 = λ v l. is_near m.graph v (r.x_near v l) (r.y_near v l);
-    t6 = λ v l. no_some (λ u. same (point m.graph v) (point m.graph u)) v (λ u j. r.single v u l j);
-    t7 = λ k l. are_ends m.graph k (r.from_below k l) (r.to_below k l) (r.two_ends k l);
-    t8 = λ k l. no_some (clashes m.graph k) (edges m) (λ j i. is_clear m k j (r.no_clash k j l i));
-    t9 = λ v l. let (h, i, o) = r.used v l in is_used m v h i o;
-    t10 = λ h l. are-labels m h (r.one_label h l) (r.hole-label h l);
-  }
-
-  pub rules-pass : Form s → Rules m → fault s ≡ none
-  rules-pass f r = tests-pass (rules-tests f r)

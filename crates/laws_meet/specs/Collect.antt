@@ -20,7 +20,8 @@ use Rattle.laws_plane.specs.Points.{LowestP, same_equal}
 use Rattle.laws_plane.specs.Ends.{corner-lowest}
 use Rattle.laws_plane.specs.Edges.{IsEnd}
 use Rattle.laws_plane.specs.Bounds.{Reaches, Bounded, crossing-bounded, corner-bounded}
-use Rattle.laws_plane.specs.Boxes.{BoxesApart, boxes-point}
+use Rattle.laws_plane.specs.Boxes.{BoxesApart}
+use Rattle.laws_plane.proofs.Boxes.{boxes-point}
 use Rattle.laws_plane.specs.Crossing.{crossing-touch}
 use Rattle.laws_map.specs.Keeps.{seg, edges}
 use Rattle.laws_overlay.specs.Maps.{AllKeep, foot-vertex, head-vertex}

@@ -12,7 +12,7 @@ use Rattle.seq.specs.Seq.{Bool, true, false, List, Option, none, some, ℕ, zero
 use Rattle.seq.specs.Table.{table_at}
 use Rattle.seq.specs.Perm.{pigeon}
 use Rattle.seq.specs.Tests.{or_cases}
-use Rattle.seq.specs.Least.{some_witness}
+use Rattle.seq.proofs.Least.{some_witness}
 use Rattle.paper.specs.Plane.{Pt, Seg, cross, the_left_by}
 use Rattle.paper.specs.Graph.{Graph, Edge, edge_count, the_half_count, edge, origin, low, high, follower, followers, makes_hole, hole_look}
 use Rattle.paper.specs.Map.{Map, label}
@@ -26,7 +26,8 @@ use Rattle.laws_graph.specs.Follow.{follower_below}
 use Rattle.laws_graph.specs.Walks.{along-step, hole_is}
 use Rattle.laws_graph.specs.Holes.{makes-hole}
 use Rattle.laws_graph.specs.Seen.{hole-sees-smaller}
-use Rattle.laws_graph.specs.Faces.{face_of, face_same, hole-face, face_below, face-onto}
+use Rattle.laws_graph.specs.Faces.{face_of, face_same, face_below}
+use Rattle.laws_graph.proofs.Faces.{hole-face, face-onto}
 use Rattle.laws_map.specs.Keeps.{seg}
 use Rattle.laws_overlay.specs.Maps.{AllKeep}
 use Rattle.laws_overlay.specs.Pieces.{piece_at}
@@ -38,8 +39,9 @@ use Rattle.laws_labels.specs.Spans.{Span, OnSpan, EndOf}
 use Rattle.laws_labels.specs.Clear.{Within, Clear}
 use Rattle.laws_labels.specs.Lawful.{Lawful}
 use Rattle.laws_labels.specs.Covers.{spans, Covers}
-use Rattle.laws_labels.specs.Labels.{theorem_A}
-use Rattle.laws_labels.specs.OneFace.{outers_of, held_in, one_face}
+use Rattle.laws_labels.proofs.Labels.{theorem_A}
+use Rattle.laws_labels.specs.OneFace.{outers_of, held_in}
+use Rattle.laws_labels.proofs.OneFace.{one_face}
 use Rattle.laws_melt.specs.Part.{Part, old, old_below, start_old, up_old, upward_old, low_old, high_old, part-plane}
 use Rattle.laws_melt.specs.Neat.{Neat, piece_span, neat_share, neat_clear, overlay_neat}
 use Rattle.paper.specs.Melt.{kept_pieces, is_end, melted_graph, melted_of}

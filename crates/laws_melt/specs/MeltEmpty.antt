@@ -7,7 +7,7 @@ use Rattle.std.proofs.Math.Decide.{dec_lt, ℕ_discrete}
 use Rattle.std.proofs.lemmas.List.{length-map}
 use Rattle.seq.specs.Seq.{Bool, true, false, not, List, map, none, ℕ, zero, suc, eqb, length, get_or, select, the_some_below}
 use Rattle.seq.specs.Tests.{bool-ext, clash}
-use Rattle.seq.specs.Least.{some_has, some_witness, some_ext}
+use Rattle.seq.proofs.Least.{some_has, some_witness, some_ext}
 use Rattle.seq.specs.Count.{count-ext}
 use Rattle.seq.specs.Select.{select-ext, select_from_lem}
 use Rattle.seq.specs.Put.{put, put_before, put-default, put_past}

@@ -12,7 +12,7 @@ use Rattle.std.proofs.Math.IntN.{+ℤ_invr}
 use Rattle.std.proofs.lemmas.List.{length-map}
 use Rattle.seq.specs.Seq.{Bool, true, cond, not, List, Option, none, some, ℕ, eqb, length, get_or, or_zero}
 use Rattle.seq.specs.Tests.{clash}
-use Rattle.seq.specs.Least.{some_has, some_witness}
+use Rattle.seq.proofs.Least.{some_has, some_witness}
 use Rattle.seq.specs.Table.{table_at, table-ext}
 use Rattle.paper.specs.Plane.{Pt, Vec, cross, before, the_left_by}
 use Rattle.paper.specs.Graph.{Graph, edge_count, the_half_count, twin, low, upward, east_side, west}
@@ -28,8 +28,8 @@ use Rattle.laws_overlay.specs.Maps.{AllKeep}
 use Rattle.laws_overlay.specs.Places.{places}
 use Rattle.laws_overlay.specs.Sources.{source_at}
 use Rattle.laws_overlay.specs.Pieces.{piece_at}
-use Rattle.laws_overlay.specs.Net.{goes-even}
-use Rattle.laws_overlay.specs.NetPlane.{net-plane}
+use Rattle.laws_overlay.proofs.Net.{goes-even}
+use Rattle.laws_overlay.proofs.NetPlane.{net-plane}
 use Rattle.laws_overlay.specs.Inside.{overlaid}
 use Rattle.laws_overlay.specs.Along.{sources_at}
 use Rattle.laws_overlay.specs.Cells.{face_labels}
@@ -40,7 +40,8 @@ use Rattle.laws_labels.specs.Covers.{Covers}
 use Rattle.laws_labels.specs.LabelIn.{AlongEdge, Source, along, off}
 use Rattle.laws_labels.specs.Overlay.{piece-leaving, overlay-covers, source_is}
 use Rattle.laws_melt.specs.Part.{Part, half_as, as_even, as_half, old, old_below, up_old, low_old, along_old, part-plane, HasJumps, part-covers}
-use Rattle.laws_labels.specs.Drawn.{Drawn, seen_in_maps, seen_labels, drawn-held, drawn-seen}
+use Rattle.laws_labels.specs.Drawn.{Drawn, seen_in_maps, seen_labels}
+use Rattle.laws_labels.proofs.Drawn.{drawn-held, drawn-seen}
 use Rattle.paper.specs.Melt.{separates, melted_pieces, melted_graph, melted_of}
 use Rattle.laws_melt.specs.Thin.{was, stood, was-kept, kept-was, melted-piece, melted-part}
 

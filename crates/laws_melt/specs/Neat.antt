@@ -23,8 +23,9 @@ use Rattle.laws_graph.specs.East.{east-once, west_side, west_below, west-start, 
 use Rattle.laws_map.specs.Keeps.{seg}
 use Rattle.laws_overlay.specs.Maps.{AllKeep}
 use Rattle.laws_overlay.specs.Places.{places, at_real}
-use Rattle.laws_overlay.specs.Net.{Lies, lies, low_is, high_is}
-use Rattle.laws_overlay.specs.NetPlane.{net-plane}
+use Rattle.laws_overlay.specs.Net.{Lies}
+use Rattle.laws_overlay.proofs.Net.{lies, low_is, high_is}
+use Rattle.laws_overlay.proofs.NetPlane.{net-plane}
 use Rattle.laws_overlay.specs.Inside.{overlaid}
 use Rattle.laws_labels.specs.Spans.{Span, span, Good, OnSpan, InsideSpan, EndOf, lo, hi, on_lo, on_hi}
 use Rattle.laws_labels.specs.Clear.{Within, Clear}

@@ -7,7 +7,7 @@ use Rattle.seq.specs.Seq.{Bool, true, List, map, ℕ, eqb, length, get_or, count
 use Rattle.seq.specs.Tests.{or_l, or_r}
 use Rattle.seq.specs.Count.{count_below}
 use Rattle.seq.specs.Select.{length-select, select_at, select-nth}
-use Rattle.seq.specs.Least.{some_has}
+use Rattle.seq.proofs.Least.{some_has}
 use Rattle.seq.specs.Members.{map_at}
 use Rattle.paper.specs.Plane.{whole, nowhere}
 use Rattle.paper.specs.Graph.{Graph, Edge, no_edge, edge_count, point, edge}
@@ -16,7 +16,8 @@ use Rattle.paper.specs.Pieces.{Piece, edge_of, vertices_of, edges_of}
 use Rattle.paper.specs.Faces.{Overlay, overlay_of, net}
 use Rattle.laws_overlay.specs.Maps.{AllKeep}
 use Rattle.laws_overlay.specs.Places.{places}
-use Rattle.laws_overlay.specs.Pieces.{no_piece, piece_at, piece_ends}
+use Rattle.laws_overlay.specs.Pieces.{no_piece, piece_at}
+use Rattle.laws_overlay.proofs.Pieces.{piece_ends}
 use Rattle.laws_overlay.specs.Net.{edge_is}
 use Rattle.laws_overlay.specs.Inside.{overlaid}
 use Rattle.laws_overlay.specs.Parts.{net_is, pieces_are}

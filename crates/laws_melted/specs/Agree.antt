@@ -17,10 +17,11 @@ use Rattle.paper.specs.Melt.{melted_pieces, melted_graph, melted_of}
 use Rattle.laws_graph.specs.Plane.{Plane}
 use Rattle.laws_graph.specs.Follow.{followers_at, of_list, follower_below, predecessor_below, predecessor-follower, follower-predecessor}
 use Rattle.laws_graph.specs.Walks.{along_below, walk-along, walk-closes, walk-once, lead_is, lead_below, lead-lead, one_walk}
-use Rattle.laws_graph.specs.Faces.{face_of, face_below}
+use Rattle.laws_graph.specs.Faces.{face_below}
 use Rattle.laws_overlay.specs.Maps.{AllKeep}
 use Rattle.laws_overlay.specs.Cells.{face_labels}
-use Rattle.laws_labels.specs.Drawn.{Drawn, drawn-held, drawn-face, drawn-walk}
+use Rattle.laws_labels.specs.Drawn.{Drawn}
+use Rattle.laws_labels.proofs.Drawn.{drawn-held, drawn-face, drawn-walk}
 use Rattle.laws_labels.specs.Demand3.{followers_in, stored, Closes, OneWalk, Agrees}
 use Rattle.laws_melt.specs.Melts.{melted-drawn}
 use Rattle.laws_promise.specs.Rows.{Rows}
@@ -84,7 +85,7 @@ module _ (ms : List Map) (K : AllKeep ms) (ps : List Piece) (g : Graph) (D : Dra
   whole-table xs e = ap (table (λ i. get_or xs i 0)) (sym e) ∙ table_of xs 0
 
   stored-labels : (f : ℕ) → f < c.faces → stored n t f ≡ table (λ i. get_or (face_labels ms o f) i 0) n
-  stored-labels f l = table-ext (face_cell n t f) (λ i. get_or (face_labels ms o f) i 0) n (λ i li. R.label_at f i l li)
+  stored-labels f l = table-ext (face_cell n t f) (λ i. get_or (face_labels ms o f) i 0) n (λ i li. R.label_at_lem f i l li)
 
   pub rows_agree : Agrees (length ms) c t (labels_of ms (overlay_by ps (walks_of g)))
   rows_agree = record {

@@ -22,18 +22,15 @@ use Rattle.laws_melt.specs.Stored.{fewer-vertices, fewer-edges}
 use Rattle.laws_melt.specs.Fewer.{melted-faces}
 use Rattle.laws_promise.specs.Defined.{Labelled, HalfRows, FaceRows}
 use Rattle.laws_promise.specs.Rows.{Rows}
-use Rattle.laws_promise.specs.Held.{Held}
-use Rattle.laws_promise.specs.HalfRows.{half-rows}
-use Rattle.laws_promise.specs.FaceRows.{pair-labelled, face-rows}
-use Rattle.laws_promise.specs.Demands.{counts_for, pair_for, Overlaid, done_is-overlaid}
-use Rattle.laws_promise.specs.Promised.{held}
+use Rattle.laws_promise.proofs.HalfRows.{half-rows}
+use Rattle.laws_promise.proofs.FaceRows.{pair-labelled, face-rows}
+use Rattle.laws_promise.specs.Demands.{Overlaid, done_is-overlaid}
 use Rattle.tables.specs.declared.answer.Answer as code
 use Rattle.tables.specs.Values.{answer_of}
 use Rattle.tables.specs.Promise.{Promised, PromisedMelted}
 use Rattle.laws_melted.specs.Rows.{melted-pieced, melted-rows}
 use Rattle.laws_melted.specs.Answers.{Melted, melted_counts, melted_pair, melted-passes}
 use Rattle.laws_melted.specs.Order.{Ordered, melted-ordered}
-use Rattle.laws_melted.specs.Kept.{Kept, rows-kept}
 
 -- ── the melted tables ──
 
@@ -83,25 +80,14 @@ module _ (l : Lengths) (files : List (List ℕ)) (r : code.Answer) (t : Tables) 
 
 module _ (k l : Lengths) (files : List (List ℕ)) (q r : code.Answer) (u t : Tables) (overlay : Promised k files q u) (d : Counts) (e : answer_of q ≡ done d)
     (promise : PromisedMelted l files r t) (c : Counts) (f : answer_of r ≡ done c) where
-  abbrev ms : List Map
+  abbrev pub ms : List Map
   ms = maps_of files
 
-  O : Overlaid k files d u
+  pub O : Overlaid k files d u
   O = done_is-overlaid k files q u overlay d e
 
-  keep : AllKeep (maps_of files)
+  pub keep : AllKeep (maps_of files)
   keep = melted-keep l files r t promise c f
-
-  overlay-hold : Held (maps_of files) d u
-  overlay-hold =
-      subst (λ (x : Counts). Held ms x u) (sym O.counts-are)
-      (subst (λ (x : Tables). Held ms (counts_for files) x) (sym O.tables-are) (held files O.passes k))
-
-  pub melted-keeps : Kept (length files) d u c t
-  melted-keeps =
-      subst (λ (n : ℕ). Kept n d u c t) (maps-count files)
-      (rows-kept ms keep d u overlay-hold (subst (λ (n : ℕ). Agrees n d u (pair_for files)) (sym (maps-count files)) O.agrees)
-      c t (melted-hold l files r t promise c f) (melted-agrees l files r t promise c f))
 
   -- no more vertices, edges and faces
   pub melted-fewer : Fits d c

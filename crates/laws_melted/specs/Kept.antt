@@ -5,7 +5,7 @@ use Rattle.std.proofs.Common.{sym, ◌∙◌, ap, subst, arith, eqb-true}
 use Rattle.std.proofs.Math.Decide.{dec_lt}
 use Rattle.seq.specs.Seq.{Bool, true, false, not, cond, List, ℕ, eqb, length, get_or, table}
 use Rattle.seq.specs.Tests.{not-false, was-true}
-use Rattle.seq.specs.Least.{no_some_is}
+use Rattle.seq.proofs.Least.{no_some_is}
 use Rattle.seq.specs.Count.{count_before}
 use Rattle.seq.specs.Table.{length-table, table-ext, table_of}
 use Rattle.paper.specs.Plane.{same}

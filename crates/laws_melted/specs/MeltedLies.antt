@@ -29,12 +29,13 @@ use Rattle.laws_melt.specs.Melts.{melted-seen}
 use Rattle.laws_soundings.specs.Tally.{times_of, occurs}
 use Rattle.laws_soundings.specs.Told.{told-times}
 use Rattle.laws_promise.specs.Looking.{Looks}
-use Rattle.laws_promise.specs.Looks.{looks-once, west-looks}
+use Rattle.laws_promise.proofs.Looks.{looks-once, west-looks}
 use Rattle.laws_promise.specs.Defined.{graph_in}
 use Rattle.laws_promise.specs.Rows.{Pieced, Rows}
 use Rattle.laws_promise.specs.Ways.{of_net}
-use Rattle.laws_promise.specs.Graphs.{graph_is}
-use Rattle.laws_cells.specs.Lies.{face_seen, LiesIn, stored_pair, pair_rows, cell-stored}
+use Rattle.laws_promise.proofs.Graphs.{graph_is}
+use Rattle.laws_cells.specs.Lies.{face_seen, LiesIn, stored_pair, pair_rows}
+use Rattle.laws_cells.proofs.Lies.{cell-stored}
 use Rattle.tables.specs.declared.answer.Answer as code
 use Rattle.tables.specs.Values.{answer_of}
 use Rattle.tables.specs.Promise.{Promised, PromisedMelted}

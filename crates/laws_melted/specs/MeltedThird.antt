@@ -23,7 +23,8 @@ use Rattle.laws_overlay.specs.Cells.{face_labels, face_half}
 use Rattle.laws_overlay.specs.EmptyMap.{with_empty, with_none, one_more, layer_before, layer-own}
 use Rattle.laws_overlay.specs.EmptyTables.{with_nones}
 use Rattle.laws_overlay.specs.Files.{maps_of, maps-count}
-use Rattle.laws_orders.specs.TwoMaps.{SameRoom, OneMore, with_last, last_empty}
+use Rattle.laws_orders.specs.TwoMaps.{SameRoom, OneMore, with_last}
+use Rattle.laws_orders.proofs.TwoMaps.{last_empty}
 use Rattle.laws_melt.specs.MeltEmpty.{melted-empty}
 use Rattle.tables.specs.declared.answer.Answer as code
 use Rattle.tables.specs.Values.{answer_of}
@@ -139,11 +140,11 @@ module _ (fs : List (List ℕ)) where
     -- of the cells of a face
     label_of_lem : (f i : ℕ) → f < c.faces → i < length ns → face_cell (length ns) u f i ≡ get_or (face_labels ns (melted_of ns) f) i 0
     unfolding melted_of
-    label_of_lem = U.label_at
+    label_of_lem = U.label_at_lem
 
     label_by_lem : (f i : ℕ) → f < c.faces → i < n' → face_cell n' t f i ≡ get_or (face_labels ms (melted_of ms) f) i 0
     unfolding melted_of
-    label_by_lem = T.label_at
+    label_by_lem = T.label_at_lem
 
     half_of : (f : ℕ) → f < c.faces → face_cell (length ns) u f (length ns) ≡ face_half ns (melted_of ns) f
     unfolding melted_of

@@ -5,7 +5,7 @@ use Rattle.std.proofs.Common.{sym, ◌∙◌, ap, subst, inl, inr, ⊎_elim, ari
 use Rattle.seq.specs.Seq.{Bool, true, cond, List, ℕ, eqb, ltb, length, pos, count, least}
 use Rattle.seq.specs.Terms.{Every}
 use Rattle.seq.specs.Tests.{or_cases, and_parts}
-use Rattle.seq.specs.Least.{some_witness, least_below, least-holds, least_at_most}
+use Rattle.seq.proofs.Least.{some_witness, least_below, least-holds, least_at_most}
 use Rattle.seq.specs.Members.{at_among, every_in}
 use Rattle.paper.specs.Limits.{absent}
 use Rattle.paper.specs.Plane.{whole, nowhere, before, same}

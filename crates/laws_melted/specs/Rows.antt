@@ -25,9 +25,10 @@ use Rattle.laws_overlay.specs.Maps.{AllKeep}
 use Rattle.laws_overlay.specs.Places.{places, at_real, at_before}
 use Rattle.laws_overlay.specs.Links.{Runs}
 use Rattle.laws_overlay.specs.OneLine.{none_between}
-use Rattle.laws_overlay.specs.Pieces.{Sourced, piece_at, piece_at_lem, piece_ends}
+use Rattle.laws_overlay.specs.Pieces.{Sourced, piece_at}
+use Rattle.laws_overlay.proofs.Pieces.{piece_at_lem, piece_ends}
 use Rattle.laws_overlay.specs.Net.{edge_is}
-use Rattle.laws_overlay.specs.NetPlane.{net-clear}
+use Rattle.laws_overlay.proofs.NetPlane.{net-clear}
 use Rattle.laws_overlay.specs.Inside.{overlaid}
 use Rattle.laws_melt.specs.Part.{Part, part-clear}
 use Rattle.laws_melt.specs.Thin.{was, stood, stood-nth, was-kept, low_used, high_used, melted_long, melted-piece, melted-edge, melted-part}

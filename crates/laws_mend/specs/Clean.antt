@@ -3,7 +3,7 @@
 use Rattle.std.specs.Prelude.{◌≡◌, refl, ◌⊎◌, ◌≤◌, ◌<◌, ◌∷◌, ◌+◌, ◌*◌, ◌/◌, ◌%◌, ◌++◌}
 use Rattle.std.proofs.Common.{sym, ◌∙◌, ap, subst, inl, inr, arith, eq-eqb}
 use Rattle.seq.specs.Seq.{Bool, true, false, cond, not, List, [], Option, none, some, ℕ, nat_abs, least, the_some_below}
-use Rattle.seq.specs.Least.{no_some, some_has}
+use Rattle.seq.proofs.Least.{no_some, some_has}
 use Rattle.paper.specs.Limits.{reach}
 use Rattle.paper.specs.Plane.{Pt, whole, before, same, between}
 use Rattle.paper.specs.Graph.{Graph, Edge, point, edge, origin, even, leaves, followers}
@@ -15,7 +15,8 @@ use Rattle.laws_plane.specs.NoClash.{not_equal}
 use Rattle.laws_graph.specs.Corners.{Corners}
 use Rattle.laws_map.specs.Keeps.{edges, vertices, halves}
 use Rattle.laws_map.specs.Rules.{Form, Rules}
-use Rattle.laws_map.specs.Passes.{passes-form, passes-rules, form-nothing, is_near, are_ends}
+use Rattle.laws_map.specs.Passes.{passes-rules, form-nothing, is_near, are_ends}
+use Rattle.laws_map.proofs.Passes.{passes-form}
 use Rattle.laws_graph.specs.Reading.{edges-count, corners_in, point-corner, edge-made}
 use Rattle.laws_graph.specs.Laid.{carrier_up}
 use Rattle.laws_map.specs.Files.{file-corners}

@@ -17,7 +17,8 @@ use Rattle.paper.specs.Map.{Map, corner, map_of, label, vertex_count, edges_in, 
 use Rattle.laws_plane.specs.Ends.{corner_same}
 use Rattle.laws_map.specs.Keeps.{edges, vertices}
 use Rattle.laws_map.specs.Rules.{Form}
-use Rattle.laws_file.specs.Bytes.{Bytes, number_of, number_below, signed_of}
+use Rattle.laws_file.specs.Bytes.{Bytes, number_of, number_below}
+use Rattle.laws_file.proofs.Bytes.{signed_of}
 use Rattle.laws_file.specs.Stands.{stands_self}
 use Rattle.laws_file.specs.Fields.{stands-marked}
 use Rattle.paper.specs.Mend.{from_now, to_now, kept_edge, kept_edges, has_edge, kept_vertices, corner_of, edge_row, mended}

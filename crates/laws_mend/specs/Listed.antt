@@ -7,7 +7,7 @@ use Rattle.seq.specs.Seq.{true, false, not, List, [], ℕ, length, eqb, ltb, lea
 use Rattle.seq.specs.Terms.{Among, Asc, Rising}
 use Rattle.seq.specs.Tests.{clash, not-true, or_l, and_parts, was-false}
 use Rattle.seq.specs.Members.{among-++, ++-among, among-map, map-among, length-map}
-use Rattle.seq.specs.Least.{least-holds, least_min}
+use Rattle.seq.proofs.Least.{least-holds, least_min}
 use Rattle.seq.specs.Select.{select_from_lem, select_has, select_asc, length-select}
 use Rattle.seq.specs.Count.{count_three}
 use Rattle.seq.specs.PairOrder.{pair_before, is_before}

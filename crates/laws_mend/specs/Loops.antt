@@ -5,7 +5,7 @@ use Rattle.std.proofs.Common.{sym, ◌∙◌, ap, inl, inr, append-nil, arith}
 use Rattle.std.proofs.lemmas.List.{map-append}
 use Rattle.seq.specs.Seq.{Bool, true, false, cond, not, List, [], ℕ, zero, suc, length, the_some_below, count, select, rows, gather}
 use Rattle.seq.specs.Tests.{never, and_both, and_parts, bool-ext}
-use Rattle.seq.specs.Least.{some_has, some_witness}
+use Rattle.seq.proofs.Least.{some_has, some_witness}
 use Rattle.seq.specs.Rows.{rows_ext}
 use Rattle.seq.specs.Select.{select_from_lem, select_has, length-select, position-count, rows-select}
 use Rattle.seq.specs.Collected.{in_witness, in_has}

@@ -6,7 +6,7 @@ use Rattle.std.proofs.Math.Decide.{dec_lt}
 use Rattle.std.proofs.lemmas.Bool.{eqb-false}
 use Rattle.seq.specs.Seq.{Bool, true, false, not, ℕ, eqb, the_some_below}
 use Rattle.seq.specs.Tests.{never, or_l, or_r, or_cases, and_both, and_parts}
-use Rattle.seq.specs.Least.{least-le, least-holds, least_min, least_by, no_some, no_some_is}
+use Rattle.seq.proofs.Least.{least-le, least-holds, least_min, least_by, no_some, no_some_is}
 use Rattle.seq.specs.Count.{one_of}
 use Rattle.seq.specs.Select.{select_from_lem, select_has}
 use Rattle.seq.specs.Collected.{in_witness, in_has}

@@ -4,7 +4,7 @@
 use Rattle.std.proofs.Math.Seq.{take-append_seam}
 use Rattle.std.specs.Prelude.{◌≡◌, refl, ◌⊎◌, ◌≤◌, ◌∷◌, ◌+◌, ◌-◌, ◌++◌}
 use Rattle.std.proofs.Common.{sym, ◌∙◌, ap, arith}
-use Rattle.seq.specs.Seq.{List, [], Option, none, some, ℕ, length, get_or, take, replicate, gather, padded}
+use Rattle.seq.specs.Seq.{List, [], Option, none, ℕ, length, get_or, take, replicate, gather, padded}
 use Rattle.paper.specs.Limits.{map_vertices, map_edges}
 use Rattle.paper.specs.Graph.{Graph}
 use Rattle.paper.specs.Refusal.{Refusal, done, refused, answer}
@@ -12,14 +12,13 @@ use Rattle.paper.specs.Map.{map_of, fault}
 use Rattle.laws_file.specs.Bytes.{Bytes}
 use Rattle.paper.specs.Mend.{kept_edges, kept_vertices, entries, corner_of, edge_row, mended, mend_fault, mending_by, mend, Mending}
 use Rattle.laws_mend.specs.MapFile.{file-bytes}
-use Rattle.laws_mend.specs.Clean.{Clean, passes-clean, clean-refusal, Mendable}
+use Rattle.laws_mend.specs.Clean.{Clean, passes-clean, Mendable}
 use Rattle.laws_mend.specs.Same.{clean-entries, clean_same}
 use Rattle.laws_mend.specs.Kept.{equal-points, mended-clean, mended-vertices, mended-edges}
 use Rattle.laws_mend.specs.Listed.{vertex-balance, edge-balance, entries-count}
 use Rattle.laws_graph.specs.Reading.{points-count, edges-count}
 use Rattle.laws_refusals.specs.Refusals.{done_none, refused_some}
 use Rattle.laws_mend.specs.Faults.{Room, fault_is, is_fault}
-use Rattle.laws_mend.specs.Mends.{Mends, mends}
 
 -- ── a clean file ──
 
@@ -86,16 +85,8 @@ module _ (n l : ℕ) (s : List ℕ) (B : Bytes s) (a b : ℕ) (d : (mend n l s).
   done-bytes = rw done-mended (file-bytes (length (kept_vertices (map_of s).graph)) (length (kept_edges (map_of s).graph)) (λ i. corner_of (map_of s).graph (get_or (kept_vertices (map_of s).graph) i 0))
       (λ i. edge_row (map_of s) (kept_vertices (map_of s).graph) (get_or (kept_edges (map_of s).graph) i 0)))
 
-  -- what is kept and what is listed
-  pub done-mends : Mends s (take a (mend n l s).file) (entries (map_of s).graph)
-  done-mends = rw done-mended (mends s done-mendable B)
-
   pub done-clean : Clean (take a (mend n l s).file)
   done-clean = rw done-mended (mended-clean s done-mendable B)
-
-  -- "a mended file is never refused with 6, 7 or 9", nor with 1 to 5
-  pub done-refusal : (fault (take a (mend n l s).file) ≡ none) ⊎ ((x : Refusal) × (fault (take a (mend n l s).file) ≡ some x) × ((x.number ≡ 8) ⊎ (x.number ≡ 10)))
-  done-refusal = clean-refusal (take a (mend n l s).file) done-clean
 
   -- mending a mended file changes nothing and lists nothing
   pub mend-again : (j : ℕ) → mend n j (take a (mend n l s).file) ≡ record { answer = done (a, 0); file = (mend n l s).file; list = padded 0 j [] }

@@ -3,7 +3,7 @@ use Rattle.std.specs.Prelude.{◌≡◌, refl, ◌⊎◌, ◌<◌, ◌||◌, ◌
 use Rattle.std.proofs.Common.{sym, ◌∙◌, ap, subst, inl, inr, ⊎_elim, arith, ne_eqb}
 use Rattle.seq.specs.Seq.{Bool, true, false, not, List, [], ℕ, zero, suc, length, get_or, position, the_some_below}
 use Rattle.seq.specs.Tests.{not-true}
-use Rattle.seq.specs.Least.{no_some}
+use Rattle.seq.proofs.Least.{no_some}
 use Rattle.seq.specs.Count.{count_all}
 use Rattle.seq.specs.Select.{position-count, select_all, length_all}
 use Rattle.seq.specs.Range.{select_none}

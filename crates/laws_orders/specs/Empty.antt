@@ -14,7 +14,7 @@ use Rattle.laws_overlay.specs.Maps.{AllKeep}
 use Rattle.laws_overlay.specs.Places.{places}
 use Rattle.laws_overlay.specs.Sources.{source_at}
 use Rattle.laws_overlay.specs.Pieces.{piece_at}
-use Rattle.laws_overlay.specs.Net.{sourced}
+use Rattle.laws_overlay.proofs.Net.{sourced}
 use Rattle.laws_overlay.specs.Inside.{overlaid}
 use Rattle.laws_overlay.specs.Along.{sources_at}
 use Rattle.laws_overlay.specs.EmptyTables.{empty-labels}

@@ -12,11 +12,13 @@ use Rattle.paper.specs.Lent.{Lengths}
 use Rattle.paper.specs.Overlay.{lent}
 use Rattle.laws_overlay.specs.Maps.{AllKeep}
 use Rattle.laws_overlay.specs.Renumber.{Renumbers, renumber_keeps}
-use Rattle.laws_overlay.specs.Exchange.{FaceUnchanged, renumber_face}
+use Rattle.laws_overlay.specs.Exchange.{FaceUnchanged}
+use Rattle.laws_overlay.proofs.Exchange.{renumber_face}
 use Rattle.laws_labels.specs.Done.{done-passes, done-counts, done-tables}
 use Rattle.laws_orders.specs.Orders.{FilesRenumbered, maps-renumbered, orders-done, orders-source}
 use Rattle.laws_overlay.specs.Files.{AllPass, maps_of, files-keep}
-use Rattle.laws_overlay.specs.Padded.{padded-source, padded-face}
+use Rattle.laws_overlay.specs.Padded.{padded-face}
+use Rattle.laws_overlay.proofs.Padded.{padded-source}
 
 -- ── in another order ──
 

@@ -3,19 +3,19 @@
 -- tables are zero (`check-refuses`); a refusal of the overlay for a rule from 1 to 10 is always that (`refused_by_check`, and back: `by_check-refused`). Where all are good room alone decides (`good_room`), and a
 -- refusal is for rule 11 and of no map; no refusal is a third thing (`refused_for`). Assumes nothing.
 use Rattle.std.specs.Prelude.{◌≡◌, refl, ◌⊎◌, ◌<◌, ◌≤◌}
-use Rattle.std.proofs.Common.{sym, ◌∙◌, ap, inl, inr, not-suc-le-zero, arith}
+use Rattle.std.proofs.Common.{◌∙◌, ap, inl, inr, not-suc-le-zero, arith}
 use Rattle.std.proofs.Math.Decide.{ℕ_discrete}
-use Rattle.seq.specs.Seq.{List, [], Option, none, some, ℕ, zero, suc, ltb, length, get_or}
+use Rattle.seq.specs.Seq.{List, [], Option, none, some, ℕ, zero, suc, length, get_or}
 use Rattle.paper.specs.Refusal.{Refusal, done, refused, first_of, answer}
 use Rattle.paper.specs.Map.{vertex_count, edges_in, fault, check}
 use Rattle.paper.specs.Faces.{overlay_of}
 use Rattle.paper.specs.Tables.{Counts, counts_of, tables_of}
-use Rattle.paper.specs.Lent.{Lengths, Outcome, outcome, room_in, room_faults, zero_tables}
+use Rattle.paper.specs.Lent.{Lengths, outcome, room_in, room_faults}
 use Rattle.paper.specs.Overlay.{lent}
-use Rattle.laws_refusals.specs.Refusals.{Keeps, beside-keeps, first_keeps, keeps_some, done_none, refused_some}
+use Rattle.laws_refusals.specs.Refusals.{done_none, refused_some}
 use Rattle.laws_map.specs.Refused.{fault-keeps}
 use Rattle.laws_overlay.specs.Files.{AllPass, maps_of}
-use Rattle.laws_orders.specs.Orders.{named, first_named, all_pass_room}
+use Rattle.laws_orders.specs.Orders.{named, all_pass_room}
 
 -- ── the check of one file ──
 
@@ -88,17 +88,8 @@ pub record ForRoom (fs : List (List ℕ)) (q : Refusal) : Type 0 where
   pub other : q.other ≡ 0
 
 module _ (l : Lengths) (fs : List (List ℕ)) where
-  abbrev defined : Counts
+  abbrev pub defined : Counts
   defined = counts_of (overlay_of (maps_of fs))
-
-  abbrev room : Counts
-  room = room_in (length fs) l
-
-  -- "with the same numbers, places and order": where file i is the first bad one
-  pub check-refuses : (i : ℕ) (r : Refusal) → FirstBad fs i r → ((lent l fs).answer ≡ refused (named (suc i) r)) × ((lent l fs).tables ≡ zero_tables l)
-  check-refuses i r F =
-      first_named l fs i r F.in_list (λ j b. good-passes (get_or fs j []) (F.good_before j b))
-      (refused_some (vertex_count (get_or fs i []), edges_in (get_or fs i [])) r (fault (get_or fs i [])) F.refuses)
 
   all_pass : AllGood fs → AllPass fs
   all_pass G i b = good-passes (get_or fs i []) (G i b)
@@ -106,48 +97,3 @@ module _ (l : Lengths) (fs : List (List ℕ)) where
   -- where all are good nothing is left but room
   pub good_room : AllGood fs → lent l fs ≡ outcome l (counts_of (overlay_of (maps_of fs))) (tables_of (maps_of fs) (overlay_of (maps_of fs))) (first_of (room_faults (room_in (length fs) l) (counts_of (overlay_of (maps_of fs)))))
   good_room G = ap (outcome l defined (tables_of (maps_of fs) (overlay_of (maps_of fs)))) (all_pass_room l fs (all_pass G))
-
-  abbrev OfRoom : Refusal → Type 0
-  OfRoom r = (r.number ≡ 11) × (r.map ≡ 0) × (r.other ≡ 0)
-
-  room_keeps : Keeps OfRoom (first_of (room_faults room defined))
-  room_keeps =
-      first_keeps OfRoom (room_faults room defined) (
-        beside-keeps OfRoom 11 1 0 (ltb room.vertices defined.vertices) (refl, refl, refl),
-        (
-          beside-keeps OfRoom 11 2 0 (ltb room.edges defined.edges) (refl, refl, refl),
-          (beside-keeps OfRoom 11 3 0 (ltb room.faces defined.faces) (refl, refl, refl), tt),
-        ),
-      )
-
-  module _ (q : Refusal) (e : (lent l fs).answer ≡ refused q) where
-    for_room : AllGood fs → ForRoom fs q
-    for_room G =
-        let a : answer defined (first_of (room_faults room defined)) ≡ refused q = sym (ap (λ (o : Outcome). o.answer) (good_room G)) ∙ e in
-        let (eleven, no-map, no_other) = keeps_some OfRoom (first_of (room_faults room defined)) q room_keeps (refused_some defined q (first_of (room_faults room defined)) a) in
-        record { good = G; number = eleven; map = no-map; other = no_other }
-
-    by_check : (i : ℕ) (r : Refusal) → FirstBad fs i r → ByCheck fs q
-    by_check i r F = record { file = i; said = r; first = F; same = let a = sym e ∙ (check-refuses i r F).0 in cc }
-
-    -- a refusal is the check's or for room: no third
-    pub refused_for : ByCheck fs q ⊎ ForRoom fs q
-    refused_for = go (good_or_bad fs)
-      where
-        go : AllGood fs ⊎ ((i : ℕ) × (r : Refusal) × FirstBad fs i r) → ByCheck fs q ⊎ ForRoom fs q
-        go (inl G) = inr (for_room G)
-        go (inr (i, r, F)) = inl (by_check i r F)
-
-  -- the overlay refuses for a rule from 1 to 10 exactly with what the check says of the first bad file
-  pub refused_by_check : (q : Refusal) → (lent l fs).answer ≡ refused q → q.number ≤ 10 → ByCheck fs q
-  refused_by_check q e b = go (refused_for q e)
-    where
-      go : ByCheck fs q ⊎ ForRoom fs q → ByCheck fs q
-      go (inl C) = C
-      go (inr R) = absurd (omega (arith, R.number, b))
-
-  pub by_check-refused : (q : Refusal) → ByCheck fs q → ((lent l fs).answer ≡ refused q) × (1 ≤ q.number) × (q.number ≤ 10)
-  by_check-refused q C =
-      let (low, high, _) = check-rules (get_or fs C.file []) C.said C.first.refuses in
-      let n : q.number ≡ C.said.number = ap (λ (x : Refusal). x.number) C.same in
-      ((check-refuses C.file C.said C.first).0 ∙ ap refused (sym C.same), omega (arith, low, n), omega (arith, high, n))

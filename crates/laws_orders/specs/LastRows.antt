@@ -13,7 +13,8 @@ use Rattle.paper.specs.Map.{Map}
 use Rattle.paper.specs.Faces.{Overlay, overlay_of, labels_of, holes_of, sources_of}
 use Rattle.paper.specs.Tables.{Counts, Tables, face_width, counts_of, tables_of, source_cell, face_cell, the_source_row, face_row, the_plus_one}
 use Rattle.laws_overlay.specs.Maps.{AllKeep}
-use Rattle.laws_overlay.specs.Parts.{made, sources-wide}
+use Rattle.laws_overlay.specs.Parts.{made}
+use Rattle.laws_overlay.proofs.Parts.{sources-wide}
 use Rattle.laws_overlay.specs.EmptyMap.{with_empty}
 use Rattle.laws_overlay.specs.EmptyTables.{empty-tables}
 

@@ -2,6 +2,5 @@ pub mod Orders
 pub mod Exchanged
 pub mod Empty
 pub mod FromCheck
-pub mod Other
 pub mod LastRows
 pub mod TwoMaps

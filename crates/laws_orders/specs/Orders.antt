@@ -12,11 +12,14 @@ use Rattle.paper.specs.Tables.{Counts, Tables, counts_of, tables_of, source_cell
 use Rattle.paper.specs.Lent.{Lengths, room_in, room_faults, padded_tables, zero_tables}
 use Rattle.paper.specs.Overlay.{map_faults, lent}
 use Rattle.laws_overlay.specs.Maps.{AllKeep}
-use Rattle.laws_overlay.specs.Parts.{edge-count, sources-wide}
+use Rattle.laws_overlay.specs.Parts.{edge-count}
+use Rattle.laws_overlay.proofs.Parts.{sources-wide}
 use Rattle.laws_overlay.specs.Cells.{source-cell}
 use Rattle.laws_overlay.specs.Renumber.{Renumbers, renumber_keeps}
-use Rattle.laws_overlay.specs.Exchange.{renumber_tables, renumber_sources, other}
-use Rattle.laws_refusals.specs.Refusals.{first_none, first_some, first_table_none, first_table}
+use Rattle.laws_overlay.specs.Exchange.{other}
+use Rattle.laws_overlay.proofs.Exchange.{renumber_tables, renumber_sources}
+use Rattle.laws_refusals.specs.Refusals.{first_none, first_some, first_table_none}
+use Rattle.laws_refusals.proofs.Refusals.{first_table}
 use Rattle.laws_overlay.specs.Files.{AllPass, maps_of, layer_is, maps-count, files-keep}
 
 pub record FilesRenumbered (fs gs : List (List ℕ)) (to back : ℕ → ℕ) : Type 0 where
@@ -55,9 +58,6 @@ module _ (l : Lengths) (fs : List (List ℕ)) where
 -- ── in another order ──
 
 module _ (l : Lengths) (fs gs : List (List ℕ)) (to back : ℕ → ℕ) (R : FilesRenumbered fs gs to back) where
-  in_gs : {i : ℕ} → i < length fs → i < length gs
-  in_gs {i} b = subst (λ (n : ℕ). i < n) (sym R.count) b
-
   in_fs : {i : ℕ} → i < length gs → i < length fs
   in_fs {i} b = subst (λ (n : ℕ). i < n) R.count b
 
@@ -112,23 +112,6 @@ module _ (l : Lengths) (fs gs : List (List ℕ)) (to back : ℕ → ℕ) (R : Fi
           go : (y : Option Refusal) → (unless_refused (padded_tables l t) (zero_tables l) y).halves ≡ (unless_refused (padded_tables l u) (zero_tables l) y).halves
           go none = ap (padded 0 l.halves) e
           go (some r) = refl
-
-  -- "If just one map is bad, the refusal names the other map number"
-  module _ (i : ℕ) (r : Refusal) (li : i < length fs) (only : (j : ℕ) → j < length fs → (j ≡ i → ⊥) → fault (get_or fs j []) ≡ none) (bad : fault (get_or fs i []) ≡ some r) where
-    good-there : (j : ℕ) → j < to i → fault (get_or gs j []) ≡ none
-    good-there j b =
-        let lj : j < length fs = omega (arith, R.to_in i li) in
-        ap fault (ap (λ (x : ℕ). get_or gs x []) (sym (R.to_back j lj)) ∙ R.same (back j) (R.back_in j lj))
-        ∙ only (back j) (R.back_in j lj) (λ e. differ j b (sym (R.to_back j lj) ∙ ap to e))
-      where
-        differ : (j : ℕ) → j < to i → j ≡ to i → ⊥
-        differ j b e = omega arith
-
-    pub orders-bad : ((lent l fs).answer ≡ refused (named (suc i) r)) × ((lent l gs).answer ≡ refused (named (suc (to i)) r)) × ((lent l fs).tables ≡ zero_tables l) × ((lent l gs).tables ≡ zero_tables l)
-    orders-bad =
-        let a = first_named l fs i r li (λ j b. only j (omega arith) (λ e. omega arith)) bad in
-        let b = first_named l gs (to i) r (in_gs (R.to_in i li)) good-there (ap fault (R.same i li) ∙ bad) in
-        (a.0, b.0, a.1, b.1)
 
 -- ── two files exchanged ──
 

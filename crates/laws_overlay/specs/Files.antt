@@ -14,7 +14,7 @@ use Rattle.paper.specs.Pieces.{layer, vertices_of}
 use Rattle.laws_plane.specs.Bounds.{Bounded}
 use Rattle.laws_map.specs.Keeps.{Keeps}
 use Rattle.laws_map.specs.Passes.{passes-rules}
-use Rattle.laws_map.specs.Files.{passes-keeps}
+use Rattle.laws_map.proofs.Files.{passes-keeps}
 use Rattle.laws_overlay.specs.Maps.{AllKeep}
 use Rattle.laws_overlay.specs.Vertices.{InReach, vertices-bounded}
 

@@ -18,7 +18,6 @@ use Rattle.laws_overlay.specs.Maps.{AllKeep}
 use Rattle.laws_overlay.specs.Inside.{overlaid}
 use Rattle.laws_overlay.specs.Cells.{label-cell, holes-cell, face_labels}
 use Rattle.laws_overlay.specs.Parts.{edge-count, face-count}
-use Rattle.laws_overlay.specs.Named.{half-named, face-named}
 
 -- half-edge h of tables t: all its numbers are below 65,535
 pub record HalfFits (t : Tables) (h : ℕ) : Type 0 where
@@ -74,19 +73,5 @@ module _ (ms : List Map) where
   -- ── by the limits ──
 
   module _ (K : AllKeep ms) (lv : (counts_of (overlay_of ms)).vertices ≤ overlay_vertices) (le : (counts_of (overlay_of ms)).edges ≤ overlay_edges) where
-    pub half_fits : (h : ℕ) → h < 2 * (counts_of (overlay_of ms)).edges → HalfFits (tables_of ms (overlay_of ms)) h
-    half_fits h l =
-        let n = half-named ms K h l in
-        record {
-          origin_fits = omega (arith, n.origin_below);
-          twin_fits = omega (arith, n.twin_below);
-          follower_fits = omega (arith, n.follower_below);
-          predecessor_fits = omega (arith, n.predecessor_below);
-          face_fits = omega (arith, n.face_below, faces-most);
-        }
-
-    pub least_fits : (f : ℕ) → suc f < (counts_of (overlay_of ms)).faces → face_cell (length ms) (tables_of ms (overlay_of ms)) (suc f) (length ms) < absent
-    least_fits f l = omega (arith, (face-named ms K f l).0)
-
     pub holes-fit : (f : ℕ) → f < (counts_of (overlay_of ms)).faces → face_cell (length ms) (tables_of ms (overlay_of ms)) f (length ms + 1) < absent
     holes-fit f l = omega (arith, holes-most f l)

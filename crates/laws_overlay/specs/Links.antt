@@ -1,15 +1,14 @@
 -- The pieces of one edge: they go between neighbours among the vertices on it, and every two neighbours have one. First the links between neighbours of a rising list of
 -- numbers; then of the list of vertices on an edge; then the pieces of all edges of all maps, before they are put in order. Assumes nothing.
-use Rattle.std.specs.Prelude.{◌≡◌, refl, ◌⊎◌, ◌<◌, ◌∷◌}
-use Rattle.std.proofs.Common.{sym, subst, inl, inr, ⊎_elim, arith}
+use Rattle.std.specs.Prelude.{refl, ◌⊎◌, ◌<◌, ◌∷◌}
+use Rattle.std.proofs.Common.{inl, inr, arith}
 use Rattle.seq.specs.Seq.{Bool, List, [], Option, ℕ, length, rows}
 use Rattle.seq.specs.Terms.{Among, Asc}
 use Rattle.seq.specs.Select.{select_from_lem, select_has, select_asc}
-use Rattle.seq.specs.Rows.{among-rows, rows-among}
 use Rattle.paper.specs.Plane.{Pt, Seg, on_seg}
 use Rattle.paper.specs.Graph.{Graph, point_in, edge}
 use Rattle.paper.specs.Map.{Map}
-use Rattle.paper.specs.Pieces.{layer, Piece, only, links, links_from, along, pieces_of}
+use Rattle.paper.specs.Pieces.{layer, Piece, links, links_from, along, pieces_of}
 use Rattle.laws_plane.specs.Edges.{On, on_is, is_on}
 use Rattle.laws_map.specs.Keeps.{seg, edges}
 
@@ -25,32 +24,6 @@ pub record Link (l : List ℕ) (v w : ℕ) : Type 0 where
   pub none : (x : ℕ) → Among x l → v < x → x < w → ⊥
 
 module _ (s : List (Option ℕ)) where
-  no_between : (v w x : ℕ) (ws : List ℕ) → Asc (w ∷ ws) → Among x (v ∷ w ∷ ws) → v < x → x < w → ⊥
-  no_between v w x ws a (inl e) h l = omega arith
-  no_between v w x ws a (inr (inl e)) h l = omega arith
-  no_between v w x ws a (inr (inr i)) h l = omega (arith, a.0 x i)
-
-  from_step : (v : ℕ) (l : List ℕ) → Asc (v ∷ l) → (q : Piece) → Among q (links_from s v l) → (q.sources ≡ s) × Link (v ∷ l) q.lo q.hi
-  from_step v [] a q i = absurd i
-  from_step v (w ∷ ws) a q (inl e) =
-      subst (λ (p : Piece). (p.sources ≡ s) × Link (v ∷ w ∷ ws) p.lo p.hi) (sym e)
-      (refl, record { rises = a.0 w (inl refl); lower = inl refl; upper = inr (inl refl); none = λ x j. no_between v w x ws a.1 j })
-  from_step v (w ∷ ws) a q (inr i) =
-      let (o, r) = from_step w ws a.1 q i in (
-        o,
-        record {
-          rises = r.rises;
-          lower = inr r.lower;
-          upper = inr r.upper;
-          none = λ x j h l. ⊎_elim (λ e. omega (arith, a.0 q.lo r.lower)) (λ k. r.none x k h l) j;
-        },
-      )
-
-  -- each goes between neighbours
-  pub link_from : (l : List ℕ) → Asc l → (q : Piece) → Among q (links s l) → (q.sources ≡ s) × Link l q.lo q.hi
-  link_from [] a q i = absurd i
-  link_from (v ∷ vs) a q i = from_step v vs a q i
-
   has_step : (v : ℕ) (l : List ℕ) → Asc (v ∷ l) → (x y : ℕ) → x < y → Among x (v ∷ l) → Among y (v ∷ l) → ((z : ℕ) → Among z (v ∷ l) → x < z → z < y → ⊥) → Among (piece_of x y s) (links_from s v l)
   has_step v [] a x y h (inl e) (inl f) n = absurd (omega arith)
   has_step v [] a x y h (inl e) (inr j) n = absurd j
@@ -120,20 +93,3 @@ pub record Runs (ms : List Map) (vs : List Pt) (i k lo hi : ℕ) : Type 0 where
   pub in_list : i < length ms
   pub of_map : k < edges (layer ms i)
   pub near : Neighbours vs (seg (layer ms i) k) lo hi
-
-module _ (ms : List Map) (vs : List Pt) where
-  abbrev edge_pieces : ℕ → ℕ → List Piece
-  edge_pieces i k = links (only (length ms) i k) (along vs (layer ms i).graph k)
-
-  pub cut_from : (q : Piece) → Among q (cut_out ms vs) → (i : ℕ) × (k : ℕ) × (q.sources ≡ only (length ms) i k) × Runs ms vs i k q.lo q.hi
-  cut_from q a =
-      let (i, li, s) = rows-among (pieces_of ms vs) (length ms) q a in
-      let (k, lk, t) = rows-among (edge_pieces i) (edges (layer ms i)) q s in
-      let (o, r) = link_from (only (length ms) i k) (along vs (layer ms i).graph k) (along_asc vs (layer ms i).graph k) q t in
-      (i, k, o, record { in_list = li; of_map = lk; near = link-neighbours vs (layer ms i).graph k q.lo q.hi r })
-
-  pub cut_has : (i k lo hi : ℕ) → Runs ms vs i k lo hi → Among (piece_of lo hi (only (length ms) i k)) (cut_out ms vs)
-  cut_has i k lo hi r =
-      among-rows (pieces_of ms vs) (length ms) i (piece_of lo hi (only (length ms) i k)) r.in_list
-      (among-rows (edge_pieces i) (edges (layer ms i)) k (piece_of lo hi (only (length ms) i k)) r.of_map
-      (link_has (only (length ms) i k) (along vs (layer ms i).graph k) (along_asc vs (layer ms i).graph k) lo hi (neighbours-link vs (layer ms i).graph k lo hi r.near)))

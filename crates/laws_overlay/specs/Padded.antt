@@ -6,18 +6,17 @@ use Rattle.seq.specs.Seq.{List, ℕ, length, pos}
 use Rattle.seq.specs.Wiped.{padded_at}
 use Rattle.paper.specs.Map.{Map}
 use Rattle.paper.specs.Faces.{overlay_of}
-use Rattle.paper.specs.Tables.{Tables, vertex_width, half_width, face_width, vertex_cell, half_cell, source_cell, face_cell, counts_of, tables_of}
+use Rattle.paper.specs.Tables.{Tables, vertex_width, half_width, face_width, vertex_cell, half_cell, face_cell, counts_of, tables_of}
 use Rattle.paper.specs.Lent.{Lengths, padded_tables}
-use Rattle.laws_overlay.specs.Maps.{AllKeep}
-use Rattle.laws_overlay.specs.Cells.{vertices_long, halves_long, sources_long, faces_long}
-use Rattle.laws_overlay.specs.Parts.{made, sources-wide}
+use Rattle.laws_overlay.specs.Cells.{vertices_long, halves_long, faces_long}
+use Rattle.laws_overlay.specs.Parts.{made}
 
 -- cell j of row i is among those of m rows
-in_rows : (w m i j : ℕ) → i < m → j < w → w * i + j < w * m
+pub in_rows : (w m i j : ℕ) → i < m → j < w → w * i + j < w * m
 in_rows w m i j a b = omega (arith, mul-suc w i, mul-le-mul_left w a)
 
 module _ (ms : List Map) (l : Lengths) where
-  abbrev t : Tables
+  abbrev pub t : Tables
   t = padded_tables l (tables_of ms (overlay_of ms))
 
   pub padded-vertex : (v j : ℕ) → v < (counts_of (overlay_of ms)).vertices → j < vertex_width → vertex_cell t v j ≡ vertex_cell (made ms) v j
@@ -34,8 +33,3 @@ module _ (ms : List Map) (l : Lengths) where
   padded-face f j a b =
       padded_at 0 l.faces (face_width (length ms) * f + j) (made ms).faces 0
       (subst (λ (z : ℕ). face_width (length ms) * f + j < z) (sym (faces_long ms (overlay_of ms))) (in_rows (face_width (length ms)) (counts_of (overlay_of ms)).faces f j a b))
-
-  pub padded-source : AllKeep ms → (k i : ℕ) → k < (counts_of (overlay_of ms)).edges → i < length ms → source_cell (length ms) t k i ≡ source_cell (length ms) (made ms) k i
-  padded-source K k i a b =
-      padded_at 0 l.sources (length ms * k + i) (made ms).sources 0
-      (subst (λ (z : ℕ). length ms * k + i < z) (sym (sources_long ms (overlay_of ms) (sources-wide ms K))) (in_rows (length ms) (counts_of (overlay_of ms)).edges k i a b))

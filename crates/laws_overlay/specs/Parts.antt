@@ -4,19 +4,14 @@ use Rattle.std.proofs.Math.Path.{refl}
 use Rattle.std.proofs.Common.{sym, ◌∙◌, ap, subst, arith}
 use Rattle.seq.specs.Seq.{List, ℕ, suc, length, get_or, select, position}
 use Rattle.seq.specs.Table.{table_at}
-use Rattle.paper.specs.Graph.{edge_count, the_half_count, twin, origin, follower, followers}
+use Rattle.paper.specs.Graph.{edge_count, the_half_count, twin, origin, followers}
 use Rattle.paper.specs.Map.{Map}
 use Rattle.paper.specs.Pieces.{vertices_of, edges_of}
 use Rattle.paper.specs.Faces.{walks_of, leads_outer, face_in, overlay_of, net, sources_of}
-use Rattle.paper.specs.Tables.{Tables, origin_of, twin_of, follower_of, predecessor_of, counts_of, tables_of}
+use Rattle.paper.specs.Tables.{Tables, origin_of, twin_of, predecessor_of, counts_of, tables_of}
 use Rattle.paper.specs.Tables as T
-use Rattle.laws_graph.specs.Follow.{followers_at}
 use Rattle.laws_graph.specs.Faces.{face_of}
-use Rattle.laws_overlay.specs.Maps.{AllKeep}
-use Rattle.laws_overlay.specs.Places.{places}
 use Rattle.laws_overlay.specs.Pieces.{piece_at}
-use Rattle.laws_overlay.specs.Net.{sourced}
-use Rattle.laws_overlay.specs.NetPlane.{net-plane}
 use Rattle.laws_overlay.specs.Inside.{overlaid}
 use Rattle.laws_overlay.specs.Cells.{half-cell}
 
@@ -67,17 +62,13 @@ module _ (ms : List Map) where
   pub half-there : {h : ℕ} → h < 2 * (counts_of (overlay_of ms)).edges → h < the_half_count (overlaid ms)
   half-there {h} = subst (λ (n : ℕ). h < n) half_count
 
-  -- a row of sources has a cell for each map
-  pub sources-wide : AllKeep ms → (k : ℕ) → k < (counts_of (overlay_of ms)).edges → length (sources_of (overlay_of ms) k) ≡ length ms
-  sources-wide K k l = ap length (sources-are k) ∙ (sourced ms K (vertices_of ms) (places ms K) k (subst (λ (n : ℕ). k < n) edge-count l)).width
-
   abbrev pub made : Tables
   made = tables_of ms (overlay_of ms)
 
   -- ── the row of half-edge h ──
 
   module _ (h : ℕ) (l : h < the_half_count (overlaid ms)) where
-    counted : h < 2 * (counts_of (overlay_of ms)).edges
+    pub counted : h < 2 * (counts_of (overlay_of ms)).edges
     counted = subst (λ (n : ℕ). h < n) (sym half_count) l
 
     pub origin_is : origin_of made h ≡ origin (overlaid ms) h
@@ -93,7 +84,3 @@ module _ (ms : List Map) where
 
     pub face-cell_is : T.face_of made h ≡ face_of (overlaid ms) h
     face-cell_is = half-cell ms (overlay_of ms) h 4 counted (omega arith) ∙ face_is h l
-
-    pub follower_is : AllKeep ms → follower_of made h ≡ follower (overlaid ms) h
-    unfolding overlay_of
-    follower_is K = half-cell ms (overlay_of ms) h 2 counted (omega arith) ∙ followers_at (overlaid ms) (net-plane ms K (vertices_of ms) (places ms K)) h l

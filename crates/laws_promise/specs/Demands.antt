@@ -12,7 +12,8 @@ use Rattle.paper.specs.Overlay.{map_faults, lent}
 use Rattle.laws_refusals.specs.Room.{Fits}
 use Rattle.laws_overlay.specs.Files.{AllPass, maps_of}
 use Rattle.laws_labels.specs.Done.{passes-done, done-passes, done_fits, done-counts, done-tables}
-use Rattle.laws_labels.specs.Demand3.{Agrees, labels-agree}
+use Rattle.laws_labels.specs.Demand3.{Agrees}
+use Rattle.laws_labels.proofs.Demand3.{labels-agree}
 use Rattle.tables.specs.declared.answer.Answer as code
 use Rattle.tables.specs.Values.{answer_of}
 use Rattle.tables.specs.Promise.{Promised}

@@ -22,11 +22,12 @@ use Rattle.laws_plane.specs.Bounds.{Bounded}
 use Rattle.laws_map.specs.Keeps.{edges}
 use Rattle.laws_overlay.specs.Maps.{AllKeep}
 use Rattle.laws_overlay.specs.Places.{places}
-use Rattle.laws_overlay.specs.Net.{sourced}
+use Rattle.laws_overlay.proofs.Net.{sourced}
 use Rattle.laws_overlay.specs.Cells.{vertex-cell, half-cell, vertices_long, halves_long, sources_long, faces_long, least-cell}
 use Rattle.laws_overlay.specs.Parts.{edge-count, sources-are, twin_is}
-use Rattle.laws_overlay.specs.Named.{half-named, followed-once, edge-named}
-use Rattle.laws_overlay.specs.Fits.{least_fits, holes-fit, face-label_fits}
+use Rattle.laws_overlay.proofs.Named.{half-named, followed-once, edge-named}
+use Rattle.laws_overlay.specs.Fits.{holes-fit, face-label_fits}
+use Rattle.laws_overlay.proofs.Fits.{least_fits}
 use Rattle.laws_roundtrip.specs.Sound.{SoundHalf, SoundEdge, GoodHalf, GoodEdge, GoodVertex}
 use Rattle.laws_roundtrip.specs.ReadCells.{exact_lengths}
 use Rattle.laws_roundtrip.specs.ReadWritten.{FacesFit}

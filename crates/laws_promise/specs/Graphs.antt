@@ -3,65 +3,28 @@
 use Rattle.std.specs.Prelude.{◌≡◌, refl, ◌<◌, ◌≤◌, ◌*◌}
 use Rattle.std.proofs.Common.{sym, ◌∙◌, ap, subst, arith, eq-eqb, eqb-true}
 use Rattle.std.proofs.Math.Decide.{ℕ_discrete}
-use Rattle.seq.specs.Seq.{true, false, List, Option, none, some, ℕ, length, table, among}
-use Rattle.seq.specs.Terms.{Among, Best, BestIs}
+use Rattle.seq.specs.Seq.{true, false, List, ℕ, table}
+use Rattle.seq.specs.Terms.{Among, Best}
 use Rattle.seq.specs.Tests.{clash, not-true}
-use Rattle.seq.specs.Table.{table-ext, table_of}
-use Rattle.seq.specs.Position.{among-elem}
-use Rattle.paper.specs.Plane.{whole, nowhere, before, less_angle}
-use Rattle.paper.specs.Graph.{Graph, no_edge, walk, point, the_half_count, edge, origin, start, follower, followers, smallest, leaves, greatest_out}
+use Rattle.seq.specs.Table.{table-ext}
+use Rattle.paper.specs.Plane.{before}
+use Rattle.paper.specs.Graph.{Graph, walk, point, the_half_count, origin, start, follower, followers, smallest, leaves}
 use Rattle.paper.specs.Map.{Map}
-use Rattle.paper.specs.Pieces.{Piece, carrier_of}
+use Rattle.paper.specs.Pieces.{Piece}
 use Rattle.paper.specs.Faces.{walks_of, lead_at, hole_at}
-use Rattle.paper.specs.Tables.{Counts, Tables, origin_of, follower_of, the_plus_one}
+use Rattle.paper.specs.Tables.{Counts, Tables, origin_of, follower_of}
 use Rattle.laws_graph.specs.Plane.{Plane}
-use Rattle.laws_graph.specs.Follow.{lesser, ranked, greatest_is}
+use Rattle.laws_graph.specs.Follow.{lesser, ranked}
 use Rattle.laws_graph.specs.Walks.{Along, along_below, along-walk, walk-along, lead-along, lead-least, hole_is as hole_at_lem}
 use Rattle.laws_graph.specs.Holes.{smallest_is, smallest_first, smallest_same, hole-makes, makes-best}
-use Rattle.laws_overlay.specs.Sources.{source_at}
-use Rattle.laws_overlay.specs.Pieces.{piece_at}
-use Rattle.laws_overlay.specs.Net.{edge_is}
 use Rattle.laws_labels.specs.Demand3.{followers_in}
-use Rattle.laws_promise.specs.Defined.{the_point_at, way_at, OnWalk, minus_one, source_of, the_edge_in, graph_in, Hole, Least}
+use Rattle.laws_promise.specs.Defined.{OnWalk, Hole, Least}
 use Rattle.laws_promise.specs.Rows.{Pieced, Rows}
-use Rattle.laws_promise.specs.Nears.{in_edges, low_end, high_end}
 use Rattle.laws_promise.specs.Ways.{in_net, of_net, from_start, way_less}
 
-minus_plus : (o : Option ℕ) → minus_one (the_plus_one o) ≡ o
-minus_plus none = refl
-minus_plus (some k) = refl
-
 module _ (ms : List Map) (ps : List Piece) (g : Graph) (N : Pieced ms ps g) (c : Counts) (t : Tables) (H : Rows ms ps g c t) where
-  abbrev P : Plane g
+  abbrev pub P : Plane g
   P = N.plane
-
-  -- ── the graph ──
-
-  source-held : (k i : ℕ) → k < c.edges → i < length ms → source_of (length ms) t k i ≡ source_at (piece_at (ps) k).sources i
-  source-held k i l b = ap minus_one (H.source_at_lem k i l b) ∙ minus_plus (source_at (piece_at ps k).sources i)
-
-  sources-are : (k : ℕ) → k < c.edges → table (source_of (length ms) t k) (length ms) ≡ (piece_at ps k).sources
-  sources-are k l =
-      let w = (N.sourced k (in_edges ms ps g N c t H l)).width in
-      table-ext (source_of (length ms) t k) (source_at (piece_at ps k).sources) (length ms) (λ i b. source-held k i l b)
-      ∙ ap (table (source_at (piece_at ps k).sources)) (sym w) ∙ table_of (piece_at ps k).sources none
-
-  edge_at : (k : ℕ) → k < c.edges → the_edge_in ms t k ≡ edge g k
-  edge_at k l =
-      (λ i. record { from = low_end ms ps g N c t H k l i; to = high_end ms ps g N c t H k l i; carrier = carrier_of ms (sources-are k l i) })
-      ∙ sym (N.edge_is k (in_edges ms ps g N c t H l))
-
-  pub graph_is : graph_in ms c t ≡ g
-  graph_is = λ i. record {
-    points = points i;
-    edges = edges i;
-  }
-    where
-      points : table (the_point_at t) c.vertices ≡ g.points
-      points = table-ext (the_point_at t) (point g) c.vertices H.point_is ∙ ap (table (point g)) H.vertices-are ∙ table_of g.points (whole nowhere)
-
-      edges : table (the_edge_in ms t) c.edges ≡ g.edges
-      edges = table-ext (the_edge_in ms t) (edge g) c.edges edge_at ∙ ap (table (edge g)) H.edges_are ∙ table_of g.edges no_edge
 
   -- ── walks ──
 
@@ -69,7 +32,7 @@ module _ (ms : List Map) (ps : List Piece) (g : Graph) (N : Pieced ms ps g) (c :
   followers-are = table-ext (follower_of t) (follower g) (2 * c.edges) H.follower_at_lem ∙ ap (λ (n : ℕ). table (follower g) (2 * n)) H.edges_are
 
   module _ (h : ℕ) (l : h < 2 * c.edges) where
-    lh : h < the_half_count g
+    pub lh : h < the_half_count g
     lh = in_net ms ps g N c t H l
 
     pub on_along : (k : ℕ) → OnWalk c t h k → Along g h k
@@ -100,27 +63,6 @@ module _ (ms : List Map) (ps : List Piece) (g : Graph) (N : Pieced ms ps g) (c :
         smallest_is g P h lh m (on_along m o.on)
         (λ j b. let i = along_on j b in sym (λ x. before (from_start ms ps g N c t H j (on_below j i) x) (from_start ms ps g N c t H m (on_below m o.on) x)) ∙ o.smallest j i)
 
-    pub hole-held : Hole c t h → hole_at (walks_of g) h ≡ true
-    hole-held o =
-        let m = o.maker in
-        let lm : m < 2 * c.edges = on_below m o.on in
-        let a = on_along m o.on in
-        hole_at_lem g P h lh ∙ ap (λ (v : ℕ). among (greatest_out g v) (walk (followers g) h)) (maker_low o) ∙ found m lm o.greatest (greatest_out g (origin g m)) refl (along-walk g P h lh m a)
-      where
-        found : (m : ℕ) → m < 2 * c.edges → ((r : ℕ) → r < 2 * c.edges → origin_of t r ≡ origin_of t m → less_angle (way_at t m) (way_at t r) ≡ false)
-            → (x : Option ℕ) → greatest_out g (origin g m) ≡ x → Among m (walk (followers g) h) → among x (walk (followers g) h) ≡ true
-        found m lm f x e i = go x (subst (BestIs (leaves g (origin g m)) (λ y z. lesser g z y) (the_half_count g)) e (greatest_is g P (origin g m)))
-          where
-            go : (x : Option ℕ) → BestIs (leaves g (origin g m)) (λ y z. lesser g z y) (the_half_count g) x → among x (walk (followers g) h) ≡ true
-            go none b = absurd (b m (record { below = in_net ms ps g N c t H lm; has = eq-eqb (origin g m) (origin g m) refl }))
-            go (some r) b =
-                elim (ℕ_discrete m r) [
-                  | yes q ↦ subst (λ (y : ℕ). among (some y) (walk (followers g) h) ≡ true) q (among-elem m (walk (followers g) h) i)
-                  | no q ↦ let lr : r < 2 * c.edges = of_net ms ps g N c t H b.is.below in
-                      absurd (clash (b.beats m (record { below = in_net ms ps g N c t H lm; has = eq-eqb (origin g m) (origin g m) refl }) q)
-                      (sym (way_less ms ps g N c t H m r lm lr) ∙ f r lr (H.origin_at_lem r lr ∙ eqb-true (origin g r) (origin g m) b.is.has ∙ sym (H.origin_at_lem m lm))))
-                ]
-
     pub is_hole : hole_at (walks_of g) h ≡ true → Hole c t h
     is_hole e =
         let (m, a, makes, once) = hole-makes g P h lh (sym (hole_at_lem g P h lh) ∙ e) in
@@ -146,6 +88,3 @@ module _ (ms : List Map) (ps : List Piece) (g : Graph) (N : Pieced ms ps g) (c :
                   let w : lesser g r m ≡ true = b.beats r (record { below = in_net ms ps g N c t H lr; has = eq-eqb (origin g r) (smallest g (followers g) m) (e ∙ out) }) q in
                   not-true (lesser g m r) (λ f. clash ((ranked g P).trans m r m (in_net ms ps g N c t H lm) (in_net ms ps g N c t H lr) (in_net ms ps g N c t H lm) (sym e) e f w) ((ranked g P).irr m (in_net ms ps g N c t H lm)))
             ]
-
-    pub outer_at : (Hole c t h → ⊥) → hole_at (walks_of g) h ≡ false
-    outer_at n = not-true (hole_at (walks_of g) h) (λ e. n (is_hole e))

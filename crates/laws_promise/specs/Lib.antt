@@ -8,17 +8,11 @@ pub mod Rows
 pub mod Held
 pub mod Nears
 pub mod VertexRows
-pub mod EdgeRows
 pub mod Ways
-pub mod HalfRows
 pub mod Graphs
-pub mod Labels
 pub mod FaceRows
-pub mod Records
 pub mod Promised
 pub mod Wrong
 pub mod SameEdges
-pub mod SameFaces
-pub mod Unique
 pub mod Delivered
 pub mod Versions

@@ -2,23 +2,18 @@
 -- Assumes nothing.
 use Rattle.std.specs.Prelude.{◌≡◌, ◌<◌, ◌+◌, ◌*◌}
 use Rattle.std.proofs.Common.{sym, ◌∙◌, ap, subst, arith}
-use Rattle.seq.specs.Seq.{List, Option, none, some, ℕ, suc, length}
+use Rattle.seq.specs.Seq.{List, none, ℕ, length}
 use Rattle.paper.specs.Graph.{Graph, Edge, edge_count}
 use Rattle.paper.specs.Map.{Map}
 use Rattle.paper.specs.Pieces.{layer, Piece}
-use Rattle.paper.specs.Tables.{Counts, Tables, origin_of, source_cell, the_plus_one}
+use Rattle.paper.specs.Tables.{Counts, Tables, origin_of}
 use Rattle.laws_plane.specs.Edges.{On}
 use Rattle.laws_graph.specs.Halves.{origin_first, origin-second}
 use Rattle.laws_map.specs.Keeps.{seg}
 use Rattle.laws_overlay.specs.Links.{Runs}
-use Rattle.laws_overlay.specs.Sources.{source_at}
 use Rattle.laws_overlay.specs.Pieces.{Sourced, piece_at}
 use Rattle.laws_promise.specs.Defined.{Near}
 use Rattle.laws_promise.specs.Rows.{Pieced, Rows}
-
-plus_one : (o : Option ℕ) (j : ℕ) → the_plus_one o ≡ suc j → o ≡ some j
-plus_one none j e = absurd (omega arith)
-plus_one (some k) j e = ap some (omega arith)
 
 module _ (ms : List Map) (ps : List Piece) (g : Graph) (N : Pieced ms ps g) (c : Counts) (t : Tables) (H : Rows ms ps g c t) where
   below : {v : ℕ} → v < c.vertices → v < length g.points
@@ -68,28 +63,8 @@ module _ (ms : List Map) (ps : List Piece) (g : Graph) (N : Pieced ms ps g) (c :
   }
 
   module _ (k : ℕ) (l : k < c.edges) where
-    piece-sourced : Sourced ms g.points (piece_at ps k)
+    pub piece-sourced : Sourced ms g.points (piece_at ps k)
     piece-sourced = N.sourced k (in_edges l)
 
     pub lo-hi : (piece_at ps k).lo < (piece_at ps k).hi
     lo-hi = let (i, j, e) = piece-sourced.one in (piece-sourced.from i j e).near.rises
-
-    -- of its ends
-    to_near : (i j : ℕ) → Runs ms g.points i j (piece_at ps k).lo (piece_at ps k).hi → Near ms c t i j (origin_of t (2 * k)) (origin_of t (2 * k + 1))
-    to_near i j r =
-        subst (λ (u : ℕ). Near ms c t i j u (origin_of t (2 * k + 1))) (sym (low_end k l))
-        (subst (λ (v : ℕ). Near ms c t i j (piece_at ps k).lo v) (sym (high_end k l)) (runs-near i j (piece_at ps k).lo (piece_at ps k).hi r))
-
-    of_near : (i j : ℕ) → Near ms c t i j (origin_of t (2 * k)) (origin_of t (2 * k + 1)) → Runs ms g.points i j (piece_at ps k).lo (piece_at ps k).hi
-    of_near i j n =
-        near-runs i j (piece_at ps k).lo (piece_at ps k).hi
-        (subst (λ (u : ℕ). Near ms c t i j u (piece_at ps k).hi) (low_end k l) (subst (λ (v : ℕ). Near ms c t i j (origin_of t (2 * k)) v) (high_end k l) n))
-
-    pub has_source_lem : (i : ℕ) × (j : ℕ) × Near ms c t i j (origin_of t (2 * k)) (origin_of t (2 * k + 1))
-    has_source_lem = let (i, j, e) = piece-sourced.one in (i, j, to_near i j (piece-sourced.from i j e))
-
-    pub cell-near : (i j : ℕ) → i < length ms → source_cell (length ms) t k i ≡ suc j → Near ms c t i j (origin_of t (2 * k)) (origin_of t (2 * k + 1))
-    cell-near i j b e = to_near i j (piece-sourced.from i j (plus_one (source_at (piece_at ps k).sources i) j (sym (H.source_at_lem k i l b) ∙ e)))
-
-    pub near-cell : (i j : ℕ) → Near ms c t i j (origin_of t (2 * k)) (origin_of t (2 * k + 1)) → source_cell (length ms) t k i ≡ suc j
-    near-cell i j n = H.source_at_lem k i l n.in_list ∙ ap the_plus_one (piece-sourced.all i j (of_near i j n))

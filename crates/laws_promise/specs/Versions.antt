@@ -13,8 +13,9 @@ use Rattle.paper.specs.Writer.{write}
 use Rattle.paper.specs.Reader.{read}
 use Rattle.laws_file.specs.Bytes.{Bytes}
 use Rattle.laws_roundtrip.specs.ReadWritten.{done-file}
-use Rattle.laws_roundtrip.specs.WrittenRead.{written_read}
-use Rattle.laws_roundtrip.specs.OlderRead.{older-written, older-read}
+use Rattle.laws_roundtrip.proofs.WrittenRead.{written_read}
+use Rattle.laws_roundtrip.specs.OlderRead.{older-written}
+use Rattle.laws_roundtrip.proofs.OlderRead.{older-read}
 use Rattle.tables.specs.declared.answer.Answer as code
 use Rattle.tables.specs.Values.{answer_of, outcome_of}
 use Rattle.laws_promise.specs.Written.{newest}

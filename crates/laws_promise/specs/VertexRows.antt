@@ -3,7 +3,7 @@ use Rattle.std.specs.Prelude.{◌≡◌, ◌<◌, ◌≤◌, ◌*◌}
 use Rattle.std.proofs.Common.{sym, ◌∙◌, ap, subst, arith, eq-eqb, eqb-true, lt-ltb}
 use Rattle.seq.specs.Seq.{Bool, cond, List, ℕ, length, pos, least}
 use Rattle.seq.specs.Members.{at_among, every_in}
-use Rattle.seq.specs.Least.{least_below, least-holds, least_at_most}
+use Rattle.seq.proofs.Least.{least_below, least-holds, least_at_most}
 use Rattle.paper.specs.Limits.{absent}
 use Rattle.paper.specs.Plane.{Pt, whole, nowhere, before, same}
 use Rattle.paper.specs.Graph.{Graph, point_in, the_half_count, origin, leaves}
@@ -16,7 +16,7 @@ use Rattle.laws_overlay.specs.Maps.{AllKeep}
 use Rattle.laws_overlay.specs.Vertices.{Vertex, InReach, vertex_from, vertex_has, vertices-bounded, corner-stays}
 use Rattle.laws_overlay.specs.Places.{places, at_lowest, at_before, at_same, number}
 use Rattle.laws_overlay.specs.Inside.{overlaid}
-use Rattle.laws_overlay.specs.Round.{vertex_left}
+use Rattle.laws_overlay.proofs.Round.{vertex_left}
 use Rattle.laws_promise.specs.Defined.{the_point_at, VertexRows}
 use Rattle.laws_promise.specs.Held.{Held}
 

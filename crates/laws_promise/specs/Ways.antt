@@ -12,7 +12,8 @@ use Rattle.paper.specs.Pieces.{Piece}
 use Rattle.paper.specs.Tables.{Counts, Tables, origin_of}
 use Rattle.laws_plane.specs.Cone.{NonZero, nil, lex_is}
 use Rattle.laws_plane.specs.Points.{same_sym}
-use Rattle.laws_plane.specs.Angles.{SameWay, same_way_sym, less_same_way, same_way-greater}
+use Rattle.laws_plane.specs.Angles.{SameWay, same_way_sym}
+use Rattle.laws_plane.proofs.Angles.{less_same_way, same_way-greater}
 use Rattle.laws_graph.specs.Halves.{twin_below}
 use Rattle.laws_graph.specs.Plane.{ends_differ, heading-moves, heading-along}
 use Rattle.laws_graph.specs.Follow.{lesser}

@@ -1,11 +1,10 @@
 -- Which refusal is given: of a list of rules the first that is broken. In order: a list that gives none, rule by rule (`nothing`, `is_nothing`); one rule (`given_none`, `least_none_is`, and
 -- back); lists put together; what every refusal of a list keeps (`first_keeps`); tables of rules; a refusal of a map; what an answer says of the refusal. Assumes nothing.
 use Rattle.std.specs.Prelude.{◌≡◌, refl, ◌⊎◌, ◌<◌, ◌∷◌, ◌++◌}
-use Rattle.std.proofs.Common.{sym, ◌∙◌, ap, subst, inl, inr, not-suc-le-zero, arith}
-use Rattle.std.proofs.Math.Decide.{ℕ_discrete}
+use Rattle.std.proofs.Common.{sym, ◌∙◌, ap, subst, inl, inr, arith}
 use Rattle.seq.specs.Seq.{Bool, true, false, List, [], Option, none, some, ℕ, zero, suc, least, the_some_below, table}
 use Rattle.seq.specs.Terms.{Every}
-use Rattle.seq.specs.Least.{no_some, no_some_is}
+use Rattle.seq.proofs.Least.{no_some, no_some_is}
 use Rattle.paper.specs.Refusal.{Refusal, done, refused, beside, given, first_at, first_of, the_of_map, answer}
 
 pub no_refusal : {r : Refusal} → some r ≡ none → ⊥
@@ -122,14 +121,6 @@ module _ (P : Refusal → Type 0) where
 pub first_table_none : (f : ℕ → Option Refusal) (n : ℕ) → ((i : ℕ) → i < n → f i ≡ none) → first_of (table f n) ≡ none
 first_table_none f zero h = refl
 first_table_none f (suc n) h = first_none (table f n) (f n ∷ []) (first_table_none f n (λ i l. h i (omega arith))) ∙ first_one (f n) ∙ h n (omega arith)
-
-pub first_table : (f : ℕ → Option Refusal) (n i : ℕ) (r : Refusal) → i < n → ((j : ℕ) → j < i → f j ≡ none) → f i ≡ some r → first_of (table f n) ≡ some r
-first_table f zero i r l h e = absurd (not-suc-le-zero l)
-first_table f (suc n) i r l h e =
-    elim (ℕ_discrete i n) [
-      | yes q ↦ first_none (table f n) (f n ∷ []) (first_table_none f n (λ j k. h j (omega arith))) ∙ first_one (f n) ∙ ap f (sym q) ∙ e
-      | no q ↦ first_some (table f n) (f n ∷ []) (first_table f n i r (omega arith) h e)
-    ]
 
 -- ── of a map, and in an answer ──
 

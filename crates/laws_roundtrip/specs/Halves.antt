@@ -5,8 +5,8 @@ use Rattle.std.proofs.Common.{sym, ◌∙◌, ap, subst, arith}
 use Rattle.std.proofs.Math.Decide.{dec_lt}
 use Rattle.seq.specs.Seq.{List, ℕ, get_or, table, position}
 use Rattle.seq.specs.Terms.{Injects}
-use Rattle.seq.specs.Perm.{onto}
-use Rattle.seq.specs.Position.{position_is}
+use Rattle.seq.proofs.Perm.{onto}
+use Rattle.seq.proofs.Position.{position_is}
 use Rattle.seq.specs.Table.{length-table, table_at}
 use Rattle.paper.specs.Tables.{origin_of, follower_of, predecessor_of, face_of, Counts, Tables}
 use Rattle.laws_roundtrip.specs.Sound.{SoundHalf, SoundEdge, GoodHalf}

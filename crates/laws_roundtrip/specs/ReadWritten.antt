@@ -11,21 +11,18 @@ use Rattle.paper.specs.Limits.{absent, maps}
 use Rattle.paper.specs.Bytes.{u16}
 use Rattle.paper.specs.Refusal.{Refusal, done, answer, unless_refused}
 use Rattle.paper.specs.Tables.{face_width, least_half, vertex_cell, half_cell, origin_of, follower_of, face_cell, Counts, Tables}
-use Rattle.paper.specs.Lent.{Lengths, room_in, lengths_of, padded_tables, outcome}
-use Rattle.paper.specs.Ovfile.{Layout, layouts, file_length, least_start, overlay_file, layout_of}
-use Rattle.paper.specs.Writer.{write_fault, write_by, write}
-use Rattle.paper.specs.Reader.{counts_in, stored_origin, stored_follower, vertex_read, half_read, tables_in, numbers, read_fault, read_by, read}
+use Rattle.paper.specs.Lent.{Lengths, room_in, lengths_of}
+use Rattle.paper.specs.Ovfile.{Layout, file_length, least_start, overlay_file, layout_of}
+use Rattle.paper.specs.Writer.{write_fault, write_by}
+use Rattle.paper.specs.Reader.{counts_in, stored_origin, stored_follower, vertex_read, half_read, tables_in, numbers}
 use Rattle.laws_refusals.specs.Refusals.{done_none}
-use Rattle.laws_file.specs.Stands.{stands_self}
 use Rattle.laws_refusals.specs.Room.{Fits}
-use Rattle.laws_file.specs.Agree.{Agree, sound_same}
-use Rattle.laws_file.specs.Placed.{Placed, length-file, file-placed}
-use Rattle.laws_file.specs.Fields.{mark-read, version-read, counts-read, x_read, y_read, d_read, face-read, origin-read, follower-read, face_of-read, source-read}
-use Rattle.laws_roundtrip.specs.Sound.{SoundEdge, sound_is, is_sound, GoodHalf, GoodEdge, GoodVertex}
-use Rattle.laws_roundtrip.specs.Accepts.{Writes, write_is, Reads, is_read}
-use Rattle.laws_roundtrip.specs.ReadCells.{starts_in, followers_in, exact_lengths, vertex-cell, half-cell, source-cell, face-fields, read-lengths}
+use Rattle.laws_file.specs.Agree.{Agree}
+use Rattle.laws_file.specs.Placed.{Placed, length-file}
+use Rattle.laws_file.proofs.Fields.{version-read, counts-read, x_read, y_read, d_read, face-read, origin-read, follower-read, face_of-read, source-read}
+use Rattle.laws_roundtrip.specs.Sound.{SoundEdge, GoodHalf, GoodEdge, GoodVertex}
+use Rattle.laws_roundtrip.specs.ReadCells.{starts_in, followers_in, vertex-cell, half-cell, source-cell, face-fields}
 use Rattle.laws_roundtrip.specs.Halves.{by_edges, origin_below, face_below, half-sound, predecessor-position}
-use Rattle.laws_roundtrip.specs.Counted.{counted, room_rows, agree-counted}
 
 -- of n maps, the counted faces hold 16-bit numbers. The writer does not ask it: its face table can hold no others
 abbrev pub FacesFit : ℕ → Counts → Tables → Type 0
@@ -41,13 +38,13 @@ least_of-table f m v =
 
 module _ (version : ℕ) (l : Layout) (c : Counts) (t : Tables) (s : List ℕ) (P : Placed version l c t s) (W : Fits numbers c)
     (G : (v : ℕ) → v < c.vertices → GoodVertex l c t v) (E : (k : ℕ) → k < c.edges → GoodEdge l.maps c t k) (F : FacesFit l.maps c t) where
-  abbrev u : Tables
+  abbrev pub u : Tables
   u = tables_in l.maps l s
 
-  q : counts_in s ≡ c
+  pub q : counts_in s ≡ c
   q = counts-read version l c t s P (omega (arith, W.vertices)) (omega (arith, W.edges)) (omega (arith, W.faces))
 
-  sound : (k : ℕ) → k < c.edges → SoundEdge l.maps c t k
+  pub sound : (k : ℕ) → k < c.edges → SoundEdge l.maps c t k
   sound k b = (E k b).sound
 
   good : (h : ℕ) → h < 2 * c.edges → GoodHalf c t h
@@ -105,23 +102,8 @@ module _ (version : ℕ) (l : Layout) (c : Counts) (t : Tables) (s : List ℕ) (
   }
 
   module _ (versions : ℕ) (ls : Lengths) (long : length s ≡ file_length l c) (some : 0 < version) (known : version ≤ versions) (few : versions < 256 ^ 2) (R : Fits (room_in l.maps ls) c) where
-    v3 : u16 s 3 ≡ version
+    pub v3 : u16 s 3 ≡ version
     v3 = version-read version l c t s P (omega arith)
-
-    pub accepted : Reads l.maps versions l ls s (tables_in l.maps l s)
-    accepted = record {
-      long = omega arith;
-      mark = mark-read version l c t s P;
-      version = omega (arith, v3);
-      known = omega (arith, v3);
-      within = subst (Fits numbers) (sym q) W;
-      exact = long ∙ ap (file_length l) (sym q);
-      sound = λ k b. subst (λ (d : Counts). SoundEdge l.maps d u k) (sym q) (sound_of k (subst (λ (d : Counts). k < d.edges) q b));
-      room = subst (Fits (room_in l.maps ls)) (sym q) R;
-    }
-      where
-        sound_of : (k : ℕ) → k < c.edges → SoundEdge l.maps c u k
-        sound_of k b = sound_is l.maps c u k (sound_same l.maps c u t read-agrees k b ∙ is_sound l.maps c t k (sound k b))
 
 -- ── the writer's answer ──
 
@@ -144,53 +126,5 @@ module _ (version : ℕ) (l : Layout) (n : ℕ) (c : Counts) (t : Tables) where
 -- ── over any list of known versions ──
 
 module _ (known : List Layout) (version : ℕ) (some : 0 < version) (is_Known : version ≤ length known) (few : length known < 256 ^ 2) where
-  abbrev l : Layout
+  abbrev pub l : Layout
   l = layout_of known version
-
-  pub written_is_read : (n : ℕ) (c : Counts) (t : Tables) (ls : Lengths) → FacesFit (layout_of known version).maps c t → write_fault (layout_of known version) n (lengths_of t) c t ≡ none → Fits (room_in (layout_of known version).maps ls) c
-      → read_by (layout_of known version).maps known ls (overlay_file version (layout_of known version) c t) ≡ record { answer = done c; tables = padded_tables ls (counted (layout_of known version).maps c t) }
-  written_is_read n c t ls F e R =
-      (λ i. let lo : Layout = layout_of known (v3 i) in outcome ls (counts_in s) (tables_in l.maps lo s) (read_fault l.maps (length known) lo ls s (tables_in l.maps lo s)))
-      ∙ ap (outcome ls (counts_in s) (tables_in l.maps l s)) (is_read l.maps (length known) l ls s (tables_in l.maps l s) reads)
-      ∙ (λ i. outcome ls (counts i) (rows_are i) none)
-    where
-      s : List ℕ
-      s = overlay_file version l c t
-
-      P : Placed version l c t s
-      P = file-placed version l c t s (stands_self s)
-
-      W : Writes l n (lengths_of t) c t
-      W = write_is l n (lengths_of t) c t e
-
-      within : Fits numbers c
-      within = record { vertices = omega (arith, W.room.vertices); edges = omega (arith, W.room.edges); faces = omega (arith, W.room.faces) }
-
-      v3 : u16 s 3 ≡ version
-      v3 = version-read version l c t s P (omega arith)
-
-      counts : counts_in s ≡ c
-      counts = counts-read version l c t s P (omega (arith, within.vertices)) (omega (arith, within.edges)) (omega (arith, within.faces))
-
-      reads : Reads l.maps (length known) l ls s (tables_in l.maps l s)
-      reads = accepted version l c t s P within W.vertex W.edge F (length known) ls (length-file version l c t) some is_Known few R
-
-      rows_are : tables_in l.maps l s ≡ counted l.maps c t
-      rows_are =
-          agree-counted l.maps c (tables_in l.maps l s) t (read-agrees version l c t s P within W.vertex W.edge F)
-          (read-lengths l.maps l s ∙ ap (exact_lengths l.maps) counts) (room_rows l.maps c (lengths_of t) W.room)
-
--- ── the reader and the writer ──
-
-module _ (n : ℕ) (c : Counts) (t : Tables) (F : FacesFit maps c t) (k : ℕ) (d : (write n c t).answer ≡ done k) where
-  -- into tables with room
-  pub read-written : (ls : Lengths) → Fits (room_in maps ls) c → read ls (take k (write n c t).buffer) ≡ record { answer = done c; tables = padded_tables ls (counted maps c t) }
-  read-written ls R =
-      ap (read ls) (done-file (length layouts) (layout_of layouts (length layouts)) n c t k d)
-      ∙ written_is_read layouts (length layouts) (omega arith) (omega arith) (omega arith) n c t ls F (done-accepts (length layouts) (layout_of layouts (length layouts)) n c t k d) R
-
-  -- into tables of the same lengths, where past the counts there are zeros: the same tables
-  pub read_back : t ≡ padded_tables (lengths_of t) (counted maps c t) → read (lengths_of t) (take k (write n c t).buffer) ≡ record { answer = done c; tables = t }
-  read_back z =
-      read-written (lengths_of t) (write_is (layout_of layouts (length layouts)) n (lengths_of t) c t (done-accepts (length layouts) (layout_of layouts (length layouts)) n c t k d)).room
-      ∙ ap (λ (u : Tables). record { answer = done c; tables = u }) (sym z)

@@ -6,7 +6,7 @@ use Rattle.std.proofs.lemmas.Bool.{lt-leb, eqb-false}
 use Rattle.exact.specs.Tests.{eq_t, t_eq, eq-sign}
 use Rattle.seq.specs.Seq.{Bool, true, false, not, ℕ, leb, ltb, eqb, pos, the_some_below}
 use Rattle.seq.specs.Tests.{or_false, and_both, and_parts, false_or, was-false, was-true}
-use Rattle.seq.specs.Least.{some_has, some_witness, no_some, no_some_is}
+use Rattle.seq.proofs.Least.{some_has, some_witness, no_some, no_some_is}
 use Rattle.paper.specs.Limits.{denominator_bytes}
 use Rattle.paper.specs.Plane.{is_zer, sgn}
 use Rattle.paper.specs.Graph.{twin}

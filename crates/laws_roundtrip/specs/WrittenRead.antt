@@ -2,23 +2,22 @@
 -- version's layout that the writer writes (`read_is_written`), then for the reader and the writer as they stand (`written_read`). Assumes nothing.
 use Rattle.std.specs.Prelude.{◌≡◌, ◌<◌, ◌≤◌, ◌+◌, ◌*◌, ◌/◌, ◌%◌}
 use Rattle.std.proofs.Common.{sym, ◌∙◌, ap, subst, le_refl, arith, lt-ltb}
-use Rattle.seq.specs.Seq.{Bool, cond, List, Option, none, ℕ, length, get_or, ℤ, padded}
+use Rattle.seq.specs.Seq.{Bool, cond, List, ℕ, length, get_or, ℤ, padded}
 use Rattle.paper.specs.Limits.{denominator_bytes, maps}
 use Rattle.paper.specs.Bytes.{ascii, number, u16, signed_at, le, le_signed}
-use Rattle.paper.specs.Refusal.{Refusal, done, unless_refused}
+use Rattle.paper.specs.Refusal.{done}
 use Rattle.paper.specs.Tables.{vertex_cell, source_cell, face_cell, Counts, Tables}
-use Rattle.paper.specs.Lent.{Lengths, lengths_of, padded_tables, zero_tables}
-use Rattle.paper.specs.Ovfile.{Layout, layouts, file_length, edge_fields, overlay_file, layout_of}
-use Rattle.paper.specs.Writer.{write_by, write}
-use Rattle.paper.specs.Reader.{counts_in, edge_field, tables_in, read_fault, read_by, read}
-use Rattle.laws_refusals.specs.Refusals.{done_none}
+use Rattle.paper.specs.Lent.{Lengths, lengths_of, padded_tables}
+use Rattle.paper.specs.Ovfile.{Layout, file_length, edge_fields, overlay_file, layout_of}
+use Rattle.paper.specs.Writer.{write_by}
+use Rattle.paper.specs.Reader.{counts_in, edge_field, tables_in, read_by}
 use Rattle.laws_file.specs.Bytes.{Bytes, Stands, le-number, le_signed-signed}
 use Rattle.laws_file.specs.Stands.{stands-whole}
 use Rattle.laws_file.specs.Agree.{file_same, padded-agree}
 use Rattle.laws_file.specs.Placed.{vertex_at, the_edge_at, face_at, edge_width, Placed, length-file, placed-file}
 use Rattle.laws_file.specs.EdgeFields.{fields-are}
 use Rattle.laws_file.specs.Fields.{marked-stands}
-use Rattle.laws_roundtrip.specs.Accepts.{is_write, Reads, read_is}
+use Rattle.laws_roundtrip.specs.Accepts.{is_write, Reads}
 use Rattle.laws_roundtrip.specs.ReadCells.{vertex-cell, half-cell, source-cell, face-fields, read-lengths}
 use Rattle.laws_roundtrip.specs.Zeros.{padded-writes}
 use Rattle.laws_roundtrip.specs.ReadWritten.{write_done}
@@ -95,31 +94,5 @@ module _ (l : Layout) (some_bytes : 0 < l.coordinate) (s : List ℕ) (B : Bytes 
 
 module _ (known : List Layout) (version : ℕ) (some_bytes : 0 < (layout_of known version).coordinate) (s : List ℕ) (B : Bytes s) (is-version : u16 s 3 ≡ version) (ls : Lengths) (c : Counts)
     (d : (read_by (layout_of known version).maps known ls s).answer ≡ done c) where
-  abbrev l : Layout
+  abbrev pub l : Layout
   l = layout_of known version
-
-  -- the fault by a layout
-  abbrev fault_by : Layout → Option Refusal
-  fault_by lo = read_fault l.maps (length known) lo ls s (tables_in l.maps lo s)
-
-  none_by : (fault_by (layout_of known (u16 s 3)) ≡ none) × (counts_in s ≡ c)
-  none_by = done_none (counts_in s) c (fault_by (layout_of known (u16 s 3))) d
-
-  accepted : Reads l.maps (length known) l ls s (tables_in l.maps l s)
-  accepted = read_is l.maps (length known) l ls s (tables_in l.maps l s) (ap (λ (v : ℕ). fault_by (layout_of known v)) (sym is-version) ∙ none_by.0)
-
-  tables-are : (read_by l.maps known ls s).tables ≡ padded_tables ls (tables_in l.maps l s)
-  tables-are =
-      ap (λ (r : Option Refusal). unless_refused (padded_tables ls (tables_in l.maps (layout_of known (u16 s 3)) s)) (zero_tables ls) r) none_by.0
-      ∙ ap (λ (v : ℕ). padded_tables ls (tables_in l.maps (layout_of known v) s)) is-version
-
-  pub read_is_written : (n : ℕ) → length s ≤ n
-      → write_by version (layout_of known version) n c (read_by (layout_of known version).maps known ls s).tables ≡ record { answer = done (length s); buffer = padded 0 n s }
-  read_is_written n m =
-      (λ i. write_by (sym is-version i) l n (sym none_by.1 i) (tables-are i)) ∙ written l some_bytes s B (length known) ls accepted n m
-
--- ── the reader and the writer ──
-
-pub written_read : (ls : Lengths) (s : List ℕ) → Bytes s → (c : Counts) → (read ls s).answer ≡ done c → u16 s 3 ≡ length layouts → (n : ℕ) → length s ≤ n
-    → write n c (read ls s).tables ≡ record { answer = done (length s); buffer = padded 0 n s }
-written_read ls s B c d v = read_is_written layouts (length layouts) (omega arith) s B v ls c d

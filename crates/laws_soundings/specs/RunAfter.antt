@@ -8,7 +8,8 @@ use Rattle.std.proofs.Math.Seq.{drop-length}
 use Rattle.seq.specs.Seq.{Bool, true, false, cond, List, [], gather, Option, none, some, ℕ, suc, ltb, length, take, drop, least, table, insert_by}
 use Rattle.seq.specs.Total.{total}
 use Rattle.seq.specs.Table.{table-ext}
-use Rattle.seq.specs.Least.{least-le, least-ext}
+use Rattle.seq.specs.Least.{least-ext}
+use Rattle.seq.proofs.Least.{least-le}
 use Rattle.seq.specs.Inserted.{insert-grows}
 use Rattle.paper.specs.Limits.{overlay_faces, list_soundings}
 use Rattle.paper.specs.Plane.{Vec}

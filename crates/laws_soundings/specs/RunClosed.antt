@@ -5,7 +5,7 @@ use Rattle.std.proofs.Common.{sym, ◌∙◌, ap, arith, lt-ltb, le-ltb, ltb-tru
 use Rattle.std.proofs.Math.Decide.{dec_lt}
 use Rattle.seq.specs.Seq.{Bool, true, false, cond, not, List, [], map, Option, none, some, ℕ, eqb, ltb, length, drop}
 use Rattle.seq.specs.Tests.{eqb_iff, or_r}
-use Rattle.seq.specs.Least.{least-le}
+use Rattle.seq.proofs.Least.{least-le}
 use Rattle.paper.specs.Limits.{overlay_faces, list_soundings}
 use Rattle.paper.specs.Refusal.{Refusal, given, first_of}
 use Rattle.paper.specs.Map.{map_of}

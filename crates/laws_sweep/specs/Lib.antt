@@ -6,7 +6,6 @@ pub mod Slots
 pub mod Waiting
 pub mod Queue
 pub mod Turn
-pub mod Step
 pub mod Through
 pub mod Stops
 pub mod Room

@@ -1,11 +1,11 @@
 -- The sweep over maps that keep the rules meets the vertices of their overlay: `swept-vertices`. Their edges, corners and vertices are a scene (`maps-scene`): an edge goes up, its ends are corners;
 -- a vertex is a corner or a crossing of edges of two maps; where two edges of one map meet, both end. Assumes nothing.
 use Rattle.std.specs.Prelude.{◌≡◌, refl, ◌⊎◌, ◌<◌, ◌≤◌, ◌<ℤ◌}
-use Rattle.std.proofs.Common.{sym, ◌∙◌, ap, subst, inl, inr, take_all}
+use Rattle.std.proofs.Common.{sym, ◌∙◌, ap, subst, inl, inr}
 use Rattle.std.proofs.Math.Decide.{ℕ_discrete}
 use Rattle.exact.specs.Sign.{is_zer}
 use Rattle.exact.specs.Lowest.{lowest, lowest_is}
-use Rattle.seq.specs.Seq.{true, List, ℕ, length, pos, rows, table, take}
+use Rattle.seq.specs.Seq.{true, List, ℕ, length, pos, rows, table}
 use Rattle.seq.specs.Terms.{Among, Every}
 use Rattle.seq.specs.Members.{every_in, in_every, at_among, among_at}
 use Rattle.seq.specs.Rows.{among-rows, rows-among}
@@ -23,9 +23,8 @@ use Rattle.laws_graph.specs.Plane.{upward_up}
 use Rattle.laws_map.specs.Keeps.{seg, edges}
 use Rattle.laws_overlay.specs.Maps.{AllKeep, points-lowest, foot-vertex, head-vertex}
 use Rattle.laws_overlay.specs.Vertices.{Vertex, vertex_from, vertex_has, vertices-lowest, vertices-rising}
-use Rattle.laws_sweep.specs.Sweep.{Strand, lo, hi, strands_of, corners_of, swept}
+use Rattle.laws_sweep.specs.Sweep.{Strand, lo, hi, strands_of, corners_of}
 use Rattle.laws_sweep.specs.Scene.{Parallel, Crosses, Scene, lowest_same}
-use Rattle.laws_sweep.specs.Stops.{stops-swept}
 
 -- e is edge k of map i
 pub record IsEdge (ms : List Map) (e : Strand) : Type 0 where
@@ -175,11 +174,3 @@ module _ (ms : List Map) (K : AllKeep ms) where
     meet_in = λ e f i j. meet-vertex e f (strand_from e i) (strand_from f j);
     one_map = λ e f i j. one_map-end e f (strand_from e i) (strand_from f j);
   }
-
-  -- the first n vertices
-  pub swept_first : (n : ℕ) → swept n ms ≡ take n (vertices_of ms)
-  swept_first n = stops-swept (strands_of ms) (corners_of ms) (vertices_of ms) maps-scene n
-
-  -- with steps enough, all of them
-  pub swept-vertices : (n : ℕ) → length (vertices_of ms) ≤ n → swept n ms ≡ vertices_of ms
-  swept-vertices n l = swept_first n ∙ take_all n (vertices_of ms) l

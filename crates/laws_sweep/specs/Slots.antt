@@ -10,7 +10,8 @@ use Rattle.paper.specs.Plane.{cross, before}
 use Rattle.laws_plane.specs.Cone.{UpV}
 use Rattle.laws_plane.specs.Points.{before_asym, le_trans}
 use Rattle.laws_plane.specs.Ends.{0<1}
-use Rattle.laws_plane.specs.Angles.{turn-trans, turn-swap}
+use Rattle.laws_plane.specs.Angles.{turn-swap}
+use Rattle.laws_plane.proofs.Angles.{turn-trans}
 use Rattle.laws_sweep.specs.Gap.{spread}
 use Rattle.laws_sweep.specs.Sweep.{Strand, lo, steeper, sooner}
 

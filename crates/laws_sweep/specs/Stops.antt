@@ -1,40 +1,22 @@
 -- The line stops at the stops and nowhere else, in order (`swept_left`, `stops-swept`): by a step at a time, from a point before all of them. Also after fewer steps than there are stops: then at the
 -- first so many. At every step what has been met and the queue together are a rising list of stops, so that there are never more of them than stops. Assumes nothing.
 use Rattle.std.specs.Prelude.{◌≡◌, ℤ, pos, ◌-ℤ◌, ◌*ℤ◌, ◌<ℤ◌, ◌∷◌}
-use Rattle.std.proofs.Math.Path.{refl, ap, subst}
+use Rattle.std.proofs.Math.Path.{refl, subst}
 use Rattle.std.proofs.Common.{sym, ◌∙◌, inl, ⊎_elim}
 use Rattle.exact.specs.Solve.{ring, reify}
 use Rattle.exact.specs.Order.{0<-*}
 use Rattle.exact.specs.Mul.{0<-by}
-use Rattle.seq.specs.Seq.{true, List, [], ℕ, zero, suc, take}
+use Rattle.seq.specs.Seq.{true, List, []}
 use Rattle.seq.specs.Terms.{Among, Rising}
 use Rattle.seq.specs.Tests.{clash}
-use Rattle.seq.specs.Search.{trail}
-use Rattle.seq.specs.Slotted.{slots}
 use Rattle.paper.specs.Plane.{Pt, whole, nowhere, before}
 use Rattle.laws_plane.specs.Cone.{level}
 use Rattle.laws_plane.specs.Points.{up_before, before_trans}
 use Rattle.laws_plane.specs.Ends.{0<1}
-use Rattle.laws_sweep.specs.Sweep.{Strand, lo, starts_at, sooner, status, found, put, sweep}
+use Rattle.laws_sweep.specs.Sweep.{Strand, lo}
 use Rattle.laws_sweep.specs.Scene.{Scene, State}
-use Rattle.laws_sweep.specs.Next.{queue_next, queue-done}
-use Rattle.laws_sweep.specs.Waiting.{Waiting, waits, waits_on}
-use Rattle.laws_sweep.specs.Step.{stepped}
 
 module _ (es : List Strand) (corners stops : List Pt) (S : Scene es corners stops) where
-  -- ── a step at a time ──
-
-  pub swept_left : (n : ℕ) (p : Pt) (left queue : List Pt) (s w : List Strand) → State es corners stops p left queue s → Waiting es p w → sweep n w queue s ≡ take n left
-  unfolding sweep
-  swept_left zero p left queue s w I L = refl
-  swept_left (suc n) p [] queue s w I L = ap (λ (q : List Pt). sweep (suc n) w q s) (queue-done es corners stops p queue s I)
-  swept_left (suc n) p (v ∷ vs) queue s w I L =
-      let (rest, e) = queue_next es corners stops S p v vs queue s I in
-      let J = subst (λ (q : List Pt). State es corners stops p (v ∷ vs) q s) e I in
-      ap (λ (q : List Pt). sweep (suc n) w q s) e
-      ∙ ap (λ (l : List Pt). v ∷ l)
-      (swept_left n v vs (put (found w v s) rest) (status w v s) (trail (starts_at v) w) (stepped es corners stops S p v vs rest s J w L) (waits_on es corners stops S p v vs (v ∷ rest) s J w L))
-
   -- ── the start ──
 
   pub start_by : (p : Pt) → pos 0 <ℤ p.D → ((z : Pt) → Among z stops → before p z ≡ true) → State es corners stops p stops corners []
@@ -76,9 +58,3 @@ module _ (es : List Strand) (corners stops : List Pt) (S : Scene es corners stop
             ⊎_elim (λ k. subst (λ (y : Pt). before (westward w) y ≡ true) (sym k) (west_before w h))
             (λ k. before_trans (westward w) w z h h (S.lowest_in z i).positive (west_before w h) (r.0 z k)) (subst (Among z) e i),
       )
-
-  -- the line stops at the first n stops
-  pub stops-swept : (n : ℕ) → sweep n (slots sooner [] es) corners [] ≡ take n stops
-  stops-swept n =
-      let (p, h, b) = begins stops refl in
-      swept_left n p stops corners [] (slots sooner [] es) (start_by p h b) (waits es p (λ z i. b (lo z) (S.corner_in_lem (lo z) (S.low_in z i))))

@@ -2,11 +2,11 @@
 -- v has before it every edge that v lies on. Assumes nothing.
 use Rattle.std.specs.Prelude.{◌≡◌, ◌⊎◌, ◌∷◌, ◌++◌}
 use Rattle.std.proofs.Common.{sym, ◌∙◌, ap, subst, inl, inr, ⊎_elim}
-use Rattle.exact.specs.Sign.{sgn, is_neg, is_zer}
+use Rattle.exact.specs.Sign.{sgn, is_neg}
 use Rattle.exact.specs.Signs.{zer_is}
 use Rattle.seq.specs.Seq.{true, List, ℤ}
 use Rattle.seq.specs.Terms.{Among}
-use Rattle.seq.specs.Members.{++-among, among-++}
+use Rattle.seq.specs.Members.{++-among}
 use Rattle.seq.specs.Tests.{never}
 use Rattle.seq.specs.Search.{lead-trail, lead_has, trail}
 use Rattle.paper.specs.Plane.{Pt, same, the_left_by}
@@ -18,7 +18,6 @@ use Rattle.laws_sweep.specs.Scene.{Scene, Cut, State}
 use Rattle.laws_sweep.specs.Next.{v_lowest, is_0, on_at_lem, through-cut}
 use Rattle.laws_sweep.specs.Waiting.{Waiting}
 use Rattle.laws_sweep.specs.Turn.{side}
-use Rattle.laws_sweep.specs.Step.{step-turn}
 
 module _ (es : List Strand) (corners stops : List Pt) (S : Scene es corners stops) (p : Pt) (v : Pt) (vs rest : List Pt) (s : List Strand) (I : State es corners stops p (v ∷ vs) (v ∷ rest) s)
     (w : List Strand) (L : Waiting es p w) where
@@ -26,7 +25,7 @@ module _ (es : List Strand) (corners stops : List Pt) (S : Scene es corners stop
   R = trail (right v) s
 
   -- the three parts of the status
-  parts : west_of v s ++ (through v s ++ east_of v s) ≡ s
+  pub parts : west_of v s ++ (through v s ++ east_of v s) ≡ s
   parts = ap (λ (l : List Strand). west_of v s ++ l) (lead-trail (on v) R) ∙ lead-trail (right v) s
 
   through_in : (z : Strand) → Among z (through v s) → Among z s
@@ -47,17 +46,7 @@ module _ (es : List Strand) (corners stops : List Pt) (S : Scene es corners stop
   pub west_off : (z : Strand) → Among z (west_of v s) → On z.seg v → ⊥
   west_off z i o = never (ap (λ (k : ℤ). is_neg (sgn k)) (sym o.line) ∙ lead_has (right v) s z i)
 
-  pub east_off : (z : Strand) → Among z (east_of v s) → On z.seg v → ⊥
-  east_off z i o = never (ap is_zer (sym ((step-turn es corners stops S p v vs rest s I w L).east_is z i)) ∙ ap (λ (k : ℤ). is_zer (sgn k)) o.line)
-
   -- one through v starts there, or the line cuts it
   pub on_next : (z : Strand) → Among z es → On z.seg v → (starts_at v z ≡ true) ⊎ Cut es p z
   on_next z i o =
       ⊎_elim (λ e. inl (subst (λ (q : Pt). same (lo z) q ≡ true) e (same_self (lo z)))) (λ c. inr c) (through-cut es corners stops S p v vs (v ∷ rest) s I z i o)
-
-  pub on_through : (z : Strand) → Among z es → On z.seg v → (starts_at v z ≡ true) ⊎ Among z (through v s)
-  on_through z i o = ⊎_elim (λ b. inl b) (λ c. inr (middle (among-++ z (west_of v s) (through v s ++ east_of v s) (subst (Among z) (sym parts) (I.cut_has z c))))) (on_next z i o)
-    where
-      middle : Among z (west_of v s) ⊎ Among z (through v s ++ east_of v s) → Among z (through v s)
-      middle (inl j) = absurd (west_off z j o)
-      middle (inr j) = ⊎_elim (λ k. k) (λ k. absurd (east_off z k o)) (among-++ z (through v s) (east_of v s) j)

@@ -1,16 +1,13 @@
 -- How large a height is: a ratio is at most 4, a weight at most 1, a reading at most 20,000, each in magnitude; so a height is at most 80,000, before rounding (`height-small`) and as whole
 -- millimetres (`nearest_at_most`), and none that is answered is larger or not finite (`tide-small`). Assumes nothing.
 use Rattle.std.specs.Prelude.{◌≡◌, suc, ◌^◌, ◌≤◌, ◌<◌, T, eqb, Float, ◌∷◌, ◌&&◌, ◌+◌, ◌*◌}
-use Rattle.std.proofs.Common.{sym, ap, ◌∙◌, subst, zero-le, le_of_suc-le-suc, le_trans, le_of_eq, mul_left_comm, le_of_mul-le-mul_right, mul-one, one-mul, div-lt_iff_lt-mul, suc-mul, arith, leb→le, eqb→eq, lit≤}
+use Rattle.std.proofs.Common.{sym, ap, ◌∙◌, zero-le, le_of_suc-le-suc, le_trans, le_of_eq, mul_left_comm, le_of_mul-le-mul_right, mul-one, one-mul, div-lt_iff_lt-mul, suc-mul, arith, leb→le, eqb→eq, lit≤}
 use Rattle.std.specs.Float.{nan, inf, fin, binary64}
 use Rattle.std.specs.Float.Ieee.{up, down, le, mul}
 use Rattle.std.specs.Float.Ieee.Fits.{and_l, and_r, down_pos}
-use Rattle.seq.specs.Seq.{[], none, Bool, true, false, not, ℕ, ℤ, pos, negsuc, nat_abs}
-use Rattle.seq.specs.Tests.{true_T, was-true}
+use Rattle.seq.specs.Seq.{[], true, false, ℕ, ℤ, pos, negsuc, nat_abs}
 use Rattle.paper.specs.Limits.{gauge_reach}
-use Rattle.paper.specs.Refusal.{given, done}
-use Rattle.paper.specs.Tide.{TideRule, unset, ratio, weights, Reading, missing, at, Height, is_unset, within, weight_in, in_range, readable, readings_good, tide_refusal, gauge, height_of, the_half_up, nearest_whole, tide_of, tide}
-use Rattle.laws_refusals.specs.Refusals.{nothing, given_none, done_none}
+use Rattle.paper.specs.Tide.{TideRule, unset, ratio, weights, Reading, missing, at, within, weight_in, in_range, readable, readings_good, gauge, height_of, the_half_up, nearest_whole}
 use Rattle.laws_tide.specs.AtMost.{AtMost, le_or_eq, mul_at_most, add_at_most, int_at_most, wider}
 use Rattle.laws_tide.specs.Nearest.{twice, abs-signed}
 
@@ -66,23 +63,3 @@ unfolding nearest_whole
 nearest_at_most nan B p = absurd p
 nearest_at_most (inf s) B p = absurd p
 nearest_at_most (fin s m e) B p = le_trans (le_of_eq (abs-signed s (the_half_up (m * up e) (down e)))) (half_up_at_most (m * up e) (down e) B (down_pos e) p)
-
--- ── what is answered ──
-
--- nothing is refused: rule and readings are good
-passed : (t : TideRule) (x y : Reading) → tide_refusal t x y ≡ none → T (in_range t) × T (readings_good t x y)
-passed t x y e =
-    let n = nothing (given 14 0 (is_unset t) ∷ given 15 0 (not (in_range t)) ∷ given 16 0 (not (readings_good t x y)) ∷ []) e in
-    let kept : (r : ℕ) (b : Bool) → given r 0 (not b) ≡ none → T b = λ r b g. true_T (was-true b (given_none r 0 (not b) g)) in
-    (kept 15 (in_range t) n.1.0, kept 16 (readings_good t x y) n.1.1.0)
-
-pub height-small : (t : TideRule) (x y : Reading) → tide_refusal t x y ≡ none → AtMost 80000 (height_of t x y)
-height-small t x y e = let p = passed t x y e in height_at_most t x y p.0 p.1
-
--- every height that is answered is finite and at most 80,000 before rounding, and as whole millimetres
-pub tide-small : (t : TideRule) (x y : Reading) (r : Height) → tide t x y ≡ done r → AtMost 80000 r.height × (nat_abs r.millimetres ≤ 80000)
-unfolding tide
-tide-small t x y r e =
-    let d = done_none (tide_of t x y) r (tide_refusal t x y) e in
-    let h = height-small t x y d.0 in
-    subst (λ (r : Height). AtMost 80000 r.height × (nat_abs r.millimetres ≤ 80000)) d.1 (h, nearest_at_most (height_of t x y) 80000 h)

@@ -1,11 +1,9 @@
 -- The cases of the height operation in their order: refusals 14, 15 and 16, and the height; and the whole from a refusal and a height, as code has them. Assumes nothing.
 use Rattle.std.specs.Prelude.{◌≡◌, refl, Float, ◌∷◌}
-use Rattle.std.proofs.Common.{sym, ◌∙◌, subst}
-use Rattle.seq.specs.Seq.{Bool, true, false, not, ℕ, [], Option, none}
+use Rattle.std.proofs.Common.{◌∙◌}
+use Rattle.seq.specs.Seq.{Bool, true, false, not, ℕ, [], Option}
 use Rattle.paper.specs.Refusal.{Refusal, given, first_of, answer, Answer, done}
 use Rattle.paper.specs.Tide.{TideRule, unset, Reading, missing, Height, is_unset, in_range, readings_good, tide_refusal, height_of, nearest_whole, tide_of, tide}
-use Rattle.laws_tide.specs.AtMost.{AtMost}
-use Rattle.laws_tide.specs.Bound.{height-small}
 
 -- refusal n with map 0 and place 0, whatever would be answered otherwise
 abbrev pub no : ℕ → Answer Height
@@ -36,9 +34,6 @@ answered t x y u i g = tide_is t x y ∙ (λ k. by (tide_of t x y) (u k) (i k) (
 -- ── as code has them: f is what is refused, h the height, v the rule ──
 
 module _ (t : TideRule) (x y : Reading) {f : Option Refusal} {h : Float} (p : f ≡ tide_refusal t x y) (q : h ≡ height_of t x y) where
-  pub small_by : f ≡ none → AtMost 80000 h
-  small_by n = subst (AtMost 80000) (sym q) (height-small t x y (sym p ∙ n))
-
   pub tide_by : {v : TideRule} → v ≡ t → answer (record { height = h; millimetres = nearest_whole h; rule = v }) f ≡ tide t x y
   unfolding tide
   tide_by r = λ i. answer (record { height = q i; millimetres = nearest_whole (q i); rule = r i }) (p i)

@@ -11,7 +11,8 @@ use Rattle.laws_graph.specs.Corners.{Corners, corners-clear}
 use Rattle.laws_graph.specs.Laid.{foot_low, head_high}
 use Rattle.laws_graph.specs.Reading.{edges-count}
 use Rattle.laws_map.specs.Passes.{passes-rules}
-use Rattle.laws_map.specs.Files.{file-corners, passes-keeps}
+use Rattle.laws_map.specs.Files.{file-corners}
+use Rattle.laws_map.proofs.Files.{passes-keeps}
 use Rattle.laws_looks.specs.Ordered.{InOrder}
 use Rattle.plane.specs.Bounds as Bounds
 use Rattle.plane.specs.Values.{seg}

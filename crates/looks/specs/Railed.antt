@@ -3,7 +3,8 @@
 use Rattle.std.specs.Prelude.{◌≡◌, refl, ◌≤◌, ◌<◌, ◌&&◌}
 use Rattle.std.proofs.Common.{sym, ◌∙◌, ap, arith}
 use Rattle.seq.specs.Seq.{Bool, true, false, not, List, Option, none, some, Option·map, ℕ, length, get_or, ℤ, least, best, or_zero}
-use Rattle.seq.specs.Least.{least_min, least-ext, least-le}
+use Rattle.seq.specs.Least.{least-ext}
+use Rattle.seq.proofs.Least.{least_min, least-le}
 use Rattle.seq.specs.Best.{best_has}
 use Rattle.seq.specs.BestLoop.{best-ext}
 use Rattle.seq.specs.Count.{count-le}
@@ -15,7 +16,8 @@ use Rattle.laws_plane.specs.Ends.{0<1}
 use Rattle.laws_graph.specs.Plane.{Plane}
 use Rattle.laws_graph.specs.Nearest.{Clear}
 use Rattle.laws_graph.specs.West.{candidate}
-use Rattle.laws_looks.specs.Ordered.{InOrder, reads, reads-are, ordered-look}
+use Rattle.laws_looks.specs.Ordered.{InOrder, reads, reads-are}
+use Rattle.laws_looks.proofs.Ordered.{ordered-look}
 use Rattle.graph.specs.Flat.{carrier_at, Carriers}
 use Rattle.graph.specs.Look.{westward_of}
 use Rattle.looks.specs.Rails.{above, passes, closer, above_at, passes_at, closer_at, rails_read, rail_seen, rail_label}

@@ -3,7 +3,8 @@
 use Rattle.std.specs.Prelude.{◌≡◌, refl, ◌≤◌, ◌<◌, ◌&&◌, ◌∷◌, ◌+◌, ◌*◌}
 use Rattle.std.proofs.Common.{sym, ◌∙◌, ap, arith, lt-ltb, le-ltb}
 use Rattle.seq.specs.Seq.{Bool, true, false, cond, List, [], Option, none, some, Option·getD, ℕ, ltb, get_or, ℤ, least, best, or_zero}
-use Rattle.seq.specs.Least.{least_more, least_min, least_by, least-le}
+use Rattle.seq.specs.Least.{least_more}
+use Rattle.seq.proofs.Least.{least_min, least_by, least-le}
 use Rattle.seq.specs.Best.{best_has}
 use Rattle.seq.specs.Pick.{pick, better, pick-turn, pick_below}
 use Rattle.paper.specs.Plane.{Vec, Seg, head, whole, below}

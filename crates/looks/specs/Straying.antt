@@ -3,7 +3,7 @@ use Rattle.std.specs.Prelude.{◌≡◌, ◌≤◌, ◌<◌, ◌||◌, ◌*◌, 
 use Rattle.std.proofs.Common.{sym, ◌∙◌, ap, ltb-false, lt-ltb, le-ltb}
 use Rattle.seq.specs.Seq.{Bool, true, false, List, ℕ, length, ltb, the_some_below, ℤ, nat_abs}
 use Rattle.seq.specs.Tests.{or_l, or_false}
-use Rattle.seq.specs.Least.{no_some, no_some_is}
+use Rattle.seq.proofs.Least.{no_some, no_some_is}
 use Rattle.paper.specs.Limits.{reach}
 use Rattle.paper.specs.Plane.{Seg}
 use Rattle.plane.specs.Bounds as Bounds

@@ -4,7 +4,8 @@ use Rattle.std.specs.Prelude.{◌&&◌, ◌∷◌, ◌*◌}
 use mathlib.Core.Path.{◌≡◌, refl, sym, ap, ◌∙◌, subst}
 use Prim.Native.Nat.{◌<◌}
 use borrow.Author.Tests.{ltb-true}
-use Rattle.seq.specs.Least.{least-ext, some_ext, no_some_is}
+use Rattle.seq.specs.Least.{least-ext}
+use Rattle.seq.proofs.Least.{some_ext, no_some_is}
 use Rattle.seq.specs.Seq.{Bool, true, false, not, Option, none, some, List, [], ℕ, eqb, ltb, length, ℤ, least, the_some_below}
 use Rattle.paper.specs.Plane.{Seg, clash}
 use Rattle.paper.specs.Refusal.{Refusal, beside, given, first_at, first_of}

@@ -5,7 +5,8 @@ use mathlib.Core.Path.{◌≡◌, refl, sym, ap, ◌∙◌}
 use Prim.Native.Nat.{◌≤◌, ◌<◌}
 use native.Mathlib.Omega.{arith}
 use borrow.Author.Tests.{lt-ltb, le-ltb, le-leb, lt-leb}
-use Rattle.seq.specs.Least.{least-ext, some_ext}
+use Rattle.seq.specs.Least.{least-ext}
+use Rattle.seq.proofs.Least.{some_ext}
 use Rattle.seq.specs.Seq.{Bool, zero, suc, negsuc, [], true, false, List, ℕ, ltb, leb, eqb, length, ℤ, pos, nat_abs, least}
 use Rattle.exact.specs.Mach.{eq_z}
 use Rattle.exact.specs.Sign.{sgn, is_zer, lex_s}

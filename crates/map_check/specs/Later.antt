@@ -4,7 +4,8 @@ use Rattle.std.specs.Prelude.{◌≡◌, ◌<◌, ◌≤◌, ◌&&◌, ◌+◌}
 use Rattle.std.proofs.Common.{sym, ◌∙◌, ap, subst, arith, ltb-true, lt-ltb, le-ltb, eq-eqb, ne_eqb}
 use Rattle.std.proofs.Math.Decide.{dec_lt}
 use Rattle.seq.specs.Seq.{Bool, true, false, not, List, Option, none, ℕ, ltb, ℤ, least, the_some_below}
-use Rattle.seq.specs.Least.{least-le, least-holds, least_min, least_by, least_none, least-ext, some_has, some_witness, no_some, no_some_is}
+use Rattle.seq.specs.Least.{least-ext}
+use Rattle.seq.proofs.Least.{least-le, least-holds, least_min, least_by, least_none, some_has, some_witness, no_some, no_some_is}
 use Rattle.seq.specs.Tests.{bool-ext, and_parts}
 use Rattle.paper.specs.Plane.{Seg, head, whole, clash}
 use Rattle.paper.specs.Refusal.{Refusal, beside}

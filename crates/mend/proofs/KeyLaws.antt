@@ -7,7 +7,8 @@ use native.Mathlib.Omega.{arith}
 use borrow.Author.Tests.{eqb-true, eq-eqb, leb-true, leb-false}
 use Rattle.seq.specs.Seq.{Bool, true, false, cond, not, List, ℕ, leb, eqb, ℤ, pos, negsuc, nat_abs, get_or, least, the_some_below, filled}
 use Rattle.seq.specs.Tests.{bool-ext, or_l, or_r, or_cases, and_both, and_parts}
-use Rattle.seq.specs.Least.{least-ext, some_ext}
+use Rattle.seq.specs.Least.{least-ext}
+use Rattle.seq.proofs.Least.{some_ext}
 use Rattle.seq.specs.Filled.{filled_at, filled-ext}
 use Rattle.paper.specs.Limits.{reach}
 use Rattle.paper.specs.Plane.{Vec, vec, whole, same}

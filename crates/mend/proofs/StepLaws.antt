@@ -4,7 +4,7 @@ use mathlib.Core.Path.{◌≡◌, refl, sym, ◌∙◌, ap}
 use Prim.Native.Nat.{◌≤◌, ◌<◌}
 use native.Mathlib.Omega.{arith}
 use Rattle.seq.specs.Seq.{Bool, true, false, cond, not, List, ℕ, eqb, length, get_or, the_some_below, filled}
-use Rattle.seq.specs.Least.{some_ext}
+use Rattle.seq.proofs.Least.{some_ext}
 use Rattle.seq.specs.Filled.{Holds, filled_at, length-filled}
 use Rattle.paper.specs.Graph.{Graph, edge, origin}
 use Rattle.paper.specs.Map.{map_of, vertex_count, edges_in}

@@ -10,7 +10,8 @@ use Rattle.paper.specs.Mend.{mend, entries}
 use Rattle.paper.specs.Refusal.{Refusal, done, refused}
 use Rattle.laws_file.specs.Bytes.{Bytes}
 use Rattle.laws_mend.specs.Mends.{Mends}
-use Rattle.laws_mend.specs.Outcome.{passes-mend, refused-zero, done-refusal, done-mends, done-list, done-count, mend-again}
+use Rattle.laws_mend.specs.Outcome.{passes-mend, refused-zero, done-list, done-count, mend-again}
+use Rattle.laws_mend.proofs.Outcome.{done-refusal, done-mends}
 use Rattle.mend.specs.declared.answer.Mended.{Mended}
 use Rattle.mend.specs.Answers.{answer_of, mending_of}
 

@@ -12,7 +12,8 @@ use Rattle.seq.specs.Seq.{List, ℕ, least, select}
 use Rattle.seq.specs.Terms.{Among}
 use Rattle.seq.specs.Table.{table-among}
 use Rattle.seq.specs.Range.{select_none}
-use Rattle.seq.specs.Halves.{Lasts, Rises, reached, place-lasts, place_found}
+use Rattle.seq.specs.Halves.{Lasts, Rises, reached, place-lasts}
+use Rattle.seq.proofs.Halves.{place_found}
 use Rattle.paper.specs.Plane.{Pt, Vec, Seg, whole, head, before, the_left_by, on_seg}
 use Rattle.laws_plane.specs.Points.{before_trans, before_asymmetric}
 use Rattle.laws_cut.specs.Between.{the_on_line, below_off, within_on, along-upto}

@@ -4,8 +4,9 @@ use Rattle.std.specs.Prelude.{◌≡◌, refl, ◌≤◌, ◌<◌, ℤ, pos, ◌
 use Rattle.std.proofs.Common.{sym, ◌∙◌, ap, arith}
 use Rattle.exact.specs.Lowest.{Pt}
 use Rattle.seq.specs.Seq.{Bool, true, false, List, [], ℕ, length, get_or, cell, rows, the_some_below, row_stored, is_in, fresh}
-use Rattle.seq.specs.Least.{some_ext}
-use Rattle.seq.specs.Collected.{in_some, fresh_old, fresh_new}
+use Rattle.seq.proofs.Least.{some_ext}
+use Rattle.seq.specs.Collected.{fresh_old, fresh_new}
+use Rattle.seq.proofs.Collected.{in_some}
 use Rattle.seq.specs.Table.{length-table, table_at, table_more, table-ext}
 use Rattle.seq.specs.Rows.{rows_more}
 use Rattle.graph.specs.Flat.{the_point_at}

@@ -20,7 +20,7 @@ use Rattle.paper.specs.Refusal.{Refusal, first_of}
 use Rattle.paper.specs.Graph.{Graph, origin}
 use Rattle.paper.specs.Map.{Map, map_of, vertex_count, edges_in, fault, form_faults, part_faults, net_faults}
 use Rattle.laws_map.specs.Keeps.{Keeps}
-use Rattle.laws_map.specs.Files.{passes-keeps}
+use Rattle.laws_map.proofs.Files.{passes-keeps}
 use Rattle.laws_refusals.specs.Refusals.{first_none}
 use Rattle.graph.specs.Flat.{Flat, flat_graph}
 use Rattle.map_file.specs.Rows.{point_row, carrier_row}

@@ -15,12 +15,13 @@ use Rattle.overlay_cut.specs.Collecting.{row_appended}
 use Rattle.seq.specs.Slotted.{slots}
 use Rattle.laws_sweep.specs.Sweep.{Strand, lo, sooner, sweep, put, found}
 use Rattle.seq.specs.Search.{Steady}
-use Rattle.laws_sweep.specs.Stops.{start_by, begins, stops-swept}
+use Rattle.laws_sweep.specs.Stops.{start_by, begins}
+use Rattle.laws_sweep.proofs.Stops.{stops-swept}
 use Rattle.laws_sweep.specs.Room.{met_room, met_all}
 use Rattle.laws_sweep.specs.Scene.{Scene, State}
 use Rattle.laws_sweep.specs.Waiting.{Waiting, waits, waits_on}
 use Rattle.laws_sweep.specs.Next.{v_ahead, v_real, queue_next, queue-done}
-use Rattle.laws_sweep.specs.Step.{stepped}
+use Rattle.laws_sweep.proofs.Step.{stepped}
 use Rattle.overlay_sweep.specs.Numbers.{numbers_in}
 use Rattle.overlay_sweep.specs.Fans.{numbers_from}
 use Rattle.overlay_sweep.specs.Falling.{falling_first, length-falling}

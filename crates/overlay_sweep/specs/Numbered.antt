@@ -17,7 +17,8 @@ use Rattle.laws_sweep.specs.Sweep.{Strand, lo, hi, starts_at}
 use Rattle.laws_sweep.specs.Scene.{Scene, Cut, State}
 use Rattle.laws_sweep.specs.Next.{v_ahead, v_real}
 use Rattle.laws_sweep.specs.Waiting.{Waiting, waits_on}
-use Rattle.laws_sweep.specs.Through.{through_on, start_on, west_off, east_off, on_next}
+use Rattle.laws_sweep.specs.Through.{through_on, start_on, west_off, on_next}
+use Rattle.laws_sweep.proofs.Through.{east_off}
 use Rattle.graph.specs.Flat.{carrier_at}
 use Rattle.overlay_sweep.specs.Numbers.{numbers_in}
 use Rattle.overlay_sweep.specs.Sides.{sooner_at}

@@ -16,7 +16,8 @@ use Rattle.overlay_cut.specs.Points.{points_of}
 use Rattle.seq.specs.Slotted.{slots}
 use Rattle.laws_sweep.specs.Sweep.{Strand, sooner, sweep, strands_of, corners_of}
 use Rattle.laws_sweep.specs.Scene.{Scene}
-use Rattle.laws_sweep.specs.Maps.{maps-scene, swept_first}
+use Rattle.laws_sweep.specs.Maps.{maps-scene}
+use Rattle.laws_sweep.proofs.Maps.{swept_first}
 use Rattle.overlay_sweep.specs.Turned.{fan_room}
 use Rattle.overlay_sweep.specs.Between.{edges_in, Outcome, all, more}
 use Rattle.overlay_sweep.specs.Loop.{stops_in, Given}

@@ -6,8 +6,9 @@ use native.Mathlib.Decide.{ℕ_discrete}
 use native.Mathlib.Omega.{arith}
 use borrow.Author.Tests.{ltb-true, lt-ltb, eq-eqb, ne_eqb}
 use Rattle.seq.specs.Seq.{Bool, true, false, cond, not, List, ℕ, ltb, eqb, length, get_or, least, the_some_below}
-use Rattle.seq.specs.Least.{least_at_most, least-holds, least_min, some_has, no_some}
-use Rattle.seq.specs.Firsts.{length-firsts, firsts_all}
+use Rattle.seq.proofs.Least.{least_at_most, least-holds, least_min, some_has, no_some}
+use Rattle.seq.specs.Firsts.{length-firsts}
+use Rattle.seq.proofs.Firsts.{firsts_all}
 use Rattle.paper.specs.Limits.{maps}
 use Rattle.paper.specs.Graph.{even, twin}
 use Rattle.ovfile.specs.Firsts.{column, first_followed, FirstPlaces, Followed}

@@ -9,10 +9,11 @@ use borrow.Author.Tests.{ltb-false}
 use Rattle.seq.specs.Seq.{Bool, true, false, cond, List, [], ℕ, ltb, eqb, length, get_or, pos, least, rows, position, firsts}
 use Rattle.seq.specs.Terms.{the_stands_at}
 use Rattle.seq.specs.Tests.{eqb_swap}
-use Rattle.seq.specs.Least.{least-le, least-ext}
+use Rattle.seq.specs.Least.{least-ext}
+use Rattle.seq.proofs.Least.{least-le}
 use Rattle.seq.specs.Table.{length-table, table_at}
 use Rattle.seq.specs.Rows.{rows_ext}
-use Rattle.seq.specs.Position.{position-least}
+use Rattle.seq.proofs.Position.{position-least}
 use Rattle.paper.specs.Limits.{absent, overlay_head, denominator_bytes}
 use Rattle.paper.specs.Bytes.{signed_at, number}
 use Rattle.paper.specs.Tables.{least_half}

@@ -9,7 +9,7 @@ use borrow.Author.Tests.{ltb-true, eq-eqb, ne_eqb}
 use lib.ListN.{set, length-set, get_or-replicate, length-replicate}
 use lib.Seq.{get_or-set_same, get_or-set_other}
 use Rattle.seq.specs.Seq.{Bool, true, false, cond, not, List, ℕ, ltb, eqb, length, get_or, replicate, the_some_below}
-use Rattle.seq.specs.Least.{some_has, some_witness, no_some, no_some_is, some_ext}
+use Rattle.seq.proofs.Least.{some_has, some_witness, no_some, no_some_is, some_ext}
 use Rattle.seq.specs.Table.{table_at}
 use Rattle.paper.specs.Limits.{maps}
 use Rattle.paper.specs.Graph.{twin}

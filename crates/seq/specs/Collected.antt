@@ -2,11 +2,10 @@
 -- loops are one; no element is like one before it; and where the test says what is equal it has exactly the members of both. Assumes nothing.
 use Rattle.std.specs.Prelude.{◌≡◌, refl, ◌⊎◌, ◌≤◌, ◌∷◌, ◌++◌, ◌+◌}
 use Rattle.std.proofs.Common.{sym, subst, inl, inr, ⊎_elim, arith, length-append}
-use Rattle.seq.specs.Seq.{Bool, true, false, cond, List, [], length, get_or, the_some_below, is_in, fresh, collect}
+use Rattle.seq.specs.Seq.{Bool, true, false, cond, List, [], length, is_in, fresh, collect}
 use Rattle.seq.specs.Terms.{Among, Every, Distinct}
-use Rattle.seq.specs.Tests.{clash, or_l, or_r, or_cases, or_false, bool-ext}
-use Rattle.seq.specs.Members.{among-++, ++-among, at_among, among_at}
-use Rattle.seq.specs.Least.{some_has, some_witness}
+use Rattle.seq.specs.Tests.{clash, or_l, or_r, or_cases, or_false}
+use Rattle.seq.specs.Members.{among-++, ++-among}
 
 module _ {A : Type 0} (same : A → A → Bool) where
   -- ── is_in ──
@@ -19,14 +18,6 @@ module _ {A : Type 0} (same : A → A → Bool) where
   in_has x y [] i e = absurd i
   in_has x y (z ∷ zs) (inl q) e = or_l (is_in same x zs) (subst (λ (w : A). same x w ≡ true) q e)
   in_has x y (z ∷ zs) (inr i) e = or_r (same x z) (in_has x y zs i e)
-
-  -- it is the search over the list's cells
-  pub in_some : (x : A) (l : List A) (d : A) → is_in same x l ≡ the_some_below (λ k. same x (get_or l k d)) (length l)
-  in_some x l d =
-      bool-ext (is_in same x l) (the_some_below (λ k. same x (get_or l k d)) (length l))
-      (λ e. let r = in_witness x l e in let s = among_at r.0 l d r.1 in
-      some_has (λ k. same x (get_or l k d)) (length l) s.0 s.1 (subst (λ (w : A). same x w ≡ true) (sym s.2) r.2))
-      (λ e. let r = some_witness (λ k. same x (get_or l k d)) (length l) e in in_has x (get_or l r.0 d) l (at_among l r.0 d r.1) r.2)
 
   -- ── one more, and lists end to end ──
 

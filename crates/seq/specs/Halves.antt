@@ -1,13 +1,11 @@
 -- A search by halves: of a test that, once it holds, holds from there on, the least number below n that has it. First any such test, by a loop and by a count; then the place of an element among
 -- rows in strict order, the first row that is not before it; an element that stands there is found at its place. Assumes nothing.
 use Rattle.std.specs.Prelude.{◌≡◌, ◌≤◌, ◌<◌, ◌+◌, ◌-◌, ◌/◌}
-use Rattle.std.proofs.Common.{sym, ◌∙◌, ap, subst, not-suc-le-zero, add-zero, arith}
+use Rattle.std.proofs.Common.{◌∙◌, ap, not-suc-le-zero, arith}
 use Rattle.std.proofs.Math.Decide.{dec_lt}
-use Rattle.seq.specs.Seq.{Bool, true, false, not, ℕ, least, count, table}
-use Rattle.seq.specs.Terms.{Rising, Transitive, Asymmetric}
+use Rattle.seq.specs.Seq.{Bool, true, false, not, ℕ, table}
+use Rattle.seq.specs.Terms.{Rising, Transitive}
 use Rattle.seq.specs.Tests.{clash, not-true, was-false}
-use Rattle.seq.specs.Least.{least-le, least-holds, least_min, least_by, least_is}
-use Rattle.seq.specs.Count.{count_all, count_none, count-+}
 use Rattle.seq.specs.SameRows.{RisesBelow, pairs-rises, rises-pairs}
 
 -- the middle
@@ -61,32 +59,6 @@ module _ (p : ℕ → Bool) where
     pub halve_down : p mid ≡ true → Halving n lo mid
     halve_down e = record { ordered = l; within = omega (arith, r.within); fails = r.fails; holds = λ q. e }
 
-  -- nothing is left: it is the least
-  pub halve_ends : {n lo hi : ℕ} → Halving n lo hi → hi ≤ lo → lo ≡ least p n
-  halve_ends {n} {lo} {hi} r h =
-      let e : hi ≡ lo = omega (arith, r.ordered) in
-      sym (least_by p n lo (omega (arith, r.within)) r.fails (λ q. ap p (sym e) ∙ r.holds (omega arith)))
-
--- ── what the least of them says ──
-
-module _ (p : ℕ → Bool) (n : ℕ) (up : Lasts p n) where
-  -- it holds from there on
-  pub from_least : (j : ℕ) → least p n ≤ j → j < n → p j ≡ true
-  from_least j l h =
-      elim (dec_lt (least p n) j) [
-        | yes s ↦ up (least p n) j s h (least-holds p n (omega arith))
-        | no s ↦ let e : least p n ≡ j = omega arith in ap p (sym e) ∙ least-holds p n (omega arith)
-      ]
-
-  -- and it stands after all that have the test not
-  pub least-counts : least p n ≡ count (λ i. not (p i)) n
-  least-counts =
-      let r = least p n in
-      let m = n - r in
-      let e : r + m ≡ n = omega (arith, least-le p n) in
-      sym (ap (count (λ i. not (p i))) (sym e) ∙ count-+ (λ i. not (p i)) r m
-      ∙ (λ t. count_all (λ i. not (p i)) r (λ k l. ap not (least_min p n k l)) t + count_none (λ i. not (p (r + i))) m (λ k l. ap not (from_least (r + k) (omega arith) (omega arith))) t) ∙ add-zero r)
-
 -- ── rows in strict order ──
 
 module _ {A : Type 0} (b : A → A → Bool) where
@@ -110,9 +82,3 @@ module _ {A : Type 0} (b : A → A → Bool) where
     -- once a row is not before q, none after it is
     pub place-lasts : (P : A → Type 0) → Transitive b P → ((k : ℕ) → k < n → P (f k)) → P q → Lasts (reached f q) n
     place-lasts P trans every pq i j s k e = ap not (not-true (b (f j) q) (λ g. clash (trans (f i) (f j) q (every i (omega arith)) (every j k) pq (R i j s k) g) (was-false (b (f i) q) e)))
-
-    -- an element that stands in row k is found there
-    pub place_found : Asymmetric b → (k : ℕ) → k < n → f k ≡ q → least (reached f q) n ≡ k
-    place_found asym k l e =
-        least_is (reached f q) n k l (λ j s. ap not (subst (λ (x : A). b (f j) x ≡ true) e (R j k s l)))
-        (ap not (not-true (b (f k) q) (λ g. let h : b q q ≡ true = subst (λ (x : A). b x q ≡ true) e g in asym q q h h)))

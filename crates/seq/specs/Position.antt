@@ -1,13 +1,12 @@
 -- Where a number first stands in a list, and whether it stands there: `position` is the search over the list's cells, and `elem` is membership.
 -- Assumes nothing.
 use Rattle.std.specs.Prelude.{◌≡◌, refl, ◌<◌, ◌≤◌, ◌∷◌}
-use Rattle.std.proofs.Common.{sym, ◌∙◌, inl, inr, suc-le-suc, zero-le, not-suc-le-zero, le_of_suc-le-suc, ltb-true, lt-ltb, eqb-true, eq-eqb, ne_eqb}
+use Rattle.std.proofs.Common.{sym, ◌∙◌, inl, inr, suc-le-suc, zero-le, not-suc-le-zero, le_of_suc-le-suc, ltb-true, lt-ltb, eqb-true}
 use Rattle.std.proofs.lemmas.Bool.{eqb-false}
-use Rattle.seq.specs.Seq.{Bool, true, false, cond, List, [], Option, none, some, ℕ, zero, suc, eqb, length, get_or, position, elem, among, least}
-use Rattle.seq.specs.Terms.{Among, the_stands_at}
+use Rattle.seq.specs.Seq.{Bool, true, false, cond, List, [], Option, none, some, ℕ, zero, suc, eqb, length, get_or, position, elem, among}
+use Rattle.seq.specs.Terms.{Among}
 use Rattle.seq.specs.Tests.{clash}
 use Rattle.seq.specs.Members.{at_among}
-use Rattle.seq.specs.Least.{least_by, least_is}
 
 -- ── a search over the cells ──
 
@@ -39,19 +38,6 @@ module _ (x : ℕ) where
   pub position_first : (ys : List ℕ) (d k : ℕ) → k < position x ys → get_or ys k d ≡ x → ⊥
   position_first [] d k h q = not-suc-le-zero h
   position_first (y ∷ ys) d k h q = first_step y d ys (eqb x y) refl (λ j. position_first ys d j) k h q
-
-  -- so it is what a search finds
-  pub position-least : (ys : List ℕ) → least (the_stands_at x ys) (length ys) ≡ position x ys
-  position-least ys =
-      least_by (the_stands_at x ys) (length ys) (position x ys) (position-le ys)
-      (λ k h. ne_eqb x (get_or ys k 0) (λ e. position_first ys 0 k h (sym e)))
-      (λ h. eq-eqb x (get_or ys (position x ys) 0) (sym (position_at ys 0 h)))
-
-  -- x stands at k and nowhere before
-  pub position_is : (ys : List ℕ) (k : ℕ) → k < length ys → get_or ys k 0 ≡ x → ((j : ℕ) → j < k → get_or ys j 0 ≡ x → ⊥) → position x ys ≡ k
-  position_is ys k h e nowhere =
-      sym (position-least ys)
-      ∙ least_is (the_stands_at x ys) (length ys) k h (λ j l. ne_eqb x (get_or ys j 0) (λ q. nowhere j l (sym q))) (eq-eqb x (get_or ys k 0) (sym e))
 
   -- ── members ──
 

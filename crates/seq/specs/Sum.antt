@@ -9,11 +9,8 @@ use Rattle.std.proofs.lemmas.Bool.{eqb-false}
 use Rattle.std.proofs.Math.IntN.{+ℤ_idl, +ℤ_idr, +ℤ_assoc, pos-+ℤ-pos, *ℤ-zero, zero-*ℤ}
 use Rattle.exact.specs.Ring.{+ℤ-swap4, *ℤ-distl, one-*ℤ}
 use Rattle.exact.specs.Solve.{ring, reify}
-use Rattle.exact.specs.Order.{pos-once}
 use Rattle.seq.specs.Seq.{Bool, true, false, cond, List, [], ℕ, zero, suc, eqb, count, ℤ, pos}
-use Rattle.seq.specs.Terms.{Among, Injects, sum, upto, ind}
-use Rattle.seq.specs.Tests.{eqb_iff}
-use Rattle.seq.specs.Perm.{onto}
+use Rattle.seq.specs.Terms.{Among, sum, upto, ind}
 
 pub upto-< : {i : ℕ} (n : ℕ) → Among i (upto n) → i < n
 unfolding upto
@@ -98,28 +95,6 @@ pub sum-count : (p : ℕ → Bool) (n : ℕ) → sum (upto n) (λ i. ind (p i)) 
 unfolding sum upto
 sum-count p zero = refl
 sum-count p (suc n) = ap (λ (t : ℤ). ind (p n) +ℤ t) (sum-count p n) ∙ count-step (count p n) (p n)
-
-module _ (f : ℕ → ℕ) (n : ℕ) (I : Injects f n) (g : ℕ → ℤ) where
-  -- f takes j at k alone
-  taken : (j k : ℕ) → k < n → f k ≡ j → (i : ℕ) → i < n → eqb j (f i) ≡ eqb i k
-  taken j k h e i l = eqb_iff j (f i) i k (λ q. I.once i k l h (sym q ∙ sym e)) (λ q. sym e ∙ ap f (sym q))
-
-  one_of : (j : ℕ) → j < n → sum (upto n) (λ i. ind (eqb j (f i)) *ℤ g j) ≡ g j
-  one_of j l =
-      let r = onto f n I j l in
-      sum-ext (upto n) {f = λ i. ind (eqb j (f i)) *ℤ g j} {g = λ i. ind (eqb i r.0) *ℤ g j} (λ i m. ap (λ (c : Bool). ind c *ℤ g j) (taken j r.0 r.1 r.2 i (upto-< n m)))
-      ∙ delta n r.0 (λ i. g j) r.1
-
-  -- a sum over the numbers below n does not change where they are permuted
-  pub sum_perm : sum (upto n) (λ i. g (f i)) ≡ sum (upto n) g
-  sum_perm =
-      sum-ext (upto n) {f = λ i. g (f i)} {g = λ i. sum (upto n) (λ j. ind (eqb j (f i)) *ℤ g j)} (λ i m. sym (delta n (f i) g (I.into i (upto-< n m))))
-      ∙ exchange (upto n) (upto n) (λ i j. ind (eqb j (f i)) *ℤ g j)
-      ∙ sum-ext (upto n) {f = λ j. sum (upto n) (λ i. ind (eqb j (f i)) *ℤ g j)} {g = g} (λ j m. one_of j (upto-< n m))
-
--- so a count does not depend on the order
-pub count_perm : (f : ℕ → ℕ) (n : ℕ) → Injects f n → (p : ℕ → Bool) → count (λ i. p (f i)) n ≡ count p n
-count_perm f n I p = pos-once (count (λ i. p (f i)) n) (count p n) (sym (sum-count (λ i. p (f i)) n) ∙ sum_perm f n I (λ k. ind (p k)) ∙ sum-count p n)
 
 -- ── by pairs ──
 

@@ -2,7 +2,7 @@
 use Rattle.std.specs.Prelude.{◌≡◌, ◌≤◌, ◌∷◌, ◌+◌, ◌*◌}
 use Rattle.std.proofs.Common.{sym, ◌∙◌, ap, add-zero, arith}
 use Rattle.seq.specs.Seq.{List, [], ℕ, length, ℤ, or_zero}
-use Rattle.seq.specs.Least.{least-le}
+use Rattle.seq.proofs.Least.{least-le}
 use Rattle.paper.specs.Limits.{map_edges}
 use Rattle.paper.specs.Plane.{Vec}
 use Rattle.paper.specs.Map.{map_of, label, edges_in}

@@ -6,7 +6,7 @@ use Rattle.std.proofs.Math.Decide.{dec_lt}
 use Rattle.seq.specs.Seq.{Bool, true, false, not, List, [], ℕ, zero, suc, get_or, the_some_below}
 use Rattle.seq.specs.Terms.{Ordered}
 use Rattle.seq.specs.Tests.{was-true}
-use Rattle.seq.specs.Least.{no_some, no_some_is}
+use Rattle.seq.proofs.Least.{no_some, no_some_is}
 use Rattle.seq.specs.Sorted.{rising-ordered}
 use Rattle.seq.specs.Halves.{rises-rising}
 use Rattle.paper.specs.Soundings.{Entry, less_list, lesser}

@@ -9,7 +9,8 @@ use Rattle.seq.specs.Table.{length-table, table_at}
 use Rattle.seq.specs.Lifted.{length-lifted, lifted_below, lifted_in, put_at, length_put_at, table_put_at}
 use Rattle.seq.specs.Loops.Lifting.{lifted}
 use Rattle.seq.specs.RowInserted.{row_inserted, cell_below, cell_new, cell-moved}
-use Rattle.seq.specs.Placed.{place_by, place, place-table, place-le, place_here, insert_new, insert-joined}
+use Rattle.seq.specs.Placed.{place_by, place, insert_new, insert-joined}
+use Rattle.seq.proofs.Placed.{place-table, place-le, place_here}
 use Rattle.paper.specs.Soundings.{Entry, less_list, lesser, added, once}
 use Rattle.laws_soundings.specs.Tally.{total, neither-list_less}
 use Rattle.soundings_count.specs.Entries.{pair_width, the_labels_at, entry, entry_at, entries_in, Grown}

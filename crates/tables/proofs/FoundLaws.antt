@@ -8,7 +8,7 @@ use native.Mathlib.Numerals.{unary_clauses}
 use native.Mathlib.Omega.{arith}
 use borrow.Author.Tests.{lt-ltb, le-ltb, le-leb, lt-leb, leb-true}
 use Rattle.seq.specs.Seq.{Bool, true, false, cond, List, [], Option, none, some, Option·map, ℕ, zero, suc, leb, length, get_or, cell}
-use Rattle.seq.specs.Least.{all_is, all_has, all_fails}
+use Rattle.seq.proofs.Least.{all_is, all_has, all_fails}
 use Rattle.paper.specs.Limits.{maps}
 use Rattle.paper.specs.Tables.{half_width}
 use Rattle.paper.specs.Lent.{edge_room}

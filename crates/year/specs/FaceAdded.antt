@@ -6,7 +6,8 @@ use Rattle.seq.specs.Terms.{Asymmetric}
 use Rattle.seq.specs.Tests.{clash, not-true, and_parts, and_both}
 use Rattle.seq.specs.Table.{length-table, table_at}
 use Rattle.seq.specs.Lifted.{put_at, length_put_at}
-use Rattle.seq.specs.Placed.{place_by, place, place-table, place-le, Here, place_here, insert_new, insert-joined}
+use Rattle.seq.specs.Placed.{place_by, place, Here, insert_new, insert-joined}
+use Rattle.seq.proofs.Placed.{place-table, place-le, place_here}
 use Rattle.seq.specs.RowInserted.{row_inserted, read-inserted}
 use Rattle.seq.specs.PairOrder.{pair_before, same_pair}
 use Rattle.paper.specs.Limits.{year_pairs}

@@ -12,7 +12,8 @@ use Rattle.paper.specs.Ovfile.{layouts}
 use Rattle.paper.specs.Names.{whole_names}
 use Rattle.paper.specs.Year.{Pair, gap_pair, Sheet, sheet_of, year_answer}
 use Rattle.laws_year.specs.Step.{Tally, bad_fault, the_row_is}
-use Rattle.laws_year.specs.Capped.{cap_faces, CappedState, cap_start, cap_read, cap_file, cap_from, cap_answer, capped-answer}
+use Rattle.laws_year.specs.Capped.{cap_faces, CappedState, cap_start, cap_read, cap_file, cap_from, cap_answer}
+use Rattle.laws_year.proofs.Capped.{capped-answer}
 use Rattle.laws_year.specs.Sheets.{sheet_few}
 use Rattle.year.specs.declared.state.Year.{Year}
 use Rattle.year.specs.declared.answer.Closed.{Closed}

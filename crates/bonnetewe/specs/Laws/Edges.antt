@@ -4,7 +4,7 @@ use Rattle.std.specs.Prelude.{◌≡◌, refl, ◌<◌, ◌≤◌, ◌&&◌, ◌
 use Rattle.std.proofs.Common.{sym, ◌∙◌, ap, arith, leb-true}
 use Rattle.seq.specs.Seq.{Bool, true, false, cond, List, [], Option, none, some, Option·map, ℕ, zero, suc, ltb, leb, eqb, all_below, get_or}
 use Rattle.seq.specs.Tests.{and_parts}
-use Rattle.seq.specs.Least.{all_is}
+use Rattle.seq.proofs.Least.{all_is}
 use Rattle.seq.specs.Terms.{Every}
 use Rattle.paper.specs.Limits.{maps}
 use Rattle.paper.specs.Tables.{Tables, origin_of, source_cell}

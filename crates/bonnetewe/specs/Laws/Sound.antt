@@ -5,7 +5,7 @@ use Rattle.std.proofs.Common.{sym, ◌∙◌, arith, ltb-false}
 use Rattle.seq.specs.Seq.{Bool, true, false, not, List, [], Option, none, some, ℕ, ltb, eqb, length, least, the_some_below}
 use Rattle.seq.specs.Tests.{or_false}
 use Rattle.seq.specs.Terms.{Every}
-use Rattle.seq.specs.Least.{least-le}
+use Rattle.seq.proofs.Least.{least-le}
 use Rattle.paper.specs.Limits.{maps, map_vertices, map_edges, map_head, overlay_head}
 use Rattle.paper.specs.Bytes.{ascii, marked, u16}
 use Rattle.paper.specs.Graph.{Graph, edge_count, the_half_count, followers}

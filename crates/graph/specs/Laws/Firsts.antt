@@ -5,7 +5,7 @@ use Rattle.seq.specs.Seq.{Bool, cond, List, ℕ, eqb, ltb, length, get_or, least
 use Rattle.seq.specs.Terms.{the_stands_at}
 use Rattle.seq.specs.Tests.{eqb_swap}
 use Rattle.seq.specs.Least.{least-ext}
-use Rattle.seq.specs.Position.{position-least}
+use Rattle.seq.proofs.Position.{position-least}
 use Rattle.paper.specs.Limits.{absent}
 use Rattle.paper.specs.Graph.{Graph, the_half_count, leaves, follower, followers}
 use Rattle.paper.specs.Tables.{least_half}

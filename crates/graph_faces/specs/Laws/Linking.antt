@@ -2,7 +2,7 @@
 use Rattle.std.specs.Prelude.{◌≡◌, ◌≤◌, ◌<◌, ◌*◌}
 use Rattle.std.proofs.Common.{sym, ◌∙◌, ap, subst, arith}
 use Rattle.std.proofs.lemmas.List.{length-replicate}
-use Rattle.seq.specs.Seq.{List, Option·getD, ℕ, length, get_or, take, replicate, table, leader, filled, laid, over, ℤ}
+use Rattle.seq.specs.Seq.{List, Option·getD, ℕ, length, take, replicate, table, leader, filled, laid, over, ℤ}
 use Rattle.seq.specs.Table.{table-ext}
 use Rattle.seq.specs.Filled.{filled-ext, Holds, filled-holds, holds-ext}
 use Rattle.paper.specs.Limits.{absent}
@@ -16,12 +16,12 @@ use Rattle.graph.specs.Heading.{row}
 use Rattle.graph.specs.Follow.{Headings, Heads, follower_at, heads-laid, headings-laid, followers-flat}
 use Rattle.graph_faces.specs.Lead.{Permutes}
 use Rattle.graph.specs.Stars.{greatest_at, Apart, flat-apart}
-use Rattle.graph_faces.specs.Turns.{low_at, top_at}
+use Rattle.graph_faces.specs.Turns.{low_at}
 use Rattle.graph_faces.specs.Linked.{Linked, Led}
-use Rattle.graph_faces.specs.Walked.{top_of, next_permutes, front-leader, flat-greatest, flat-top, low_cell}
+use Rattle.graph_faces.specs.Walked.{top_of, next_permutes, front-leader, flat-greatest}
 
 module _ (ps : List ℤ) (os : List ℕ) (cs : List ℤ) (n e : ℕ) (F : Flat ps os cs n e) (P : Plane (flat_graph ps os cs n e)) where
-  abbrev g : Graph
+  abbrev pub g : Graph
   g = flat_graph ps os cs n e
 
   -- by the definition's own count
@@ -84,14 +84,6 @@ module _ (ps : List ℤ) (os : List ℕ) (cs : List ℤ) (n e : ℕ) (F : Flat p
 
   pub low_holds : (lead : List ℕ) (k : ℕ) → 2 * e ≤ k → (low : List ℕ) → low ≡ filled (2 * e) (low_at ps os lead (2 * e)) (replicate k 0) → Holds (low_at ps os lead (2 * e)) low (2 * e)
   low_holds lead k room low is = made (low_at ps os lead (2 * e)) (2 * e) k low room is
-
-  module _ (lead low : List ℕ) (L : Holds (lead_at (walks_of g)) lead (2 * e)) (O : Holds (low_at ps os lead (2 * e)) low (2 * e)) where
-    pub low_cells : (h : ℕ) → h < 2 * e → get_or low (get_or lead h 0) 0 < 2 * e
-    low_cells h l = low_cell ps os cs n e F P lead L h l low O
-
-    pub top-filled : (out : List ℕ) → Holds (λ v. Option·getD (greatest_out g v) absent) out n → (d top : List ℕ) → top ≡ filled (2 * e) (top_at os lead low out) d → top ≡ filled (2 * e) (top_of g) d
-    top-filled out G d top is =
-        is ∙ filled-ext (top_at os lead low out) (top_of g) (2 * e) d (λ h l. flat-top ps os cs n e F P lead L h l low out O G)
 
   -- ── the tables that are handed on ──
 

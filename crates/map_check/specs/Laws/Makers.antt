@@ -6,7 +6,7 @@ use Rattle.std.proofs.Math.Decide.{ℕ_discrete}
 use Rattle.seq.specs.Seq.{Bool, true, false, not, List, [], Option, none, some, Option·getD, ℕ, eqb, length, get_or, the_some_below, walk_from}
 use Rattle.seq.specs.Terms.{Among, Has, BestIs}
 use Rattle.seq.specs.Tests.{bool-ext, clash, not-true, and_both, and_parts, was-false}
-use Rattle.seq.specs.Least.{no_some, no_some_is}
+use Rattle.seq.proofs.Least.{no_some, no_some_is}
 use Rattle.seq.specs.Cyclic.{asym}
 use Rattle.paper.specs.Limits.{absent}
 use Rattle.paper.specs.Plane.{before, less_angle}

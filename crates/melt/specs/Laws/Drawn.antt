@@ -15,10 +15,10 @@ use Rattle.paper.specs.Melt.{kept_pieces, is_end, melted_pieces, melted_graph, m
 use Rattle.plane.specs.Bounds.{Near}
 use Rattle.laws_overlay.specs.Maps.{AllKeep}
 use Rattle.laws_overlay.specs.Places.{places}
-use Rattle.laws_overlay.specs.Net.{sourced}
+use Rattle.laws_overlay.proofs.Net.{sourced}
 use Rattle.laws_overlay.specs.Sources.{source_at}
 use Rattle.laws_overlay.specs.Parts.{net_is}
-use Rattle.laws_labels.specs.Drawn.{drawn-walk}
+use Rattle.laws_labels.proofs.Drawn.{drawn-walk}
 use Rattle.laws_melt.specs.Thin.{was, was-kept, melted-piece}
 use Rattle.laws_melt.specs.Melts.{melted-drawn}
 use Rattle.overlay_graph.specs.Cut.{Drawable}

@@ -6,7 +6,7 @@ use Rattle.std.proofs.Math.Option.{Option}
 use Rattle.std.proofs.Math.Decide.{dec_lt}
 use Rattle.std.proofs.Math.ListN.{get_or-eq_default}
 use Rattle.seq.specs.Seq.{List, [], map, none, some, ℕ, zero, suc, ltb, length, get_or, cell, table, laid}
-use Rattle.seq.specs.Least.{least_min, least-le}
+use Rattle.seq.proofs.Least.{least_min, least-le}
 use Rattle.seq.specs.Table.{length-table, table_at, table-ext, table-map}
 use Rattle.seq.specs.Laid.{laid_at}
 use Rattle.seq.specs.Options.{none_some}

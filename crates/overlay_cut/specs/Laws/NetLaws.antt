@@ -3,7 +3,7 @@
 use Rattle.std.specs.Prelude.{◌≡◌, refl, ◌≤◌, ◌<◌, set, ℤ, pos, ◌∷◌, ◌+◌, ◌*◌, ◌-◌}
 use Rattle.std.proofs.Common.{sym, ◌∙◌, ap, subst, add-zero, add-one, arith, lt-ltb, le-ltb, ltb-true}
 use Rattle.seq.specs.Seq.{List, [], map, ℕ, zero, suc, ltb, get_or, cell, table, laid}
-use Rattle.seq.specs.Least.{least-holds}
+use Rattle.seq.proofs.Least.{least-holds}
 use Rattle.seq.specs.Laid.{laid_at}
 use Rattle.seq.specs.Table.{table-ext, table-map}
 use Rattle.paper.specs.Limits.{maps}

@@ -12,9 +12,9 @@ use Rattle.paper.specs.Pieces.{vertices_of, graph_of}
 use Rattle.paper.specs.Faces.{walks_of, overlay_by, net, overlay_of}
 use Rattle.laws_overlay.specs.Maps.{AllKeep}
 use Rattle.laws_overlay.specs.Places.{places}
-use Rattle.laws_overlay.specs.Net.{goes-even, sourced}
-use Rattle.laws_overlay.specs.NetPlane.{net-plane}
-use Rattle.laws_labels.specs.Agree.{walk-labels}
+use Rattle.laws_overlay.proofs.Net.{goes-even, sourced}
+use Rattle.laws_overlay.proofs.NetPlane.{net-plane}
+use Rattle.laws_labels.proofs.Agree.{walk-labels}
 use Rattle.plane.specs.Bounds.{Near}
 use Rattle.overlay_cut.specs.Points.{points_of}
 use Rattle.overlay_cut.specs.PieceRows.{piece_width, pieces_in}

@@ -4,7 +4,7 @@ use Rattle.std.specs.Prelude.{◌≡◌, ◌≤◌, ◌<◌, ◌++◌, ◌+◌, 
 use Rattle.std.proofs.Common.{sym, ◌∙◌, ap, add-one, arith, lt-ltb, le-ltb}
 use Rattle.std.proofs.Math.Decide.{dec_lt}
 use Rattle.seq.specs.Seq.{List, ℕ, zero, suc, ltb, length, ℤ, table, rows}
-use Rattle.seq.specs.Least.{least_is}
+use Rattle.seq.proofs.Least.{least_is}
 use Rattle.seq.specs.Table.{table-+, table-ext, table-map}
 use Rattle.paper.specs.Limits.{maps}
 use Rattle.paper.specs.Graph.{edge}

@@ -12,7 +12,8 @@ use Rattle.laws_sweep.specs.Sweep.{Strand, right}
 use Rattle.seq.specs.Pairs.{pairs-map}
 use Rattle.seq.specs.Search.{Steady, steady_by}
 use Rattle.laws_sweep.specs.Scene.{Scene, State}
-use Rattle.laws_sweep.specs.Turn.{side, sides_v}
+use Rattle.laws_sweep.specs.Turn.{side}
+use Rattle.laws_sweep.proofs.Turn.{sides_v}
 use Rattle.overlay_sweep.specs.Numbers.{numbers_in}
 use Rattle.overlay_sweep.specs.Sides.{right_at}
 use Rattle.overlay_sweep.specs.Ahead.{strand_at}

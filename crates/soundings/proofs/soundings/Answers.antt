@@ -15,11 +15,11 @@ returns c =
     let s = a.list.now in
     let x = c.add-count in
     let y = c.close in
-    run-answer l a.zones.now a.blocks.now (s ∷ []) x.result y.result y.new.1.0 y.new.1.1.0 (x.ensures ∙ ap (λ (r : Run). next r s) c.begin-start.ensures) y.ensures
+    run-answer l a.zones.now a.blocks.now (s ∷ []) x.result y.result y.new.labels y.new.counts (x.ensures ∙ ap (λ (r : Run). next r s) c.begin-start.ensures) y.ensures
     ∙ ap (soundings l (a.zones.now ∷ a.blocks.now ∷ [])) (append-nil s)
 
 pub shape_of-labels : goal.shape_of-labels
-shape_of-labels c = c.close.auto.1.0
+shape_of-labels c = c.close.auto.labels
 
 pub shape_of-counts : goal.shape_of-counts
-shape_of-counts c = c.close.auto.1.1.0
+shape_of-counts c = c.close.auto.counts

@@ -7,7 +7,7 @@ use Rattle.std.proofs.Math.Decide.{ℕ_discrete}
 use Rattle.seq.specs.Seq.{Bool, true, false, List, [], map, ℕ, eqb, ltb, length, get_or, select}
 use Rattle.seq.specs.Tests.{bool-ext}
 use Rattle.seq.specs.Members.{at_among, among_at}
-use Rattle.seq.specs.Least.{some_has, some_witness}
+use Rattle.seq.proofs.Least.{some_has, some_witness}
 use Rattle.seq.specs.Kept.{the_some_of, some_end, some_of, some_from}
 use Rattle.seq.specs.Select.{select_more, select-skip}
 use Rattle.seq.specs.Filled.{Holds}

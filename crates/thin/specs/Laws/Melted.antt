@@ -10,7 +10,7 @@ use Rattle.exact.specs.Lowest.{Pt}
 use Rattle.seq.specs.Seq.{not, List, map, none, ℕ, zero, suc, eqb, length, get_or, cell, select, the_some_below}
 use Rattle.seq.specs.Terms.{Among}
 use Rattle.seq.specs.Members.{map-ext, map-among}
-use Rattle.seq.specs.Least.{some_ext}
+use Rattle.seq.proofs.Least.{some_ext}
 use Rattle.seq.specs.Table.{length-table, table_at}
 use Rattle.seq.specs.Count.{count-le}
 use Rattle.seq.specs.Select.{select-ext, select_from_lem}
@@ -27,12 +27,12 @@ use Rattle.laws_graph.specs.Plane.{Plane}
 use Rattle.laws_graph.specs.Faces.{face_below}
 use Rattle.laws_overlay.specs.Maps.{AllKeep}
 use Rattle.laws_overlay.specs.Places.{places}
-use Rattle.laws_overlay.specs.Pieces.{piece_ends}
-use Rattle.laws_overlay.specs.NetPlane.{net-plane}
+use Rattle.laws_overlay.proofs.Pieces.{piece_ends}
+use Rattle.laws_overlay.proofs.NetPlane.{net-plane}
 use Rattle.laws_overlay.specs.Inside.{overlaid}
 use Rattle.laws_overlay.specs.Cells.{face_labels}
 use Rattle.laws_overlay.specs.Parts.{net_is, pieces_are, face_is, face-count}
-use Rattle.laws_labels.specs.Agree.{held-labels}
+use Rattle.laws_labels.proofs.Agree.{held-labels}
 use Rattle.laws_melt.specs.Melts.{melted-drawn}
 use Rattle.graph.specs.Flat.{point_width, the_point_at, Points}
 use Rattle.overlay_cut.specs.Points.{points_of, points_by}

@@ -9,7 +9,8 @@ use Rattle.paper.specs.Refusal.{given, first_of}
 use Rattle.paper.specs.Tide as paper
 use Rattle.paper.specs.Tide.{unset, ratio, weights, tide_refusal, height_of, tide}
 use Rattle.map_file.specs.Verdict.{verdict}
-use Rattle.laws_tide.specs.Cases.{small_by, tide_by}
+use Rattle.laws_tide.specs.Cases.{tide_by}
+use Rattle.laws_tide.proofs.Cases.{small_by}
 use Rattle.tide.specs.declared.rule.TideRule.{TideRule}
 use Rattle.tide.specs.Answer.{rule_of, reading_of}
 use Rattle.tide.proofs.height.Goals as goal

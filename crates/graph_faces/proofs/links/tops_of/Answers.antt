@@ -14,7 +14,8 @@ use Rattle.graph.specs.Heading.{flat_starts}
 use Rattle.graph_faces.specs.Climbs.{top_by_lead, climb-top}
 use Rattle.graph_faces.specs.Turns.{low_at}
 use Rattle.graph_faces.specs.Walked.{top_of}
-use Rattle.graph_faces.specs.Laws.Linking.{lead-numbers, low_holds, low_cells, top-filled}
+use Rattle.graph_faces.specs.Laws.Linking.{lead-numbers, low_holds}
+use Rattle.graph_faces.proofs.Laws.Linking.{low_cells, top-filled}
 use Rattle.graph_faces.proofs.links.tops_of.Goals as goal
 use Rattle.graph_faces.proofs.links.tops_of.Goals.{Start}
 

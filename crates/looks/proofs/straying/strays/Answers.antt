@@ -1,7 +1,8 @@
 -- `looks::straying::strays` meets its contract: none of the rows that the loop has passed strays. Assumes nothing.
 use mathlib.Core.Path.{sym, ◌∙◌}
 use Prim.Native.Nat.{◌-◌}
-use Rattle.seq.specs.Loops.Searching.{Searching, search_starts, search_turns, search_has, search_lacks}
+use Rattle.seq.specs.Loops.Searching.{Searching, search_starts}
+use Rattle.seq.proofs.Loops.Searching.{search_turns, search_has, search_lacks}
 use Rattle.looks.specs.Straying.{strays_at}
 use borrow.Author.Rules.{rules}
 use Rattle.looks.proofs.straying.strays.Goals as goal

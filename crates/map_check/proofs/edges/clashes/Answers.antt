@@ -7,7 +7,8 @@ use Rattle.seq.specs.Seq.{true, false}
 use Rattle.paper.specs.Plane.{Seg, head, clash}
 use Rattle.paper.specs.Meeting.{meeting, clash_by}
 use Rattle.laws_plane.specs.Cone.{UpV}
-use Rattle.laws_plane.specs.Boxes.{BoxesApart, boxes_apart, boxes-apart, boxes-clear, heights-apart}
+use Rattle.laws_plane.specs.Boxes.{BoxesApart, boxes_apart, heights-apart}
+use Rattle.laws_plane.proofs.Boxes.{boxes-apart, boxes-clear}
 use Rattle.laws_meet.specs.Uses.{clash-meeting}
 use Rattle.graph.specs.Flat.{carrier_at}
 use Rattle.keys.specs.Rows.{carried}

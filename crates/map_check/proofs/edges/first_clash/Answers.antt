@@ -3,7 +3,7 @@ use mathlib.Core.Path.{sym, ◌∙◌}
 use native.Mathlib.Omega.{arith}
 use borrow.Author.Rules.{rules}
 use Rattle.map_check.specs.Later.{later-starts, later-is}
-use Rattle.seq.specs.Loops.Searching.{search_turns, search_finds, search_ends}
+use Rattle.seq.proofs.Loops.Searching.{search_turns, search_finds, search_ends}
 use Rattle.map_check.proofs.edges.first_clash.Goals as goal
 
 pub returns-then-clashes : goal.returns-then-clashes

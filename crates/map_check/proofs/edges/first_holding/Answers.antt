@@ -1,7 +1,8 @@
 -- `map_check::edges::first_holding` meets its contract: nothing below the counter has been found. Assumes nothing.
 use borrow.Author.Tests.{eq-eqb, ne_eqb}
 use native.Mathlib.Omega.{arith}
-use Rattle.seq.specs.Loops.Searching.{search_starts, search_turns, search_finds, search_ends}
+use Rattle.seq.specs.Loops.Searching.{search_starts}
+use Rattle.seq.proofs.Loops.Searching.{search_turns, search_finds, search_ends}
 use Rattle.map_check.proofs.edges.first_holding.Goals as goal
 
 pub overflow_cast-cells : goal.overflow_cast-cells

@@ -4,7 +4,8 @@ use Prim.Native.Nat.{◌≤◌}
 use native.Mathlib.Omega.{arith}
 use borrow.Author.Tests.{ltb-true, eq-eqb, ne_eqb}
 use Rattle.seq.specs.Filled.{filled_at}
-use Rattle.seq.specs.Least.{least-le, least-ext}
+use Rattle.seq.specs.Least.{least-ext}
+use Rattle.seq.proofs.Least.{least-le}
 use Rattle.seq.specs.Seq.{Bool, true, false, cond, not, List, ℕ, eqb, ltb, get_or, least, filled}
 use Rattle.graph.specs.Places.{first_place}
 use Rattle.map_check.specs.Net.{starts_at, lonely_at}

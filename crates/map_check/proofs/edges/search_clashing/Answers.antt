@@ -4,7 +4,8 @@ use native.Mathlib.Omega.{arith}
 use borrow.Author.Tests.{lt-ltb, le-ltb}
 use Rattle.seq.specs.Seq.{ℕ, ltb}
 use Rattle.map_check.specs.Later.{least-later}
-use Rattle.seq.specs.Loops.Searching.{search_starts, search_turns, search_finds, search_ends}
+use Rattle.seq.specs.Loops.Searching.{search_starts}
+use Rattle.seq.proofs.Loops.Searching.{search_turns, search_finds, search_ends}
 use Rattle.map_check.proofs.edges.search_clashing.Goals as goal
 
 pub returns-then-first_clash-e : goal.returns-then-first_clash-e

@@ -1,7 +1,8 @@
 -- `map_check::labels::first_disagreeing` meets its contract: nothing below the counter has been found. Assumes nothing.
 use mathlib.Core.Path.{sym, ◌∙◌}
 use native.Mathlib.Omega.{arith}
-use Rattle.seq.specs.Loops.Searching.{search_starts, search_turns, search_finds, search_ends}
+use Rattle.seq.specs.Loops.Searching.{search_starts}
+use Rattle.seq.proofs.Loops.Searching.{search_turns, search_finds, search_ends}
 use Rattle.map_check.proofs.labels.first_disagreeing.Goals as goal
 
 pub returns-then-disagrees : goal.returns-then-disagrees

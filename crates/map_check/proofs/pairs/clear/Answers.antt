@@ -2,7 +2,7 @@
 use mathlib.Core.Path.{◌≡◌, sym, ◌∙◌}
 use Rattle.seq.specs.Seq.{true, false}
 use Rattle.paper.specs.Plane.{Seg, whole, head, the_left_by, clash}
-use Rattle.laws_plane.specs.Boxes.{boxes-apart, boxes-clear}
+use Rattle.laws_plane.proofs.Boxes.{boxes-apart, boxes-clear}
 use Rattle.laws_plane.specs.Clash.{clash-swap}
 use Rattle.laws_plane.specs.Cone.{UpV}
 use Rattle.laws_plane.specs.Disjoint.{disjoint_clash}

@@ -1,7 +1,8 @@
 -- `map_check::parts::first_bad_ends` meets its contract: nothing below the counter has been found. Assumes nothing.
 use mathlib.Core.Path.{sym, ◌∙◌}
 use native.Mathlib.Omega.{arith}
-use Rattle.seq.specs.Loops.Searching.{search_starts, search_turns, search_finds, search_ends}
+use Rattle.seq.specs.Loops.Searching.{search_starts}
+use Rattle.seq.proofs.Loops.Searching.{search_turns, search_finds, search_ends}
 use Rattle.map_check.proofs.parts.first_bad_ends.Goals as goal
 
 pub returns-then-bad_ends : goal.returns-then-bad_ends

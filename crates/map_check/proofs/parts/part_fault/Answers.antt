@@ -1,7 +1,7 @@
 -- `map_check::parts::part_fault` meets its contract: each check is a line of the definition, at the least place that its search found. Assumes nothing.
 use mathlib.Core.Path.{refl}
 use native.Mathlib.Omega.{arith}
-use Rattle.seq.specs.Least.{least-le}
+use Rattle.seq.proofs.Least.{least-le}
 use Rattle.map_file.proofs.VerdictLaws.{last, before, at_least}
 use Rattle.map_check.specs.Parts.{far_at, doubled_at, bad_ends_at}
 use Rattle.map_check.proofs.parts.part_fault.Goals as goal

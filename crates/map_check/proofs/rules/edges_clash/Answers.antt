@@ -1,6 +1,6 @@
 -- `map_check::rules::edges_clash` meets its contract: the other edge is the least after the place. Assumes nothing.
 use native.Mathlib.Omega.{arith}
-use Rattle.seq.specs.Least.{least-le}
+use Rattle.seq.proofs.Least.{least-le}
 use Rattle.map_check.specs.Net.{clashing_at}
 use Rattle.map_check.specs.Later.{later_at, gives-clash, gives_none}
 use Rattle.map_check.proofs.rules.edges_clash.Goals as goal

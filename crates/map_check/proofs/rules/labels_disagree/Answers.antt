@@ -3,7 +3,7 @@ use Rattle.std.specs.Prelude.{◌*◌, ◌-◌}
 use mathlib.Core.Path.{◌≡◌, sym, ap, ◌∙◌}
 use native.Mathlib.Omega.{arith}
 use lib.Seq.{length-take-le}
-use Rattle.seq.specs.Least.{least-le}
+use Rattle.seq.proofs.Least.{least-le}
 use Rattle.seq.specs.Seq.{List, ℕ, take, least}
 use Rattle.paper.specs.Refusal.{first_at}
 use Rattle.paper.specs.Graph.{the_half_count, followers}

@@ -2,7 +2,7 @@
 use Rattle.std.specs.Prelude.{◌*◌}
 use mathlib.Core.Path.{sym, ap, ◌∙◌}
 use native.Mathlib.Omega.{arith}
-use Rattle.seq.specs.Least.{least-le}
+use Rattle.seq.proofs.Least.{least-le}
 use Rattle.seq.specs.Seq.{take}
 use Rattle.map_file.specs.Verdict.{verdict}
 use Rattle.map_check.specs.Net.{lonely_at}

@@ -11,20 +11,17 @@ use Rattle.mend.proofs.bytes.put_corner.Goals as goal
 
 pub twos-x-requires : goal.twos-x-requires
 twos-x-requires c =
-    let s = (goal.at.twos-x-requires c).Start in
-    (omega arith, omega (arith, ap nat_abs (to_z-of_z w64 _ (record { sfits = c.vertex_cell.type_inv }) ∙ c.vertex_cell.ensures), s.requires.0.x_is))
+    (omega arith, omega (arith, ap nat_abs (to_z-of_z w64 _ (record { sfits = c.vertex_cell.type_inv }) ∙ c.vertex_cell.ensures), c.requires.0.x_is))
 
 pub twos-y-requires : goal.twos-y-requires
 twos-y-requires c =
-    let s = (goal.at.twos-y-requires c).Start in
-    (omega arith, omega (arith, ap nat_abs (to_z-of_z w64 _ (record { sfits = c.vertex_cell-2.type_inv }) ∙ c.vertex_cell-2.ensures), s.requires.0.y_is))
+    (omega arith, omega (arith, ap nat_abs (to_z-of_z w64 _ (record { sfits = c.vertex_cell-2.type_inv }) ∙ c.vertex_cell-2.ensures), c.requires.0.y_is))
 
 pub returns : goal.returns
 returns c =
-    let s = (goal.at.returns c).After-twos-y in
-    let a = s.args in
-    let x = signed-bytes _ _ _ s.twos-x.ensures (to_z-of_z w64 _ (record { sfits = s.vertex_cell.type_inv }) ∙ s.vertex_cell.ensures) in
-    let y = signed-bytes _ _ _ s.twos-y.ensures (to_z-of_z w64 _ (record { sfits = s.vertex_cell-2.type_inv }) ∙ s.vertex_cell-2.ensures) in
+    let a = c.args in
+    let x = signed-bytes _ _ _ c.twos-x.ensures (to_z-of_z w64 _ (record { sfits = c.vertex_cell.type_inv }) ∙ c.vertex_cell.ensures) in
+    let y = signed-bytes _ _ _ c.twos-y.ensures (to_z-of_z w64 _ (record { sfits = c.vertex_cell-2.type_inv }) ∙ c.vertex_cell-2.ensures) in
     corner-put (corner_in a.points.now a.v) a.out.now _ _ a.at
     (c.put.ensures ∙ ap (sets _ a.at) x)
     (c.put-2.ensures ∙ ap (sets _ (a.at + 2)) y)

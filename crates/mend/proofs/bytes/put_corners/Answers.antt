@@ -1,7 +1,6 @@
 -- `mend::bytes::put_corners` meets its contract: what is stored are the rows of those below the counter that are kept. Assumes nothing.
 use Rattle.std.specs.Prelude.{◌-◌}
 use mathlib.Core.Path.{sym, ◌∙◌}
-use mathlib.Core.Logic.{⊎_elim}
 use native.Mathlib.Omega.{arith}
 use borrow.Author.Rules.{rules}
 use Rattle.seq.specs.Count.{count_below}
@@ -11,30 +10,26 @@ use Rattle.mend.specs.Steps.{step_is}
 use Rattle.mend.proofs.ByteLaws.{corner_long}
 use Rattle.mend.proofs.AppendLaws.{Appending, append_starts, append_takes, append_leaves, append_ends}
 use Rattle.mend.proofs.bytes.put_corners.Goals as goal
+use Rattle.mend.proofs.bytes.put_corners.Goals.{else-is_step, then-is_step}
 
 pub put_corner-requires : goal.put_corner-requires
 put_corner-requires c =
-    let s = (goal.at.put_corner-requires c).Start in
-    let l = (goal.at.put_corner-requires c).At-loop-v in
-    let r = l.loop-v.invariant in
-    let more = count_below (step_is s.args.steps.now 0) s.args.n l.loop-v.v (omega arith) (sym c.is_step.ensures ∙ c.if-is_step.true) in
-    (s.requires.0.near l.loop-v.v (omega arith), omega (arith, r.place, r.room, r.kept, more))
+    let r = c.loop-v.invariant in
+    let more = count_below (step_is c.args.steps.now 0) c.args.n c.loop-v.v (omega arith) (sym c.is_step.ensures ∙ c.if-is_step.true) in
+    (c.requires.0.near c.loop-v.v (omega arith), omega (arith, r.place, r.room, r.kept, more))
 
 pub overflow_add-at : goal.overflow_add-at
 overflow_add-at c =
-    let s = (goal.at.overflow_add-at c).Start in
-    let l = (goal.at.overflow_add-at c).At-loop-v in
-    let r = l.loop-v.invariant in
-    let more = count_below (step_is s.args.steps.now 0) s.args.n l.loop-v.v (omega arith) (sym c.is_step.ensures ∙ c.if-is_step.true) in
+    let r = c.loop-v.invariant in
+    let more = count_below (step_is c.args.steps.now 0) c.args.n c.loop-v.v (omega arith) (sym c.is_step.ensures ∙ c.if-is_step.true) in
     omega (arith, r.place, r.room, r.kept, more)
 
 pub loop-v-preserved : goal.loop-v-preserved
 loop-v-preserved c =
-    let s = (goal.at.loop-v-preserved c).Start in
     let r = c.loop-v.invariant in
     let b = c.loop-v-test.true in
     let q = sym c.is_step.ensures in
-    ⊎_elim (λ w. append_takes r (λ u. corner_long (corner_in s.args.points.now u)) b (q ∙ w.0.taken) (w.5 ∙ w.2.ensures) w.6) (λ w. append_leaves r b (q ∙ w.0.left) w.1 w.2) c.if-is_step.branch
+    elim c.if-is_step.branch [ then-is_step w ↦ append_takes r (λ u. corner_long (corner_in c.args.points.now u)) b (q ∙ w.if-is_step.true) (w.out-is ∙ w.put_corner.ensures) w.at-is | else-is_step w ↦ append_leaves r b (q ∙ w.if-is_step.false) w.out-is w.at-is ]
 
 pub loop-v-init : goal.loop-v-init
 loop-v-init c = append_starts (search rules)

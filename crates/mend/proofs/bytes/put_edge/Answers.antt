@@ -7,10 +7,8 @@ use Rattle.mend.proofs.bytes.put_edge.Goals as goal
 
 pub returns : goal.returns
 returns c =
-    let s = (goal.at.returns c).Start in
-    let d = (goal.at.returns c).After-u16_at-right in
-    let ns = s.args.numbers.now in
-    let a = d.u16_at-from.ensures ∙ ap (λ (j : ℕ). get_or ns j 0) d.from_now-a.ensures in
-    let b = d.u16_at-to.ensures ∙ ap (λ (j : ℕ). get_or ns j 0) d.to_now-b.ensures in
+    let ns = c.args.numbers.now in
+    let a = c.u16_at-from.ensures ∙ ap (λ (j : ℕ). get_or ns j 0) c.from_now-a.ensures in
+    let b = c.u16_at-to.ensures ∙ ap (λ (j : ℕ). get_or ns j 0) c.to_now-b.ensures in
     c.put_fields.ensures
-    ∙ (λ i. sets s.args.out.now s.args.at (gather (le 2) (a i ∷ b i ∷ d.u16_at-left.ensures i ∷ d.u16_at-right.ensures i ∷ [])))
+    ∙ (λ i. sets c.args.out.now c.args.at (gather (le 2) (a i ∷ b i ∷ c.u16_at-left.ensures i ∷ c.u16_at-right.ensures i ∷ [])))

@@ -8,7 +8,5 @@ use Rattle.mend.proofs.bytes.put_head.Goals as goal
 
 pub returns : goal.returns
 returns c =
-    let start = (goal.at.returns c).Start in
-    let marked = (goal.at.returns c).After-put_mark in
-    let a = start.args in
-    then-behind a.out.now 0 (ascii "ZMP") (gather (le 2) (1 ∷ a.vertices ∷ a.edges ∷ [])) _ _ 3 marked.put_mark.ensures c.put_fields.ensures refl
+    let a = c.args in
+    then-behind a.out.now 0 (ascii "ZMP") (gather (le 2) (1 ∷ a.vertices ∷ a.edges ∷ [])) _ _ 3 c.put_mark.ensures c.put_fields.ensures refl

@@ -17,10 +17,9 @@ wipe_from_u16-requires c = omega (arith, c.requires.2, c.put_step-a.auto, c.put_
 
 pub returns : goal.returns
 returns c =
-    let s = (goal.at.returns c).Start in
-    let a = s.args in
-    list_put a.vertices.now a.edges.now a.n a.e a.list.now s.requires.2 _ _ _ _ _ _ _ _ _
-    c.put_step-a.ensures c.put_step-b.ensures c.put_step-c.ensures c.put_step-d.ensures c.wipe_from_u16.ensures
+    let a = c.args in
+    list_put a.vertices.now a.edges.now a.n a.e a.list.now c.requires.2 _ _ _ _ _ _ _ _ _
+    (c.put_step-a.ensures.list, c.put_step-a.ensures.at) (c.put_step-b.ensures.list, c.put_step-b.ensures.at) (c.put_step-c.ensures.list, c.put_step-c.ensures.at) (c.put_step-d.ensures.list, c.put_step-d.ensures.at) c.wipe_from_u16.ensures
 
 pub put_step-a-requires : goal.put_step-a-requires
 put_step-a-requires c = (c.requires.0, omega (arith, c.requires.2))

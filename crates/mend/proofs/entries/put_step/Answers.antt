@@ -1,7 +1,6 @@
 -- `mend::entries::put_step` meets its contract: what is stored are the entries of those below the counter at which the step is taken. Assumes nothing.
 use Rattle.std.specs.Prelude.{◌∷◌, ◌+◌, ◌-◌}
 use mathlib.Core.Path.{◌≡◌, refl, sym, ap, ◌∙◌}
-use mathlib.Core.Logic.{⊎_elim}
 use Prim.Native.Nat.{◌≤◌, ◌<◌}
 use native.Mathlib.Numerals.{add-one}
 use native.Mathlib.Omega.{arith}
@@ -12,7 +11,7 @@ use Rattle.seq.specs.Seq.{Bool, true, List, [], ℕ, length, sets}
 use Rattle.mend.specs.Steps.{step_is}
 use Rattle.mend.proofs.AppendLaws.{Appending, append_starts, append_takes, append_leaves, append_ends, append_place}
 use Rattle.mend.proofs.entries.put_step.Goals as goal
-use Rattle.mend.proofs.entries.put_step.Goals.{Then-is_step}
+use Rattle.mend.proofs.entries.put_step.Goals.{Then-is_step, else-is_step, then-is_step}
 
 -- the two numbers of an entry
 at_next : (d : List ℕ) (a x y : ℕ) → set (set d a x) (a + 1) y ≡ sets d a (x ∷ y ∷ [])
@@ -49,11 +48,10 @@ overflow_add-at c = omega (arith, entry-fits c)
 
 pub loop-i-preserved : goal.loop-i-preserved
 loop-i-preserved c =
-    let s = (goal.at.loop-i-preserved c).Start in
     let l = c.loop-i in
     let b = c.loop-i-test.true in
     let q = sym c.is_step.ensures in
-    ⊎_elim (λ w. append_takes l.invariant (λ j. refl) b (q ∙ w.0.taken) (w.1 ∙ at_next l.list l.at s.args.step l.i) w.2) (λ w. append_leaves l.invariant b (q ∙ w.0.left) w.1 w.2) c.if-is_step.branch
+    elim c.if-is_step.branch [ then-is_step w ↦ append_takes l.invariant (λ j. refl) b (q ∙ w.if-is_step.true) (w.list-is ∙ at_next l.list l.at c.args.step l.i) w.at-is | else-is_step w ↦ append_leaves l.invariant b (q ∙ w.if-is_step.false) w.list-is w.at-is ]
 
 pub returns : goal.returns
 returns c = record { list = append_ends c.loop-i.invariant (omega arith); at = append_place c.loop-i.invariant (omega arith) }

@@ -2,19 +2,18 @@
 use Rattle.std.specs.Prelude.{◌-◌}
 use mathlib.Core.Path.{sym, ◌∙◌}
 use native.Mathlib.Omega.{arith}
-use Rattle.seq.specs.Loops.Searching.{Searching, search_starts, search_turns, search_finds, search_ends}
+use Rattle.seq.specs.Loops.Searching.{Searching, search_starts}
+use Rattle.seq.proofs.Loops.Searching.{search_turns, search_finds, search_ends}
 use Rattle.mend.specs.Steps.{no_vertex_at}
 use Rattle.mend.proofs.faults.first_no_vertex.Goals as goal
 
 pub returns-then-no_vertex : goal.returns-then-no_vertex
 returns-then-no_vertex c =
-    let at = (goal.at.returns-then-no_vertex c).At-loop-k in
-    search_finds at.loop-k.invariant (omega arith) (sym c.no_vertex.ensures ∙ c.if-no_vertex.true)
+    search_finds c.loop-k.invariant (omega arith) (sym c.no_vertex.ensures ∙ c.if-no_vertex.true)
 
 pub loop-k-preserved : goal.loop-k-preserved
 loop-k-preserved c =
-    let at = (goal.at.loop-k-preserved c).At-loop-k in
-    search_turns at.loop-k.invariant (omega arith) (sym c.no_vertex.ensures ∙ c.if-no_vertex.false)
+    search_turns c.loop-k.invariant (omega arith) (sym c.no_vertex.ensures ∙ c.if-no_vertex.false)
 
 pub loop-k-init : goal.loop-k-init
 loop-k-init c = search_starts

@@ -3,7 +3,8 @@ use Rattle.std.specs.Prelude.{◌-◌}
 use mathlib.Core.Path.{sym, ◌∙◌}
 use native.Mathlib.Omega.{arith}
 use borrow.Author.Rules.{rules}
-use Rattle.seq.specs.Loops.Searching.{Searching, search_starts, search_turns, search_finds, search_ends}
+use Rattle.seq.specs.Loops.Searching.{Searching, search_starts}
+use Rattle.seq.proofs.Loops.Searching.{search_turns, search_finds, search_ends}
 use Rattle.mend.specs.Steps.{no_vertex_at}
 use Rattle.mend.proofs.faults.first_no_vertex.Given as goal
 

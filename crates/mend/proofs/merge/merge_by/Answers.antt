@@ -9,19 +9,15 @@ use Rattle.mend.proofs.merge.merge_by.Goals as goal
 
 pub offset_bounds-into-i : goal.offset_bounds-into-i
 offset_bounds-into-i c =
-    let at = (goal.at.offset_bounds-into-i c).At-loop-v in
-    omega (arith, at.loop-v.invariant.room, at.loop-v.invariant.kept)
+    omega (arith, c.loop-v.invariant.room, c.loop-v.invariant.kept)
 
 pub bounds-into-i : goal.bounds-into-i
 bounds-into-i c =
-    let at = (goal.at.bounds-into-i c).At-loop-v in
-    omega (arith, at.loop-v.invariant.room, at.loop-v.invariant.kept)
+    omega (arith, c.loop-v.invariant.room, c.loop-v.invariant.kept)
 
 pub loop-v-preserved : goal.loop-v-preserved
 loop-v-preserved c =
-    let at = (goal.at.loop-v-preserved c).At-loop-v in
-    let one = (goal.at.loop-v-preserved c).After-lowest in
-    fill_turns at.loop-v.invariant (omega arith) one.lowest.ensures
+    fill_turns c.loop-v.invariant (omega arith) c.lowest.ensures
 
 pub loop-v-init : goal.loop-v-init
 loop-v-init c = fill_starts (search rules)

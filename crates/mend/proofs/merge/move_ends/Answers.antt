@@ -10,21 +10,15 @@ use Rattle.mend.proofs.merge.move_ends.Goals as goal
 
 pub bounds-ends-h : goal.bounds-ends-h
 bounds-ends-h c =
-    let at = (goal.at.bounds-ends-h c).At-loop-h in
-    omega (arith, at.loop-h.invariant.room, at.loop-h.invariant.kept)
+    omega (arith, c.loop-h.invariant.room, c.loop-h.invariant.kept)
 
 pub offset_bounds-ends-h : goal.offset_bounds-ends-h
 offset_bounds-ends-h c =
-    let at = (goal.at.offset_bounds-ends-h c).At-loop-h in
-    omega (arith, at.loop-h.invariant.room, at.loop-h.invariant.kept)
+    omega (arith, c.loop-h.invariant.room, c.loop-h.invariant.kept)
 
 pub loop-h-preserved : goal.loop-h-preserved
 loop-h-preserved c =
-    let s = (goal.at.loop-h-preserved c).Start in
-    let at = (goal.at.loop-h-preserved c).At-loop-h in
-    let one = (goal.at.loop-h-preserved c).After-u16_at-v in
-    let two = (goal.at.loop-h-preserved c).After-u16_at in
-    fill_turns at.loop-h.invariant (omega arith) (two.u16_at.ensures ∙ ap (λ (u : ℕ). get_or s.args.into.now u 0) one.u16_at-v.ensures)
+    fill_turns c.loop-h.invariant (omega arith) (c.u16_at.ensures ∙ ap (λ (u : ℕ). get_or c.args.into.now u 0) c.u16_at-v.ensures)
 
 pub loop-h-init : goal.loop-h-init
 loop-h-init c = fill_starts (search rules)

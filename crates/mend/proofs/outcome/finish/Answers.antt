@@ -14,54 +14,45 @@ use Rattle.mend.proofs.outcome.finish.Goals as goal
 
 pub overflow_cast-length : goal.overflow_cast-length
 overflow_cast-length c =
-    let s = (goal.at.overflow_cast-length c).Start in
-    let a = s.args in
-    let f = (can-mend a.file.now s.requires.2.good).form in
-    omega (arith, c.map_length-bytes.ensures, s.requires.2.counted.vertices, s.requires.2.counted.edges, count-le (step_is a.corners.now 0) (vertex_count a.file.now), count-le (step_is a.pieces.now 0) (edges_in a.file.now), f.few_vertices, f.few_edges)
+    let a = c.args in
+    let f = (can-mend a.file.now c.requires.2.good).form in
+    omega (arith, c.map_length-bytes.ensures, c.requires.2.counted.vertices, c.requires.2.counted.edges, count-le (step_is a.corners.now 0) (vertex_count a.file.now), count-le (step_is a.pieces.now 0) (edges_in a.file.now), f.few_vertices, f.few_edges)
 
 pub overflow_sub-entries : goal.overflow_sub-entries
 overflow_sub-entries c =
-    let s = (goal.at.overflow_sub-entries c).Start in
-    let a = s.args in
-    omega (arith, s.requires.0, s.requires.2.counted.vertices, count-le (step_is a.corners.now 0) (vertex_count a.file.now))
+    let a = c.args in
+    omega (arith, c.requires.0, c.requires.2.counted.vertices, count-le (step_is a.corners.now 0) (vertex_count a.file.now))
 
 pub overflow_sub-entries-2 : goal.overflow_sub-entries-2
 overflow_sub-entries-2 c =
-    let s = (goal.at.overflow_sub-entries-2 c).Start in
-    let a = s.args in
-    omega (arith, s.requires.1, s.requires.2.counted.edges, count-le (step_is a.pieces.now 0) (edges_in a.file.now))
+    let a = c.args in
+    omega (arith, c.requires.1, c.requires.2.counted.edges, count-le (step_is a.pieces.now 0) (edges_in a.file.now))
 
 pub overflow_add-entries : goal.overflow_add-entries
 overflow_add-entries c =
-    let s = (goal.at.overflow_add-entries c).Start in
-    let a = s.args in
-    let f = (can-mend a.file.now s.requires.2.good).form in
-    omega (arith, s.requires.0, s.requires.1, f.few_vertices, f.few_edges)
+    let a = c.args in
+    let f = (can-mend a.file.now c.requires.2.good).form in
+    omega (arith, c.requires.0, c.requires.1, f.few_vertices, f.few_edges)
 
 pub put_file-requires : goal.put_file-requires
 put_file-requires c =
-    let s = (goal.at.put_file-requires c).Start in
-    let a = s.args in
+    let a = c.args in
     let r = room_both (length a.out.now) (length a.list.now) _ _ (sym c.judge-check.ensures ∙ ap verdict c.in-Fine.is) in
-    (corners-here a.file.now a.points.now a.labels.now a.ends.now a.numbers.now a.corners.now a.pieces.now a.vertices a.edges s.requires.2 a.n a.e s.requires.0 s.requires.1 (length a.out.now) (length a.list.now) _ _ c.map_length-bytes.ensures refl, counted-here a.file.now a.points.now a.labels.now a.ends.now a.numbers.now a.corners.now a.pieces.now a.vertices a.edges s.requires.2 a.n a.e s.requires.0 s.requires.1 (length a.out.now) (length a.list.now) _ _ c.map_length-bytes.ensures refl, omega (arith, r.0, c.map_length-bytes.ensures))
+    (corners-here a.file.now a.points.now a.labels.now a.ends.now a.numbers.now a.corners.now a.pieces.now a.vertices a.edges c.requires.2 a.n a.e c.requires.0 c.requires.1 (length a.out.now) (length a.list.now) _ _ c.map_length-bytes.ensures refl, counted-here a.file.now a.points.now a.labels.now a.ends.now a.numbers.now a.corners.now a.pieces.now a.vertices a.edges c.requires.2 a.n a.e c.requires.0 c.requires.1 (length a.out.now) (length a.list.now) _ _ c.map_length-bytes.ensures refl, omega (arith, r.0, c.map_length-bytes.ensures))
 
 pub put_list-requires : goal.put_list-requires
 put_list-requires c =
-    let s = (goal.at.put_list-requires c).Start in
-    let a = s.args in
+    let a = c.args in
     let r = room_both (length a.out.now) (length a.list.now) _ _ (sym c.judge-check.ensures ∙ ap verdict c.in-Fine.is) in
-    (omega (arith, s.requires.0, s.requires.2.counted.vertices_long), omega (arith, s.requires.1, s.requires.2.counted.edges_long), list_room a.file.now a.points.now a.labels.now a.ends.now a.numbers.now a.corners.now a.pieces.now a.vertices a.edges s.requires.2 a.n a.e s.requires.0 s.requires.1 (length a.out.now) (length a.list.now) _ _ c.map_length-bytes.ensures refl r.1)
+    (omega (arith, c.requires.0, c.requires.2.counted.vertices_long), omega (arith, c.requires.1, c.requires.2.counted.edges_long), list_room a.file.now a.points.now a.labels.now a.ends.now a.numbers.now a.corners.now a.pieces.now a.vertices a.edges c.requires.2 a.n a.e c.requires.0 c.requires.1 (length a.out.now) (length a.list.now) _ _ c.map_length-bytes.ensures refl r.1)
 
 pub returns-in-Bad : goal.returns-in-Bad
 returns-in-Bad c =
-    let s = (goal.at.returns-in-Bad c).Start in
-    let a = s.args in
-    let told = c.check-1.given in
-    c.refuse.ensures ∙ mend-refused a.file.now a.points.now a.labels.now a.ends.now a.numbers.now a.corners.now a.pieces.now a.vertices a.edges s.requires.2 a.n a.e s.requires.0 s.requires.1 (length a.out.now) (length a.list.now) _ _ c.map_length-bytes.ensures refl _ (sym c.judge-check.ensures ∙ ap verdict told.1)
+    let a = c.args in
+    c.refuse.ensures ∙ mend-refused a.file.now a.points.now a.labels.now a.ends.now a.numbers.now a.corners.now a.pieces.now a.vertices a.edges c.requires.2 a.n a.e c.requires.0 c.requires.1 (length a.out.now) (length a.list.now) _ _ c.map_length-bytes.ensures refl _ (sym c.judge-check.ensures ∙ ap verdict c.in-Bad.is)
 
 pub returns-in-Fine : goal.returns-in-Fine
 returns-in-Fine c =
-    let s = (goal.at.returns-in-Fine c).Start in
-    let a = s.args in
+    let a = c.args in
     (λ i. record { answer = done (c.map_length-bytes.result, (a.n - a.vertices) + (a.e - a.edges)); file = c.put_file.ensures i; list = c.put_list.ensures i })
-    ∙ mend-done a.file.now a.points.now a.labels.now a.ends.now a.numbers.now a.corners.now a.pieces.now a.vertices a.edges s.requires.2 a.n a.e s.requires.0 s.requires.1 (length a.out.now) (length a.list.now) _ _ c.map_length-bytes.ensures refl (sym c.judge-check.ensures ∙ ap verdict c.in-Fine.is)
+    ∙ mend-done a.file.now a.points.now a.labels.now a.ends.now a.numbers.now a.corners.now a.pieces.now a.vertices a.edges c.requires.2 a.n a.e c.requires.0 c.requires.1 (length a.out.now) (length a.list.now) _ _ c.map_length-bytes.ensures refl (sym c.judge-check.ensures ∙ ap verdict c.in-Fine.is)

@@ -15,8 +15,7 @@ mend_read-requires c = record { fact_1 = c.read_header-h.ensures; fact_2 = sym c
 pub returns-in-Bad : goal.returns-in-Bad
 returns-in-Bad c =
     let a = c.args in
-    let told = c.check-1.given in
-    c.refuse.ensures ∙ mend_unformed (length a.out.now) (length a.list.now) a.file.now _ (sym c.form_fault-check.ensures ∙ ap verdict told.1)
+    c.refuse.ensures ∙ mend_unformed (length a.out.now) (length a.list.now) a.file.now _ (sym c.form_fault-check.ensures ∙ ap verdict c.in-Bad.is)
 
 pub returns-in-Fine : goal.returns-in-Fine
 returns-in-Fine c = c.mend_read.ensures

@@ -17,14 +17,13 @@ as_many k {m = m} e h = subst (λ (y : ℕ). k * y ≤ m) (sym e) h
 
 pub table_fault-check-requires : goal.table_fault-check-requires
 table_fault-check-requires c =
-    let s = (goal.at.table_fault-check-requires c).Start in
-    let a = s.args in
-    let v = ap (λ (h : Header). h.vertices) s.requires.0 in
-    let e = ap (λ (h : Header). h.edges) s.requires.0 in
-    let form = s.requires.1.0 in
+    let a = c.args in
+    let v = ap (λ (h : Header). h.vertices) c.requires.fact_1 in
+    let e = ap (λ (h : Header). h.edges) c.requires.fact_1 in
+    let form = c.requires.fact_2 in
     let x = a.file.now in
     let is = c.read_map.ensures in
-    let R = is_read x _ _ _ _ _ _ s.requires.1.1.0 s.requires.1.1.1 s.requires.1.1.2 is.0 is.1 is.2 in
+    let R = is_read x _ _ _ _ _ _ c.requires.fact_3.0 c.requires.fact_3.1 c.requires.fact_3.2 is.0 is.1 is.2 in
     record {
       fact_1 = as_many 4 v R.points_long;
       fact_2 = as_many 2 e R.origins_long;
@@ -34,28 +33,25 @@ table_fault-check-requires c =
 
 pub mend_map-requires : goal.mend_map-requires
 mend_map-requires c =
-    let s = (goal.at.mend_map-requires c).Start in
-    let a = s.args in
-    let v = ap (λ (h : Header). h.vertices) s.requires.0 in
-    let e = ap (λ (h : Header). h.edges) s.requires.0 in
-    let form = s.requires.1.0 in
+    let a = c.args in
+    let v = ap (λ (h : Header). h.vertices) c.requires.fact_1 in
+    let e = ap (λ (h : Header). h.edges) c.requires.fact_1 in
+    let form = c.requires.fact_2 in
     let x = a.file.now in
     let is = c.read_map.ensures in
-    let R = is_read x _ _ _ _ _ _ s.requires.1.1.0 s.requires.1.1.1 s.requires.1.1.2 is.0 is.1 is.2 in
-    record { fact_1 = s.requires.0; fact_2 = sym (faults-found R _ _ v e form) ∙ sym c.table_fault-check.ensures ∙ ap verdict c.enum_told-1.given.1; fact_3 = R }
+    let R = is_read x _ _ _ _ _ _ c.requires.fact_3.0 c.requires.fact_3.1 c.requires.fact_3.2 is.0 is.1 is.2 in
+    record { fact_1 = c.requires.fact_1; fact_2 = sym (faults-found R _ _ v e form) ∙ sym c.table_fault-check.ensures ∙ ap verdict c.in-Fine.is; fact_3 = R }
 
 pub returns-in-Bad : goal.returns-in-Bad
 returns-in-Bad c =
-    let s = (goal.at.returns-in-Bad c).Start in
-    let a = s.args in
-    let v = ap (λ (h : Header). h.vertices) s.requires.0 in
-    let e = ap (λ (h : Header). h.edges) s.requires.0 in
-    let form = s.requires.1.0 in
+    let a = c.args in
+    let v = ap (λ (h : Header). h.vertices) c.requires.fact_1 in
+    let e = ap (λ (h : Header). h.edges) c.requires.fact_1 in
+    let form = c.requires.fact_2 in
     let x = a.file.now in
     let is = c.read_map.ensures in
-    let R = is_read x _ _ _ _ _ _ s.requires.1.1.0 s.requires.1.1.1 s.requires.1.1.2 is.0 is.1 is.2 in
-    let told = c.check-1.given in
-    c.refuse.ensures ∙ mend-unread (length a.out.now) (length a.list.now) x _ (sym (faults-found R _ _ v e form) ∙ sym c.table_fault-check.ensures ∙ ap verdict told.1)
+    let R = is_read x _ _ _ _ _ _ c.requires.fact_3.0 c.requires.fact_3.1 c.requires.fact_3.2 is.0 is.1 is.2 in
+    c.refuse.ensures ∙ mend-unread (length a.out.now) (length a.list.now) x _ (sym (faults-found R _ _ v e form) ∙ sym c.table_fault-check.ensures ∙ ap verdict c.in-Bad.is)
 
 pub returns-in-Fine : goal.returns-in-Fine
 returns-in-Fine c = c.mend_map.ensures

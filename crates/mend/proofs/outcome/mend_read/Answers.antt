@@ -12,21 +12,19 @@ use Rattle.mend.proofs.outcome.mend_read.Goals as goal
 
 pub mend_in-requires : goal.mend_in-requires
 mend_in-requires c =
-    let s = (goal.at.mend_in-requires c).Start in
-    let v = ap (λ (h : Header). h.vertices) s.requires.fact_1 in
-    let e = ap (λ (h : Header). h.edges) s.requires.fact_1 in
-    let h = s.args.h in
+    let v = ap (λ (h : Header). h.vertices) c.requires.fact_1 in
+    let e = ap (λ (h : Header). h.edges) c.requires.fact_1 in
+    let h = c.args.h in
     let q = and_parts (leb h.vertices small_vertices) (leb h.edges small_edges) c.if-h.true in
     let n = leb-true h.vertices small_vertices q.0 in
     let m = leb-true h.edges small_edges q.1 in
-    record { fact_1 = s.requires.fact_1; fact_2 = s.requires.fact_2; fact_3 = (omega (arith, v, n), omega (arith, e, m), omega (arith, e, m)) }
+    record { fact_1 = c.requires.fact_1; fact_2 = c.requires.fact_2; fact_3 = (omega (arith, v, n), omega (arith, e, m), omega (arith, e, m)) }
 
 pub mend_in-requires-else-h : goal.mend_in-requires-else-h
 mend_in-requires-else-h c =
-    let s = (goal.at.mend_in-requires-else-h c).Start in
-    let n = few_vertices s.args.file.now s.requires.fact_2 in
-    let m = few_edges s.args.file.now s.requires.fact_2 in
-    record { fact_1 = s.requires.fact_1; fact_2 = s.requires.fact_2; fact_3 = (omega (arith, n), omega (arith, m), omega (arith, m)) }
+    let n = few_vertices c.args.file.now c.requires.fact_2 in
+    let m = few_edges c.args.file.now c.requires.fact_2 in
+    record { fact_1 = c.requires.fact_1; fact_2 = c.requires.fact_2; fact_3 = (omega (arith, n), omega (arith, m), omega (arith, m)) }
 
 pub returns-then-h : goal.returns-then-h
 returns-then-h c = c.mend_in.ensures

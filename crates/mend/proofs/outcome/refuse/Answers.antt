@@ -8,7 +8,6 @@ use Rattle.mend.proofs.outcome.refuse.Goals as goal
 
 pub returns : goal.returns
 returns c =
-    let s = (goal.at.returns c).Start in
-    let n = length s.args.out.now in
-    let l = length s.args.list.now in
-    λ i. record { answer = refused (refusal_of s.args.r); file = (c.wipe_u8.ensures ∙ sym (padded_none 0 n)) i; list = (c.wipe_u16.ensures ∙ sym (padded_none 0 l)) i }
+    let n = length c.args.out.now in
+    let l = length c.args.list.now in
+    λ i. record { answer = refused (refusal_of c.args.r); file = (c.wipe_u8.ensures ∙ sym (padded_none 0 n)) i; list = (c.wipe_u16.ensures ∙ sym (padded_none 0 l)) i }

@@ -14,13 +14,11 @@ use Rattle.mend.proofs.packed.corner_key.Goals.{After-twos-y}
 
 pub twos-x-requires : goal.twos-x-requires
 twos-x-requires c =
-    let s = (goal.at.twos-x-requires c).Start in
-    (omega arith, omega (arith, ap nat_abs (to_z-of_z w64 _ (record { sfits = c.vertex_cell.type_inv }) ∙ c.vertex_cell.ensures), s.requires.x_is))
+    (omega arith, omega (arith, ap nat_abs (to_z-of_z w64 _ (record { sfits = c.vertex_cell.type_inv }) ∙ c.vertex_cell.ensures), c.requires.x_is))
 
 pub twos-y-requires : goal.twos-y-requires
 twos-y-requires c =
-    let s = (goal.at.twos-y-requires c).Start in
-    (omega arith, omega (arith, ap nat_abs (to_z-of_z w64 _ (record { sfits = c.vertex_cell-2.type_inv }) ∙ c.vertex_cell-2.ensures), s.requires.y_is))
+    (omega arith, omega (arith, ap nat_abs (to_z-of_z w64 _ (record { sfits = c.vertex_cell-2.type_inv }) ∙ c.vertex_cell-2.ensures), c.requires.y_is))
 
 x_is : (c : After-twos-y) → c.twos-x.result ≡ wrapped 2 (corner_in c.args.points.now c.args.v).x
 x_is c = c.twos-x.ensures ∙ ap (wrapped 2) (to_z-of_z w64 _ (record { sfits = c.vertex_cell.type_inv }) ∙ c.vertex_cell.ensures)

@@ -8,25 +8,19 @@ use Rattle.mend.proofs.packed.corner_keys.Goals as goal
 
 pub corner_key-requires : goal.corner_key-requires
 corner_key-requires c =
-    let s = (goal.at.corner_key-requires c).Start in
-    let at = (goal.at.corner_key-requires c).At-loop-v in
-    s.requires.0.near at.loop-v.v (omega arith)
+    c.requires.0.near c.loop-v.v (omega arith)
 
 pub offset_bounds-keys-i : goal.offset_bounds-keys-i
 offset_bounds-keys-i c =
-    let at = (goal.at.offset_bounds-keys-i c).At-loop-v in
-    omega (arith, at.loop-v.invariant.room, at.loop-v.invariant.kept)
+    omega (arith, c.loop-v.invariant.room, c.loop-v.invariant.kept)
 
 pub bounds-keys-i : goal.bounds-keys-i
 bounds-keys-i c =
-    let at = (goal.at.bounds-keys-i c).At-loop-v in
-    omega (arith, at.loop-v.invariant.room, at.loop-v.invariant.kept)
+    omega (arith, c.loop-v.invariant.room, c.loop-v.invariant.kept)
 
 pub loop-v-preserved : goal.loop-v-preserved
 loop-v-preserved c =
-    let at = (goal.at.loop-v-preserved c).At-loop-v in
-    let one = (goal.at.loop-v-preserved c).After-corner_key in
-    fill_turns at.loop-v.invariant (omega arith) one.corner_key.ensures
+    fill_turns c.loop-v.invariant (omega arith) c.corner_key.ensures
 
 pub loop-v-init : goal.loop-v-init
 loop-v-init c = fill_starts (search rules)

@@ -9,19 +9,15 @@ use Rattle.mend.proofs.packed.edge_keys.Goals as goal
 
 pub offset_bounds-keys-i : goal.offset_bounds-keys-i
 offset_bounds-keys-i c =
-    let at = (goal.at.offset_bounds-keys-i c).At-loop-k in
-    omega (arith, at.loop-k.invariant.room, at.loop-k.invariant.kept)
+    omega (arith, c.loop-k.invariant.room, c.loop-k.invariant.kept)
 
 pub bounds-keys-i : goal.bounds-keys-i
 bounds-keys-i c =
-    let at = (goal.at.bounds-keys-i c).At-loop-k in
-    omega (arith, at.loop-k.invariant.room, at.loop-k.invariant.kept)
+    omega (arith, c.loop-k.invariant.room, c.loop-k.invariant.kept)
 
 pub loop-k-preserved : goal.loop-k-preserved
 loop-k-preserved c =
-    let at = (goal.at.loop-k-preserved c).At-loop-k in
-    let one = (goal.at.loop-k-preserved c).After-pair_key in
-    fill_turns at.loop-k.invariant (omega arith) (one.pair_key.ensures ∙ (λ i. pair_key (one.from_now.ensures i) (one.to_now.ensures i)))
+    fill_turns c.loop-k.invariant (omega arith) (c.pair_key.ensures ∙ (λ i. pair_key (c.from_now.ensures i) (c.to_now.ensures i)))
 
 pub loop-k-init : goal.loop-k-init
 loop-k-init c = fill_starts (search rules)

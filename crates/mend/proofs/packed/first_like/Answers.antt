@@ -2,19 +2,18 @@
 use Rattle.std.specs.Prelude.{◌-◌}
 use borrow.Author.Tests.{eq-eqb, ne_eqb}
 use native.Mathlib.Omega.{arith}
-use Rattle.seq.specs.Loops.Searching.{Searching, search_starts, search_turns, search_finds, search_ends}
+use Rattle.seq.specs.Loops.Searching.{Searching, search_starts}
+use Rattle.seq.proofs.Loops.Searching.{search_turns, search_finds, search_ends}
 use Rattle.mend.specs.Keys.{like_in}
 use Rattle.mend.proofs.packed.first_like.Goals as goal
 
 pub returns-then-key-keys : goal.returns-then-key-keys
 returns-then-key-keys c =
-    let at = (goal.at.returns-then-key-keys c).At-loop-j in
-    search_finds at.loop-j.invariant (omega arith) (eq-eqb _ _ c.if-key-keys.true)
+    search_finds c.loop-j.invariant (omega arith) (eq-eqb _ _ c.if-key-keys.true)
 
 pub loop-j-preserved : goal.loop-j-preserved
 loop-j-preserved c =
-    let at = (goal.at.loop-j-preserved c).At-loop-j in
-    search_turns at.loop-j.invariant (omega arith) (ne_eqb _ _ c.if-key-keys.false)
+    search_turns c.loop-j.invariant (omega arith) (ne_eqb _ _ c.if-key-keys.false)
 
 pub loop-j-init : goal.loop-j-init
 loop-j-init c = search_starts

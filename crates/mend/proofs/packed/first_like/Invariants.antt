@@ -3,7 +3,8 @@ use Rattle.std.specs.Prelude.{◌-◌}
 use borrow.Author.Rules.{rules}
 use borrow.Author.Tests.{eq-eqb, ne_eqb}
 use native.Mathlib.Omega.{arith}
-use Rattle.seq.specs.Loops.Searching.{Searching, search_starts, search_turns, search_finds, search_ends}
+use Rattle.seq.specs.Loops.Searching.{Searching, search_starts}
+use Rattle.seq.proofs.Loops.Searching.{search_turns, search_finds, search_ends}
 use Rattle.mend.specs.Keys.{like_in}
 use Rattle.mend.proofs.packed.first_like.Given as goal
 

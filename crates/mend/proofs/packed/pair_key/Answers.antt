@@ -8,12 +8,10 @@ use Rattle.mend.proofs.packed.pair_key.Goals as goal
 
 pub returns-then-a-b : goal.returns-then-a-b
 returns-then-a-b c =
-    let s = (goal.at.returns-then-a-b c).Start in
-    let a = s.args in
+    let a = c.args in
     ap (λ (t : Bool). cond t (65536 * a.a + a.b) (65536 * a.b + a.a)) (sym (le-leb a.a a.b (omega arith)))
 
 pub returns-else-a-b : goal.returns-else-a-b
 returns-else-a-b c =
-    let s = (goal.at.returns-else-a-b c).Start in
-    let a = s.args in
+    let a = c.args in
     ap (λ (t : Bool). cond t (65536 * a.a + a.b) (65536 * a.b + a.a)) (sym (lt-leb a.a a.b (omega arith)))

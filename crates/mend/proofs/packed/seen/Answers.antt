@@ -8,8 +8,7 @@ use Rattle.mend.proofs.packed.seen.Goals as goal
 
 pub loop-j-preserved : goal.loop-j-preserved
 loop-j-preserved c =
-    let at = (goal.at.loop-j-preserved c).At-loop-j in
-    see_turns at.loop-j.invariant (omega arith) refl
+    see_turns c.loop-j.invariant (omega arith) refl
 
 pub loop-j-init : goal.loop-j-init
 loop-j-init c = see_starts

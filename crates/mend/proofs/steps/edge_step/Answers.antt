@@ -8,18 +8,15 @@ use Rattle.mend.proofs.steps.edge_step.Goals as goal
 
 pub returns-then-shrunk : goal.returns-then-shrunk
 returns-then-shrunk c =
-    let s = (goal.at.returns-then-shrunk c).Start in
-    let a = s.args in
+    let a = c.args in
     shrunk-step (shrunk_in a.ends.now a.k) (the_some_below (like_in a.keys.now a.k) a.k) (sym c.shrunk.ensures ∙ c.if-shrunk.true)
 
 pub returns-then-seen : goal.returns-then-seen
 returns-then-seen c =
-    let s = (goal.at.returns-then-seen c).Start in
-    let a = s.args in
+    let a = c.args in
     seen_step (shrunk_in a.ends.now a.k) (the_some_below (like_in a.keys.now a.k) a.k) (sym c.shrunk.ensures ∙ c.if-shrunk.false) (sym c.seen.ensures ∙ c.if-seen.true)
 
 pub returns : goal.returns
 returns c =
-    let s = (goal.at.returns c).Start in
-    let a = s.args in
+    let a = c.args in
     kept_step (shrunk_in a.ends.now a.k) (the_some_below (like_in a.keys.now a.k) a.k) (sym c.shrunk.ensures ∙ c.if-shrunk.false) (sym c.seen.ensures ∙ c.if-seen.false)

@@ -10,19 +10,15 @@ use Rattle.mend.proofs.steps.edge_steps_by.Goals as goal
 
 pub offset_bounds-steps-i : goal.offset_bounds-steps-i
 offset_bounds-steps-i c =
-    let at = (goal.at.offset_bounds-steps-i c).At-loop-k in
-    omega (arith, at.loop-k.invariant.room, at.loop-k.invariant.kept)
+    omega (arith, c.loop-k.invariant.room, c.loop-k.invariant.kept)
 
 pub bounds-steps-i : goal.bounds-steps-i
 bounds-steps-i c =
-    let at = (goal.at.bounds-steps-i c).At-loop-k in
-    omega (arith, at.loop-k.invariant.room, at.loop-k.invariant.kept)
+    omega (arith, c.loop-k.invariant.room, c.loop-k.invariant.kept)
 
 pub loop-k-preserved : goal.loop-k-preserved
 loop-k-preserved c =
-    let at = (goal.at.loop-k-preserved c).At-loop-k in
-    let one = (goal.at.loop-k-preserved c).After-edge_step in
-    fill_turns at.loop-k.invariant (omega arith) one.edge_step.ensures
+    fill_turns c.loop-k.invariant (omega arith) c.edge_step.ensures
 
 pub loop-k-init : goal.loop-k-init
 loop-k-init c = fill_starts (search rules)

@@ -4,6 +4,4 @@ use Rattle.mend.proofs.steps.edge_steps_in.Goals as goal
 
 pub returns : goal.returns
 returns c =
-    let s = (goal.at.returns c).Start in
-    let one = (goal.at.returns c).After-edge_keys in
-    stepped_by_keys s.args.ends.now s.args.e _ _ _ _ one.edge_keys.ensures c.edge_steps_by.ensures
+    stepped_by_keys c.args.ends.now c.args.e _ _ _ _ c.edge_keys.ensures c.edge_steps_by.ensures

@@ -4,7 +4,5 @@ use Rattle.mend.proofs.steps.vertex_steps.Goals as goal
 
 pub returns : goal.returns
 returns c =
-    let s = (goal.at.returns c).Start in
-    let a = s.args in
-    let one = (goal.at.returns c).After-without_edges in
-    vertex-stepped a.into.now a.ends.now a.dropped.now a.n a.e a.steps.now _ _ s.requires.1 one.without_edges.ensures c.keep_all_ends.ensures
+    let a = c.args in
+    vertex-stepped a.into.now a.ends.now a.dropped.now a.n a.e a.steps.now _ _ c.requires.1 c.without_edges.ensures c.keep_all_ends.ensures

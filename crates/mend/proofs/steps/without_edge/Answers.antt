@@ -7,10 +7,8 @@ use Rattle.mend.proofs.steps.without_edge.Goals as goal
 
 pub returns-then-u16_at-v : goal.returns-then-u16_at-v
 returns-then-u16_at-v c =
-    let s = (goal.at.returns-then-u16_at-v c).Start in
-    ap (λ (b : Bool). cond b 1 4) (sym (lt-ltb (get_or s.args.into.now s.args.v 0) s.args.v (omega (arith, c.u16_at.ensures))))
+    ap (λ (b : Bool). cond b 1 4) (sym (lt-ltb (get_or c.args.into.now c.args.v 0) c.args.v (omega (arith, c.u16_at.ensures))))
 
 pub returns-else-u16_at-v : goal.returns-else-u16_at-v
 returns-else-u16_at-v c =
-    let s = (goal.at.returns-else-u16_at-v c).Start in
-    ap (λ (b : Bool). cond b 1 4) (sym (le-ltb (get_or s.args.into.now s.args.v 0) s.args.v (omega (arith, c.u16_at.ensures))))
+    ap (λ (b : Bool). cond b 1 4) (sym (le-ltb (get_or c.args.into.now c.args.v 0) c.args.v (omega (arith, c.u16_at.ensures))))

@@ -9,19 +9,15 @@ use Rattle.mend.proofs.steps.without_edges.Goals as goal
 
 pub offset_bounds-steps-i : goal.offset_bounds-steps-i
 offset_bounds-steps-i c =
-    let at = (goal.at.offset_bounds-steps-i c).At-loop-v in
-    omega (arith, at.loop-v.invariant.room, at.loop-v.invariant.kept)
+    omega (arith, c.loop-v.invariant.room, c.loop-v.invariant.kept)
 
 pub bounds-steps-i : goal.bounds-steps-i
 bounds-steps-i c =
-    let at = (goal.at.bounds-steps-i c).At-loop-v in
-    omega (arith, at.loop-v.invariant.room, at.loop-v.invariant.kept)
+    omega (arith, c.loop-v.invariant.room, c.loop-v.invariant.kept)
 
 pub loop-v-preserved : goal.loop-v-preserved
 loop-v-preserved c =
-    let at = (goal.at.loop-v-preserved c).At-loop-v in
-    let one = (goal.at.loop-v-preserved c).After-without_edge in
-    fill_turns at.loop-v.invariant (omega arith) one.without_edge.ensures
+    fill_turns c.loop-v.invariant (omega arith) c.without_edge.ensures
 
 pub loop-v-init : goal.loop-v-init
 loop-v-init c = fill_starts (search rules)

@@ -2,7 +2,8 @@
 use mathlib.Core.Path.{sym, ◌∙◌, ap, subst}
 use native.Mathlib.Omega.{arith}
 use Rattle.seq.specs.Seq.{not}
-use Rattle.seq.specs.Halves.{middle, reached, halve_starts, halve_up, halve_down, halve_ends}
+use Rattle.seq.specs.Halves.{middle, reached, halve_starts, halve_up, halve_down}
+use Rattle.seq.proofs.Halves.{halve_ends}
 use Rattle.paper.specs.Plane.{Pt, whole, before}
 use Rattle.plane.specs.Bounds.{Near}
 use Rattle.plane.specs.Values.{vec_of}

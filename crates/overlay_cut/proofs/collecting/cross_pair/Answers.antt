@@ -4,7 +4,7 @@ use Rattle.seq.specs.Seq.{List, Option, optional}
 use Rattle.paper.specs.Plane.{Pt}
 use Rattle.paper.specs.Meeting as Ways
 use Rattle.paper.specs.Meeting.{meeting, point_of}
-use Rattle.laws_plane.specs.Boxes.{boxes-apart}
+use Rattle.laws_plane.proofs.Boxes.{boxes-apart}
 use Rattle.laws_meet.specs.Collect.{boxes-meeting}
 use Rattle.plane.specs.Bounds.{NearIf}
 use Rattle.plane.specs.Values.{seg_of, meeting_of}

@@ -1,7 +1,8 @@
 -- `overlay_cut::collecting::stands` meets its contract: none of the rows that the loop has passed is the point. Assumes nothing.
 use mathlib.Core.Path.{sym, ◌∙◌}
 use Rattle.plane.specs.Values.{pt_of}
-use Rattle.seq.specs.Loops.Searching.{search_starts, search_turns, search_has, search_lacks}
+use Rattle.seq.specs.Loops.Searching.{search_starts}
+use Rattle.seq.proofs.Loops.Searching.{search_turns, search_has, search_lacks}
 use Rattle.overlay_cut.specs.Collecting.{among-rows}
 use borrow.Author.Rules.{rules}
 use Rattle.overlay_cut.proofs.collecting.stands.Goals as goal

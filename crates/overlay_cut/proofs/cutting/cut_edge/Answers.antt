@@ -1,7 +1,7 @@
 -- `overlay_cut::cutting::cut_edge` meets its contract: what is left to put in, put into the table, gives the whole. Assumes nothing.
 use mathlib.Core.Path.{◌≡◌, refl, sym, ◌∙◌, ap, subst}
 use Prim.Native.Nat.{◌-◌}
-use Rattle.seq.specs.Least.{least-le}
+use Rattle.seq.proofs.Least.{least-le}
 use Rattle.seq.specs.Halves.{reached}
 use Rattle.paper.specs.Plane.{whole, before, on_seg}
 use Rattle.plane.specs.Values.{vec_of, seg_of}

@@ -3,7 +3,8 @@ use mathlib.Core.Path.{sym, ◌∙◌, ap}
 use borrow.Author.Tests.{lt-ltb, le-ltb}
 use lib.Dec.{ltb}
 use native.Mathlib.Omega.{arith}
-use Rattle.seq.specs.Loops.Searching.{search_starts, search_turns, search_finds, search_ends}
+use Rattle.seq.specs.Loops.Searching.{search_starts}
+use Rattle.seq.proofs.Loops.Searching.{search_turns, search_finds, search_ends}
 use Rattle.overlay_cut.proofs.edges.first_map.Goals as goal
 use Rattle.overlay_cut.proofs.edges.first_map.Goals.{At-loop-m}
 

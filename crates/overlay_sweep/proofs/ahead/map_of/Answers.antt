@@ -1,6 +1,7 @@
 -- `overlay_sweep::ahead::map_of` meets its contract: none of the maps that the loop has passed ends after edge k. Assumes nothing.
 use borrow.Author.Tests.{lt-ltb, le-ltb}
-use Rattle.seq.specs.Loops.Searching.{search_starts, search_turns, search_finds, search_ends}
+use Rattle.seq.specs.Loops.Searching.{search_starts}
+use Rattle.seq.proofs.Loops.Searching.{search_turns, search_finds, search_ends}
 use native.Mathlib.Omega.{arith}
 use Rattle.overlay_sweep.proofs.ahead.map_of.Goals as goal
 use Rattle.overlay_sweep.proofs.ahead.map_of.Goals.{At-loop-m}

@@ -1,6 +1,7 @@
 -- `ovfile_write::edges::first_bad_edge_by` meets its contract: nothing below the counter has been found. Assumes nothing.
 use mathlib.Core.Path.{sym, ◌∙◌}
-use Rattle.seq.specs.Loops.Searching.{search_starts, search_turns, search_finds, search_ends}
+use Rattle.seq.specs.Loops.Searching.{search_starts}
+use Rattle.seq.proofs.Loops.Searching.{search_turns, search_finds, search_ends}
 use Rattle.ovfile_write.proofs.edges.first_bad_edge_by.Goals as goal
 
 pub returns-then-bad_edge : goal.returns-then-bad_edge

@@ -1,6 +1,7 @@
 -- `ovfile_write::vertices::first_bad_vertex_by` meets its contract: nothing below the counter has been found. Assumes nothing.
 use mathlib.Core.Path.{sym, ◌∙◌}
-use Rattle.seq.specs.Loops.Searching.{search_starts, search_turns, search_finds, search_ends}
+use Rattle.seq.specs.Loops.Searching.{search_starts}
+use Rattle.seq.proofs.Loops.Searching.{search_turns, search_finds, search_ends}
 use Rattle.ovfile_write.proofs.vertices.first_bad_vertex_by.Goals as goal
 
 pub returns-then-bad_vertex : goal.returns-then-bad_vertex

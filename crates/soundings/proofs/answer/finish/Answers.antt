@@ -5,8 +5,5 @@ use Rattle.soundings.proofs.answer.finish.Goals as goal
 
 pub returns : goal.returns
 returns c =
-    let s = (goal.at.returns c).Start in
-    let u = (goal.at.returns c).After-wipe_from_u16 in
-    let v = (goal.at.returns c).After-wipe_from_u32 in
-    let a = s.args in
-    tables-done a.labels.now a.counts.now a.n a.soundings a.read _ _ s.requires.fact_1 s.requires.fact_2.0 u.wipe_from_u16.ensures v.wipe_from_u32.ensures
+    let a = c.args in
+    tables-done a.labels.now a.counts.now a.n a.soundings a.read _ _ c.requires.fact_1 c.requires.fact_2 c.wipe_from_u16.ensures c.wipe_from_u32.ensures

@@ -9,12 +9,9 @@ use Rattle.soundings.proofs.answer.refuse.Goals as goal
 
 pub returns : goal.returns
 returns c =
-    let s = (goal.at.returns c).Start in
-    let u = (goal.at.returns c).After-wipe_u16 in
-    let v = (goal.at.returns c).After-wipe_u32 in
-    let a = s.args in
+    let a = c.args in
     λ i. record {
       answer = refused (refusal_of a.r);
-      labels = (u.wipe_u16.ensures ∙ sym (padded_none 0 (length a.labels.now))) i;
-      counts = (v.wipe_u32.ensures ∙ sym (padded_none 0 (length a.counts.now))) i;
+      labels = (c.wipe_u16.ensures ∙ sym (padded_none 0 (length a.labels.now))) i;
+      counts = (c.wipe_u32.ensures ∙ sym (padded_none 0 (length a.counts.now))) i;
     }

@@ -11,49 +11,39 @@ returns-then-p-ne0 c =
 
 pub bounds-bytes-at : goal.bounds-bytes-at
 bounds-bytes-at c =
-    let s = (goal.at.bounds-bytes-at c).Start in
-    let a = s.args in
-    let p = s.requires.fact_2.1 in
-    omega (arith, p.0, byte-rest (look_by a.rails.now a.easts.now a.e a.rails2.now a.easts2.now a.f) a.bytes.now a.labels.now a.counts.now a.p a.b c.if-p-ne0.false p.1.1 p.0)
+    let a = c.args in
+    omega (arith, c.requires.fact_3, byte-rest (look_by a.rails.now a.easts.now a.e a.rails2.now a.easts2.now a.f) a.bytes.now a.labels.now a.counts.now a.p a.b c.if-p-ne0.false c.requires.fact_5 c.requires.fact_3)
 
 pub overflow_add-at : goal.overflow_add-at
 overflow_add-at c =
-    let s = (goal.at.overflow_add-at c).Start in
-    let a = s.args in
-    let p = s.requires.fact_2.1 in
-    omega (arith, byte-rest (look_by a.rails.now a.easts.now a.e a.rails2.now a.easts2.now a.f) a.bytes.now a.labels.now a.counts.now a.p a.b c.if-p-ne0.false p.1.1 p.0)
+    let a = c.args in
+    omega (arith, byte-rest (look_by a.rails.now a.easts.now a.e a.rails2.now a.easts2.now a.f) a.bytes.now a.labels.now a.counts.now a.p a.b c.if-p-ne0.false c.requires.fact_5 c.requires.fact_3)
 
 pub overflow_add-at-then-at-lt-SOUNDING_SIZE : goal.overflow_add-at-then-at-lt-SOUNDING_SIZE
 overflow_add-at-then-at-lt-SOUNDING_SIZE c = omega (arith, c.if-at-lt-SOUNDING_SIZE.true)
 
 pub returns-then-at-lt-SOUNDING_SIZE : goal.returns-then-at-lt-SOUNDING_SIZE
 returns-then-at-lt-SOUNDING_SIZE c =
-    let s = (goal.at.returns-then-at-lt-SOUNDING_SIZE c).Start in
-    let a = s.args in
-    let p = s.requires.fact_2.1 in
-    byte-waits (look_by a.rails.now a.easts.now a.e a.rails2.now a.easts2.now a.f) a.bytes.now a.labels.now a.counts.now a.p a.b c.if-p-ne0.false p.1.1 p.0 _ c.going.ensures c.if-at-lt-SOUNDING_SIZE.true
+    let a = c.args in
+    byte-waits (look_by a.rails.now a.easts.now a.e a.rails2.now a.easts2.now a.f) a.bytes.now a.labels.now a.counts.now a.p a.b c.if-p-ne0.false c.requires.fact_5 c.requires.fact_3 _ c.going.ensures c.if-at-lt-SOUNDING_SIZE.true
 
 pub add_sounding-requires : goal.add_sounding-requires
 add_sounding-requires c =
-    let s = (goal.at.add_sounding-requires c).Start in
-    let a = s.args in
-    let p = s.requires.1.1 in
+    let a = c.args in
     record {
-      fact_1 = s.requires.0;
-      fact_2 = s.requires.1.0;
-      fact_3 = byte_countable (look_by a.rails.now a.easts.now a.e a.rails2.now a.easts2.now a.f) a.bytes.now a.labels.now a.counts.now a.p a.b c.if-p-ne0.false p.1.1 p.0 p.1.0;
+      fact_1 = c.requires.fact_1;
+      fact_2 = c.requires.fact_2;
+      fact_3 = byte_countable (look_by a.rails.now a.easts.now a.e a.rails2.now a.easts2.now a.f) a.bytes.now a.labels.now a.counts.now a.p a.b c.if-p-ne0.false c.requires.fact_5 c.requires.fact_3 c.requires.fact_4;
     }
 
 pub returns : goal.returns
 returns c =
-    let s = (goal.at.returns c).Start in
-    let a = s.args in
-    let p = s.requires.1.1 in
+    let a = c.args in
     let x = c.add_sounding in
-    byte_sounding (look_by a.rails.now a.easts.now a.e a.rails2.now a.easts2.now a.f) a.bytes.now a.labels.now a.counts.now a.p a.b c.if-p-ne0.false p.1.1 p.0 x.new.1.1.1.1.1.1.1.0 x.new.1.1.1.1.1.1.1.1.0 x.result c.if-at-lt-SOUNDING_SIZE.false x.ensures
+    byte_sounding (look_by a.rails.now a.easts.now a.e a.rails2.now a.easts2.now a.f) a.bytes.now a.labels.now a.counts.now a.p a.b c.if-p-ne0.false c.requires.fact_5 c.requires.fact_3 x.new.labels x.new.counts x.result c.if-at-lt-SOUNDING_SIZE.false x.ensures
 
 pub shape_of-labels : goal.shape_of-labels
-shape_of-labels c = c.add_sounding.auto.1.1.1.1.1.1.1.0
+shape_of-labels c = c.add_sounding.auto.labels
 
 pub shape_of-counts : goal.shape_of-counts
-shape_of-counts c = c.add_sounding.auto.1.1.1.1.1.1.1.1.0
+shape_of-counts c = c.add_sounding.auto.counts

@@ -9,24 +9,15 @@ use borrow.Author.Rules.{rules}
 use Rattle.soundings.proofs.bytes.add_bytes.Goals as goal
 use Rattle.soundings.proofs.bytes.add_bytes.Goals.{Start}
 
--- a slice's length fits
-short : (s : Start) → length s.args.batch.now < 18446744073709551616
-short s = omega arith
-
-pub overflow_add-i : goal.overflow_add-i
-overflow_add-i c = omega (arith, c.loop-i-test.true, short (goal.at.overflow_add-i c).Start)
-
 pub add_byte-q-requires : goal.add_byte-q-requires
 add_byte-q-requires c =
-    let s = (goal.at.add_byte-q-requires c).Start in
     let v = c.loop-i.invariant in
-    let p = s.requires.fact_2.1 in
-    record { fact_1 = s.requires.fact_1; fact_2 = s.requires.fact_2.0; fact_3 = v.bytes-kept ∙ p.0; fact_4 = adding_room v p.1.0; fact_5 = adding_fit v p.1.1 }
+    record { fact_1 = c.requires.fact_1; fact_2 = c.requires.fact_2; fact_3 = v.bytes-kept ∙ c.requires.fact_3; fact_4 = adding_room v c.requires.fact_4; fact_5 = adding_fit v c.requires.fact_5 }
 
 pub loop-i-preserved : goal.loop-i-preserved
 loop-i-preserved c =
     let x = c.add_byte-q in
-    adding_turns c.loop-i.invariant _ _ _ _ c.loop-i-test.true x.auto.1.1.1.1.1.1.1.0 x.auto.1.1.1.1.1.1.1.1.0 x.auto.1.1.1.1.1.1.1.1.1.0 x.ensures
+    adding_turns c.loop-i.invariant _ _ _ _ c.loop-i-test.true x.auto.bytes x.auto.labels x.auto.counts x.ensures
 
 pub loop-i-init : goal.loop-i-init
 loop-i-init c = adding_starts

@@ -30,25 +30,23 @@ returns-then-too_far c =
 
 pub count_one-step-requires : goal.count_one-step-requires
 count_one-step-requires c =
-    let s = (goal.at.count_one-step-requires c).Start in
     let t = c.sounding_in-c in
     record {
-      fact_1 = s.requires.fact_1;
-      fact_2 = s.requires.fact_2.0;
-      fact_3 = within_limit s.args.bytes.now (vec_of t.result) t.ensures (sym c.too_far.ensures ∙ c.if-too_far.false);
-      fact_4 = countable_roomy s.requires.fact_2.1;
+      fact_1 = c.requires.fact_1;
+      fact_2 = c.requires.fact_2;
+      fact_3 = within_limit c.args.bytes.now (vec_of t.result) t.ensures (sym c.too_far.ensures ∙ c.if-too_far.false);
+      fact_4 = countable_roomy c.requires.fact_3;
     }
 
 pub overflow_add-p-2 : goal.overflow_add-p-2
 overflow_add-p-2 c = omega (arith, c.if-p-ge-LIST_SOUNDINGS.false)
 
 pub overflow_add-p-3 : goal.overflow_add-p-3
-overflow_add-p-3 c = omega (arith, c.if-p-ge-LIST_SOUNDINGS.false, c.requires.fact_2.1.far_Within)
+overflow_add-p-3 c = omega (arith, c.if-p-ge-LIST_SOUNDINGS.false, c.requires.fact_3.far_within)
 
 pub overflow_add-p-4 : goal.overflow_add-p-4
 overflow_add-p-4 c =
-    let s = (goal.at.overflow_add-p-4 c).Start in
-    omega (arith, reads_fit s.requires.fact_2.1 (search rules) c.count_one-step.ensures)
+    omega (arith, reads_fit c.requires.fact_3 (search rules) c.count_one-step.ensures)
 
 pub returns : goal.returns
 returns c =
@@ -58,7 +56,7 @@ returns c =
     sounding_counted (look_by a.rails.now a.easts.now a.e a.rails2.now a.easts2.now a.f) a.bytes.now a.labels.now a.counts.now a.p c.if-p-ge-LIST_SOUNDINGS.false c.if-p.false (vec_of t.result) _ _ x.result _ c.going-2.ensures (sym c.too_far.ensures ∙ c.if-too_far.false) t.ensures x.ensures
 
 pub shape_of-labels : goal.shape_of-labels
-shape_of-labels c = c.count_one-step.auto.1.1.1.1.1.1.1.0
+shape_of-labels c = c.count_one-step.auto.labels
 
 pub shape_of-counts : goal.shape_of-counts
-shape_of-counts c = c.count_one-step.auto.1.1.1.1.1.1.1.1.0
+shape_of-counts c = c.count_one-step.auto.counts

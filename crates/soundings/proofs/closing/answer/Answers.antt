@@ -10,9 +10,8 @@ use Rattle.soundings.proofs.closing.answer.Goals as goal
 
 pub lay_pairs-requires : goal.lay_pairs-requires
 lay_pairs-requires c =
-    let s = (goal.at.lay_pairs-requires c).Start in
-    let n = s.requires.fact_2 (ap verdict c.in-Fine.is) in
-    record { fact_1 = s.requires.fact_1; fact_2 = n.0; fact_3 = n.1; fact_4 = n.2; fact_5 = n.3 }
+    let n = c.requires.fact_2 (ap verdict c.in-Fine.is) in
+    record { fact_1 = c.requires.fact_1; fact_2 = n.0; fact_3 = n.1; fact_4 = n.2; fact_5 = n.3 }
 
 pub returns-in-Bad : goal.returns-in-Bad
 returns-in-Bad c =
@@ -25,13 +24,13 @@ returns-in-Fine c =
     c.lay_pairs.ensures ∙ sym (ap (counted (room_by (length a.labels.now) (length a.counts.now)) (cells_by a.p.entries a.p.soundings a.p.read) (entries_in a.own.now a.times.now a.p.entries)) (ap verdict c.in-Fine.is))
 
 pub shape_of-labels-in-Bad : goal.shape_of-labels-in-Bad
-shape_of-labels-in-Bad c = c.refuse.auto.1.0
+shape_of-labels-in-Bad c = c.refuse.auto.labels
 
 pub shape_of-counts-in-Bad : goal.shape_of-counts-in-Bad
-shape_of-counts-in-Bad c = c.refuse.auto.1.1.0
+shape_of-counts-in-Bad c = c.refuse.auto.counts
 
 pub shape_of-labels-in-Fine : goal.shape_of-labels-in-Fine
-shape_of-labels-in-Fine c = c.lay_pairs.auto.1.1.1.0
+shape_of-labels-in-Fine c = c.lay_pairs.auto.labels
 
 pub shape_of-counts-in-Fine : goal.shape_of-counts-in-Fine
-shape_of-counts-in-Fine c = c.lay_pairs.auto.1.1.1.1.0
+shape_of-counts-in-Fine c = c.lay_pairs.auto.counts

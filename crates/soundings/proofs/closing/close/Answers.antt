@@ -26,7 +26,7 @@ four s = search rules
 pub sound-fit-requires : goal.sound-fit-requires
 sound-fit-requires c =
     let s = (goal.at.sound-fit-requires c).Start in
-    let x = s.args.count in
+    let x = c.args.count in
     let r : length x.rails ≡ 4 * map_edges = search rules in
     let r2 : length x.rails2 ≡ 4 * map_edges = search rules in
     record { fact_1 = omega (arith, r); fact_2 = omega (arith, r2); fact_3 = table-room s }
@@ -57,7 +57,7 @@ returns c =
     ∙ closed_is (room_by (length a.labels.now) (length a.counts.now)) x.rails x.easts x.edges x.rails2 x.easts2 x.edges2 x.bytes x.labels x.counts x.progress (omega (arith, four (goal.at.returns c).Start)) r.result s.result (verdict f.result) r.ensures s.ensures f.ensures
 
 pub shape_of-labels : goal.shape_of-labels
-shape_of-labels c = c.answer.auto.1.1.1.1.0
+shape_of-labels c = c.answer.auto.labels
 
 pub shape_of-counts : goal.shape_of-counts
-shape_of-counts c = c.answer.auto.1.1.1.1.1.0
+shape_of-counts c = c.answer.auto.counts

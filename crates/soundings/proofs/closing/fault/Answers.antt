@@ -15,7 +15,7 @@ pub returns-then-p-ne0-2 : goal.returns-then-p-ne0-2
 returns-then-p-ne0-2 c = let a = c.args in c.given-then-p-ne0-2.ensures ∙ fault-rest a.room a.fit a.p c.if-p-ne0.false (not-false _ c.if-not-fit.false-raw) c.if-p-ne0-2.true
 
 pub overflow_cast-p : goal.overflow_cast-p
-overflow_cast-p c = let s = (goal.at.overflow_cast-p c).Start in omega (arith, c.if-p.true, s.requires (not-false _ c.if-not-fit.false-raw))
+overflow_cast-p c = omega (arith, c.if-p.true, c.requires (not-false _ c.if-not-fit.false-raw))
 
 pub returns-then-p : goal.returns-then-p
 returns-then-p c = let a = c.args in c.given-then-p.ensures ∙ fault-far a.room a.fit a.p c.if-p-ne0.false (not-false _ c.if-not-fit.false-raw) c.if-p-ne0-2.false c.if-p.true

@@ -8,13 +8,10 @@ use Rattle.soundings.proofs.lay.lay_both.Goals as goal
 
 pub returns : goal.returns
 returns c =
-    let second = (goal.at.returns c).After-lay_one-d in
-    let first = (goal.at.returns c).After-lay_one-c in
-    let s = (goal.at.returns c).Start in
-    let a = fault s.args.zones.now in
-    let b = fault s.args.blocks.now in
-    let is = c.first.ensures ∙ (λ i. first_of (first.lay_one-c.ensures.0 i ∷ second.lay_one-d.ensures.0 i ∷ [])) in (
+    let a = fault c.args.zones.now in
+    let b = fault c.args.blocks.now in
+    let is = c.first.ensures ∙ (λ i. first_of (c.lay_one-c.ensures.0 i ∷ c.lay_one-d.ensures.0 i ∷ [])) in (
       is,
-      λ q. first.lay_one-c.ensures.1 (both_none a b (sym is ∙ q)).0,
-      λ q. second.lay_one-d.ensures.1 (both_none a b (sym is ∙ q)).1,
+      λ q. c.lay_one-c.ensures.1 (both_none a b (sym is ∙ q)).0,
+      λ q. c.lay_one-d.ensures.1 (both_none a b (sym is ∙ q)).1,
     )

@@ -13,23 +13,16 @@ lay_map-c-requires c = any_room _ (cleared_room map_vertices map_edges)
 
 pub put_in_order-requires : goal.put_in_order-requires
 put_in_order-requires c =
-    let o = (goal.at.put_in_order-requires c).After-of_map-d in
-    let l = (goal.at.put_in_order-requires c).After-lay_map-c in
-    let s = (goal.at.put_in_order-requires c).Start in
-    let a = s.args in
-    let is = o.of_map-d.ensures ∙ ap (the_of_map a.map) (ap refused_in l.lay_map-c.ensures.0 ∙ refused_with_lem _ (fault a.file.now)) in record {
+    let a = c.args in
+    let is = c.of_map-d.ensures ∙ ap (the_of_map a.map) (ap refused_in c.lay_map-c.ensures.0 ∙ refused_with_lem _ (fault a.file.now)) in record {
       fact_1 = (λ q.
           let p = of_none a.map (fault a.file.now) (sym is ∙ q) in
-          is_laid a.file.now p _ _ _ _ _ _ _ _ (cleared_room map_vertices map_edges) (l.lay_map-c.ensures.1 p));
-      fact_2 = s.requires;
+          is_laid a.file.now p _ _ _ _ _ _ _ _ (cleared_room map_vertices map_edges) (c.lay_map-c.ensures.1 p));
+      fact_2 = c.requires;
     }
 
 pub returns : goal.returns
 returns c =
-    let p = (goal.at.returns c).After-put_in_order in
-    let o = (goal.at.returns c).After-of_map-d in
-    let l = (goal.at.returns c).After-lay_map-c in
-    let s = (goal.at.returns c).Start in
-    let a = s.args in
-    let is = o.of_map-d.ensures ∙ ap (the_of_map a.map) (ap refused_in l.lay_map-c.ensures.0 ∙ refused_with_lem _ (fault a.file.now)) in
-    (is, λ q. p.put_in_order.ensures (is ∙ ap (the_of_map a.map) q))
+    let a = c.args in
+    let is = c.of_map-d.ensures ∙ ap (the_of_map a.map) (ap refused_in c.lay_map-c.ensures.0 ∙ refused_with_lem _ (fault a.file.now)) in
+    (is, λ q. c.put_in_order.ensures (is ∙ ap (the_of_map a.map) q))

@@ -12,28 +12,21 @@ use Rattle.soundings.proofs.lay.put_in_order.Goals as goal
 
 pub lay_order-requires : goal.lay_order-requires
 lay_order-requires c =
-    let s = (goal.at.lay_order-requires c).Start in
-    let e = (goal.at.lay_order-requires c).After-edge_count-e in
-    let fine = (goal.at.lay_order-requires c).In-Fine in
-    let a = s.args in
-    let is = e.edge_count-e.ensures in
-    let L = s.requires.fact_1 (ap verdict fine.in-Fine.is) in
+    let a = c.args in
+    let is = c.edge_count-e.ensures in
+    let L = c.requires.fact_1 (ap verdict c.in-Fine.is) in
     let few = L.few in
     record { fact_1 = omega (arith, is, few); fact_2 = subst (EachEnds a.corners.now a.origins.now) (sym is) (flat_each _ _ _ _ _ L.flat); fact_3 = search rules }
 
 pub lay_rails-requires : goal.lay_rails-requires
 lay_rails-requires c =
-    let s = (goal.at.lay_rails-requires c).Start in
-    let e = (goal.at.lay_rails-requires c).After-edge_count-e in
-    let o = (goal.at.lay_rails-requires c).After-lay_order in
-    let fine = (goal.at.lay_rails-requires c).In-Fine in
-    let a = s.args in
-    let is = e.edge_count-e.ensures in
-    let L = s.requires.fact_1 (ap verdict fine.in-Fine.is) in (
+    let a = c.args in
+    let is = c.edge_count-e.ensures in
+    let L = c.requires.fact_1 (ap verdict c.in-Fine.is) in (
       (omega (arith, is, L.few), omega (arith, is, L.labels_long), subst (EachEnds a.corners.now a.origins.now) (sym is) (flat_each _ _ _ _ _ L.flat)),
       (
         subst (Carriers a.carriers.now) (sym is) L.flat.carriers,
-        (o.lay_order.ensures.numbers, (omega (arith, is, L.few, s.requires.fact_2.rows), omega (arith, is, L.few, s.requires.fact_2.labels))),
+        (c.lay_order.ensures.numbers, (omega (arith, is, L.few, c.requires.fact_2.rows), omega (arith, is, L.few, c.requires.fact_2.labels))),
       ),
     )
 
@@ -42,8 +35,4 @@ returns-in-Bad c = λ q. absurd (no_refusal (sym (ap verdict c.in-Bad.is) ∙ q)
 
 pub returns-in-Fine : goal.returns-in-Fine
 returns-in-Fine c =
-    let s = (goal.at.returns-in-Fine c).Start in
-    let e = (goal.at.returns-in-Fine c).After-edge_count-e in
-    let o = (goal.at.returns-in-Fine c).After-lay_order in
-    let r = (goal.at.returns-in-Fine c).After-lay_rails in
-    λ q. is_ready_by e.edge_count-e.ensures (s.requires.fact_1 q) o.lay_order.ensures s.requires.fact_2 r.lay_rails.ensures.rows r.lay_rails.ensures.labels
+    λ q. is_ready_by c.edge_count-e.ensures (c.requires.fact_1 q) c.lay_order.ensures c.requires.fact_2 c.lay_rails.ensures.rows c.lay_rails.ensures.labels

@@ -8,28 +8,21 @@ use Rattle.soundings.proofs.sounding.cell.Goals as goal
 
 pub label_read-a-requires : goal.label_read-a-requires
 label_read-a-requires c =
-    let s = (goal.at.label_read-a-requires c).Start in
-    let R = s.requires.fact_1 in
-    record { fact_1 = R.carriers; fact_2 = omega (arith, R.few); fact_3 = R.labelled; fact_4 = s.requires.fact_2.1 }
+    let R = c.requires.fact_1 in
+    record { fact_1 = R.carriers; fact_2 = omega (arith, R.few); fact_3 = R.labelled; fact_4 = c.requires.fact_3 }
 
 pub label_read-b-requires : goal.label_read-b-requires
 label_read-b-requires c =
-    let s = (goal.at.label_read-b-requires c).Start in
-    let R = s.requires.fact_2.0 in
-    record { fact_1 = R.carriers; fact_2 = omega (arith, R.few); fact_3 = R.labelled; fact_4 = s.requires.fact_2.1 }
+    let R = c.requires.fact_2 in
+    record { fact_1 = R.carriers; fact_2 = omega (arith, R.few); fact_3 = R.labelled; fact_4 = c.requires.fact_3 }
 
 pub overflow_add-result : goal.overflow_add-result
 overflow_add-result c =
-    let s = (goal.at.overflow_add-result c).Start in
-    let a = (goal.at.overflow_add-result c).After-label_read-a in
-    let b = (goal.at.overflow_add-result c).After-label_read-b in
-    omega (arith, a.label_read-a.ensures.read, b.label_read-b.ensures.read, look_few s.requires.fact_1 s.requires.fact_2.0 (vec_of s.args.c))
+    omega (arith, c.label_read-a.ensures.read, c.label_read-b.ensures.read, look_few c.requires.fact_1 c.requires.fact_2 (vec_of c.args.c))
 
 pub returns : goal.returns
 returns c =
-    let a = (goal.at.returns c).After-label_read-a in
-    let b = (goal.at.returns c).After-label_read-b in
     record {
-      labels = (λ i. a.label_read-a.ensures.same i ∷ b.label_read-b.ensures.same i ∷ []);
-      read = λ i. a.label_read-a.ensures.read i + b.label_read-b.ensures.read i;
+      labels = (λ i. c.label_read-a.ensures.same i ∷ c.label_read-b.ensures.same i ∷ []);
+      read = λ i. c.label_read-a.ensures.read i + c.label_read-b.ensures.read i;
     }

@@ -17,9 +17,8 @@ returns-then-magnitude-gt-REACH c =
 
 pub returns : goal.returns
 returns c =
-    let d = (goal.at.returns c).After-magnitude in
-    let a = d.args in
-    let x = d.magnitude.ensures ∙ ap nat_abs (to_z-of_z w64 _ (record { sfits = d.i16_at.type_inv }) ∙ d.i16_at.ensures) in
+    let a = c.args in
+    let x = c.magnitude.ensures ∙ ap nat_abs (to_z-of_z w64 _ (record { sfits = c.i16_at.type_inv }) ∙ c.i16_at.ensures) in
     let y = c.magnitude-2.ensures ∙ ap nat_abs (to_z-of_z w64 _ (record { sfits = c.i16_at-2.type_inv }) ∙ c.i16_at-2.ensures) in
     let s = sounding_at a.bytes.now 0 in
     ap (ltb reach) y ∙ within reach (nat_abs s.x) (ltb reach (nat_abs s.y)) (rw x at c.if-magnitude-gt-REACH.false)

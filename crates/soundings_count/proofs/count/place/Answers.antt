@@ -1,6 +1,7 @@
 -- `soundings_count::count::place` meets its contract: all rows below `low` are less, and that at `high` is not. Assumes nothing.
 use mathlib.Core.Path.{sym, ◌∙◌, ap}
-use Rattle.seq.specs.Halves.{halve_starts, halve_up, halve_down, halve_ends}
+use Rattle.seq.specs.Halves.{halve_starts, halve_up, halve_down}
+use Rattle.seq.proofs.Halves.{halve_ends}
 use Rattle.soundings_count.specs.InOrder.{reached_at, rows_last}
 use Rattle.seq.specs.Seq.{not}
 use borrow.Author.Rules.{rules}

@@ -1,6 +1,7 @@
 -- `soundings_count::table::falls` meets its contract: none of the rows that the loop has passed falls. Assumes nothing.
 use mathlib.Core.Path.{sym, ◌∙◌}
-use Rattle.seq.specs.Loops.Searching.{search_starts, search_turns, search_has, search_lacks}
+use Rattle.seq.specs.Loops.Searching.{search_starts}
+use Rattle.seq.proofs.Loops.Searching.{search_turns, search_has, search_lacks}
 use borrow.Author.Rules.{rules}
 use Rattle.soundings_count.proofs.table.falls.Goals as goal
 use Rattle.soundings_count.proofs.table.falls.Goals.{At-loop-i}

@@ -2,7 +2,8 @@
 use mathlib.Core.Path.{ap}
 use borrow.Author.Tests.{eq-eqb, ne_eqb}
 use Rattle.seq.specs.Seq.{not}
-use Rattle.seq.specs.Loops.Searching.{search_starts, search_turns, search_has, search_lacks}
+use Rattle.seq.specs.Loops.Searching.{search_starts}
+use Rattle.seq.proofs.Loops.Searching.{search_turns, search_has, search_lacks}
 use native.Mathlib.Omega.{arith}
 use Rattle.thin.proofs.keeping.differ.Goals as goal
 

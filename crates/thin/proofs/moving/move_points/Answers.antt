@@ -35,4 +35,6 @@ pub shape_of-out : goal.shape_of-out
 shape_of-out c = c.loop-v.invariant.0
 
 pub returns : goal.returns
-returns c = let e = move_ends c.loop-v.invariant.1 (omega arith) in record { is = e.0; rows = e.1 }
+returns c =
+    let r = move_ends c.loop-v.invariant.1 (omega arith) in
+    record { is = r.0; rows = r.1 }

@@ -2,7 +2,8 @@
 use mathlib.Core.Path.{sym, ◌∙◌, ap}
 use native.Mathlib.Omega.{arith}
 use Rattle.seq.specs.Seq.{not}
-use Rattle.seq.specs.Halves.{halve_starts, halve_up, halve_down, halve_ends}
+use Rattle.seq.specs.Halves.{halve_starts, halve_up, halve_down}
+use Rattle.seq.proofs.Halves.{halve_ends}
 use Rattle.year.specs.Risen.{rows_last}
 use borrow.Author.Rules.{rules}
 use Rattle.year.proofs.face.place_by_halves.Goals as goal

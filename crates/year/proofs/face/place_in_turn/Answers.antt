@@ -1,7 +1,8 @@
 -- `year::face::place_in_turn` meets its contract: every row that the loop has passed is earlier. Assumes nothing.
 use mathlib.Core.Path.{sym, ◌∙◌, ap}
 use Rattle.seq.specs.Seq.{not}
-use Rattle.seq.specs.Loops.Searching.{search_starts, search_turns, search_finds, search_ends}
+use Rattle.seq.specs.Loops.Searching.{search_starts}
+use Rattle.seq.proofs.Loops.Searching.{search_turns, search_finds, search_ends}
 use borrow.Author.Rules.{rules}
 use Rattle.year.proofs.face.place_in_turn.Goals as goal
 

@@ -1,0 +1,15 @@
+pub mod Along
+pub mod Chain
+pub mod Exchange
+pub mod Fits
+pub mod Inside
+pub mod Links
+pub mod Named
+pub mod Net
+pub mod NetPlane
+pub mod OneLine
+pub mod Padded
+pub mod Parts
+pub mod Pieces
+pub mod Renumber
+pub mod Round

@@ -1,0 +1,15 @@
+pub mod Delivered
+pub mod EdgeRows
+pub mod FaceRows
+pub mod Graphs
+pub mod HalfRows
+pub mod Held
+pub mod Labels
+pub mod Looks
+pub mod Nears
+pub mod Promised
+pub mod Records
+pub mod SameEdges
+pub mod SameFaces
+pub mod Unique
+pub mod Written

@@ -1,0 +1,3 @@
+pub mod OlderRead
+pub mod ReadWritten
+pub mod WrittenRead

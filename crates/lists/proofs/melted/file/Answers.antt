@@ -1,0 +1,33 @@
+-- `lists::melted::file` meets its contract. Assumes nothing.
+use borrow.Author.Rules.{rules}
+use mathlib.Core.Path.{sym, ◌∙◌, ap}
+use Rattle.seq.specs.Seq.{length}
+use Rattle.seq.specs.Wiped.{padded_none}
+use Rattle.paper.specs.Refusal.{refused}
+use Rattle.paper.specs.Melt.{melt}
+use Rattle.map_file.specs.Verdict.{refusal_of}
+use Rattle.tables.specs.Values.{answer_of}
+use Rattle.lists.specs.Listed.{full_tables}
+use Rattle.lists.specs.Filed.{filed_by_lem}
+use Rattle.lists.proofs.melted.file.Goals as goal
+
+pub returns-in-Done : goal.returns-in-Done
+returns-in-Done c =
+    let a = c.args in
+    filed_by_lem
+    (length a.buffer.now)
+    (melt full_tables a.zones.now a.blocks.now a.bed.now)
+    c.melt-answer.ensures
+    (ap answer_of c.in-Done.is)
+    c.write.ensures
+
+pub returns-in-Refused : goal.returns-in-Refused
+returns-in-Refused c =
+    let a = c.args in
+    let n = length a.buffer.now in
+    filed_by_lem
+    n
+    (melt full_tables a.zones.now a.blocks.now a.bed.now)
+    c.melt-answer.ensures
+    (ap answer_of c.in-Refused.is)
+    (λ i. record { answer = refused (refusal_of c.in-Refused.r); buffer = (c.wipe_u8.ensures ∙ sym (padded_none 0 n)) i })

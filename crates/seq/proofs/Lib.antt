@@ -1,0 +1,13 @@
+pub mod Collected
+pub mod Early
+pub mod Firsts
+pub mod Halves
+pub mod Least
+pub mod Loops
+pub mod Merging
+pub mod Perm
+pub mod Placed
+pub mod Position
+pub mod RisingKeys
+pub mod Sum
+pub mod Walks
