@@ -1,7 +1,6 @@
 -- `melt::melt` meets its contract: the tables have room for all maps, and hold them where all pass. Assumes nothing.
 use Rattle.std.specs.Prelude.{◌∷◌, ◌+◌, ◌*◌}
 use mathlib.Core.Path.{◌≡◌, refl, sym, ◌∙◌, ap}
-use borrow.Author.Rules.{rules}
 use Rattle.seq.specs.Seq.{List, [], ℕ, length, replicate, pos}
 use Rattle.paper.specs.Limits.{maps, map_vertices, map_edges}
 use Rattle.paper.specs.Map.{Map}

@@ -3,7 +3,6 @@ use Rattle.std.specs.Prelude.{◌+◌, ◌*◌}
 use mathlib.Core.Path.{◌∙◌, ap}
 use Prim.Native.Nat.{◌≤◌}
 use native.Mathlib.Omega.{arith}
-use borrow.Author.Rules.{rules}
 use Rattle.seq.specs.Seq.{List, ℕ, length, ℤ}
 use Rattle.paper.specs.Limits.{overlay_vertices, overlay_edges}
 use Rattle.paper.specs.Map.{Map}
@@ -80,7 +79,7 @@ melt_faces-requires c =
     let left = c.if-room-count.false in
     let f = faced s b.new.ends b.new.lines b.ensures w.new.next w.new.face w.new.outers w.new.holes w.result w.ensures in
     let long = p.fact_5 in
-    let most : w.result ≤ length s.args.outers.now = omega (arith, f.count_is, zeroed_long (overlay_in (ms s) (k s)).outers-1 w.new.outers f.outers_is, w.auto.outers) in record {
+    let most : w.result ≤ length s.args.outers.now = omega (arith, f.count_is, zeroed_long (overlay_in (ms s) (k s)).outers w.new.outers f.outers_is, w.auto.outers) in record {
       fact_1 = p.fact_2;
       fact_2 = record { held = p.fact_1; cut = p.fact_3; net_by = b.ensures; next_is = f.next_is; outers_is = f.outers_is; count_is = f.count_is };
       fact_3 = f.face_is;

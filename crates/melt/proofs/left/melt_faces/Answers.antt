@@ -1,7 +1,6 @@
 -- `melt::left::melt_faces` meets its contract. First the records of the tables and what is known of the labels; then the needs, call by call. Assumes nothing.
 use mathlib.Core.Path.{◌∙◌, ap}
 use native.Mathlib.Omega.{arith}
-use borrow.Author.Rules.{rules}
 use Rattle.seq.specs.Seq.{List, ℕ}
 use Rattle.paper.specs.Map.{Map}
 use Rattle.paper.specs.Faces.{Overlay}
@@ -39,7 +38,7 @@ module _ (s : Start) where
 -- the labels of every face are laid
 module _ (c : After-lay_labels) where
   abbrev begun : Start
-  begun = c.before.before.before.before.before.before.before.before.before.before.before.before.before.before.before.before
+  begun = c.before.before.before.before.before.before.before.before.before.before.before.before.before.before.before.before.before
 
   abbrev triples : List ℕ
   triples = c.lay_labels.new.out

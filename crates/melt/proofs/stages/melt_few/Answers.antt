@@ -1,6 +1,5 @@
 -- `melt::stages::melt_few` meets its contract: small tables have the rows of so few vertices and edges. Assumes nothing.
 use native.Mathlib.Omega.{arith}
-use borrow.Author.Rules.{rules}
 use borrow.Author.Tests.{leb-true}
 use Rattle.graph.specs.Small.{small_edges}
 use Rattle.melt.proofs.stages.melt_few.Goals as goal

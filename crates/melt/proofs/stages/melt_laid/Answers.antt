@@ -2,7 +2,6 @@
 use Rattle.std.specs.Prelude.{◌∷◌}
 use mathlib.Core.Path.{◌≡◌, sym, ◌∙◌, ap}
 use native.Mathlib.Omega.{arith}
-use borrow.Author.Rules.{rules}
 use Rattle.seq.specs.Seq.{List, [], ltb}
 use Rattle.paper.specs.Limits.{maps}
 use Rattle.paper.specs.Refusal.{given, first_of}
@@ -37,15 +36,15 @@ module _ (s : Start) where
 -- what was judged, by the room of the lent tables
 module _ (c : After-over_room-check) where
   abbrev begun : Start
-  begun = c.before.before.before.before.before.before.before.before.before.before
+  begun = c.before.before.before.before.before.before.before.before.before.before.before
 
   abbrev room : Counts
   room = room_in maps (lent begun)
 
-  judged : verdict c.over_room-check.result ≡ first_of (given 11 1 (ltb room.vertices (k begun).vertices-1) ∷ given 11 2 (ltb room.edges (k begun).edges) ∷ [])
+  judged : verdict c.over_room-check.result ≡ first_of (given 11 1 (ltb room.vertices (k begun).vertices) ∷ given 11 2 (ltb room.edges (k begun).edges) ∷ [])
   judged =
       let r = c.room_in-room.ensures in
-      c.over_room-check.ensures ∙ (λ i. first_of (given 11 1 (ltb (r i).vertices-1 (k begun).vertices-1) ∷ given 11 2 (ltb (r i).edges (k begun).edges) ∷ []))
+      c.over_room-check.ensures ∙ (λ i. first_of (given 11 1 (ltb (r i).vertices (k begun).vertices) ∷ given 11 2 (ltb (r i).edges (k begun).edges) ∷ []))
 
 -- ── the needs ──
 pub melt_cut-requires : goal.melt_cut-requires

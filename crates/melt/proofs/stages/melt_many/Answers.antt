@@ -1,6 +1,5 @@
 -- `melt::stages::melt_many` meets its contract: full tables have the rows of any overlay. Assumes nothing.
 use native.Mathlib.Omega.{arith}
-use borrow.Author.Rules.{rules}
 use Rattle.melt.proofs.stages.melt_many.Goals as goal
 
 pub cut_maps-cut-requires : goal.cut_maps-cut-requires
