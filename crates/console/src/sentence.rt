@@ -27,11 +27,20 @@ fn say_cause(rt: &impl Print, number: u16, place: u16) -> Result<()> {
         9 => say(rt, b"a vertex has no edge"),
         10 => say(rt, b"the labels disagree"),
         11 => say_room(rt, place),
-        12 => say(rt, b"the list ends inside a sounding, or holds more than 65,535"),
+        12 => say(
+            rt,
+            b"the list ends inside a sounding, or holds more than 65,535",
+        ),
         13 => say(rt, b"a sounding lies beyond the maps' limit"),
         14 => say(rt, b"the zone has no tide rule"),
-        15 => say(rt, b"a ratio or weight is out of its range, or not a number"),
-        16 => say(rt, b"a reading that the rule uses is missing or out of its range"),
+        15 => say(
+            rt,
+            b"a ratio or weight is out of its range, or not a number",
+        ),
+        16 => say(
+            rt,
+            b"a reading that the rule uses is missing or out of its range",
+        ),
         _ => say(rt, b"an edge record is not sound"),
     }
 }

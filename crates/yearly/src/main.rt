@@ -82,7 +82,10 @@ fn say_row<'a>(
     say_cell(rt, rows, at + 1)?;
     say_cell(rt, rows, at + 2)?;
     say_cell(rt, rows, at + 3)?;
-    say(rt, name(zones, blocks, label(rows, at), label(rows, at + 1)))?;
+    say(
+        rt,
+        name(zones, blocks, label(rows, at), label(rows, at + 1)),
+    )?;
     say(rt, b"\n")
 }
 

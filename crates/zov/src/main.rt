@@ -36,7 +36,10 @@ fn usage(rt: &impl Print) -> io::Result<()> {
         rt,
         b"zov --edges FILE.zov         list its edges: number, lower and upper vertex, sources\n",
     )?;
-    console::say(rt, b"zov --check FILE...          check map files, a line for each\n")?;
+    console::say(
+        rt,
+        b"zov --check FILE...          check map files, a line for each\n",
+    )?;
     console::say(rt, b"zov --help, zov --version    this; the version\n")
 }
 

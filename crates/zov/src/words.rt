@@ -95,13 +95,16 @@ fn overlay_task(rt: &impl Env, melts: bool, n: usize, first: usize, bed: usize) 
         });
     }
     if n == first + 3 {
-        return write_task(rt, Maps {
-            melts,
-            zones: first,
-            blocks,
-            bed,
-            out: first + 2,
-        });
+        return write_task(
+            rt,
+            Maps {
+                melts,
+                zones: first,
+                blocks,
+                bed,
+                out: first + 2,
+            },
+        );
     }
     Task::Usage
 }
