@@ -1,6 +1,5 @@
 -- `lists::answer::put` meets its contract. Assumes nothing.
 use mathlib.Core.Path.{sym, ap}
-use borrow.Author.Rules.{rules}
 use Rattle.tables.specs.Values.{answer_of}
 use Rattle.lists.specs.Laws.Room.{line_as, roomy_as}
 use Rattle.lists.proofs.answer.put.Goals as goal

@@ -1,5 +1,4 @@
 -- `lists::from_file::list` meets its contract. Assumes nothing.
-use borrow.Author.Rules.{rules}
 use Rattle.paper.specs.Reader.{read}
 use Rattle.lists.specs.Listed.{full_tables}
 use Rattle.lists.specs.Laws.Room.{read-answered, listed_of}

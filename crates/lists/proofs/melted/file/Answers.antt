@@ -1,5 +1,4 @@
 -- `lists::melted::file` meets its contract. Assumes nothing.
-use borrow.Author.Rules.{rules}
 use mathlib.Core.Path.{sym, ◌∙◌, ap}
 use Rattle.seq.specs.Seq.{length}
 use Rattle.seq.specs.Wiped.{padded_none}

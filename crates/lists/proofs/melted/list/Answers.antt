@@ -1,5 +1,4 @@
 -- `lists::melted::list` meets its contract. Assumes nothing.
-use borrow.Author.Rules.{rules}
 use Rattle.paper.specs.Melt.{melt}
 use Rattle.lists.specs.Listed.{full_tables}
 use Rattle.lists.specs.Laws.Room.{listed_of}
