@@ -1,5 +1,5 @@
 -- Of Exchange of specs/, what rests on its definitions.
-use Rattle.std.specs.Prelude.{◌≡◌, refl, ◌<◌, ◌-◌, pos, ◌&&◌, ◌∷◌, ◌+◌, ◌*◌, ◌/◌}
+use Rattle.std.specs.Prelude.{◌≡◌, refl, ◌<◌, pos, ◌&&◌, ◌∷◌, ◌*◌, ◌/◌}
 use Rattle.std.proofs.Common.{sym, ◌∙◌, ap, subst, arith}
 use Rattle.std.proofs.lemmas.List.{get_or-replicate}
 use Rattle.seq.specs.Seq.{List, [], Option, none, some, ℕ, zero, suc, eqb, length, get_or, count, select, table, rows, or_zero, position}

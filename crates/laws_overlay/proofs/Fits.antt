@@ -1,11 +1,10 @@
 -- Of Fits of specs/, what rests on its definitions.
 use Rattle.std.proofs.Common.{arith}
-use Rattle.std.specs.Prelude.{◌<◌, ◌≤◌, ◌&&◌, ◌+◌, ◌*◌, ◌/◌}
+use Rattle.std.specs.Prelude.{◌<◌, ◌≤◌, ◌*◌}
 use Rattle.seq.specs.Seq.{List, ℕ, suc, length}
 use Rattle.paper.specs.Limits.{absent, overlay_vertices, overlay_edges}
 use Rattle.paper.specs.Map.{Map}
 use Rattle.paper.specs.Faces.{overlay_of}
-use Rattle.paper.specs.Tables as T
 use Rattle.paper.specs.Tables.{face_cell, counts_of, tables_of}
 use Rattle.laws_overlay.specs.Maps.{AllKeep}
 use Rattle.laws_overlay.proofs.Named.{half-named, face-named}

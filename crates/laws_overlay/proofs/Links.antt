@@ -1,5 +1,5 @@
 -- Of Links of specs/, what rests on its definitions.
-use Rattle.std.specs.Prelude.{◌≡◌, refl, ◌⊎◌, ◌<◌, ◌∷◌}
+use Rattle.std.specs.Prelude.{◌≡◌, refl, ◌<◌, ◌∷◌}
 use Rattle.std.proofs.Common.{sym, subst, inl, inr, ⊎_elim, arith}
 use Rattle.seq.specs.Seq.{List, [], Option, ℕ, length}
 use Rattle.seq.specs.Terms.{Among, Asc}

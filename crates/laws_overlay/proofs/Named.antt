@@ -14,7 +14,7 @@ use Rattle.paper.specs.Tables.{Counts, Tables, vertex_cell, source_cell, face_ce
 use Rattle.laws_graph.specs.Halves.{twin_below, first_below, second_below, origin_first, origin-second}
 use Rattle.laws_graph.specs.Plane.{Plane}
 use Rattle.laws_graph.specs.Follow.{follower-origin, follower_below, predecessor-follower, follower-predecessor, predecessor_below}
-use Rattle.laws_graph.specs.Faces.{face_of, face_below}
+use Rattle.laws_graph.specs.Faces.{face_below}
 use Rattle.laws_graph.proofs.Faces.{face-onto}
 use Rattle.laws_map.specs.Keeps.{edges}
 use Rattle.laws_overlay.specs.Maps.{AllKeep}
@@ -28,13 +28,7 @@ use Rattle.laws_overlay.proofs.Round.{vertex_left}
 use Rattle.laws_overlay.specs.Cells.{vertex-cell, source-cell, least-cell}
 use Rattle.laws_overlay.specs.Parts.{sources-are, outers-are, vertex-count, edge-count, face-count, half_count, half-there, origin_is, twin_is, predecessor_is, face-cell_is}
 use Rattle.laws_overlay.proofs.Parts.{sources-wide, follower_is}
-use Rattle.laws_overlay.specs.Named.{g, c, t, HalfNamed, h}
-
--- edge k: its sources are edges of the maps, and there is one
-pub record EdgeNamed (ms : List Map) (c : Counts) (t : Tables) (k : ℕ) : Type 0 where
-  pub rises : origin_of t (2 * k) < origin_of t (2 * k + 1)
-  pub source-most : (i : ℕ) → i < length ms → source_cell (length ms) t k i ≤ edges (layer ms i)
-  pub sourced : (i : ℕ) × (i < length ms) × (source_cell (length ms) t k i ≡ 0 → ⊥)
+use Rattle.laws_overlay.specs.Named.{g, c, t, HalfNamed, EdgeNamed, h}
 
 module _ (ms : List Map) (K : AllKeep ms) where
   plane : Plane (overlaid ms)

@@ -1,7 +1,7 @@
 -- Of Net of specs/, what rests on its definitions.
-use Rattle.std.specs.Prelude.{◌≡◌, ◌<◌, ◌∷◌, ◌+◌, ◌*◌, ◌/◌}
+use Rattle.std.specs.Prelude.{◌≡◌, ◌<◌, ◌+◌, ◌*◌, ◌/◌}
 use Rattle.std.proofs.Common.{sym, ◌∙◌, ap, subst}
-use Rattle.seq.specs.Seq.{true, List, [], ℕ}
+use Rattle.seq.specs.Seq.{true, List, ℕ}
 use Rattle.paper.specs.Plane.{Pt, Seg, before, lower, upper}
 use Rattle.paper.specs.Graph.{Graph, Edge, edge_count, the_half_count, point_in, edge, even, twin, origin, start, low, high, goes_up, upward}
 use Rattle.paper.specs.Map.{Map}

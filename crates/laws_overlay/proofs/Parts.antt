@@ -1,5 +1,5 @@
 -- Of Parts of specs/, what rests on its definitions.
-use Rattle.std.specs.Prelude.{◌≡◌, ◌<◌, ◌*◌}
+use Rattle.std.specs.Prelude.{◌≡◌, ◌<◌}
 use Rattle.std.proofs.Common.{◌∙◌, ap, subst, arith}
 use Rattle.seq.specs.Seq.{List, ℕ, length}
 use Rattle.paper.specs.Graph.{the_half_count, follower}
@@ -7,7 +7,6 @@ use Rattle.paper.specs.Map.{Map}
 use Rattle.paper.specs.Pieces.{vertices_of}
 use Rattle.paper.specs.Faces.{overlay_of, sources_of}
 use Rattle.paper.specs.Tables.{follower_of, counts_of}
-use Rattle.paper.specs.Tables as T
 use Rattle.laws_graph.specs.Follow.{followers_at}
 use Rattle.laws_overlay.specs.Maps.{AllKeep}
 use Rattle.laws_overlay.specs.Places.{places}

@@ -1,7 +1,7 @@
 -- Of Pieces of specs/, what rests on its definitions.
 use Rattle.std.specs.Prelude.{◌≡◌, ◌⊎◌, ◌<◌}
 use Rattle.std.proofs.Common.{sym, ◌∙◌, ap, subst, inl, inr, ⊎_elim, ext_get_or}
-use Rattle.seq.specs.Seq.{List, [], Option, none, some, ℕ, length}
+use Rattle.seq.specs.Seq.{List, Option, none, some, ℕ, length}
 use Rattle.seq.specs.Terms.{Among}
 use Rattle.seq.specs.Members.{at_among, among_at}
 use Rattle.seq.specs.Pairs.{rising-once}

@@ -1,5 +1,5 @@
 -- Of Round of specs/, what rests on its definitions.
-use Rattle.std.specs.Prelude.{◌≡◌, refl, ◌<◌, ◌-◌, ◌+◌, ◌*◌, ◌/◌}
+use Rattle.std.specs.Prelude.{◌≡◌, refl, ◌<◌, ◌-◌, ◌+◌, ◌*◌}
 use Rattle.std.proofs.Common.{sym, ◌∙◌, ap, subst, inl, inr, ⊎_elim, arith}
 use Rattle.std.proofs.Math.Decide.{ℕ_discrete}
 use Rattle.seq.specs.Seq.{Bool, true, false, cond, List, some, ℕ, zero, suc, length, get_or, pos}

@@ -1,8 +1,7 @@
 -- What a piece's sources say of the piece. Where it has a source in a map: it lies on the line of that edge, from its lower end to its upper (`source-line`, `source-span`), and
 -- every point of that edge is on such a piece (`piece-through`). Where it has none: no edge of that map leaves its lower end the way that it goes (`source_none`). Assumes
 -- nothing.
-use Rattle.std.specs.Prelude.{◌≡◌, ◌<◌, ◌*◌, ◌/◌}
-use Rattle.std.proofs.Common.{◌∙◌}
+use Rattle.std.specs.Prelude.{◌≡◌, ◌<◌}
 use Rattle.seq.specs.Seq.{Bool, true, false, List, Option, some, ℕ}
 use Rattle.paper.specs.Plane.{Pt, Seg}
 use Rattle.paper.specs.Graph.{edge_count}

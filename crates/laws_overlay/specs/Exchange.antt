@@ -1,10 +1,10 @@
 -- The maps of a list in another order give the same overlay, up to the order of sources and labels: the same counts, vertices and half-edges, cell by cell (`renumber_tables`), the same
 -- least half-edge and hole count of each face, and labels and sources that go with the maps (`renumber_label`, `renumber_sources`, `renumber_face`). For two maps exchanged: `exchange`. Ask 11
 -- leans on it. Assumes nothing.
-use Rattle.std.specs.Prelude.{◌≡◌, refl, ◌<◌, ◌-◌, neg_ℤ, ◌&&◌, ◌∷◌, ◌+◌, ◌*◌, ◌/◌}
-use Rattle.std.proofs.Common.{◌∙◌, arith}
+use Rattle.std.specs.Prelude.{◌≡◌, refl, ◌<◌, ◌-◌, neg_ℤ, ◌&&◌, ◌∷◌, ◌+◌}
+use Rattle.std.proofs.Common.{arith}
 use Rattle.exact.specs.Sign.{sgn, is_plus, pick}
-use Rattle.seq.specs.Seq.{List, [], Option·map, ℕ, zero, suc, length, count, best}
+use Rattle.seq.specs.Seq.{List, [], Option·map, ℕ, zero, suc, length, best}
 use Rattle.paper.specs.Plane.{Pt, Vec}
 use Rattle.paper.specs.Graph.{Graph, edge_count, upward, left_of, at_height, westward, nearer, east_side, west}
 use Rattle.paper.specs.Map.{Map}

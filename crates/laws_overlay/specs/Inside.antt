@@ -1,7 +1,6 @@
 -- What lies strictly inside a piece of the overlay: no vertex of a map, and no point of an edge of a map that is not parallel to it (`no_meet`); an edge of a map that has a
 -- point there covers the piece, and is its source in that map (`covered`). Assumes nothing.
 use Rattle.std.specs.Prelude.{◌≡◌, ◌<◌, ◌<ℤ◌}
-use Rattle.std.proofs.Common.{◌∙◌}
 use Rattle.seq.specs.Seq.{true, List, ℕ, pos}
 use Rattle.paper.specs.Plane.{Pt, Seg, before}
 use Rattle.paper.specs.Graph.{Graph, edge_count, point_in, edge}

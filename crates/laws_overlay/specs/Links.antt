@@ -1,6 +1,6 @@
 -- The pieces of one edge: they go between neighbours among the vertices on it, and every two neighbours have one. First the links between neighbours of a rising list of
 -- numbers; then of the list of vertices on an edge; then the pieces of all edges of all maps, before they are put in order. Assumes nothing.
-use Rattle.std.specs.Prelude.{refl, ◌⊎◌, ◌<◌, ◌∷◌}
+use Rattle.std.specs.Prelude.{refl, ◌<◌, ◌∷◌}
 use Rattle.std.proofs.Common.{inl, inr, arith}
 use Rattle.seq.specs.Seq.{Bool, List, [], Option, ℕ, length, rows}
 use Rattle.seq.specs.Terms.{Among, Asc}

@@ -1,6 +1,6 @@
 -- The graph of the overlay, edge by edge: edge k joins the ends of piece k and lies along an edge of an input map, its carrier, on which they are neighbours (`Lies`). So
 -- half-edge 2k goes up, 2k + 1 goes down, and lower and upper end are the vertices of lesser and greater number. Assumes nothing.
-use Rattle.std.specs.Prelude.{◌≡◌, refl, ◌<◌, ◌∷◌, ◌+◌, ◌*◌, ◌/◌}
+use Rattle.std.specs.Prelude.{◌≡◌, refl, ◌∷◌, ◌+◌, ◌*◌, ◌/◌}
 use Rattle.std.proofs.Common.{sym, ◌∙◌, ap, arith}
 use Rattle.std.proofs.lemmas.List.{length-map}
 use Rattle.std.proofs.Math.ListN.{get_or-map}

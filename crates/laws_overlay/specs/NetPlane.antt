@@ -5,7 +5,7 @@ use Rattle.std.specs.Prelude.{◌≡◌, ◌<◌, ◌/◌}
 use Rattle.std.proofs.Common.{sym, ◌∙◌, subst}
 use Rattle.seq.specs.Seq.{List, ℕ}
 use Rattle.paper.specs.Plane.{Pt}
-use Rattle.paper.specs.Graph.{Graph, edge_count, the_half_count, edge, low, high}
+use Rattle.paper.specs.Graph.{Graph, edge_count, the_half_count, edge}
 use Rattle.paper.specs.Map.{Map}
 use Rattle.laws_graph.specs.Halves.{half_below}
 use Rattle.laws_overlay.specs.Maps.{AllKeep}

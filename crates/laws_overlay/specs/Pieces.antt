@@ -1,8 +1,7 @@
 -- The edges of the overlay (01, "Overlay tables"): a piece is there exactly if its ends are neighbouring vertices on some edge of some map, and its sources are exactly
 -- these: in each map the edge on which they are neighbours, or none (`piece_from`, `piece_has`). In a map there is one at most, by rule 8. The pieces rise strictly by
 -- lower, then upper vertex number, so that a piece of several maps stands once; and lower < upper < the number of vertices. Over any points in order. Assumes nothing.
-use Rattle.std.specs.Prelude.{◌≡◌, ◌⊎◌, ◌<◌}
-use Rattle.std.proofs.Common.{◌∙◌}
+use Rattle.std.specs.Prelude.{◌≡◌, ◌<◌}
 use Rattle.seq.specs.Seq.{List, [], some, ℕ, length, get_or}
 use Rattle.seq.specs.Terms.{Rising}
 use Rattle.seq.specs.Pairs.{rising-number}

@@ -1,8 +1,8 @@
 -- The maps of a list in another order (`Renumbers`): the overlay has the same vertices (`renumber_vertices`), pieces with the same ends in the same order, whose sources go with the
 -- maps (`renumber_source`), and a graph that differs only in which input edge carries a piece (`renumber_alike`). Assumes nothing.
-use Rattle.std.specs.Prelude.{◌≡◌, ◌⊎◌, ◌<◌, ◌∷◌}
+use Rattle.std.specs.Prelude.{◌≡◌, ◌<◌}
 use Rattle.std.proofs.Common.{sym, ◌∙◌, ap, subst, subst₂, inl, inr}
-use Rattle.seq.specs.Seq.{List, [], ℕ, length}
+use Rattle.seq.specs.Seq.{List, ℕ, length}
 use Rattle.seq.specs.Sorted.{rising-unique}
 use Rattle.paper.specs.Plane.{Pt, before}
 use Rattle.paper.specs.Graph.{point}

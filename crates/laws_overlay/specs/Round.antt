@@ -1,10 +1,9 @@
 -- Round a vertex of the overlay: an edge of a map that leaves it, up or down, goes the way of an overlay half-edge that leaves it (`out`), whose piece comes from that edge.
 -- So no edge of a map leaves it strictly between a half-edge and the next one clockwise (`sector`); and every vertex is left by one (`vertex_left`). Assumes nothing.
-use Rattle.std.specs.Prelude.{◌≡◌, ◌<◌, ◌-◌, ◌+◌, ◌*◌, ◌/◌}
-use Rattle.std.proofs.Common.{◌∙◌}
+use Rattle.std.specs.Prelude.{◌≡◌, ◌<◌, ◌/◌}
 use Rattle.seq.specs.Seq.{Bool, true, cond, List, some, ℕ, length}
 use Rattle.paper.specs.Plane.{Vec, whole, head, opposite, before, less_angle}
-use Rattle.paper.specs.Graph.{Graph, the_half_count, point_in, origin, goes_up, upward, heading}
+use Rattle.paper.specs.Graph.{Graph, the_half_count, point_in, origin, goes_up, heading}
 use Rattle.paper.specs.Map.{Map}
 use Rattle.paper.specs.Pieces.{layer, vertices_of, edges_of}
 use Rattle.laws_plane.specs.Angles.{SameWay}
