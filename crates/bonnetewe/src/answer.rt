@@ -2,9 +2,9 @@
 // where it is done, and the counts follow; otherwise it is the refusal's number, and map, place and other edge follow.
 ghost use Rattle.std.specs.Prelude.{◌≡◌};
 ghost use Rattle.tables.specs.Values.{answer_of};
-ghost use Rattle.map_check.specs.Answer.{answer_of as checkedOf};
-ghost use Rattle.mend.specs.Answers.{answer_of as mendedAnswer};
-ghost use Rattle.ovfile_write.specs.Answers.{answer_of as writtenAnswer};
+ghost use Rattle.map_check.specs.Answer.{answer_of as checked_answer};
+ghost use Rattle.mend.specs.Answers.{answer_of as mended_answer};
+ghost use Rattle.ovfile_write.specs.Answers.{answer_of as written_answer};
 ghost use Rattle.bonnetewe.specs.Told.{four, told, told_map, told_length, Short};
 
 use map_check::Checked;
@@ -35,8 +35,8 @@ pub fn of_answer(answer: Answer) -> u64
 
 // A length of at most 32 bits stands above the first number.
 pub fn of_written(answer: WriteAnswer) -> u64
-    requires { Short (writtenAnswer answer) }
-    ensures { result ≡ told_length (writtenAnswer answer) }
+    requires { Short (written_answer answer) }
+    ensures { result ≡ told_length (written_answer answer) }
 {
     match answer {
         WriteAnswer::Done(n) => 65536 * n as u64,
@@ -45,7 +45,7 @@ pub fn of_written(answer: WriteAnswer) -> u64
 }
 
 pub fn of_checked(answer: Checked) -> u64
-    ensures { result ≡ told_map (checkedOf answer) }
+    ensures { result ≡ told_map (checked_answer answer) }
 {
     match answer {
         Checked::Good(c) => join(0, c.vertices, c.edges, 0),
@@ -55,7 +55,7 @@ pub fn of_checked(answer: Checked) -> u64
 
 // The file's length and the number of entries both fit 16 bits.
 pub fn of_mended(answer: Mended) -> u64
-    ensures { result ≡ told_map (mendedAnswer answer) }
+    ensures { result ≡ told_map (mended_answer answer) }
 {
     match answer {
         Mended::Done(m) => join(0, m.length, m.entries, 0),

@@ -1,6 +1,6 @@
 // The height of tide for C: the rule and the readings from numbers, and the answer as one number and one float.
 ghost use Rattle.std.specs.Prelude.{◌≡◌};
-ghost use Rattle.tide.specs.Answer.{rule_of, reading_of, answer_of as tideAnswer};
+ghost use Rattle.tide.specs.Answer.{rule_of, reading_of, answer_of as tide_answer};
 ghost use Rattle.bonnetewe.specs.ToldTide.{rule_by, reading_by, told_millimetres, told_tide, told_height};
 
 use crate::answer::join;
@@ -43,7 +43,7 @@ fn of_millimetres(n: i32) -> u64
 
 // The millimetres, or the refusal.
 pub fn of_tide(answer: TideAnswer) -> u64
-    ensures { result ≡ told_tide (tideAnswer answer) }
+    ensures { result ≡ told_tide (tide_answer answer) }
 {
     match answer {
         TideAnswer::Done(h) => of_millimetres(h.millimetres),
@@ -53,7 +53,7 @@ pub fn of_tide(answer: TideAnswer) -> u64
 
 // The height before rounding, 0 where it is refused.
 pub fn height_of(answer: TideAnswer) -> f64
-    ensures { result ≡ told_height (tideAnswer answer) }
+    ensures { result ≡ told_height (tide_answer answer) }
 {
     match answer {
         TideAnswer::Done(h) => h.height,

@@ -3,7 +3,7 @@ ghost use Rattle.std.specs.Prelude.{◌≡◌, pos, length};
 ghost use Rattle.exact.specs.Lowest.{pt};
 ghost use Rattle.seq.specs.Seq.{table};
 ghost use Rattle.plane.specs.Values.{pt_of, meeting_of};
-ghost use Rattle.meet.specs.Answer.{answer_of as metOf};
+ghost use Rattle.meet.specs.Answer.{answer_of as met_answer};
 ghost use Rattle.bonnetewe.specs.Met.{meeting_kind, told_meeting, point_in, told_point, point_cell};
 
 use crate::answer::join;
@@ -22,7 +22,7 @@ fn kind(m: Meeting) -> u16
 }
 
 pub fn of_met(answer: MeetAnswer) -> u64
-    ensures { result ≡ told_meeting (metOf answer) }
+    ensures { result ≡ told_meeting (met_answer answer) }
 {
     match answer {
         MeetAnswer::Met(m) => join(0, kind(m), 0, 0),
@@ -50,7 +50,7 @@ fn point_in(m: Meeting) -> Point
 
 // The point where there is one, three zeros where there is none.
 pub fn point_of(answer: MeetAnswer) -> Point
-    ensures { pt_of result ≡ told_point (metOf answer) }
+    ensures { pt_of result ≡ told_point (met_answer answer) }
 {
     match answer {
         MeetAnswer::Met(m) => point_in(m),

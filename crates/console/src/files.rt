@@ -3,6 +3,7 @@ ghost use Rattle.io.specs.Counts.{IsPrefixLen};
 
 use crate::arguments::arg;
 use crate::lines::say;
+use std::fmt::{InlineText, Write as _};
 use std::fs;
 use std::io::{Eprint, Print, Read, Write};
 use std::rt::{Env, Files};
@@ -83,10 +84,21 @@ pub fn say_missing(rt: &(impl Files + Env + Print), i: usize) -> std::io::Result
     }
 }
 
+// The words of an error, without the number that stands behind them.
+fn words_of(said: &str) -> &str {
+    match said.find(" (os error ") {
+        Some(at) => &said[..at],
+        None => said,
+    }
+}
+
 // Says on standard error why something cannot be done to the file of a name.
 pub fn fail(rt: &impl Eprint, name: &[u8], why: std::io::Error) -> std::io::Result<()> {
+    let mut said = InlineText::<320>::new();
+    let _ = write!(said, "{why}");
+    let words = words_of(said.as_str());
     rt.eprint(text_of(name).unwrap_or("the file"))?;
-    eprintln!(rt; ": {why}")
+    eprintln!(rt; ": {words}")
 }
 
 // Writes a file that an argument names, or says why that cannot be done.
