@@ -79,9 +79,7 @@ pub fn lay_point(p: Point, point: &mut [i64])
     ensures { point.new ≡ table (point_cell (pt_of p)) (length point.old) }
 {
     let n = point.len();
-    let mut i = 0;
-    while i < n {
+    for i in 0..n {
         point[i] = point_cell(p, i);
-        i += 1;
     }
 }

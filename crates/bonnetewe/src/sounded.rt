@@ -47,10 +47,8 @@ fn lay_read(n: u32, read: &mut [u32])
     ensures { read.new ≡ table (read_cell n) (length read.old) }
 {
     let m = read.len();
-    let mut i = 0;
-    while i < m {
+    for i in 0..m {
         read[i] = read_cell(n, i);
-        i += 1;
     }
 }
 

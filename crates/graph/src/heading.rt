@@ -147,10 +147,8 @@ pub fn headings_by(
     ensures { out.new ≡ laid (2 * e) (λ h. row (heading (flat_graph points.now origins.now carriers.now n e) h)) out.old }
 {
     let m = 2 * e;
-    let mut h = 0;
-    while h < m {
+    for h in 0..m {
         store(out, h, heading(points, origins, carriers, n, rising, h));
-        h += 1;
     }
 }
 

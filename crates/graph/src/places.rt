@@ -10,10 +10,8 @@ pub fn fill(out: &mut [u16], n: usize, value: u16)
     requires { n ≤ length out.old }
     ensures { out.new ≡ filled n (λ i. value) out.old }
 {
-    let mut i = 0;
-    while i < n {
+    for i in 0..n {
         out[i] = value;
-        i += 1;
     }
 }
 

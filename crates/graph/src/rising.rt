@@ -13,12 +13,10 @@ pub fn rise(points: &[i64], n: usize) -> bool
     ensures rises { RisesIf result points.now n }
     ensures falls { result ≡ false → Rises points.now n → ⊥ }
 {
-    let mut v = 1;
-    while v < n {
+    for v in 1..n {
         if !before(point_at(points, v - 1), point_at(points, v)) {
             return false;
         }
-        v += 1;
     }
     true
 }

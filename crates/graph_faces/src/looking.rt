@@ -63,12 +63,10 @@ fn look_from(
     ensures { the_seen_of result ≡ best (candidate (flat_graph points.now origins.now carriers.now n e) (pt_of p) nowhere) (nearer (flat_graph points.now origins.now carriers.now n e) (pt_of p)) e }
 {
     let mut r = e;
-    let mut k = 0;
-    while k < e {
+    for k in 0..e {
         if strictly_west(points, origins, carriers, n, e, rising, k, v, p) {
             r = nearest(carriers, e, k, r, p);
         }
-        k += 1;
     }
     if r == e {
         Seen::Nothing

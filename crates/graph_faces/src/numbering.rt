@@ -87,14 +87,12 @@ pub fn tell(
 {
     let m = 2 * e;
     let mut c = 0;
-    let mut h = 0;
-    while h < m {
+    for h in 0..m {
         if lead[h] as usize == h {
             c = tell_walk(
                 points, origins, carriers, n, e, rising, lead, top, h, c, known, leaders,
             );
         }
-        h += 1;
     }
     c
 }
@@ -140,14 +138,12 @@ pub fn settle(
     ensures inside { inside.new ≡ filled f (holes_in lead.now top.now (face_from lead.now top.now known.now n) m) inside.old }
 {
     fill(inside, f, 0);
-    let mut h = 0;
-    while h < m {
+    for h in 0..m {
         let v = face(lead, top, known, n, m, h);
         faces[h] = v;
         if leads_hole(lead, top, h) {
             let at = v as usize;
             inside[at] = inside[at] + 1;
         }
-        h += 1;
     }
 }

@@ -41,12 +41,10 @@ pub fn leads(next: &[u16], m: usize, lead: &mut [u16])
     ensures { lead.new ≡ filled m (leader (take m next.now)) lead.old }
 {
     fill(lead, m, ABSENT);
-    let mut h = 0;
-    while h < m {
+    for h in 0..m {
         if lead[h] == ABSENT {
             mark(next, m, h, lead);
         }
-        h += 1;
     }
 }
 
@@ -85,12 +83,10 @@ pub fn lows(
     ensures { out.new ≡ filled m (low_at points.now origins.now lead.now m) out.old }
 {
     fill(out, m, ABSENT);
-    let mut h = 0;
-    while h < m {
+    for h in 0..m {
         let l = lead[h] as usize;
         let r = out[l];
         out[l] = earlier(points, origins, n, rising, h, r);
-        h += 1;
     }
 }
 
@@ -103,13 +99,11 @@ pub fn tops(origins: &[u16], lead: &[u16], low: &[u16], greatest: &[u16], m: usi
     requires fact_5 { m ≤ length top.old }
     ensures { top.new ≡ filled m (top_at origins.now lead.now low.now greatest.now) top.old }
 {
-    let mut h = 0;
-    while h < m {
+    for h in 0..m {
         let l = lead[h] as usize;
         let x = low[l] as usize;
         let v = origins[x] as usize;
         top[h] = greatest[v];
-        h += 1;
     }
 }
 
@@ -123,8 +117,7 @@ pub fn climb(origins: &[u16], e: usize, rising: bool) -> bool
         return false;
     }
     let mut last = 0u16;
-    let mut k = 0;
-    while k < e {
+    for k in 0..e {
         let lower = origins[2 * k];
         if lower < last {
             return false;
@@ -133,7 +126,6 @@ pub fn climb(origins: &[u16], e: usize, rising: bool) -> bool
             return false;
         }
         last = lower;
-        k += 1;
     }
     true
 }
@@ -146,11 +138,9 @@ pub fn tops_by_leads(origins: &[u16], lead: &[u16], greatest: &[u16], m: usize, 
     requires fact_4 { m ≤ length top.old }
     ensures { top.new ≡ filled m (top_by_lead origins.now lead.now greatest.now) top.old }
 {
-    let mut h = 0;
-    while h < m {
+    for h in 0..m {
         let l = lead[h] as usize;
         let v = origins[2 * (l / 2)] as usize;
         top[h] = greatest[v];
-        h += 1;
     }
 }

@@ -16,11 +16,9 @@ fn lay_rows(carriers: &[i16], order: &[u16], e: usize, rails: &mut [i16])
     requires fact_3 { 4 * e ≤ length rails.old }
     ensures { rails.new ≡ laid e (λ i. seg_row (carrier_at carriers.now (the_edge_in order.now i))) rails.old }
 {
-    let mut i = 0;
-    while i < e {
+    for i in 0..e {
         let s = carrier_at(carriers, order[i] as usize);
         store_carrier(rails, i, s);
-        i += 1;
     }
 }
 
@@ -38,11 +36,9 @@ fn lay_easts(
     requires fact_3 { e ≤ length easts.old }
     ensures { easts.new ≡ filled e (λ i. get_or labels.now (east_at points.now origins.now (the_edge_in order.now i)) 0) easts.old }
 {
-    let mut i = 0;
-    while i < e {
+    for i in 0..e {
         let h = east_side(points, origins, order[i] as usize);
         easts[i] = labels[h];
-        i += 1;
     }
 }
 

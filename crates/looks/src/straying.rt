@@ -36,12 +36,10 @@ pub fn strays(rails: &[i16], e: usize) -> bool
     requires { 4 * e ≤ length rails.now }
     ensures { result ≡ the_some_below (strays_at rails.now) e }
 {
-    let mut i = 0;
-    while i < e {
+    for i in 0..e {
         if strays_at(rails, i) {
             return true;
         }
-        i += 1;
     }
     false
 }

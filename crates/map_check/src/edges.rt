@@ -49,12 +49,10 @@ pub fn first_clash(carriers: &[i16], e: usize, k: usize) -> usize
     requires { Carriers carriers.now e × (k < e) × Upright carriers.now e }
     ensures { result ≡ least (later_at carriers.now k) e }
 {
-    let mut j = k + 1;
-    while j < e {
+    for j in k + 1..e {
         if clashes(carriers, e, k, j) {
             return j;
         }
-        j += 1;
     }
     e
 }
@@ -64,12 +62,10 @@ fn search_clashing(carriers: &[i16], e: usize) -> usize
     requires { Carriers carriers.now e × Upright carriers.now e }
     ensures { result ≡ least (clashing_at carriers.now e) e }
 {
-    let mut k = 0;
-    while k < e {
+    for k in 0..e {
         if first_clash(carriers, e, k) < e {
             return k;
         }
-        k += 1;
     }
     e
 }
@@ -91,12 +87,10 @@ fn first_holding(cells: &[u16], m: usize, v: usize) -> usize
     requires { m ≤ length cells.now }
     ensures { result ≡ least (starts_at cells.now v) m }
 {
-    let mut i = 0;
-    while i < m {
+    for i in 0..m {
         if cells[i] as usize == v {
             return i;
         }
-        i += 1;
     }
     m
 }

@@ -15,13 +15,11 @@ fn clear_after(carriers: &[i16], e: usize, i: usize) -> bool
     ensures { result ≡ true → ClearAfter (carrier_at carriers.now) e i }
 {
     let s = carrier_at(carriers, i);
-    let mut j = i + 1;
-    while j < e {
+    for j in i + 1..e {
         let t = carrier_at(carriers, j);
         if !clear(s, t) {
             return false;
         }
-        j += 1;
     }
     true
 }
@@ -31,12 +29,10 @@ pub fn pairs_clear(carriers: &[i16], e: usize) -> bool
     requires { Carriers carriers.now e × Upright carriers.now e }
     ensures { result ≡ true → least (clashing_at carriers.now e) e ≡ e }
 {
-    let mut i = 0;
-    while i < e {
+    for i in 0..e {
         if !clear_after(carriers, e, i) {
             return false;
         }
-        i += 1;
     }
     true
 }

@@ -144,12 +144,10 @@ pub fn first_disagreeing(
     ensures { result ≡ least (disagrees_at points.now origins.now carriers.now labels.now heads.now next.now n e) (2 * e) }
 {
     let m = 2 * e;
-    let mut h = 0;
-    while h < m {
+    for h in 0..m {
         if disagrees(points, origins, carriers, labels, heads, next, n, e, h) {
             return h;
         }
-        h += 1;
     }
     m
 }

@@ -61,10 +61,8 @@ fn lay_wests(carriers: &[i16], cells: &[usize], e: usize, wests: &mut [u16])
     requires fact_2 { e ≤ length wests.old }
     ensures { wests.new ≡ filled e (λ i. from_west (west_of (carrier_in carriers.now cells.now i))) wests.old }
 {
-    let mut i = 0;
-    while i < e {
+    for i in 0..e {
         wests[i] = west_in(carriers, cells, e, i);
-        i += 1;
     }
 }
 
@@ -74,10 +72,8 @@ fn lay_easts(carriers: &[i16], cells: &[usize], e: usize, easts: &mut [u16])
     requires fact_2 { e ≤ length easts.old }
     ensures { easts.new ≡ filled e (λ i. from_west (east_of (carrier_in carriers.now cells.now i))) easts.old }
 {
-    let mut i = 0;
-    while i < e {
+    for i in 0..e {
         easts[i] = east_in(carriers, cells, e, i);
-        i += 1;
     }
 }
 
@@ -115,14 +111,12 @@ fn near_above(
     let west = wests[i];
     let east = easts[i];
     let mut c = 0;
-    let mut j = i + 1;
-    while j < e {
+    for j in i + 1..e {
         if end <= cells[j] {
             return c;
         }
         near[c] = j as u16;
         c += over(west, east, wests[j], easts[j]);
-        j += 1;
     }
     c
 }
@@ -134,14 +128,12 @@ fn clear_of(carriers: &[i16], cells: &[usize], e: usize, i: usize, near: &[u16],
     ensures { result ≡ true → ClearAbove carriers.now cells.now e i }
 {
     let s = carrier_in(carriers, cells, e, i);
-    let mut q = 0;
-    while q < c {
+    for q in 0..c {
         let j = near[q] as usize;
         let t = carrier_in(carriers, cells, e, j);
         if !clear(s, t) {
             return false;
         }
-        q += 1;
     }
     true
 }
@@ -179,12 +171,10 @@ fn all_above(
     requires fact_3 { e ≤ length near.old }
     ensures { result ≡ true → least (clashing_at carriers.now e) e ≡ e }
 {
-    let mut i = 0;
-    while i < e {
+    for i in 0..e {
         if !clear_above(carriers, cells, e, i, wests, easts, near) {
             return false;
         }
-        i += 1;
     }
     true
 }

@@ -45,12 +45,10 @@ pub fn first_too_far(points: &[i64], n: usize) -> usize
     requires { 4 * n ≤ length points.now }
     ensures { result ≡ least (far_at points.now) n }
 {
-    let mut v = 0;
-    while v < n {
+    for v in 0..n {
         if too_far(points, v) {
             return v;
         }
-        v += 1;
     }
     n
 }
@@ -73,12 +71,10 @@ fn first_under(points: &[i64], v: usize) -> usize
     requires { 4 * v + 4 ≤ length points.now }
     ensures { result ≡ least (lies_on points.now v) v }
 {
-    let mut u = 0;
-    while u < v {
+    for u in 0..v {
         if lies_on(points, v, u) {
             return u;
         }
-        u += 1;
     }
     v
 }
@@ -88,13 +84,11 @@ fn first_doubled(points: &[i64], n: usize) -> usize
     requires { 4 * n ≤ length points.now }
     ensures { result ≡ least (doubled_at points.now) n }
 {
-    let mut higher = 0;
-    while higher < n {
+    for higher in 0..n {
         let lower = first_under(points, higher);
         if lower < higher {
             return higher;
         }
-        higher += 1;
     }
     n
 }
@@ -120,12 +114,10 @@ fn first_bad_ends(origins: &[u16], n: usize, e: usize) -> usize
     requires { 2 * e ≤ length origins.now }
     ensures { result ≡ least (bad_ends_at origins.now n) e }
 {
-    let mut k = 0;
-    while k < e {
+    for k in 0..e {
         if bad_ends(origins, n, k) {
             return k;
         }
-        k += 1;
     }
     e
 }
@@ -167,9 +159,7 @@ pub fn lay_carriers(points: &[i64], origins: &[u16], n: usize, e: usize, carrier
     requires fact_3 { 4 * e ≤ length carriers.old }
     ensures { carriers.new ≡ laid e (carrier_row_by points.now origins.now) carriers.old }
 {
-    let mut k = 0;
-    while k < e {
+    for k in 0..e {
         store_carrier(carriers, k, carrier(points, origins, n, e, k));
-        k += 1;
     }
 }

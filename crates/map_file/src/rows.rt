@@ -14,13 +14,11 @@ pub fn points_at(file: &[u8], at: usize, n: u16, points: &mut [i64]) -> usize
     ensures { (result ≡ at + 4 * n) × (points.new ≡ laid n (point_from file.now at) points.old) }
 {
     let mut place = at;
-    let mut v: u16 = 0;
-    while v < n {
+    for v in 0..n {
         let x = i16_at(file, place);
         let y = i16_at(file, place + 2);
         store4_i64(points, v as usize, x, y, 1, 0);
         place += MAP_VERTEX_SIZE;
-        v += 1;
     }
     place
 }
@@ -31,15 +29,13 @@ pub fn edges_at(file: &[u8], at: usize, n: u16, origins: &mut [u16], labels: &mu
     ensures { (result ≡ at + 8 * n) × (origins.new ≡ filled (2 * n) (origin_from file.now at) origins.old) × (labels.new ≡ filled (2 * n) (label_from file.now at) labels.old) }
 {
     let mut place = at;
-    let mut k: u16 = 0;
-    while k < n {
+    for k in 0..n {
         let h = 2 * k as usize;
         origins[h] = u16_at(file, place);
         origins[h + 1] = u16_at(file, place + 2);
         labels[h] = u16_at(file, place + 4);
         labels[h + 1] = u16_at(file, place + 6);
         place += MAP_EDGE_SIZE;
-        k += 1;
     }
     place
 }

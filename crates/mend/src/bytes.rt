@@ -57,13 +57,11 @@ fn put_corners(points: &[i64], steps: &[u16], n: u16, out: &mut [u8])
     ensures { out.new ≡ sets out.old map_head (rows (point_in points.now steps.now) n) }
 {
     let mut at = MAP_HEAD;
-    let mut v: u16 = 0;
-    while v < n {
+    for v in 0..n {
         if is_step(steps, 0, v) {
             put_corner(points, v, out, at);
             at += 4;
         }
-        v += 1;
     }
 }
 
@@ -96,13 +94,11 @@ fn put_edges(
     ensures { out.new ≡ sets out.old start (rows (the_edge_in labels.now ends.now numbers.now steps.now) e) }
 {
     let mut at = start;
-    let mut k: u16 = 0;
-    while k < e {
+    for k in 0..e {
         if is_step(steps, 0, k) {
             put_edge(labels, ends, numbers, k, out, at);
             at += 8;
         }
-        k += 1;
     }
 }
 

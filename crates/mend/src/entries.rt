@@ -15,14 +15,12 @@ fn put_step(steps: &[u16], step: u16, n: u16, list: &mut [u16], start: usize) ->
     ensures at { result ≡ start + 2 * count (step_is steps.now step) n }
 {
     let mut at = start;
-    let mut i: u16 = 0;
-    while i < n {
+    for i in 0..n {
         if is_step(steps, step, i) {
             list[at] = step;
             list[at + 1] = i;
             at += 2;
         }
-        i += 1;
     }
     at
 }

@@ -24,12 +24,10 @@ fn first_no_vertex(origins: &[u16], n: usize, e: usize) -> usize
     requires { 2 * e ≤ length origins.now }
     ensures { result ≡ least (no_vertex_at origins.now n) e }
 {
-    let mut k = 0;
-    while k < e {
+    for k in 0..e {
         if no_vertex(origins, n, k) {
             return k;
         }
-        k += 1;
     }
     e
 }

@@ -28,11 +28,9 @@ fn merge_by(keys: &[u32], n: u16, into: &mut [u16])
     requires { (n ≤ length keys.now) × (n ≤ length into.old) }
     ensures { into.new ≡ filled n (λ v. least (like_in keys.now v) v) into.old }
 {
-    let mut v: u16 = 0;
-    while v < n {
+    for v in 0..n {
         let i = v as usize;
         into[i] = lowest(keys, v);
-        v += 1;
     }
 }
 
@@ -65,11 +63,9 @@ pub fn move_ends(into: &[u16], origins: &[u16], e: u16, ends: &mut [u16])
     ensures { ends.new ≡ filled (2 * e) (now_in into.now origins.now) ends.old }
 {
     let m = 2 * e as usize;
-    let mut h = 0;
-    while h < m {
+    for h in 0..m {
         let v = u16_at(origins, h) as usize;
         ends[h] = u16_at(into, v);
-        h += 1;
     }
 }
 

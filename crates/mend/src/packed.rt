@@ -23,11 +23,9 @@ pub fn corner_keys(points: &[i64], n: u16, keys: &mut [u32])
     requires { Corners points.now n × (n ≤ length keys.old) }
     ensures { keys.new ≡ filled n (corner_key points.now) keys.old }
 {
-    let mut v: u16 = 0;
-    while v < n {
+    for v in 0..n {
         let i = v as usize;
         keys[i] = corner_key(points, v);
-        v += 1;
     }
 }
 
@@ -47,11 +45,9 @@ pub fn edge_keys(ends: &[u16], e: u16, keys: &mut [u32])
     requires { e ≤ length keys.old }
     ensures { keys.new ≡ filled e (edge_key ends.now) keys.old }
 {
-    let mut k: u16 = 0;
-    while k < e {
+    for k in 0..e {
         let i = k as usize;
         keys[i] = pair_key(from_now(ends, k), to_now(ends, k));
-        k += 1;
     }
 }
 
@@ -62,10 +58,8 @@ pub fn seen(keys: &[u32], i: usize) -> bool
 {
     let key = keys[i];
     let mut found = false;
-    let mut j = 0;
-    while j < i {
+    for j in 0..i {
         found = found | (key == keys[j]);
-        j += 1;
     }
     found
 }
@@ -76,12 +70,10 @@ pub fn first_like(keys: &[u32], i: usize) -> usize
     ensures { result ≡ least (like_in keys.now i) i }
 {
     let key = keys[i];
-    let mut j = 0;
-    while j < i {
+    for j in 0..i {
         if key == keys[j] {
             return j;
         }
-        j += 1;
     }
     i
 }

@@ -48,11 +48,9 @@ fn edge_steps_by(ends: &[u16], keys: &[u32], e: u16, steps: &mut [u16])
     requires { (e ≤ length keys.now) × (e ≤ length steps.old) }
     ensures { steps.new ≡ filled e (λ k. edge_step (shrunk_in ends.now k) (the_some_below (like_in keys.now k) k)) steps.old }
 {
-    let mut k: u16 = 0;
-    while k < e {
+    for k in 0..e {
         let i = k as usize;
         steps[i] = edge_step(ends, keys, k);
-        k += 1;
     }
 }
 
@@ -93,11 +91,9 @@ fn without_edges(into: &[u16], n: u16, steps: &mut [u16])
     requires { n ≤ length steps.old }
     ensures { steps.new ≡ filled n (λ v. cond (merged_in into.now v) 1 4) steps.old }
 {
-    let mut v: u16 = 0;
-    while v < n {
+    for v in 0..n {
         let i = v as usize;
         steps[i] = without_edge(into, v);
-        v += 1;
     }
 }
 
@@ -114,12 +110,10 @@ fn keep_all_ends(ends: &[u16], dropped: &[u16], e: u16, steps: &mut [u16])
     requires { e ≤ length dropped.now }
     ensures { Holds (λ v. cond (has_in ends.now dropped.now e v) 0 (get_or steps.old v 0)) steps.new (length steps.old) }
 {
-    let mut k: u16 = 0;
-    while k < e {
+    for k in 0..e {
         if is_step(dropped, 0, k) {
             keep_ends(ends, k, steps);
         }
-        k += 1;
     }
 }
 

@@ -43,12 +43,10 @@ fn stands(points: &[i64], n: usize, p: Point) -> bool
     requires fact_2 { Near (pt_of p) }
     ensures { result ≡ stands_among points.now n (pt_of p) }
 {
-    let mut k = 0;
-    while k < n {
+    for k in 0..n {
         if is_at(points, k, p) {
             return true;
         }
-        k += 1;
     }
     false
 }
@@ -97,11 +95,9 @@ fn cross_row(carriers: &[i16], e: usize, t: Seg, points: &mut [i64], room: usize
     ensures { points_of points.new result ≡ gathered room (points_of points.old n) (cross_row carriers.now e (seg_of t)) }
 {
     let mut total = n;
-    let mut j = 0;
-    while j < e {
+    for j in 0..e {
         let s = carrier_at(carriers, j);
         total = cross_pair(s, t, points, room, total);
-        j += 1;
     }
     total
 }
@@ -121,11 +117,9 @@ fn cross_map(
     ensures { points_of points.new result ≡ gathered room (points_of points.old n) (cross_map carriers.now from e) }
 {
     let mut total = n;
-    let mut k = 0;
-    while k < e {
+    for k in 0..e {
         let t = carrier_at(carriers, from + k);
         total = cross_row(carriers, from, t, points, room, total);
-        k += 1;
     }
     total
 }
@@ -137,11 +131,9 @@ fn corners(corners: &[i64], c: usize, points: &mut [i64], room: usize, n: usize)
     ensures { points_of points.new result ≡ gathered room (points_of points.old n) (points_of corners.now c) }
 {
     let mut total = n;
-    let mut v = 0;
-    while v < c {
+    for v in 0..c {
         let p = point_at(corners, v);
         total = append_new(points, room, total, p);
-        v += 1;
     }
     total
 }
@@ -154,12 +146,10 @@ fn crossings(carriers: &[i16], starts: &[usize], points: &mut [i64], room: usize
     ensures { points_of points.new result ≡ gathered room (points_of points.old n) (cross_all carriers.now starts.now) }
 {
     let mut total = n;
-    let mut m = 0;
-    while m < MAPS {
+    for m in 0..MAPS {
         let from = starts[m];
         let e = starts[m + 1] - from;
         total = cross_map(carriers, from, e, points, room, total);
-        m += 1;
     }
     total
 }

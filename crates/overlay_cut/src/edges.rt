@@ -18,13 +18,11 @@ pub fn origins(pieces: &[u16], e: usize, out: &mut [u16])
     requires fact_2 { 2 * e ≤ length out.old }
     ensures { out.new ≡ laid e (ends_of pieces.now) out.old }
 {
-    let mut k = 0;
-    while k < e {
+    for k in 0..e {
         let at = PIECE_WIDTH * k;
         let half = 2 * k;
         out[half] = pieces[at];
         out[half + 1] = pieces[at + 1];
-        k += 1;
     }
 }
 
@@ -42,12 +40,10 @@ fn first_map(pieces: &[u16], k: usize) -> usize
     requires { piece_width * k + piece_width ≤ length pieces.now }
     ensures { result ≡ first_map pieces.now k }
 {
-    let mut m = 0;
-    while m < MAPS {
+    for m in 0..MAPS {
         if 0 < source_in(pieces, k, m) {
             return m;
         }
-        m += 1;
     }
     MAPS
 }
@@ -102,9 +98,7 @@ pub fn carriers(pieces: &[u16], e: usize, starts: &[usize], carriers: &[i16], ou
     requires fact_3 { 4 * e ≤ length out.old }
     ensures { out.new ≡ laid e (λ k. seg_row (carrier_in pieces.now carriers.now starts.now k)) out.old }
 {
-    let mut k = 0;
-    while k < e {
+    for k in 0..e {
         store_carrier(out, k, carrier_of(pieces, k, starts, carriers));
-        k += 1;
     }
 }

@@ -62,11 +62,9 @@ pub fn remember_all(
     ensures { RememberedIf e room v (named_in cells.now from (to - from)) last.old nodes.old t last.new nodes.new result × (result ≤ room) }
 {
     let mut n = t;
-    let mut i = from;
-    while i < to {
+    for i in from..to {
         let k = cells[i] as usize;
         n = remember(last, e, nodes, room, n, k, v);
-        i += 1;
     }
     n
 }

@@ -70,10 +70,8 @@ fn look(
     ensures { the_seen_of result ≡ best (candidate (flat_graph points.now origins.now carriers.now n e) (pt_of p) (vec_of d)) (nearer (flat_graph points.now origins.now carriers.now n e) (pt_of p)) e }
 {
     let mut r = e;
-    let mut k = 0;
-    while k < e {
+    for k in 0..e {
         r = take(points, origins, carriers, e, k, r, p, d);
-        k += 1;
     }
     if r == e {
         Seen::Nothing

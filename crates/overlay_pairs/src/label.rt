@@ -145,8 +145,7 @@ pub fn lay_labels(
     ensures { out.new ≡ filled (maps * n) (label_cell (layers_by vstarts.now estarts.now corners.now origins.now carriers.now labels.now) points.now ends.now lines.now pieces.now outers.now) out.old }
 {
     let cells = MAPS * n;
-    let mut j = 0;
-    while j < cells {
+    for j in 0..cells {
         out[j] = face_label(
             vstarts,
             estarts,
@@ -163,6 +162,5 @@ pub fn lay_labels(
             j / MAPS,
             j % MAPS,
         );
-        j += 1;
     }
 }

@@ -29,10 +29,8 @@ fn lay_outers(outers: &[u16], n: usize, out: &mut [u16])
     requires fact_2 { n ≤ length out.old }
     ensures { out.new ≡ filled n (outer_of outers.now) out.old }
 {
-    let mut f = 0;
-    while f < n {
+    for f in 0..n {
         out[f] = face_outer(outers, f);
-        f += 1;
     }
 }
 
@@ -42,10 +40,8 @@ fn lay_holes(holes: &[u16], n: usize, out: &mut [u16])
     requires fact_2 { n ≤ length out.old }
     ensures { out.new ≡ filled n (λ f. get_or holes.now f 0) out.old }
 {
-    let mut f = 0;
-    while f < n {
+    for f in 0..n {
         out[f] = holes[f];
-        f += 1;
     }
 }
 

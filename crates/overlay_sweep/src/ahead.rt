@@ -21,12 +21,10 @@ fn map_of(starts: &[usize], k: usize) -> usize
     requires { maps < length starts.now }
     ensures { result ≡ the_map_at starts.now k }
 {
-    let mut m = 0;
-    while m < MAPS {
+    for m in 0..MAPS {
         if k < starts[m + 1] {
             return m;
         }
-        m += 1;
     }
     MAPS
 }

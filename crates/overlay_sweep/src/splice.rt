@@ -12,10 +12,8 @@ fn lower_u16(t: &mut [u16], from: usize, to: usize, by: usize)
     requires fact_3 { to ≤ length t.old }
     ensures { Lowered from to by t.old t.new }
 {
-    let mut i = from;
-    while i < to {
+    for i in from..to {
         t[i - by] = t[i];
-        i += 1;
     }
 }
 
@@ -39,10 +37,8 @@ fn copy_in(t: &mut [u16], a: usize, fan: &[u16], m: usize)
     requires fact_2 { m ≤ length fan.now }
     ensures { Copied a m fan.now t.old t.new }
 {
-    let mut i = 0;
-    while i < m {
+    for i in 0..m {
         t[a + i] = fan[i];
-        i += 1;
     }
 }
 

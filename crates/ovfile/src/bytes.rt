@@ -17,10 +17,8 @@ pub fn numbers(width: usize) -> u64
         return 281474976710656;
     }
     let mut n: u64 = 1;
-    let mut i = 0;
-    while i < width {
+    for _ in 0..width {
         n = 256 * n;
-        i += 1;
     }
     n
 }
@@ -121,11 +119,9 @@ pub fn put(buffer: &mut [u8], at: usize, width: usize, n: u64)
     ensures { buffer.new ≡ sets buffer.old at (le width n) }
 {
     let mut rest = n;
-    let mut i = 0;
-    while i < width {
+    for i in 0..width {
         buffer[at + i] = (rest % 256) as u8;
         rest = rest / 256;
-        i += 1;
     }
 }
 
@@ -134,9 +130,7 @@ pub fn put_fields(buffer: &mut [u8], at: usize, fields: &[u32])
     requires { at + 2 * length fields.now ≤ length buffer.old }
     ensures { buffer.new ≡ sets buffer.old at (gather (le 2) fields.now) }
 {
-    let mut i = 0;
-    while i < fields.len() {
+    for i in 0..fields.len() {
         put(buffer, at + 2 * i, 2, fields[i] as u64);
-        i += 1;
     }
 }

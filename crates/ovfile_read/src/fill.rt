@@ -56,8 +56,7 @@ fn lay_halves(layout: Layout, file: &[u8], first: &[u16], halves: &mut [u16])
 {
     let n = 2 * counts(file).edges as u32;
     let start = edges_start(layout, file);
-    let mut h: u32 = 0;
-    while h < n {
+    for h in 0..n {
         store5_u16(
             halves,
             h as usize,
@@ -67,7 +66,6 @@ fn lay_halves(layout: Layout, file: &[u8], first: &[u16], halves: &mut [u16])
             u16_at(first, h as usize),
             face(layout, file, start, h),
         );
-        h += 1;
     }
 }
 
@@ -99,8 +97,7 @@ fn lay_vertices(layout: Layout, file: &[u8], least: &[u16], vertices: &mut [i64]
     ensures { vertices.new ≡ sets vertices.old 0 (rows (vertex_by (layout_from layout) file.now least.now) (counts_in file.now).vertices) }
 {
     let n = counts(file).vertices;
-    let mut v: u16 = 0;
-    while v < n {
+    for v in 0..n {
         let w = layout.coordinate;
         let p = vertex_place(layout, v);
         let x = signed_at(file, p, w);
@@ -114,7 +111,6 @@ fn lay_vertices(layout: Layout, file: &[u8], least: &[u16], vertices: &mut [i64]
             d,
             of_u16(u16_at(least, v as usize)),
         );
-        v += 1;
     }
 }
 
@@ -135,8 +131,7 @@ fn lay_sources(layout: Layout, file: &[u8], sources: &mut [u32])
 {
     let n = counts(file).edges as u32;
     let start = edges_start(layout, file);
-    let mut k: u32 = 0;
-    while k < n {
+    for k in 0..n {
         store3_u32(
             sources,
             k as usize,
@@ -144,7 +139,6 @@ fn lay_sources(layout: Layout, file: &[u8], sources: &mut [u32])
             source(layout, file, start, k, 1) as u32,
             source(layout, file, start, k, 2) as u32,
         );
-        k += 1;
     }
 }
 
@@ -164,8 +158,7 @@ fn lay_faces(layout: Layout, file: &[u8], faces: &mut [u16])
 {
     let n = counts(file).faces as u32;
     let start = faces_start(layout, file);
-    let mut f: u32 = 0;
-    while f < n {
+    for f in 0..n {
         store5_u16(
             faces,
             f as usize,
@@ -175,7 +168,6 @@ fn lay_faces(layout: Layout, file: &[u8], faces: &mut [u16])
             face_field(layout, file, start, f, layout.maps as u32),
             face_field(layout, file, start, f, 1 + layout.maps as u32),
         );
-        f += 1;
     }
 }
 

@@ -82,12 +82,10 @@ fn unsound_by(layout: Layout, file: &[u8], taken: &mut [u16]) -> u16
     let c = counts(file);
     let start = edges_start(layout, file);
     let n = c.edges as u32;
-    let mut k: u32 = 0;
-    while k < n {
+    for k in 0..n {
         if !sound_edge(layout, file, start, c, k, taken) {
             return k as u16;
         }
-        k += 1;
     }
     c.edges
 }

@@ -55,10 +55,8 @@ pub fn put_vertices(n: u16, vertices: &[i64], buffer: &mut [u8])
     requires { VerticesFit vertices.now n × (overlay_head + vertex_size layout * n ≤ length buffer.old) }
     ensures { buffer.new ≡ sets buffer.old overlay_head (rows (vertex_bytes layout (tables_by vertices.now [] [] [])) n) }
 {
-    let mut v: u16 = 0;
-    while v < n {
+    for v in 0..n {
         put_vertex(vertices, v, buffer, vertex_place(v));
-        v += 1;
     }
 }
 
@@ -90,10 +88,8 @@ pub fn put_edges(c: Counts, halves: &[u16], sources: &[u32], buffer: &mut [u8])
 {
     let n = c.edges;
     let start = edges_at(c);
-    let mut k: u16 = 0;
-    while k < n {
+    for k in 0..n {
         put_edge(halves, sources, k, buffer, start + EDGE_SIZE * k as usize);
-        k += 1;
     }
 }
 
@@ -117,9 +113,7 @@ pub fn put_faces(c: Counts, faces: &[u16], buffer: &mut [u8])
 {
     let n = c.faces;
     let start = faces_at(c);
-    let mut f: u16 = 0;
-    while f < n {
+    for f in 0..n {
         put_face(faces, f, buffer, start + FACE_SIZE * f as usize);
-        f += 1;
     }
 }

@@ -52,12 +52,10 @@ fn first_bad_edge_by(c: Counts, halves: &[u16], sources: &[u32], first: &[u16]) 
     ensures { result ≡ least (bad_edge maps (counts_of c) (edge_tables halves.now sources.now)) c.edges }
 {
     let n = c.edges;
-    let mut k: u16 = 0;
-    while k < n {
+    for k in 0..n {
         if bad_edge(c, halves, sources, first, k) {
             return k;
         }
-        k += 1;
     }
     n
 }

@@ -53,12 +53,10 @@ fn bad_vertex(vertices: &[i64], starts: &[u16], v: u16) -> bool
 fn first_bad_vertex_by(n: u16, vertices: &[i64], starts: &[u16]) -> u16
     ensures { result ≡ least (bad_vertex_by vertices.now starts.now) n }
 {
-    let mut v: u16 = 0;
-    while v < n {
+    for v in 0..n {
         if bad_vertex(vertices, starts, v) {
             return v;
         }
-        v += 1;
     }
     n
 }

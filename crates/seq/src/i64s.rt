@@ -7,10 +7,8 @@ pub fn wipe_from_i64(t: &mut [i64], n: usize)
     requires { n ≤ length t.old }
     ensures { t.new ≡ wiped (pos 0) n t.old }
 {
-    let mut i = n;
-    while i < t.len() {
+    for i in n..t.len() {
         t[i] = 0;
-        i += 1;
     }
 }
 

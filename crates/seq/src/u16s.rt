@@ -8,10 +8,8 @@ pub fn wipe_from_u16(t: &mut [u16], n: usize)
     requires { n ≤ length t.old }
     ensures { t.new ≡ wiped 0 n t.old }
 {
-    let mut i = n;
-    while i < t.len() {
+    for i in n..t.len() {
         t[i] = 0;
-        i += 1;
     }
 }
 

@@ -155,12 +155,10 @@ pub fn add_bytes(
     ensures { run_by (look_by rails.now easts.now e rails2.now easts2.now f) bytes.new labels.new counts.new result ≡ next (run_by (look_by rails.now easts.now e rails2.now easts2.now f) bytes.old labels.old counts.old p) batch.now }
 {
     let mut q = p;
-    let mut i = 0;
-    while i < batch.len() {
+    for i in 0..batch.len() {
         q = add_byte(
             rails, easts, e, rails2, easts2, f, batch[i], bytes, labels, counts, q,
         );
-        i += 1;
     }
     q
 }

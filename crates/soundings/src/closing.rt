@@ -48,10 +48,8 @@ fn lay_labels(from: &[u16], n: usize, to: &mut [u16])
     requires fact_2 { n ≤ length to.old }
     ensures { to.new ≡ filled n (λ i. get_or from.now i 0) to.old }
 {
-    let mut i = 0;
-    while i < n {
+    for i in 0..n {
         to[i] = from[i];
-        i += 1;
     }
 }
 
@@ -60,10 +58,8 @@ fn lay_counts(from: &[u32], n: usize, to: &mut [u32])
     requires fact_2 { n ≤ length to.old }
     ensures { to.new ≡ filled n (λ i. get_or from.now i 0) to.old }
 {
-    let mut i = 0;
-    while i < n {
+    for i in 0..n {
         to[i] = from[i];
-        i += 1;
     }
 }
 

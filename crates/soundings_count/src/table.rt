@@ -25,12 +25,10 @@ pub fn falls(labels: &[u16], n: usize) -> bool
     requires { pair_width * n ≤ length labels.now }
     ensures { result ≡ the_some_below (falls_at labels.now) n }
 {
-    let mut i = 0;
-    while i < n {
+    for i in 0..n {
         if falls_at(labels, i) {
             return true;
         }
-        i += 1;
     }
     false
 }
@@ -48,10 +46,8 @@ pub fn sum(counts: &[u32], n: usize) -> u64
     ensures { result ≡ sum_of counts.now n }
 {
     let mut total = 0u64;
-    let mut i = 0;
-    while i < n {
+    for i in 0..n {
         total += wide(counts[i]);
-        i += 1;
     }
     total
 }

@@ -15,8 +15,7 @@ fn lay(faces: &mut [u16], count: u16, labels: &[u16], outer: &[u16], holes: &[u1
     ensures { faces.new ≡ laid count (face_by labels.now outer.now holes.now) faces.old }
 {
     let n = count as usize;
-    let mut f: usize = 0;
-    while f < n {
+    for f in 0..n {
         let at = MAPS * f;
         store5_u16(
             faces,
@@ -27,7 +26,6 @@ fn lay(faces: &mut [u16], count: u16, labels: &[u16], outer: &[u16], holes: &[u1
             outer[f],
             holes[f],
         );
-        f += 1;
     }
 }
 

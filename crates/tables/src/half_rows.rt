@@ -15,11 +15,9 @@ fn lay(halves: &mut [u16], edges: u16, origins: &[u16], next: &[u16], prev: &[u1
     ensures { halves.new ≡ laid (2 * edges) (half_of origins.now next.now prev.now face.now) halves.old }
 {
     let m = 2 * edges as usize;
-    let mut h: usize = 0;
-    while h < m {
+    for h in 0..m {
         let other = twin(h) as u16;
         store5_u16(halves, h, origins[h], other, next[h], prev[h], face[h]);
-        h += 1;
     }
 }
 

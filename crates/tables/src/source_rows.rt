@@ -20,14 +20,12 @@ fn lay(sources: &mut [u32], edges: u16, pieces: &[u16])
     ensures { sources.new ≡ laid edges (source_of pieces.now) sources.old }
 {
     let n = edges as usize;
-    let mut k: usize = 0;
-    while k < n {
+    for k in 0..n {
         let at = PIECE_WIDTH * k;
         let first = pieces[at + FIRST] as u32;
         let second = pieces[at + SECOND] as u32;
         let third = pieces[at + THIRD] as u32;
         store3_u32(sources, k, first, second, third);
-        k += 1;
     }
 }
 

@@ -14,15 +14,13 @@ fn lay(vertices: &mut [i64], count: u16, points: &[i64], least: &[u16])
     ensures { vertices.new ≡ laid count (vertex_of points.now least.now) vertices.old }
 {
     let n = count as usize;
-    let mut v: usize = 0;
-    while v < n {
+    for v in 0..n {
         let at = POINT_WIDTH * v;
         let x = points[at];
         let y = points[at + 1];
         let d = points[at + 2];
         let h = of_u16(least[v]);
         store4_i64(vertices, v, x, y, d, h);
-        v += 1;
     }
 }
 

@@ -39,10 +39,8 @@ pub fn gaps(faces: &[u16], count: u16) -> u16
     ensures { result ≡ gaps_in faces.now count }
 {
     let mut found: u16 = 0;
-    let mut f: u16 = 1;
-    while f < count {
+    for f in 1..count {
         found = counted(found, is_gap(cell(faces, f, 0), cell(faces, f, 1)));
-        f += 1;
     }
     found
 }

@@ -8,10 +8,8 @@ pub fn words(line: &mut [u8], at: usize, text: &[u8]) -> usize
     requires { at + length text.now ≤ length line.old }
     ensures { Put text.now (length text.now) line.old at line.new result }
 {
-    let mut i = 0;
-    while i < text.len() {
+    for i in 0..text.len() {
         line[at + i] = text[i];
-        i += 1;
     }
     at + text.len()
 }

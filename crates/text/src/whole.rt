@@ -37,10 +37,8 @@ fn put_faces(out: &mut [u8], at: usize, count: u16, faces: &[u16]) -> usize
     ensures { Put (rows (face_text faces.now) count) (64 * count) out.old at out.new result }
 {
     let mut end = at;
-    let mut f: u16 = 0;
-    while f < count {
+    for f in 0..count {
         end = put_face(out, end, f, faces);
-        f += 1;
     }
     end
 }

@@ -15,14 +15,12 @@ fn differ(triples: &[u16], f: usize, g: usize) -> bool
     requires fact_2 { maps * g + maps ≤ length triples.now }
     ensures { result ≡ differ_in triples.now f g }
 {
-    let mut i = 0;
-    while i < MAPS {
+    for i in 0..MAPS {
         let one = triples[MAPS * f + i];
         let other = triples[MAPS * g + i];
         if one != other {
             return true;
         }
-        i += 1;
     }
     false
 }
@@ -62,12 +60,10 @@ pub fn mark_ends(
     requires fact_2 { Holds (λ v. 0) marks.old n }
     ensures { Holds (λ v. flag (is_end (kept_in pieces.now face.now triples.now e) v)) marks.new n }
 {
-    let mut k = 0;
-    while k < e {
+    for k in 0..e {
         if stays(face, triples, k) {
             mark(pieces, k, marks);
         }
-        k += 1;
     }
 }
 
@@ -79,12 +75,10 @@ pub fn number(n: usize, marks: &[u16], numbers: &mut [u16])
     ensures { numbers.new ≡ filled n (count (marked marks.now)) numbers.old }
 {
     let mut c: usize = 0;
-    let mut v = 0;
-    while v < n {
+    for v in 0..n {
         numbers[v] = c as u16;
         if 0 < marks[v] {
             c += 1;
         }
-        v += 1;
     }
 }

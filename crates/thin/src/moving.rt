@@ -33,13 +33,11 @@ pub fn move_points(n: usize, points: &[i64], marks: &[u16], out: &mut [i64]) -> 
     ensures rows { points_of out.new result ≡ map (the_point_at points.now) (select (marked marks.now) n) }
 {
     let mut c = 0;
-    let mut v = 0;
-    while v < n {
+    for v in 0..n {
         if 0 < marks[v] {
             move_point(points, v, out, c);
             c += 1;
         }
-        v += 1;
     }
     c
 }
@@ -74,13 +72,11 @@ pub fn move_pieces(
     ensures rows { pieces_in out.new result ≡ map (moved_piece pieces.now numbers.now) (select (separates_in face.now triples.now) e) }
 {
     let mut c = 0;
-    let mut k = 0;
-    while k < e {
+    for k in 0..e {
         if stays(face, triples, k) {
             move_piece(pieces, k, numbers, out, c);
             c += 1;
         }
-        k += 1;
     }
     c
 }

@@ -49,12 +49,10 @@ pub fn gaps(layout: Layout, file: &[u8], start: usize, n: usize) -> u32
     ensures { result ≡ how_many gap_pair (pairs_from (layout_from layout) file.now n) }
 {
     let mut total = 0u32;
-    let mut f = 0;
-    while f < n {
+    for f in 0..n {
         let zone = label_of(layout, file, start, f, 0);
         let block = label_of(layout, file, start, f, 1);
         total += gap(zone, block);
-        f += 1;
     }
     total
 }
@@ -78,12 +76,10 @@ pub fn add_faces(
     ensures { kept rows.new result ≡ cap_faces number (kept rows.old pairs) (pairs_from (layout_from layout) file.now n) }
 {
     let mut total = pairs;
-    let mut f = 0;
-    while f < n {
+    for f in 0..n {
         let zone = label_of(layout, file, start, f, 0);
         let block = label_of(layout, file, start, f, 1);
         total = add_face(rows, total, zone, block, number, ordered);
-        f += 1;
     }
     total
 }

@@ -63,12 +63,10 @@ fn full_rows(rows: &[u32], n: usize) -> usize
     ensures { result ≡ how_many is_full (tallies_in rows.now n) }
 {
     let mut total = 0;
-    let mut r = 0;
-    while r < n {
+    for r in 0..n {
         if full(rows, r) {
             total += 1;
         }
-        r += 1;
     }
     total
 }

@@ -14,6 +14,3 @@ use Rattle.bonnetewe.proofs.met.lay_point.Given as goal
 
 abbrev pub invariant-loop-i : goal.invariant-loop-i
 invariant-loop-i l = Filling (point_cell (pt_of l.p)) (length l.initial.point) l.initial.point l.point l.i
-
-abbrev pub decreases-loop-i : goal.decreases-loop-i
-decreases-loop-i l = length l.initial.point - l.i

@@ -11,6 +11,3 @@ use Rattle.bonnetewe.proofs.sounded.lay_read.Given as goal
 
 abbrev pub invariant-loop-i : goal.invariant-loop-i
 invariant-loop-i l = Filling (read_cell l.n) (length l.initial.read) l.initial.read l.read l.i
-
-abbrev pub decreases-loop-i : goal.decreases-loop-i
-decreases-loop-i l = length l.initial.read - l.i

@@ -8,6 +8,3 @@ use Rattle.graph.proofs.heading.headings_by.Given as goal
 
 abbrev pub invariant-loop-h : goal.invariant-loop-h
 invariant-loop-h l = Laying 2 (λ j. row (heading (flat_graph l.points l.origins l.carriers l.n l.e) j)) (2 * l.e) l.initial.out l.out l.h
-
-abbrev pub decreases-loop-h : goal.decreases-loop-h
-decreases-loop-h l = 2 * l.e - l.h

@@ -6,6 +6,3 @@ use Rattle.graph.proofs.rising.rise.Given as goal
 
 abbrev pub invariant-loop-v : goal.invariant-loop-v
 invariant-loop-v l = (0 < l.v) × Rises l.points l.v
-
-abbrev pub decreases-loop-v : goal.decreases-loop-v
-decreases-loop-v l = l.n - l.v

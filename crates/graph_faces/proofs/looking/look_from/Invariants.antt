@@ -8,6 +8,3 @@ use Rattle.graph_faces.proofs.looking.look_from.Given as goal
 
 abbrev pub invariant-loop-k : goal.invariant-loop-k
 invariant-loop-k l = Picking (candidate_at l.points l.origins l.carriers (pt_of l.p) nowhere) (nearer_at l.carriers (pt_of l.p)) l.e l.r l.k
-
-abbrev pub decreases-loop-k : goal.decreases-loop-k
-decreases-loop-k l = l.e - l.k

@@ -8,6 +8,3 @@ use Rattle.graph_faces.proofs.numbering.settle.Given as goal
 abbrev pub invariant-loop-h : goal.invariant-loop-h
 invariant-loop-h l =
     Filling (face_from l.lead l.top l.known l.n) l.m l.initial.faces l.faces l.h × Tallying (hole_lead l.lead l.top) (face_from l.lead l.top l.known l.n) l.m l.f l.initial.inside l.inside l.h
-
-abbrev pub decreases-loop-h : goal.decreases-loop-h
-decreases-loop-h l = l.m - l.h

@@ -8,6 +8,3 @@ use Rattle.graph_faces.proofs.numbering.tell.Given as goal
 abbrev pub invariant-loop-h : goal.invariant-loop-h
 invariant-loop-h l =
     Telling (known_by l.points l.origins l.carriers l.n l.e l.lead l.top) l.lead (2 * l.e) l.initial.known l.known l.h × Selecting (outer_lead l.lead l.top) (2 * l.e) l.initial.leaders l.leaders l.c l.h
-
-abbrev pub decreases-loop-h : goal.decreases-loop-h
-decreases-loop-h l = 2 * l.e - l.h

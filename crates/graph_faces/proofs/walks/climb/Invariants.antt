@@ -7,6 +7,3 @@ use Rattle.graph_faces.proofs.walks.climb.Given as goal
 
 abbrev pub invariant-loop-k : goal.invariant-loop-k
 invariant-loop-k l = (l.rising ≡ true) × Climbing l.origins l.k l.last
-
-abbrev pub decreases-loop-k : goal.decreases-loop-k
-decreases-loop-k l = l.e - l.k

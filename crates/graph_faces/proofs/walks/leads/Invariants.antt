@@ -6,6 +6,3 @@ use Rattle.graph_faces.proofs.walks.leads.Given as goal
 
 abbrev pub invariant-loop-h : goal.invariant-loop-h
 invariant-loop-h l = Leading (take l.m l.next) l.initial.lead l.lead l.h
-
-abbrev pub decreases-loop-h : goal.decreases-loop-h
-decreases-loop-h l = l.m - l.h

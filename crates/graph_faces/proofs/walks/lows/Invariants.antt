@@ -8,6 +8,3 @@ use Rattle.graph_faces.proofs.walks.lows.Given as goal
 
 abbrev pub invariant-loop-h : goal.invariant-loop-h
 invariant-loop-h l = Choosing (λ k. get_or l.lead k 0) (earlier_at l.points l.origins) absent l.m l.m l.initial.out l.out l.h
-
-abbrev pub decreases-loop-h : goal.decreases-loop-h
-decreases-loop-h l = l.m - l.h

@@ -6,6 +6,3 @@ use Rattle.graph_faces.proofs.walks.tops.Given as goal
 
 abbrev pub invariant-loop-h : goal.invariant-loop-h
 invariant-loop-h l = Filling (top_at l.origins l.lead l.low l.greatest) l.m l.initial.top l.top l.h
-
-abbrev pub decreases-loop-h : goal.decreases-loop-h
-decreases-loop-h l = l.m - l.h

@@ -6,6 +6,3 @@ use Rattle.graph_faces.proofs.walks.tops_by_leads.Given as goal
 
 abbrev pub invariant-loop-h : goal.invariant-loop-h
 invariant-loop-h l = Filling (top_by_lead l.origins l.lead l.greatest) l.m l.initial.top l.top l.h
-
-abbrev pub decreases-loop-h : goal.decreases-loop-h
-decreases-loop-h l = l.m - l.h

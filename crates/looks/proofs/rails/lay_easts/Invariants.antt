@@ -14,6 +14,3 @@ use Rattle.looks.proofs.rails.lay_easts.Given as goal
 
 abbrev pub invariant-loop-i : goal.invariant-loop-i
 invariant-loop-i l = Filling (λ j. get_or l.labels (east_at l.points l.origins (the_edge_in l.order j)) 0) l.e l.initial.easts l.easts l.i
-
-abbrev pub decreases-loop-i : goal.decreases-loop-i
-decreases-loop-i l = l.e - l.i

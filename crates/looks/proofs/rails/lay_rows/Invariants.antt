@@ -11,6 +11,3 @@ use Rattle.looks.proofs.rails.lay_rows.Given as goal
 
 abbrev pub invariant-loop-i : goal.invariant-loop-i
 invariant-loop-i l = Laying 4 (λ j. seg_row (carrier_at l.carriers (the_edge_in l.order j))) l.e l.initial.rails l.rails l.i
-
-abbrev pub decreases-loop-i : goal.decreases-loop-i
-decreases-loop-i l = l.e - l.i

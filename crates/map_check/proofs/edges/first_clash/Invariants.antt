@@ -7,6 +7,3 @@ use Rattle.map_check.proofs.edges.first_clash.Given as goal
 
 abbrev pub invariant-loop-j : goal.invariant-loop-j
 invariant-loop-j l = (l.k < l.j) × Searching (later_at l.carriers l.k) l.e l.j
-
-abbrev pub decreases-loop-j : goal.decreases-loop-j
-decreases-loop-j l = l.e - l.j

@@ -6,6 +6,3 @@ use Rattle.map_check.proofs.edges.first_holding.Given as goal
 
 abbrev pub invariant-loop-i : goal.invariant-loop-i
 invariant-loop-i l = Searching (starts_at l.cells l.v) l.m l.i
-
-abbrev pub decreases-loop-i : goal.decreases-loop-i
-decreases-loop-i l = l.m - l.i

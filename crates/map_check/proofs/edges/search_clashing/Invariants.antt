@@ -6,6 +6,3 @@ use Rattle.map_check.proofs.edges.search_clashing.Given as goal
 
 abbrev pub invariant-loop-k : goal.invariant-loop-k
 invariant-loop-k l = Searching (later_clashing l.carriers l.e) l.e l.k
-
-abbrev pub decreases-loop-k : goal.decreases-loop-k
-decreases-loop-k l = l.e - l.k

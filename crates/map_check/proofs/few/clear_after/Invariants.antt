@@ -6,6 +6,3 @@ use Rattle.map_check.proofs.few.clear_after.Given as goal
 
 abbrev pub invariant-loop-j : goal.invariant-loop-j
 invariant-loop-j l = ClearAfter (carrier_at l.carriers) l.j l.i
-
-abbrev pub decreases-loop-j : goal.decreases-loop-j
-decreases-loop-j l = l.e - l.j

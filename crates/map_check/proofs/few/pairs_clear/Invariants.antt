@@ -7,6 +7,3 @@ use Rattle.map_check.proofs.few.pairs_clear.Given as goal
 
 abbrev pub invariant-loop-i : goal.invariant-loop-i
 invariant-loop-i l = (k : ℕ) → k < l.i → ClearAfter (carrier_at l.carriers) l.e k
-
-abbrev pub decreases-loop-i : goal.decreases-loop-i
-decreases-loop-i l = l.e - l.i

@@ -6,6 +6,3 @@ use Rattle.map_check.proofs.labels.first_disagreeing.Given as goal
 
 abbrev pub invariant-loop-h : goal.invariant-loop-h
 invariant-loop-h l = Searching (disagrees_at l.points l.origins l.carriers l.labels l.heads l.next l.n l.e) (2 * l.e) l.h
-
-abbrev pub decreases-loop-h : goal.decreases-loop-h
-decreases-loop-h l = 2 * l.e - l.h

@@ -8,6 +8,3 @@ use Rattle.map_check.proofs.near.all_above.Given as goal
 
 abbrev pub invariant-loop-i : goal.invariant-loop-i
 invariant-loop-i l = (length l.near ≡ length l.initial.near) × ((k : ℕ) → k < l.i → ClearAbove l.carriers l.cells l.e k)
-
-abbrev pub decreases-loop-i : goal.decreases-loop-i
-decreases-loop-i l = l.e - l.i

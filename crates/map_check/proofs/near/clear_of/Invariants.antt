@@ -8,6 +8,3 @@ use Rattle.map_check.proofs.near.clear_of.Given as goal
 
 abbrev pub invariant-loop-q : goal.invariant-loop-q
 invariant-loop-q l = (p : ℕ) → p < l.q → clash (carrier_in l.carriers l.cells l.i) (carrier_in l.carriers l.cells (get_or l.near p 0)) ≡ false
-
-abbrev pub decreases-loop-q : goal.decreases-loop-q
-decreases-loop-q l = l.c - l.q

@@ -6,6 +6,3 @@ use Rattle.map_check.proofs.near.lay_wests.Given as goal
 
 abbrev pub invariant-loop-i : goal.invariant-loop-i
 invariant-loop-i l = Filling (λ k. from_west (west_of (carrier_in l.carriers l.cells k))) l.e l.initial.wests l.wests l.i
-
-abbrev pub decreases-loop-i : goal.decreases-loop-i
-decreases-loop-i l = l.e - l.i

@@ -7,6 +7,3 @@ use Rattle.map_check.proofs.near.near_above.Given as goal
 
 abbrev pub invariant-loop-j : goal.invariant-loop-j
 invariant-loop-j l = (length l.near ≡ length l.initial.near) × (l.j ≤ l.e) × Picked l.carriers l.cells l.e l.i l.j l.near l.c
-
-abbrev pub decreases-loop-j : goal.decreases-loop-j
-decreases-loop-j l = l.e - l.j

@@ -6,6 +6,3 @@ use Rattle.map_check.proofs.parts.first_bad_ends.Given as goal
 
 abbrev pub invariant-loop-k : goal.invariant-loop-k
 invariant-loop-k l = Searching (bad_ends_at l.origins l.n) l.e l.k
-
-abbrev pub decreases-loop-k : goal.decreases-loop-k
-decreases-loop-k l = l.e - l.k

@@ -6,6 +6,3 @@ use Rattle.map_check.proofs.parts.first_doubled.Given as goal
 
 abbrev pub invariant-loop-higher : goal.invariant-loop-higher
 invariant-loop-higher l = Searching (doubled_at l.points) l.n l.higher
-
-abbrev pub decreases-loop-higher : goal.decreases-loop-higher
-decreases-loop-higher l = l.n - l.higher

@@ -6,6 +6,3 @@ use Rattle.map_check.proofs.parts.first_too_far.Given as goal
 
 abbrev pub invariant-loop-v : goal.invariant-loop-v
 invariant-loop-v l = Searching (far_at l.points) l.n l.v
-
-abbrev pub decreases-loop-v : goal.decreases-loop-v
-decreases-loop-v l = l.n - l.v

@@ -6,6 +6,3 @@ use Rattle.map_check.proofs.parts.first_under.Given as goal
 
 abbrev pub invariant-loop-u : goal.invariant-loop-u
 invariant-loop-u l = Searching (lies_on l.points l.v) l.v l.u
-
-abbrev pub decreases-loop-u : goal.decreases-loop-u
-decreases-loop-u l = l.v - l.u

@@ -6,6 +6,3 @@ use Rattle.map_check.proofs.parts.lay_carriers.Given as goal
 
 abbrev pub invariant-loop-k : goal.invariant-loop-k
 invariant-loop-k l = Laying 4 (carrier_row_by l.points l.origins) l.e l.initial.carriers l.carriers l.k
-
-abbrev pub decreases-loop-k : goal.decreases-loop-k
-decreases-loop-k l = l.e - l.k

@@ -8,6 +8,3 @@ use Rattle.map_file.proofs.rows.edges_at.Given as goal
 
 abbrev pub invariant-loop-k : goal.invariant-loop-k
 invariant-loop-k l = Filling (origin_from l.file l.at) (2 * l.n) l.initial.origins l.origins (2 * l.k) × Filling (label_from l.file l.at) (2 * l.n) l.initial.labels l.labels (2 * l.k) × (l.place ≡ l.at + 8 * l.k)
-
-abbrev pub decreases-loop-k : goal.decreases-loop-k
-decreases-loop-k l = l.n - l.k

@@ -8,6 +8,3 @@ use Rattle.map_file.proofs.rows.points_at.Given as goal
 
 abbrev pub invariant-loop-v : goal.invariant-loop-v
 invariant-loop-v l = Laying 4 (point_from l.file l.at) l.n l.initial.points l.points l.v × (l.place ≡ l.at + 4 * l.v)
-
-abbrev pub decreases-loop-v : goal.decreases-loop-v
-decreases-loop-v l = l.n - l.v

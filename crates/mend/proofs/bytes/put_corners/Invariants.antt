@@ -14,6 +14,3 @@ use Rattle.mend.proofs.bytes.put_corners.Given as goal
 
 abbrev pub invariant-loop-v : goal.invariant-loop-v
 invariant-loop-v l = Appending 4 (step_is l.steps 0) (λ u. corner_bytes (corner_in l.points u)) 9 l.n l.initial.out l.out l.at l.v
-
-abbrev pub decreases-loop-v : goal.decreases-loop-v
-decreases-loop-v l = l.n - l.v

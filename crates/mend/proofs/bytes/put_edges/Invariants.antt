@@ -14,6 +14,3 @@ use Rattle.mend.proofs.bytes.put_edges.Given as goal
 
 abbrev pub invariant-loop-k : goal.invariant-loop-k
 invariant-loop-k l = Appending 8 (step_is l.steps 0) (λ j. gather (le 2) (row_in l.labels l.ends l.numbers j)) l.start l.e l.initial.out l.out l.at l.k
-
-abbrev pub decreases-loop-k : goal.decreases-loop-k
-decreases-loop-k l = l.e - l.k

@@ -15,6 +15,3 @@ use Rattle.mend.proofs.entries.put_step.Given as goal
 
 abbrev pub invariant-loop-i : goal.invariant-loop-i
 invariant-loop-i l = Appending 2 (step_is l.steps l.step) (λ j. l.step ∷ j ∷ []) l.start l.n l.initial.list l.list l.at l.i
-
-abbrev pub decreases-loop-i : goal.decreases-loop-i
-decreases-loop-i l = l.n - l.i

@@ -10,6 +10,3 @@ use Rattle.mend.proofs.faults.first_no_vertex.Given as goal
 
 abbrev pub invariant-loop-k : goal.invariant-loop-k
 invariant-loop-k l = Searching (no_vertex_at l.origins l.n) l.e l.k
-
-abbrev pub decreases-loop-k : goal.decreases-loop-k
-decreases-loop-k l = l.e - l.k

@@ -9,6 +9,3 @@ use Rattle.mend.proofs.merge.merge_by.Given as goal
 
 abbrev pub invariant-loop-v : goal.invariant-loop-v
 invariant-loop-v l = Filling (λ u. least (like_in l.keys u) u) l.n l.initial.into l.into l.v
-
-abbrev pub decreases-loop-v : goal.decreases-loop-v
-decreases-loop-v l = l.n - l.v

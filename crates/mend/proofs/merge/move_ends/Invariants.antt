@@ -10,6 +10,3 @@ use Rattle.mend.proofs.merge.move_ends.Given as goal
 
 abbrev pub invariant-loop-h : goal.invariant-loop-h
 invariant-loop-h l = Filling (now_in l.into l.origins) (2 * l.e) l.initial.ends l.ends l.h
-
-abbrev pub decreases-loop-h : goal.decreases-loop-h
-decreases-loop-h l = l.m - l.h

@@ -10,6 +10,3 @@ use Rattle.mend.proofs.numbers.count_kept.Given as goal
 
 abbrev pub invariant-loop-k : goal.invariant-loop-k
 invariant-loop-k l = Counting (step_is l.steps 0) l.e l.c l.k
-
-abbrev pub decreases-loop-k : goal.decreases-loop-k
-decreases-loop-k l = l.e - l.k

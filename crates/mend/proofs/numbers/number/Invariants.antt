@@ -12,6 +12,3 @@ use Rattle.mend.proofs.numbers.number.Given as goal
 
 abbrev pub invariant-loop-v : goal.invariant-loop-v
 invariant-loop-v l = Filling (count (step_is l.steps 0)) l.n l.initial.out l.out l.v × Counting (step_is l.steps 0) l.n l.c l.v
-
-abbrev pub decreases-loop-v : goal.decreases-loop-v
-decreases-loop-v l = l.n - l.v

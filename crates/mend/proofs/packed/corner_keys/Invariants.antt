@@ -8,6 +8,3 @@ use Rattle.mend.proofs.packed.corner_keys.Given as goal
 
 abbrev pub invariant-loop-v : goal.invariant-loop-v
 invariant-loop-v l = Filling (corner_key l.points) l.n l.initial.keys l.keys l.v
-
-abbrev pub decreases-loop-v : goal.decreases-loop-v
-decreases-loop-v l = l.n - l.v

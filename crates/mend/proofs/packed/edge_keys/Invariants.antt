@@ -9,6 +9,3 @@ use Rattle.mend.proofs.packed.edge_keys.Given as goal
 
 abbrev pub invariant-loop-k : goal.invariant-loop-k
 invariant-loop-k l = Filling (edge_key l.ends) l.e l.initial.keys l.keys l.k
-
-abbrev pub decreases-loop-k : goal.decreases-loop-k
-decreases-loop-k l = l.e - l.k

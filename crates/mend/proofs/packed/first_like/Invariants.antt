@@ -10,6 +10,3 @@ use Rattle.mend.proofs.packed.first_like.Given as goal
 
 abbrev pub invariant-loop-j : goal.invariant-loop-j
 invariant-loop-j l = Searching (like_in l.keys l.i) l.i l.j
-
-abbrev pub decreases-loop-j : goal.decreases-loop-j
-decreases-loop-j l = l.i - l.j

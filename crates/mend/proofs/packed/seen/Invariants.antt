@@ -9,6 +9,3 @@ use Rattle.mend.proofs.packed.seen.Given as goal
 
 abbrev pub invariant-loop-j : goal.invariant-loop-j
 invariant-loop-j l = Seeing (like_in l.keys l.i) l.i l.found l.j
-
-abbrev pub decreases-loop-j : goal.decreases-loop-j
-decreases-loop-j l = l.i - l.j

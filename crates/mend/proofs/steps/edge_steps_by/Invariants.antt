@@ -10,6 +10,3 @@ use Rattle.mend.proofs.steps.edge_steps_by.Given as goal
 
 abbrev pub invariant-loop-k : goal.invariant-loop-k
 invariant-loop-k l = Filling (λ j. edge_step (shrunk_in l.ends j) (the_some_below (like_in l.keys j) j)) l.e l.initial.steps l.steps l.k
-
-abbrev pub decreases-loop-k : goal.decreases-loop-k
-decreases-loop-k l = l.e - l.k

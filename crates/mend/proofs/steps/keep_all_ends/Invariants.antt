@@ -11,6 +11,3 @@ use Rattle.mend.proofs.steps.keep_all_ends.Given as goal
 
 abbrev pub invariant-loop-k : goal.invariant-loop-k
 invariant-loop-k l = Marking (step_is l.dropped 0) (λ j. get_or l.ends (2 * j) 0) (λ j. get_or l.ends (2 * j + 1) 0) l.e l.initial.steps l.steps l.k
-
-abbrev pub decreases-loop-k : goal.decreases-loop-k
-decreases-loop-k l = l.e - l.k

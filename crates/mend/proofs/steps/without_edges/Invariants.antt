@@ -9,6 +9,3 @@ use Rattle.mend.proofs.steps.without_edges.Given as goal
 
 abbrev pub invariant-loop-v : goal.invariant-loop-v
 invariant-loop-v l = Filling (λ u. cond (merged_in l.into u) 1 4) l.n l.initial.steps l.steps l.v
-
-abbrev pub decreases-loop-v : goal.decreases-loop-v
-decreases-loop-v l = l.n - l.v

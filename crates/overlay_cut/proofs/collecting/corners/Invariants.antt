@@ -7,6 +7,3 @@ use Rattle.overlay_cut.proofs.collecting.corners.Given as goal
 
 abbrev pub invariant-loop-v : goal.invariant-loop-v
 invariant-loop-v l = Gathering l.room (λ k. the_point_at l.corners k ∷ []) l.c l.initial.points l.n l.points l.total l.v
-
-abbrev pub decreases-loop-v : goal.decreases-loop-v
-decreases-loop-v l = l.c - l.v

@@ -7,6 +7,3 @@ use Rattle.overlay_cut.proofs.collecting.cross_map.Given as goal
 
 abbrev pub invariant-loop-k : goal.invariant-loop-k
 invariant-loop-k l = Gathering l.room (λ j. cross_row l.carriers l.from (carrier_at l.carriers (l.from + j))) l.e l.initial.points l.n l.points l.total l.k
-
-abbrev pub decreases-loop-k : goal.decreases-loop-k
-decreases-loop-k l = l.e - l.k

@@ -9,6 +9,3 @@ use Rattle.overlay_cut.proofs.collecting.cross_row.Given as goal
 
 abbrev pub invariant-loop-j : goal.invariant-loop-j
 invariant-loop-j l = Gathering l.room (λ k. optional (point_of (meeting (carrier_at l.carriers k) (seg_of l.t)))) l.e l.initial.points l.n l.points l.total l.j
-
-abbrev pub decreases-loop-j : goal.decreases-loop-j
-decreases-loop-j l = l.e - l.j

@@ -7,6 +7,3 @@ use Rattle.overlay_cut.proofs.collecting.crossings.Given as goal
 
 abbrev pub invariant-loop-m : goal.invariant-loop-m
 invariant-loop-m l = Gathering l.room (cross_part l.carriers l.starts) maps l.initial.points l.n l.points l.total l.m
-
-abbrev pub decreases-loop-m : goal.decreases-loop-m
-decreases-loop-m l = maps - l.m

@@ -8,6 +8,3 @@ use Rattle.overlay_cut.proofs.collecting.stands.Given as goal
 
 abbrev pub invariant-loop-k : goal.invariant-loop-k
 invariant-loop-k l = Searching (λ i. equal (pt_of l.p) (the_point_at l.points i)) l.n l.k
-
-abbrev pub decreases-loop-k : goal.decreases-loop-k
-decreases-loop-k l = l.n - l.k

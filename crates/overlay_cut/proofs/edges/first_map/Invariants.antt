@@ -8,6 +8,3 @@ use Rattle.overlay_cut.proofs.edges.first_map.Given as goal
 
 abbrev pub invariant-loop-m : goal.invariant-loop-m
 invariant-loop-m l = Searching (λ i. ltb 0 (the_source_in l.pieces l.k i)) maps l.m
-
-abbrev pub decreases-loop-m : goal.decreases-loop-m
-decreases-loop-m l = maps - l.m

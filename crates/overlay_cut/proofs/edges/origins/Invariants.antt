@@ -6,6 +6,3 @@ use Rattle.overlay_cut.proofs.edges.origins.Given as goal
 
 abbrev pub invariant-loop-k : goal.invariant-loop-k
 invariant-loop-k l = Laying 2 (ends_of l.pieces) l.e l.initial.out l.out l.k
-
-abbrev pub decreases-loop-k : goal.decreases-loop-k
-decreases-loop-k l = l.e - l.k

@@ -7,6 +7,3 @@ use Rattle.overlay_maps.proofs.west.look.Given as goal
 
 abbrev pub invariant-loop-k : goal.invariant-loop-k
 invariant-loop-k l = Picking (candidate_at l.points l.origins l.carriers (pt_of l.p) (vec_of l.d)) (nearer_at l.carriers (pt_of l.p)) l.e l.r l.k
-
-abbrev pub decreases-loop-k : goal.decreases-loop-k
-decreases-loop-k l = l.e - l.k

@@ -9,6 +9,3 @@ use Rattle.overlay_pairs.proofs.label.lay_labels.Given as goal
 abbrev pub invariant-loop-j : goal.invariant-loop-j
 invariant-loop-j l =
     Filling (label_cell (layers_by l.vstarts l.estarts l.corners l.origins l.carriers l.labels) l.points l.ends l.lines l.pieces l.outers) (maps * l.n) l.initial.out l.out l.j
-
-abbrev pub decreases-loop-j : goal.decreases-loop-j
-decreases-loop-j l = l.cells - l.j

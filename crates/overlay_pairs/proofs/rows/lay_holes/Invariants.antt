@@ -6,6 +6,3 @@ use Rattle.overlay_pairs.proofs.rows.lay_holes.Given as goal
 
 abbrev pub invariant-loop-f : goal.invariant-loop-f
 invariant-loop-f l = Filling (λ (i : ℕ). get_or l.holes i 0) l.n l.initial.out l.out l.f
-
-abbrev pub decreases-loop-f : goal.decreases-loop-f
-decreases-loop-f l = l.n - l.f

@@ -6,6 +6,3 @@ use Rattle.overlay_pairs.proofs.rows.lay_outers.Given as goal
 
 abbrev pub invariant-loop-f : goal.invariant-loop-f
 invariant-loop-f l = Filling (outer_of l.outers) l.n l.initial.out l.out l.f
-
-abbrev pub decreases-loop-f : goal.decreases-loop-f
-decreases-loop-f l = l.n - l.f

@@ -8,6 +8,3 @@ use Rattle.overlay_sweep.proofs.ahead.map_of.Given as goal
 
 abbrev pub invariant-loop-m : goal.invariant-loop-m
 invariant-loop-m l = Searching (λ i. ltb l.k (start_of l.starts (i + 1))) maps l.m
-
-abbrev pub decreases-loop-m : goal.decreases-loop-m
-decreases-loop-m l = maps - l.m

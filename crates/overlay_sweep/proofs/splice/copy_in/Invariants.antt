@@ -5,6 +5,3 @@ use Rattle.overlay_sweep.proofs.splice.copy_in.Given as goal
 
 abbrev pub invariant-loop-i : goal.invariant-loop-i
 invariant-loop-i l = Copying l.a l.m l.fan l.initial.t l.t l.i
-
-abbrev pub decreases-loop-i : goal.decreases-loop-i
-decreases-loop-i l = l.m - l.i

@@ -10,6 +10,3 @@ field fields i = le 2 (get_or fields i 0)
 
 abbrev pub invariant-loop-i : goal.invariant-loop-i
 invariant-loop-i l = Storing 2 (field l.fields) l.at (length l.fields) l.initial.buffer l.buffer l.i
-
-abbrev pub decreases-loop-i : goal.decreases-loop-i
-decreases-loop-i l = length l.fields - l.i

@@ -9,6 +9,3 @@ use Rattle.ovfile_read.proofs.fill.lay_faces.Given as goal
 
 abbrev pub invariant-loop-f : goal.invariant-loop-f
 invariant-loop-f l = Laying (face_width maps) (face_read maps (layout_from l.layout) l.file) (counts_in l.file).faces l.initial.faces l.faces l.f
-
-abbrev pub decreases-loop-f : goal.decreases-loop-f
-decreases-loop-f l = l.n - l.f

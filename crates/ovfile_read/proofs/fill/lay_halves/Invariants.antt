@@ -13,6 +13,3 @@ row l s = half_read l s (followers_in l s)
 
 abbrev pub invariant-loop-h : goal.invariant-loop-h
 invariant-loop-h l = Laying 5 (row (layout_from l.layout) l.file) (2 * (counts_in l.file).edges) l.initial.halves l.halves l.h
-
-abbrev pub decreases-loop-h : goal.decreases-loop-h
-decreases-loop-h l = l.n - l.h

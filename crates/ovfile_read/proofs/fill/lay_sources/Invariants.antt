@@ -13,6 +13,3 @@ row l s k = table (stored_source l s k) maps
 
 abbrev pub invariant-loop-k : goal.invariant-loop-k
 invariant-loop-k l = Laying maps (row (layout_from l.layout) l.file) (counts_in l.file).edges l.initial.sources l.sources l.k
-
-abbrev pub decreases-loop-k : goal.decreases-loop-k
-decreases-loop-k l = l.n - l.k

@@ -8,6 +8,3 @@ use Rattle.ovfile_read.proofs.fill.lay_vertices.Given as goal
 
 abbrev pub invariant-loop-v : goal.invariant-loop-v
 invariant-loop-v l = Laying 4 (vertex_by (layout_from l.layout) l.file l.least) (counts_in l.file).vertices l.initial.vertices l.vertices l.v
-
-abbrev pub decreases-loop-v : goal.decreases-loop-v
-decreases-loop-v l = l.n - l.v

@@ -12,6 +12,3 @@ use Rattle.ovfile_read.proofs.sound.unsound_by.Given as goal
 abbrev pub invariant-loop-k : goal.invariant-loop-k
 invariant-loop-k l =
     Searching (unsound_in (layout_from l.layout) l.file) (counts_in l.file).edges l.k × Taken (stored_follower (layout_from l.layout) l.file) (2 * (counts_in l.file).edges) (2 * l.k) l.taken × (length l.taken ≡ length l.initial.taken)
-
-abbrev pub decreases-loop-k : goal.decreases-loop-k
-decreases-loop-k l = l.n - l.k

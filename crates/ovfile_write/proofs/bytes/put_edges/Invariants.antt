@@ -8,6 +8,3 @@ use Rattle.ovfile_write.proofs.bytes.put_edges.Given as goal
 
 abbrev pub invariant-loop-k : goal.invariant-loop-k
 invariant-loop-k l = Storing (edge_size layout) (edge_bytes (edge_tables l.halves l.sources)) l.start l.n l.initial.buffer l.buffer l.k
-
-abbrev pub decreases-loop-k : goal.decreases-loop-k
-decreases-loop-k l = l.n - l.k

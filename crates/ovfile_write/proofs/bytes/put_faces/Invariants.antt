@@ -10,6 +10,3 @@ use Rattle.ovfile_write.proofs.bytes.put_faces.Given as goal
 
 abbrev pub invariant-loop-f : goal.invariant-loop-f
 invariant-loop-f l = Storing (face_size layout) (face_bytes (tables_by [] [] [] l.faces)) l.start l.n l.initial.buffer l.buffer l.f
-
-abbrev pub decreases-loop-f : goal.decreases-loop-f
-decreases-loop-f l = l.n - l.f

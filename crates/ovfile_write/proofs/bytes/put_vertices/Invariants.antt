@@ -13,6 +13,3 @@ bytes vs = vertex_bytes layout (tables_by vs [] [] [])
 
 abbrev pub invariant-loop-v : goal.invariant-loop-v
 invariant-loop-v l = Storing (vertex_size layout) (bytes l.vertices) overlay_head l.n l.initial.buffer l.buffer l.v
-
-abbrev pub decreases-loop-v : goal.decreases-loop-v
-decreases-loop-v l = l.n - l.v

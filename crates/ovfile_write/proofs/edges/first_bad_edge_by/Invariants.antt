@@ -14,6 +14,3 @@ bad c hs ss = bad_edge maps (counts_of c) (edge_tables hs ss)
 
 abbrev pub invariant-loop-k : goal.invariant-loop-k
 invariant-loop-k l = Searching (bad l.c l.halves l.sources) l.n l.k
-
-abbrev pub decreases-loop-k : goal.decreases-loop-k
-decreases-loop-k l = l.n - l.k

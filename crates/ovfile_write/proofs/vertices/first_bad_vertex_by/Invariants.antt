@@ -6,6 +6,3 @@ use Rattle.ovfile_write.proofs.vertices.first_bad_vertex_by.Given as goal
 
 abbrev pub invariant-loop-v : goal.invariant-loop-v
 invariant-loop-v l = Searching (bad_vertex_by l.vertices l.starts) l.n l.v
-
-abbrev pub decreases-loop-v : goal.decreases-loop-v
-decreases-loop-v l = l.n - l.v

@@ -6,6 +6,3 @@ use Rattle.seq.proofs.u8s.wipe_from_u8.Given as goal
 
 abbrev pub invariant-loop-i : goal.invariant-loop-i
 invariant-loop-i l = Wiping 0 l.n l.initial.t l.t l.i
-
-abbrev pub decreases-loop-i : goal.decreases-loop-i
-decreases-loop-i l = length l.initial.t - l.i

@@ -10,6 +10,3 @@ use Rattle.soundings.proofs.bytes.add_bytes.Given as goal
 
 abbrev pub invariant-loop-i : goal.invariant-loop-i
 invariant-loop-i l = Adding (look_by l.rails l.easts l.e l.rails2 l.easts2 l.f) l.batch l.initial.bytes l.initial.labels l.initial.counts l.initial.q l.bytes l.labels l.counts l.q l.i
-
-abbrev pub decreases-loop-i : goal.decreases-loop-i
-decreases-loop-i l = length l.batch - l.i

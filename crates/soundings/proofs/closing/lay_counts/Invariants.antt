@@ -9,6 +9,3 @@ use Rattle.soundings.proofs.closing.lay_counts.Given as goal
 
 abbrev pub invariant-loop-i : goal.invariant-loop-i
 invariant-loop-i l = Filling (λ j. get_or l.from j 0) l.n l.initial.to l.to l.i
-
-abbrev pub decreases-loop-i : goal.decreases-loop-i
-decreases-loop-i l = l.n - l.i

@@ -8,6 +8,3 @@ use Rattle.tables.proofs.face_rows.lay.Given as goal
 
 abbrev pub invariant-loop-f : goal.invariant-loop-f
 invariant-loop-f l = Laying (face_width maps) (face_by l.labels l.outer l.holes) l.n l.initial.faces l.faces l.f
-
-abbrev pub decreases-loop-f : goal.decreases-loop-f
-decreases-loop-f l = l.n - l.f

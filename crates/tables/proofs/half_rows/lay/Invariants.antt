@@ -6,6 +6,3 @@ use Rattle.tables.proofs.half_rows.lay.Given as goal
 
 abbrev pub invariant-loop-h : goal.invariant-loop-h
 invariant-loop-h l = Laying 5 (half_of l.origins l.next l.prev l.face) l.m l.initial.halves l.halves l.h
-
-abbrev pub decreases-loop-h : goal.decreases-loop-h
-decreases-loop-h l = l.m - l.h

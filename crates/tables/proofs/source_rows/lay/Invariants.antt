@@ -7,6 +7,3 @@ use Rattle.tables.proofs.source_rows.lay.Given as goal
 
 abbrev pub invariant-loop-k : goal.invariant-loop-k
 invariant-loop-k l = Laying maps (source_of l.pieces) l.n l.initial.sources l.sources l.k
-
-abbrev pub decreases-loop-k : goal.decreases-loop-k
-decreases-loop-k l = l.n - l.k

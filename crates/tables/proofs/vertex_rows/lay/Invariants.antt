@@ -6,6 +6,3 @@ use Rattle.tables.proofs.vertex_rows.lay.Given as goal
 
 abbrev pub invariant-loop-v : goal.invariant-loop-v
 invariant-loop-v l = Laying 4 (vertex_of l.points l.least) l.n l.initial.vertices l.vertices l.v
-
-abbrev pub decreases-loop-v : goal.decreases-loop-v
-decreases-loop-v l = l.n - l.v

@@ -7,6 +7,3 @@ use Rattle.text.proofs.cells.gaps.Given as goal
 
 abbrev pub invariant-loop-f : goal.invariant-loop-f
 invariant-loop-f l = (1 ≤ l.f) × Counting (gap_behind l.faces) (l.count - 1) l.found (l.f - 1)
-
-abbrev pub decreases-loop-f : goal.decreases-loop-f
-decreases-loop-f l = l.count - l.f

@@ -8,6 +8,3 @@ use Rattle.text.proofs.whole.put_faces.Given as goal
 
 abbrev pub invariant-loop-f : goal.invariant-loop-f
 invariant-loop-f l = Put (rows (face_text l.faces) l.f) (64 * l.f) l.initial.out l.at l.out l.end × (l.f ≤ l.count)
-
-abbrev pub decreases-loop-f : goal.decreases-loop-f
-decreases-loop-f l = l.count - l.f

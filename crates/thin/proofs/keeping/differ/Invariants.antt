@@ -7,6 +7,3 @@ use Rattle.thin.proofs.keeping.differ.Given as goal
 
 abbrev pub invariant-loop-i : goal.invariant-loop-i
 invariant-loop-i l = Searching (λ j. not (eqb (cell 0 maps l.triples l.f j) (cell 0 maps l.triples l.g j))) maps l.i
-
-abbrev pub decreases-loop-i : goal.decreases-loop-i
-decreases-loop-i l = maps - l.i

@@ -7,6 +7,3 @@ use Rattle.thin.proofs.keeping.mark_ends.Given as goal
 
 abbrev pub invariant-loop-k : goal.invariant-loop-k
 invariant-loop-k l = Marking (separates_in l.face l.triples) (piece_at l.pieces) l.n l.e l.initial.marks l.marks l.k
-
-abbrev pub decreases-loop-k : goal.decreases-loop-k
-decreases-loop-k l = l.e - l.k

@@ -8,6 +8,3 @@ use Rattle.thin.proofs.keeping.number.Given as goal
 
 abbrev pub invariant-loop-v : goal.invariant-loop-v
 invariant-loop-v l = Filling (count (marked l.marks)) l.n l.initial.numbers l.numbers l.v × Counting (marked l.marks) l.n l.c l.v
-
-abbrev pub decreases-loop-v : goal.decreases-loop-v
-decreases-loop-v l = l.n - l.v

@@ -9,6 +9,3 @@ use Rattle.thin.proofs.moving.move_pieces.Given as goal
 
 abbrev pub invariant-loop-k : goal.invariant-loop-k
 invariant-loop-k l = (length l.out ≡ length l.initial.out) × Moving (separates_in l.face l.triples) (moved_piece l.pieces l.numbers) l.e (piece_at l.out) l.c l.k
-
-abbrev pub decreases-loop-k : goal.decreases-loop-k
-decreases-loop-k l = l.e - l.k

@@ -9,6 +9,3 @@ use Rattle.thin.proofs.moving.move_points.Given as goal
 
 abbrev pub invariant-loop-v : goal.invariant-loop-v
 invariant-loop-v l = (length l.out ≡ length l.initial.out) × Moving (marked l.marks) (the_point_at l.points) l.n (the_point_at l.out) l.c l.v
-
-abbrev pub decreases-loop-v : goal.decreases-loop-v
-decreases-loop-v l = l.n - l.v

@@ -6,6 +6,3 @@ use Rattle.year.proofs.faces.add_faces.Given as goal
 
 abbrev pub invariant-loop-f : goal.invariant-loop-f
 invariant-loop-f l = Adding (layout_from l.layout) l.file l.n l.number l.initial.rows l.pairs l.rows l.total l.f
-
-abbrev pub decreases-loop-f : goal.decreases-loop-f
-decreases-loop-f l = l.n - l.f

@@ -5,6 +5,3 @@ use Rattle.year.proofs.state.full_rows.Given as goal
 
 abbrev pub invariant-loop-r : goal.invariant-loop-r
 invariant-loop-r l = Fulls l.rows l.n l.total l.r
-
-abbrev pub decreases-loop-r : goal.decreases-loop-r
-decreases-loop-r l = l.n - l.r
