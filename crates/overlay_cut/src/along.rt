@@ -60,9 +60,7 @@ fn thread_map(
     ensures { Linked room rows.new links.new n result × (pieced rows.new result ≡ puts room (pieced rows.old count) (thread_map last.now nodes.now from m e)) }
 {
     let mut total = count;
-    let mut k = e;
-    while 0 < k {
-        k -= 1;
+    for k in (0..e).rev() {
         let x = last[from + k] as usize;
         total = cut_thread(nodes, x, n, m, k as u16, rows, links, total, room);
     }
@@ -85,9 +83,7 @@ pub fn thread_all(
     ensures { Linked room rows.new links.new n result × (pieced rows.new result ≡ puts room [] (thread_all last.now nodes.now starts.now)) }
 {
     let mut total = 0;
-    let mut m = MAPS;
-    while 0 < m {
-        m -= 1;
+    for m in (0..MAPS).rev() {
         let from = starts[m];
         let e = starts[m + 1] - from;
         total = thread_map(last, nodes, n, from, e, m, rows, links, total, room);

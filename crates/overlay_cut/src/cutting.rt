@@ -76,9 +76,7 @@ fn cut_edge(
     let top = place(points, n, head(s));
     let mut total = count;
     let mut next = n;
-    let mut v = top + 1;
-    while first < v {
-        v -= 1;
+    for v in (first..top + 1).rev() {
         if on_line(s, point_at(points, v)) {
             total = link(rows, links, total, room, v, next, n, m, number);
             next = v;
@@ -108,9 +106,7 @@ fn cut_map(
     ensures { Linked room rows.new links.new n result × (pieced rows.new result ≡ puts room (pieced rows.old count) (cut_map points.now n carriers.now from m e)) }
 {
     let mut total = count;
-    let mut k = e;
-    while 0 < k {
-        k -= 1;
+    for k in (0..e).rev() {
         let s = carrier_at(carriers, from + k);
         total = cut_edge(points, n, s, m, k as u16, rows, links, total, room);
     }
@@ -133,9 +129,7 @@ pub fn cut_all(
     ensures { Linked room rows.new links.new n result × (pieced rows.new result ≡ puts room [] (cut_all points.now n carriers.now starts.now)) }
 {
     let mut total = 0;
-    let mut m = MAPS;
-    while 0 < m {
-        m -= 1;
+    for m in (0..MAPS).rev() {
         let from = starts[m];
         let e = starts[m + 1] - from;
         total = cut_map(points, n, carriers, from, e, m, rows, links, total, room);

@@ -11,6 +11,3 @@ abbrev pub invariant-loop-k : goal.invariant-loop-k
 invariant-loop-k l =
     (l.k ≤ l.e) × (length l.rows ≡ length l.initial.rows) × (length l.links ≡ length l.initial.links) × Linked l.room l.rows l.links l.n l.total
     × Cutting l.room (thread_row l.last l.nodes l.from l.m) (puts l.room (pieced l.initial.rows l.count) (thread_map l.last l.nodes l.from l.m l.e)) l.rows l.total l.k
-
-abbrev pub decreases-loop-k : goal.decreases-loop-k
-decreases-loop-k l = l.k

@@ -13,6 +13,3 @@ abbrev pub invariant-loop-m : goal.invariant-loop-m
 invariant-loop-m l =
     (l.m ≤ maps) × (length l.rows ≡ length l.initial.rows) × (length l.links ≡ length l.initial.links) × Linked l.room l.rows l.links l.n l.total
     × Cutting l.room (cut_part l.points l.n l.carriers l.starts) (puts l.room [] (cut_all l.points l.n l.carriers l.starts)) l.rows l.total l.m
-
-abbrev pub decreases-loop-m : goal.decreases-loop-m
-decreases-loop-m l = l.m

@@ -15,8 +15,8 @@ use native.Mathlib.Omega.{arith}
 use Rattle.overlay_cut.proofs.cutting.cut_edge.Goals as goal
 use Rattle.overlay_cut.proofs.cutting.cut_edge.Goals.{After-foot, After-head, After-link-total, After-on_line, After-place-first, After-place-top, At-loop-v, Start, Then-on_line}
 
-pub overflow_add-v : goal.overflow_add-v
-overflow_add-v c =
+pub overflow_step-v : goal.overflow_step-v
+overflow_step-v c =
     let a = c.args in
     omega (arith, c.place-top.ensures, least-le (reached before (the_point_at a.points.now) (whole (vec_of c.head.result))) a.n, c.requires.fact_2.1)
 
