@@ -8,7 +8,6 @@ ghost use Rattle.lists.specs.Filed.{filed};
 use crate::answer::{Listed, put};
 use limits::{FACE_CELLS, HALF_CELLS, LISTING, SOURCE_CELLS, VERTEX_CELLS};
 use ovfile_write::WriteAnswer;
-use seq::wipe_u8;
 use tables::Answer;
 
 // The listing of the melted tables of three map files of any bytes, or the line of what is refused.
@@ -52,7 +51,7 @@ pub fn file(zones: &[u8], blocks: &[u8], bed: &[u8], buffer: &mut [u8]) -> Write
     match answer {
         Answer::Done(c) => ovfile_write::write(c, &vertices, &halves, &sources, &faces, buffer),
         Answer::Refused(r) => {
-            wipe_u8(buffer);
+            buffer.fill(0);
             WriteAnswer::Refused(r)
         }
     }

@@ -6,7 +6,7 @@ ghost use Rattle.map_file.specs.Places.{point_from, origin_from, label_from};
 
 use crate::bytes::{i16_at, u16_at};
 use limits::{MAP_EDGE_SIZE, MAP_VERTEX_SIZE};
-use seq::store4_i64;
+use seq::store;
 
 // The n vertices, each a row of X, Y, D = 1 and a spare cell; the place behind them.
 pub fn points_at(file: &[u8], at: usize, n: u16, points: &mut [i64]) -> usize
@@ -17,7 +17,7 @@ pub fn points_at(file: &[u8], at: usize, n: u16, points: &mut [i64]) -> usize
     for v in 0..n {
         let x = i16_at(file, place);
         let y = i16_at(file, place + 2);
-        store4_i64(points, v as usize, x, y, 1, 0);
+        store(points, v as usize, [x, y, 1, 0]);
         place += MAP_VERTEX_SIZE;
     }
     place

@@ -16,7 +16,7 @@ use crate::steps::is_step;
 use limits::MAP_HEAD;
 use map_file::{map_length, vertex_place};
 use ovfile::{put, put_fields, twos, u16_at, vertex_cell};
-use seq::wipe_from_u8;
+use seq::wipe_from;
 
 // "Mark `ZMP`"
 fn put_mark(out: &mut [u8])
@@ -130,5 +130,5 @@ pub fn put_file(
         out,
         vertex_place(vertices),
     );
-    wipe_from_u8(out, map_length(vertices, edges));
+    wipe_from(out, map_length(vertices, edges), 0);
 }

@@ -6,7 +6,7 @@ ghost use Rattle.mend.specs.Steps.{step_is};
 ghost use Rattle.mend.specs.Stored.{entry_in, the_list_count, list_in};
 
 use crate::steps::is_step;
-use seq::wipe_from_u16;
+use seq::wipe_from;
 
 // The entries of one step, of n vertices or edges, from a place on; and the place behind them.
 fn put_step(steps: &[u16], step: u16, n: u16, list: &mut [u16], start: usize) -> usize
@@ -34,5 +34,5 @@ pub fn put_list(vertices: &[u16], edges: &[u16], n: u16, e: u16, list: &mut [u16
     let b = put_step(edges, 2, e, list, a);
     let c = put_step(edges, 3, e, list, b);
     let d = put_step(vertices, 4, n, list, c);
-    wipe_from_u16(list, d);
+    wipe_from(list, d, 0);
 }

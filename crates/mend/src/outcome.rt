@@ -25,14 +25,13 @@ use limits::{
 use map_file::{
     Check, Header, Refusal, first, form_fault, given, map_length, read_header, read_map,
 };
-use seq::{wipe_u8, wipe_u16};
 
 // "with file and list left all zero"
 fn refuse(r: Refusal, out: &mut [u8], list: &mut [u16]) -> Mended
     ensures { mending_of result out.new list.new ≡ all_zero (length out.old) (length list.old) (refusal_of r) }
 {
-    wipe_u8(out);
-    wipe_u16(list);
+    out.fill(0);
+    list.fill(0);
     Mended::Refused(r)
 }
 

@@ -17,7 +17,7 @@ ghost use Rattle.overlay_cut.specs.Cuts.{start_of, Starts};
 use graph::{carrier_at, point_at};
 use limits::{MAPS, POINT_WIDTH};
 use plane::{Meeting, Point, Seg, boxes_apart, meeting};
-use seq::store4_i64;
+use seq::store;
 
 // Whether row k holds the three numbers of p.
 fn is_at(points: &[i64], k: usize, p: Point) -> bool
@@ -63,7 +63,7 @@ fn append_new(points: &mut [i64], room: usize, n: usize, p: Point) -> usize
     if stands(points, n, p) {
         return n;
     }
-    store4_i64(points, n, p.x, p.y, p.d, 0);
+    store(points, n, [p.x, p.y, p.d, 0]);
     n + 1
 }
 

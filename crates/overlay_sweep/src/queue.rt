@@ -13,7 +13,7 @@ use crate::earlier::earlier;
 use graph::point_at;
 use limits::{POINT_WIDTH, VERTEX_ROWS};
 use plane::Point;
-use seq::store4_i64;
+use seq::store;
 
 // The first of n rows that comes before p, or n: by halves. It is none below `from`, and none after `to`.
 fn place_in(points: &[i64], n: usize, from: usize, to: usize, p: Point) -> usize
@@ -93,7 +93,7 @@ fn put_at(points: &mut [i64], n: usize, a: usize, p: Point, guess: i64) -> usize
         return n;
     }
     lift_i64(points, POINT_WIDTH * a, POINT_WIDTH * n, POINT_WIDTH);
-    store4_i64(points, a, p.x, p.y, p.d, guess);
+    store(points, a, [p.x, p.y, p.d, guess]);
     n + 1
 }
 

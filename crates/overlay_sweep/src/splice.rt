@@ -3,7 +3,7 @@ ghost use Rattle.std.specs.Prelude.{◌≡◌, ◌++◌, ◌+◌, ◌-◌, ◌�
 ghost use Rattle.overlay_sweep.specs.Numbers.{numbers_in};
 ghost use Rattle.overlay_sweep.specs.Splice.{Lowered, Shifted, Copied};
 
-use seq::lift_u16;
+use seq::lift;
 
 // Moves the cells from `from` to `to` down by `by` cells, the first first.
 fn lower_u16(t: &mut [u16], from: usize, to: usize, by: usize)
@@ -25,7 +25,7 @@ fn shift(t: &mut [u16], n: usize, b: usize, c: usize)
     ensures { Shifted n b c t.old t.new }
 {
     if b < c {
-        lift_u16(t, b, n, c - b);
+        lift(t, b, n, c - b);
     } else if c < b {
         lower_u16(t, b, n, b - c);
     }

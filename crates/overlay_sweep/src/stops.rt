@@ -11,7 +11,7 @@ use crate::turn::turn;
 use exact::magnitude;
 use graph::point_at;
 use limits::{MAP_EDGES, MAPS, POINT_CELLS, POINT_WIDTH, VERTEX_ROWS};
-use seq::store4_i64;
+use seq::store;
 
 // The edges of all maps, at most.
 const EDGES: usize = MAPS * MAP_EDGES as usize;
@@ -65,7 +65,7 @@ fn all_turns(
         }
         let p = point_at(points, n - 1);
         let g = guess_at(points, n - 1);
-        store4_i64(out, i, p.x, p.y, p.d, 0);
+        store(out, i, [p.x, p.y, p.d, 0]);
         let l = turn(
             carriers,
             e,

@@ -20,7 +20,7 @@ use limits::{
     ABSENT, DENOMINATOR_BYTES, EDGE_WIDTH, FACE_WIDTH, HALVES, SOURCE_WIDTH, VERTEX_WIDTH, VERTICES,
 };
 use ovfile::{Layout, number_at, signed_at, store, twin, u16_at, vertex_place};
-use seq::{store3_u32, store4_i64, store5_u16, wipe_from_i64, wipe_from_u16, wipe_from_u32};
+use seq::wipe_from;
 
 // In each cell of `out` the first of n half-edges that has its number as field j of its edge, or as the one after it. From the last half-edge down.
 fn first_stored(layout: Layout, file: &[u8], start: usize, j: u16, n: u32, out: &mut [u16])
@@ -57,14 +57,16 @@ fn lay_halves(layout: Layout, file: &[u8], first: &[u16], halves: &mut [u16])
     let n = 2 * counts(file).edges as u32;
     let start = edges_start(layout, file);
     for h in 0..n {
-        store5_u16(
+        seq::store(
             halves,
             h as usize,
-            origin(layout, file, start, h),
-            twin(h) as u16,
-            follower(layout, file, start, h),
-            u16_at(first, h as usize),
-            face(layout, file, start, h),
+            [
+                origin(layout, file, start, h),
+                twin(h) as u16,
+                follower(layout, file, start, h),
+                u16_at(first, h as usize),
+                face(layout, file, start, h),
+            ],
         );
     }
 }
@@ -77,7 +79,7 @@ pub fn fill_halves(layout: Layout, file: &[u8], halves: &mut [u16])
     let first = predecessors(layout, file);
     lay_halves(layout, file, &first, halves);
     let c = counts(file);
-    wipe_from_u16(halves, EDGE_WIDTH * c.edges as usize);
+    wipe_from(halves, EDGE_WIDTH * c.edges as usize, 0);
 }
 
 // The least outgoing half-edge of each vertex.
@@ -103,13 +105,10 @@ fn lay_vertices(layout: Layout, file: &[u8], least: &[u16], vertices: &mut [i64]
         let x = signed_at(file, p, w);
         let y = signed_at(file, p + w, w);
         let d = of_u64(number_at(file, p + 2 * w, DENOMINATOR_BYTES));
-        store4_i64(
+        seq::store(
             vertices,
             v as usize,
-            x,
-            y,
-            d,
-            of_u16(u16_at(least, v as usize)),
+            [x, y, d, of_u16(u16_at(least, v as usize))],
         );
     }
 }
@@ -122,7 +121,7 @@ pub fn fill_vertices(layout: Layout, file: &[u8], vertices: &mut [i64])
     let least = least_starts(layout, file);
     lay_vertices(layout, file, &least, vertices);
     let c = counts(file);
-    wipe_from_i64(vertices, VERTEX_WIDTH * c.vertices as usize);
+    wipe_from(vertices, VERTEX_WIDTH * c.vertices as usize, 0);
 }
 
 fn lay_sources(layout: Layout, file: &[u8], sources: &mut [u32])
@@ -132,12 +131,14 @@ fn lay_sources(layout: Layout, file: &[u8], sources: &mut [u32])
     let n = counts(file).edges as u32;
     let start = edges_start(layout, file);
     for k in 0..n {
-        store3_u32(
+        seq::store(
             sources,
             k as usize,
-            source(layout, file, start, k, 0) as u32,
-            source(layout, file, start, k, 1) as u32,
-            source(layout, file, start, k, 2) as u32,
+            [
+                source(layout, file, start, k, 0) as u32,
+                source(layout, file, start, k, 1) as u32,
+                source(layout, file, start, k, 2) as u32,
+            ],
         );
     }
 }
@@ -149,7 +150,7 @@ pub fn fill_sources(layout: Layout, file: &[u8], sources: &mut [u32])
 {
     lay_sources(layout, file, sources);
     let c = counts(file);
-    wipe_from_u32(sources, SOURCE_WIDTH * c.edges as usize);
+    wipe_from(sources, SOURCE_WIDTH * c.edges as usize, 0);
 }
 
 fn lay_faces(layout: Layout, file: &[u8], faces: &mut [u16])
@@ -159,14 +160,16 @@ fn lay_faces(layout: Layout, file: &[u8], faces: &mut [u16])
     let n = counts(file).faces as u32;
     let start = faces_start(layout, file);
     for f in 0..n {
-        store5_u16(
+        seq::store(
             faces,
             f as usize,
-            label(layout, file, start, f, 0),
-            label(layout, file, start, f, 1),
-            label(layout, file, start, f, 2),
-            face_field(layout, file, start, f, layout.maps as u32),
-            face_field(layout, file, start, f, 1 + layout.maps as u32),
+            [
+                label(layout, file, start, f, 0),
+                label(layout, file, start, f, 1),
+                label(layout, file, start, f, 2),
+                face_field(layout, file, start, f, layout.maps as u32),
+                face_field(layout, file, start, f, 1 + layout.maps as u32),
+            ],
         );
     }
 }
@@ -178,5 +181,5 @@ pub fn fill_faces(layout: Layout, file: &[u8], faces: &mut [u16])
 {
     lay_faces(layout, file, faces);
     let c = counts(file);
-    wipe_from_u16(faces, FACE_WIDTH * c.faces as usize);
+    wipe_from(faces, FACE_WIDTH * c.faces as usize, 0);
 }

@@ -19,7 +19,7 @@ use crate::places::file_length;
 use crate::vertices::first_bad_vertex;
 use map_file::{Check, first, given};
 use ovfile::over;
-use seq::{wipe_from_u8, wipe_u8};
+use seq::wipe_from;
 use tables::{Counts, room_in};
 
 // 5, 21 and 11, of counts that are not over their numbers, into a buffer of n bytes.
@@ -70,7 +70,7 @@ fn put_file(
     put_vertices(c.vertices, vertices, buffer);
     put_edges(c, halves, sources, buffer);
     put_faces(c, faces, buffer);
-    wipe_from_u8(buffer, file_length(c));
+    wipe_from(buffer, file_length(c), 0);
 }
 
 // Writes the overlay file of counts and tables into the buffer.
@@ -87,7 +87,7 @@ pub fn write(
     let check = judge(c, vertices, halves, sources, faces.len(), buffer.len());
     match check {
         Check::Bad(r) => {
-            wipe_u8(buffer);
+            buffer.fill(0);
             WriteAnswer::Refused(r)
         }
         Check::Fine => {

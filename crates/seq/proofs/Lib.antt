@@ -5,6 +5,7 @@ pub mod Halves
 pub mod Least
 pub mod Loops
 pub mod Merging
+pub mod Parts
 pub mod Perm
 pub mod Placed
 pub mod Position

@@ -10,7 +10,7 @@ ghost use Rattle.soundings.specs.Answer.{room_by, counted_of, refused_with};
 
 use limits::{FACES, PAIR_WIDTH};
 use map_file::Refusal;
-use seq::{wipe_from_u16, wipe_from_u32, wipe_u16, wipe_u32};
+use seq::wipe_from;
 
 // How many different pairs occur, how many soundings there are, and how many edges their looks read.
 #[derive(Clone, Copy)]
@@ -44,8 +44,8 @@ pub fn entry_room(labels: usize, counts: usize) -> usize
 pub fn refuse(r: Refusal, labels: &mut [u16], counts: &mut [u32]) -> Counted
     ensures { counted_of result labels.new counts.new ≡ refused_with (room_by (length labels.old) (length counts.old)) (refusal_of r) }
 {
-    wipe_u16(labels);
-    wipe_u32(counts);
+    labels.fill(0);
+    counts.fill(0);
     Counted::Refused(r)
 }
 
@@ -63,8 +63,8 @@ pub fn finish(
     requires fact_4 { soundings ≤ list_soundings }
     ensures { counted_of result labels.new counts.new ≡ counted (room_by (length labels.old) (length counts.old)) (cells_by n soundings read) (entries_in labels.old counts.old n) none }
 {
-    wipe_from_u16(labels, PAIR_WIDTH * n);
-    wipe_from_u32(counts, n);
+    wipe_from(labels, PAIR_WIDTH * n, 0);
+    wipe_from(counts, n, 0);
     Counted::Done(Cells {
         entries: n as u16,
         soundings: soundings as u16,

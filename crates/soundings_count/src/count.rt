@@ -9,7 +9,7 @@ ghost use Rattle.seq.specs.Lifted.{lifted};
 ghost use Rattle.soundings_count.specs.Entries.{pair_width, the_labels_at, entries_in, most_times, Grown, Rows};
 
 use limits::PAIR_WIDTH;
-use seq::{lift_u16, lift_u32, store2_u16};
+use seq::{lift, store};
 
 // Whether the pair in row r is less than a, b.
 pub fn less(labels: &[u16], r: usize, a: u16, b: u16) -> bool
@@ -66,8 +66,8 @@ fn open_labels(labels: &mut [u16], n: usize, r: usize, a: u16, b: u16)
     requires fact_2 { pair_width * n + pair_width ≤ length labels.old }
     ensures { labels.new ≡ row_stored pair_width (lifted (pair_width * r) (pair_width * n) pair_width labels.old) r (a ∷ b ∷ []) }
 {
-    lift_u16(labels, PAIR_WIDTH * r, PAIR_WIDTH * n, PAIR_WIDTH);
-    store2_u16(labels, r, a, b);
+    lift(labels, PAIR_WIDTH * r, PAIR_WIDTH * n, PAIR_WIDTH);
+    store(labels, r, [a, b]);
 }
 
 // Puts a count of 1 in at row r of n.
@@ -76,7 +76,7 @@ fn open_count(counts: &mut [u32], n: usize, r: usize)
     requires fact_2 { n + 1 ≤ length counts.old }
     ensures { counts.new ≡ set (lifted r n 1 counts.old) r 1 }
 {
-    lift_u32(counts, r, n, 1);
+    lift(counts, r, n, 1);
     counts[r] = 1;
 }
 

@@ -7,7 +7,7 @@ ghost use Rattle.paper.specs.Tables.{face_width};
 ghost use Rattle.tables.specs.Rows.{face_by};
 
 use limits::{FACE_WIDTH, MAPS};
-use seq::{store5_u16, wipe_from_u16};
+use seq::{store, wipe_from};
 
 // Stores a row for each face: of the labels, rows of one for each map, of its least outer half-edge, and of its count of hole walks.
 fn lay(faces: &mut [u16], count: u16, labels: &[u16], outer: &[u16], holes: &[u16])
@@ -17,14 +17,16 @@ fn lay(faces: &mut [u16], count: u16, labels: &[u16], outer: &[u16], holes: &[u1
     let n = count as usize;
     for f in 0..n {
         let at = MAPS * f;
-        store5_u16(
+        store(
             faces,
             f,
-            labels[at],
-            labels[at + 1],
-            labels[at + 2],
-            outer[f],
-            holes[f],
+            [
+                labels[at],
+                labels[at + 1],
+                labels[at + 2],
+                outer[f],
+                holes[f],
+            ],
         );
     }
 }
@@ -36,5 +38,5 @@ pub fn store_faces(faces: &mut [u16], count: u16, labels: &[u16], outer: &[u16],
 {
     lay(faces, count, labels, outer, holes);
     let n = count as usize;
-    wipe_from_u16(faces, FACE_WIDTH * n);
+    wipe_from(faces, FACE_WIDTH * n, 0);
 }

@@ -7,7 +7,7 @@ ghost use Rattle.tables.specs.Rows.{half_of};
 
 use graph::twin;
 use limits::HALF_WIDTH;
-use seq::{store5_u16, wipe_from_u16};
+use seq::{store, wipe_from};
 
 // Stores a row for each half-edge.
 fn lay(halves: &mut [u16], edges: u16, origins: &[u16], next: &[u16], prev: &[u16], face: &[u16])
@@ -17,7 +17,7 @@ fn lay(halves: &mut [u16], edges: u16, origins: &[u16], next: &[u16], prev: &[u1
     let m = 2 * edges as usize;
     for h in 0..m {
         let other = twin(h) as u16;
-        store5_u16(halves, h, origins[h], other, next[h], prev[h], face[h]);
+        store(halves, h, [origins[h], other, next[h], prev[h], face[h]]);
     }
 }
 
@@ -35,5 +35,5 @@ pub fn store_halves(
 {
     lay(halves, edges, origins, next, prev, face);
     let m = 2 * edges as usize;
-    wipe_from_u16(halves, HALF_WIDTH * m);
+    wipe_from(halves, HALF_WIDTH * m, 0);
 }

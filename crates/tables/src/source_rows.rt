@@ -5,7 +5,7 @@ ghost use Rattle.paper.specs.Limits.{maps};
 ghost use Rattle.tables.specs.Rows.{piece_cells, source_of};
 
 use limits::{PIECE_SOURCES, PIECE_WIDTH, SOURCE_WIDTH};
-use seq::{store3_u32, wipe_from_u32};
+use seq::{store, wipe_from};
 
 // Where a piece's row has its source in the first map, in the second, and in the third.
 const FIRST: usize = PIECE_SOURCES;
@@ -25,7 +25,7 @@ fn lay(sources: &mut [u32], edges: u16, pieces: &[u16])
         let first = pieces[at + FIRST] as u32;
         let second = pieces[at + SECOND] as u32;
         let third = pieces[at + THIRD] as u32;
-        store3_u32(sources, k, first, second, third);
+        store(sources, k, [first, second, third]);
     }
 }
 
@@ -36,5 +36,5 @@ pub fn store_sources(sources: &mut [u32], edges: u16, pieces: &[u16])
 {
     lay(sources, edges, pieces);
     let n = edges as usize;
-    wipe_from_u32(sources, SOURCE_WIDTH * n);
+    wipe_from(sources, SOURCE_WIDTH * n, 0);
 }

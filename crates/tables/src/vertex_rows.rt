@@ -6,7 +6,7 @@ ghost use Rattle.tables.specs.Rows.{vertex_of};
 
 use exact::of_u16;
 use limits::{POINT_WIDTH, VERTEX_WIDTH};
-use seq::{store4_i64, wipe_from_i64};
+use seq::{store, wipe_from};
 
 // Stores a row for each vertex: of the points, rows of X, Y, D and a spare cell, and of each vertex's least outgoing half-edge.
 fn lay(vertices: &mut [i64], count: u16, points: &[i64], least: &[u16])
@@ -20,7 +20,7 @@ fn lay(vertices: &mut [i64], count: u16, points: &[i64], least: &[u16])
         let y = points[at + 1];
         let d = points[at + 2];
         let h = of_u16(least[v]);
-        store4_i64(vertices, v, x, y, d, h);
+        store(vertices, v, [x, y, d, h]);
     }
 }
 
@@ -31,5 +31,5 @@ pub fn store_vertices(vertices: &mut [i64], count: u16, points: &[i64], least: &
 {
     lay(vertices, count, points, least);
     let n = count as usize;
-    wipe_from_i64(vertices, VERTEX_WIDTH * n);
+    wipe_from(vertices, VERTEX_WIDTH * n, 0);
 }

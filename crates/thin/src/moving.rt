@@ -9,7 +9,7 @@ ghost use Rattle.thin.specs.Thinned.{separates_in, marked, moved_row, moved_piec
 use crate::keeping::stays;
 use limits::{PIECE_WIDTH, POINT_WIDTH};
 use overlay_cut::source_in;
-use seq::{store4_i64, store5_u16};
+use seq::store;
 
 // Stores the point in row v as row c.
 fn move_point(points: &[i64], v: usize, out: &mut [i64], c: usize)
@@ -21,7 +21,7 @@ fn move_point(points: &[i64], v: usize, out: &mut [i64], c: usize)
     let x = points[at];
     let y = points[at + 1];
     let d = points[at + 2];
-    store4_i64(out, c, x, y, d, 0);
+    store(out, c, [x, y, d, 0]);
 }
 
 // The points of the vertices that are marked, of n. Answers how many there are.
@@ -54,7 +54,7 @@ fn move_piece(pieces: &[u16], k: usize, numbers: &[u16], out: &mut [u16], c: usi
     let first = source_in(pieces, k, 0);
     let second = source_in(pieces, k, 1);
     let third = source_in(pieces, k, 2);
-    store5_u16(out, c, lower, upper, first, second, third);
+    store(out, c, [lower, upper, first, second, third]);
 }
 
 // The pieces of the edges that stay, of e. Answers how many there are.

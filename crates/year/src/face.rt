@@ -12,7 +12,7 @@ ghost use Rattle.year.specs.Risen.{InOrder};
 ghost use Rattle.year.specs.Kept.{kept, Few, most};
 
 use limits::{TALLY_WIDTH, YEAR_PAIRS};
-use seq::{lift_u32, store5_u32};
+use seq::{lift, store};
 
 // Whether the pair in row r comes before this one.
 fn earlier(rows: &[u32], r: usize, zone: u32, block: u32) -> bool
@@ -138,7 +138,7 @@ fn count(rows: &mut [u32], r: usize, file: u32)
     let zone = rows[at];
     let block = rows[at + 1];
     let faces = rows[at + 3];
-    store5_u32(rows, r, zone, block, s, faces + 1, file);
+    store(rows, r, [zone, block, s, faces + 1, file]);
 }
 
 // A new pair in row r of n, the rows from r on moved up by one.
@@ -147,8 +147,8 @@ fn open_row(rows: &mut [u32], n: usize, r: usize, zone: u32, block: u32, file: u
     requires fact_2 { r ≤ n }
     ensures { rows.new ≡ row_inserted tally_width rows.old n r (cells_of (first_face file (zone, block))) }
 {
-    lift_u32(rows, TALLY_WIDTH * r, TALLY_WIDTH * n, TALLY_WIDTH);
-    store5_u32(rows, r, zone, block, 1, 1, file);
+    lift(rows, TALLY_WIDTH * r, TALLY_WIDTH * n, TALLY_WIDTH);
+    store(rows, r, [zone, block, 1, 1, file]);
 }
 
 // One face of this file with this pair, in a table of n pairs: how many there are, where a number over 500 says no more than that there are more than 500.

@@ -29,4 +29,4 @@ returns-in-Refused c =
     (melt full_tables a.zones.now a.blocks.now a.bed.now)
     c.melt-answer.ensures
     (ap answer_of c.in-Refused.is)
-    (λ i. record { answer = refused (refusal_of c.in-Refused.r); buffer = (c.wipe_u8.ensures ∙ sym (padded_none 0 n)) i })
+    (λ i. record { answer = refused (refusal_of c.in-Refused.r); buffer = (c.fill.ensures.after (λ y e. e) ∙ sym (padded_none 0 n)) i })

@@ -18,7 +18,7 @@ loop-v-preserved c =
     let here = c.loop-v.invariant.1 in
     let x = to_z-of_z w64 _ (record { sfits = c.i16_at-x.type_inv }) ∙ c.i16_at-x.ensures ∙ ap (signed_at 2 s) here in
     let y = to_z-of_z w64 _ (record { sfits = c.i16_at-y.type_inv }) ∙ c.i16_at-y.ensures ∙ ap (λ (p : ℕ). signed_at 2 s (p + 2)) here in
-    (lay_turns c.loop-v.invariant.0 (λ k. refl) (omega arith) c.store4_i64.ensures (λ i. x i ∷ y i ∷ pos 1 ∷ pos 0 ∷ []), omega arith)
+    (lay_turns c.loop-v.invariant.0 (λ k. refl) (omega arith) c.store.ensures (λ i. x i ∷ y i ∷ pos 1 ∷ pos 0 ∷ []), omega arith)
 
 pub loop-v-init : goal.loop-v-init
 loop-v-init c = (lay_starts (search rules), search rules)

@@ -17,4 +17,4 @@ pub returns : goal.returns
 returns c =
     let a = c.args in
     file-put a.points.now a.labels.now a.ends.now a.numbers.now a.corners.now a.pieces.now a.n a.e a.vertices a.edges c.requires.1 a.out.now c.requires.2 _ _ _ _ _ _
-    c.put_head.ensures c.put_corners.ensures c.put_edges.ensures c.wipe_from_u8.ensures c.vertex_place.ensures c.map_length.ensures
+    c.put_head.ensures c.put_corners.ensures c.put_edges.ensures c.wipe_from.ensures c.vertex_place.ensures c.map_length.ensures

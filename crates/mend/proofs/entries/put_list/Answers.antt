@@ -12,14 +12,14 @@ put_step-c-requires c = (c.requires.1, omega (arith, c.requires.2, c.put_step-a.
 pub put_step-d-requires : goal.put_step-d-requires
 put_step-d-requires c = (c.requires.0, omega (arith, c.requires.2, c.put_step-a.auto, c.put_step-a.ensures.at, c.put_step-b.auto, c.put_step-b.ensures.at, c.put_step-c.auto, c.put_step-c.ensures.at))
 
-pub wipe_from_u16-requires : goal.wipe_from_u16-requires
-wipe_from_u16-requires c = omega (arith, c.requires.2, c.put_step-a.auto, c.put_step-a.ensures.at, c.put_step-b.auto, c.put_step-b.ensures.at, c.put_step-c.auto, c.put_step-c.ensures.at, c.put_step-d.auto, c.put_step-d.ensures.at)
+pub wipe_from-requires : goal.wipe_from-requires
+wipe_from-requires c = omega (arith, c.requires.2, c.put_step-a.auto, c.put_step-a.ensures.at, c.put_step-b.auto, c.put_step-b.ensures.at, c.put_step-c.auto, c.put_step-c.ensures.at, c.put_step-d.auto, c.put_step-d.ensures.at)
 
 pub returns : goal.returns
 returns c =
     let a = c.args in
     list_put a.vertices.now a.edges.now a.n a.e a.list.now c.requires.2 _ _ _ _ _ _ _ _ _
-    (c.put_step-a.ensures.list, c.put_step-a.ensures.at) (c.put_step-b.ensures.list, c.put_step-b.ensures.at) (c.put_step-c.ensures.list, c.put_step-c.ensures.at) (c.put_step-d.ensures.list, c.put_step-d.ensures.at) c.wipe_from_u16.ensures
+    (c.put_step-a.ensures.list, c.put_step-a.ensures.at) (c.put_step-b.ensures.list, c.put_step-b.ensures.at) (c.put_step-c.ensures.list, c.put_step-c.ensures.at) (c.put_step-d.ensures.list, c.put_step-d.ensures.at) c.wipe_from.ensures
 
 pub put_step-a-requires : goal.put_step-a-requires
 put_step-a-requires c = (c.requires.0, omega (arith, c.requires.2))

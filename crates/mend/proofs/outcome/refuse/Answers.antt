@@ -10,4 +10,4 @@ pub returns : goal.returns
 returns c =
     let n = length c.args.out.now in
     let l = length c.args.list.now in
-    λ i. record { answer = refused (refusal_of c.args.r); file = (c.wipe_u8.ensures ∙ sym (padded_none 0 n)) i; list = (c.wipe_u16.ensures ∙ sym (padded_none 0 l)) i }
+    λ i. record { answer = refused (refusal_of c.args.r); file = (c.fill.ensures.after (λ y e. e) ∙ sym (padded_none 0 n)) i; list = (c.fill-2.ensures.after (λ y e. e) ∙ sym (padded_none 0 l)) i }

@@ -18,4 +18,4 @@ pub returns : goal.returns
 returns c =
     let a = c.args in
     append_new a.room a.points.now a.n (pt_of a.p) _ _ _ (omega arith) (omega arith) c.stands.ensures c.if-stands.false
-    (pt_back a.p.x a.p.y a.p.d c.requires.fact_2) c.store4_i64.ensures
+    (pt_back a.p.x a.p.y a.p.d c.requires.fact_2) c.store.ensures

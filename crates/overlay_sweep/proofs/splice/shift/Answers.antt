@@ -8,7 +8,7 @@ use Rattle.overlay_sweep.proofs.splice.shift.Goals.{Start}
 pub returns-then-b-c : goal.returns-then-b-c
 returns-then-b-c c =
     let a = c.args in
-    shift_up a.n a.b a.c a.t.now _ (search rules) c.requires.fact_1 (omega (arith, c.requires.fact_1, c.requires.fact_3)) c.lift_u16.ensures
+    shift_up a.n a.b a.c a.t.now _ (search rules) c.requires.fact_1 (omega (arith, c.requires.fact_1, c.requires.fact_3)) c.lift.ensures
 
 pub returns-then-c-b : goal.returns-then-c-b
 returns-then-c-b c =

@@ -15,7 +15,7 @@ use Rattle.overlay_sweep.specs.Ahead.{room_less}
 use Rattle.overlay_sweep.specs.Threading.{spun_starts}
 use Rattle.overlay_sweep.specs.Loop.{loop_starts, loop-known, loop-steady, loop_turns, loop-spins, loop_ends, loop-stops}
 use Rattle.overlay_sweep.proofs.stops.all_turns.Goals as goal
-use Rattle.overlay_sweep.proofs.stops.all_turns.Goals.{After-point_at-p, After-store4_i64, After-turn-l, Else-n-i-ge-VERTEX_ROWS, Start}
+use Rattle.overlay_sweep.proofs.stops.all_turns.Goals.{After-point_at-p, After-store, After-turn-l, Else-n-i-ge-VERTEX_ROWS, Start}
 
 pub loop-n-init : goal.loop-n-init
 loop-n-init c = (loop_starts _ _ _ _ _ c.requires.fact_1, spun_starts _ _ _ _ _ _ c.requires.fact_2)
@@ -58,8 +58,8 @@ pub guess_at-g-requires : goal.guess_at-g-requires
 guess_at-g-requires c =
     omega (arith, c.loop-n-test.true, c.loop-n.invariant.0.room.points.long)
 
-pub store4_i64-requires : goal.store4_i64-requires
-store4_i64-requires c =
+pub store-requires : goal.store-requires
+store-requires c =
     let l = c.loop-n in
     omega (arith, l.invariant.0.few, l.invariant.0.out_room)
 
@@ -101,9 +101,9 @@ loop-n-preserved c =
     let l = c.loop-n in
     let p = c.point_at-p.result in
     let t = c.turn-l in
-    let o = c.store4_i64.ensures ∙ ap (λ (q : Pt). row_stored 4 l.out l.i (point_row q)) (pt_back p.x p.y p.d (near point)) in (
+    let o = c.store.ensures ∙ ap (λ (q : Pt). row_stored 4 l.out l.i (point_row q)) (pt_back p.x p.y p.d (near point)) in (
       loop_turns l.invariant.0 (omega (arith, c.if-n-i-ge-VERTEX_ROWS.false)) c.loop-n-test.true (pt_of p) c.point_at-p.ensures _ _ _ _ _ _ _ t.ensures.turned o
-          t.auto.status t.auto.fan t.auto.points c.store4_i64.auto.t,
+          t.auto.status t.auto.fan t.auto.points c.store.auto.t,
       loop-spins l.invariant.0 (omega (arith, c.if-n-i-ge-VERTEX_ROWS.false)) c.loop-n-test.true (pt_of p) c.point_at-p.ensures l.invariant.1 t.ensures.threads _ o
           t.auto.last t.auto.nodes,
     )

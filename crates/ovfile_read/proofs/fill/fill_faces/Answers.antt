@@ -14,9 +14,9 @@ use Rattle.ovfile_read.proofs.fill.fill_faces.Goals.{After-counts-c}
 counted : (c : After-counts-c) → c.counts-c.result.faces ≡ (counts_in c.args.file.now).faces
 counted c = ap (λ (n : Counts). n.faces) c.counts-c.ensures
 
-pub wipe_from_u16-requires : goal.wipe_from_u16-requires
-wipe_from_u16-requires c =
-    omega (arith, counted (goal.at.wipe_from_u16-requires c).After-counts-c, c.requires.1)
+pub wipe_from-requires : goal.wipe_from-requires
+wipe_from-requires c =
+    omega (arith, counted (goal.at.wipe_from-requires c).After-counts-c, c.requires.1)
 
 pub returns : goal.returns
 unfolding tables_in
@@ -25,4 +25,4 @@ returns c =
     let s = a.file.now in
     let lo = layout_from a.layout in
     laid-wiped 0 (face_width maps) (face_read maps lo a.file.now) (λ k. refl) (counts_in s).faces a.faces.now (omega (arith, c.requires.1))
-    c.lay_faces.ensures c.wipe_from_u16.ensures (ap (λ (n : ℕ). face_width maps * n) (counted (goal.at.returns c).After-counts-c))
+    c.lay_faces.ensures c.wipe_from.ensures (ap (λ (n : ℕ). face_width maps * n) (counted (goal.at.returns c).After-counts-c))

@@ -13,9 +13,9 @@ use Rattle.ovfile_read.proofs.fill.fill_halves.Goals.{After-counts-c}
 counted : (c : After-counts-c) → c.counts-c.result.edges ≡ (counts_in c.args.file.now).edges
 counted c = ap (λ (n : Counts). n.edges) c.counts-c.ensures
 
-pub wipe_from_u16-requires : goal.wipe_from_u16-requires
-wipe_from_u16-requires c =
-    omega (arith, counted (goal.at.wipe_from_u16-requires c).After-counts-c, c.requires.2)
+pub wipe_from-requires : goal.wipe_from-requires
+wipe_from-requires c =
+    omega (arith, counted (goal.at.wipe_from-requires c).After-counts-c, c.requires.2)
 
 pub returns : goal.returns
 unfolding tables_in
@@ -24,4 +24,4 @@ returns c =
     let lo = layout_from c.args.layout in
     let k : 10 * c.counts-c.result.edges ≡ 5 * (2 * (counts_in s).edges) = omega (arith, counted (goal.at.returns c).After-counts-c) in
     laid-wiped 0 5 (half_read lo s (followers_in lo s)) (λ k. refl) (2 * (counts_in s).edges) c.args.halves.now c.requires.2
-    c.lay_halves.ensures c.wipe_from_u16.ensures k
+    c.lay_halves.ensures c.wipe_from.ensures k

@@ -14,9 +14,9 @@ use Rattle.ovfile_read.proofs.fill.fill_sources.Goals.{After-counts-c}
 counted : (c : After-counts-c) → c.counts-c.result.edges ≡ (counts_in c.args.file.now).edges
 counted c = ap (λ (n : Counts). n.edges) c.counts-c.ensures
 
-pub wipe_from_u32-requires : goal.wipe_from_u32-requires
-wipe_from_u32-requires c =
-    omega (arith, counted (goal.at.wipe_from_u32-requires c).After-counts-c, c.requires.1)
+pub wipe_from-requires : goal.wipe_from-requires
+wipe_from-requires c =
+    omega (arith, counted (goal.at.wipe_from-requires c).After-counts-c, c.requires.1)
 
 pub returns : goal.returns
 unfolding tables_in
@@ -25,4 +25,4 @@ returns c =
     let s = a.file.now in
     let lo = layout_from a.layout in
     laid-wiped 0 maps (λ k. table (stored_source lo a.file.now k) maps) (λ k. refl) (counts_in s).edges a.sources.now (omega (arith, c.requires.1))
-    c.lay_sources.ensures c.wipe_from_u32.ensures (ap (λ (n : ℕ). maps * n) (counted (goal.at.returns c).After-counts-c))
+    c.lay_sources.ensures c.wipe_from.ensures (ap (λ (n : ℕ). maps * n) (counted (goal.at.returns c).After-counts-c))

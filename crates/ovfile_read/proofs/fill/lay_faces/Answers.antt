@@ -13,9 +13,9 @@ use Rattle.ovfile_read.proofs.fill.lay_faces.Goals.{After-counts-n, After-label-
 counted : (c : After-counts-n) → c.counts-n.result.faces ≡ (counts_in c.args.file.now).faces
 counted c = ap (λ (n : Counts). n.faces) c.counts-n.ensures
 
-pub store5_u16-requires : goal.store5_u16-requires
-store5_u16-requires c =
-    omega (arith, c.loop-f-test.true, c.loop-f.invariant.room, c.loop-f.invariant.kept, counted (goal.at.store5_u16-requires c).After-counts-n)
+pub store-requires : goal.store-requires
+store-requires c =
+    omega (arith, c.loop-f-test.true, c.loop-f.invariant.room, c.loop-f.invariant.kept, counted (goal.at.store-requires c).After-counts-n)
 
 pub overflow_add-f : goal.overflow_add-f
 overflow_add-f c =
@@ -27,7 +27,7 @@ loop-f-smaller c =
 
 pub loop-f-preserved : goal.loop-f-preserved
 loop-f-preserved c =
-    lay_turns c.loop-f.invariant (λ k. refl) (omega (arith, counted (goal.at.loop-f-preserved c).After-counts-n)) c.store5_u16.ensures
+    lay_turns c.loop-f.invariant (λ k. refl) (omega (arith, counted (goal.at.loop-f-preserved c).After-counts-n)) c.store.ensures
     (λ i. c.label.ensures i ∷ c.label-in-loop-f.ensures i ∷ c.label-in-loop-f-2.ensures i ∷ c.face_field.ensures i ∷ c.face_field-in-loop-f.ensures i ∷ [])
 
 pub returns : goal.returns

@@ -21,15 +21,15 @@ pub overflow_cast-twin : goal.overflow_cast-twin
 overflow_cast-twin c =
     omega (arith, c.twin.ensures, twin-le c.loop-h.h, counted (goal.at.overflow_cast-twin c).After-counts, c.requires.1.edges)
 
-pub store5_u16-requires : goal.store5_u16-requires
-store5_u16-requires c =
-    omega (arith, c.loop-h.invariant.room, c.loop-h.invariant.kept, counted (goal.at.store5_u16-requires c).After-counts)
+pub store-requires : goal.store-requires
+store-requires c =
+    omega (arith, c.loop-h.invariant.room, c.loop-h.invariant.kept, counted (goal.at.store-requires c).After-counts)
 
 pub loop-h-preserved : goal.loop-h-preserved
 loop-h-preserved c =
     let file = c.args.file.now in
     let below : c.loop-h.h < 2 * (counts_in file).edges = omega (arith, counted (goal.at.loop-h-preserved c).After-counts) in
-    lay_turns c.loop-h.invariant (λ k. refl) below c.store5_u16.ensures
+    lay_turns c.loop-h.invariant (λ k. refl) below c.store.ensures
     (λ i. c.origin.ensures i
     ∷ c.twin.ensures i
     ∷ (c.follower.ensures ∙ sym (table_at (stored_follower (layout_from c.args.layout) file) (2 * (counts_in file).edges) c.loop-h.h 0 below)) i

@@ -13,13 +13,13 @@ use Rattle.ovfile_read.proofs.fill.lay_sources.Goals.{After-counts-n}
 counted : (c : After-counts-n) → c.counts-n.result.edges ≡ (counts_in c.args.file.now).edges
 counted c = ap (λ (n : Counts). n.edges) c.counts-n.ensures
 
-pub store3_u32-requires : goal.store3_u32-requires
-store3_u32-requires c =
-    omega (arith, c.loop-k.invariant.room, c.loop-k.invariant.kept, counted (goal.at.store3_u32-requires c).After-counts-n)
+pub store-requires : goal.store-requires
+store-requires c =
+    omega (arith, c.loop-k.invariant.room, c.loop-k.invariant.kept, counted (goal.at.store-requires c).After-counts-n)
 
 pub loop-k-preserved : goal.loop-k-preserved
 loop-k-preserved c =
-    lay_turns c.loop-k.invariant (λ k. refl) (omega (arith, counted (goal.at.loop-k-preserved c).After-counts-n)) c.store3_u32.ensures
+    lay_turns c.loop-k.invariant (λ k. refl) (omega (arith, counted (goal.at.loop-k-preserved c).After-counts-n)) c.store.ensures
     (λ i. c.source.ensures i ∷ c.source-in-loop-k.ensures i ∷ c.source-in-loop-k-2.ensures i ∷ [])
 
 pub returns : goal.returns

@@ -32,9 +32,9 @@ pub of_u64-d-requires : goal.of_u64-d-requires
 of_u64-d-requires c =
     omega (arith, c.number_at.ensures, number_below 4 c.args.file.now (c.vertex_place-p.result + 2 * c.args.layout.coordinate) (λ i. (c.shared_slice_known-1.given i).fits))
 
-pub store4_i64-requires : goal.store4_i64-requires
-store4_i64-requires c =
-    omega (arith, c.loop-v-test.true, c.loop-v.invariant.room, c.loop-v.invariant.kept, counted (goal.at.store4_i64-requires c).After-counts-n)
+pub store-requires : goal.store-requires
+store-requires c =
+    omega (arith, c.loop-v-test.true, c.loop-v.invariant.room, c.loop-v.invariant.kept, counted (goal.at.store-requires c).After-counts-n)
 
 pub loop-v-preserved : goal.loop-v-preserved
 loop-v-preserved c =
@@ -45,7 +45,7 @@ loop-v-preserved c =
     let y = to_z-of_z w64 _ (record { sfits = c.signed_at-y.type_inv }) ∙ c.signed_at-y.ensures ∙ ap (λ (q : ℕ). signed_at w s (q + w)) place in
     let denominator = to_z-of_z w64 _ (record { sfits = c.of_u64-d.type_inv }) ∙ c.of_u64-d.ensures ∙ ap pos (c.number_at.ensures ∙ ap (λ (q : ℕ). number 4 s (q + 2 * w)) place) in
     let out = to_z-of_z w64 _ (record { sfits = c.of_u16.type_inv }) ∙ c.of_u16.ensures ∙ ap pos c.u16_at.ensures in
-    lay_turns c.loop-v.invariant (λ k. refl) (omega (arith, counted (goal.at.loop-v-preserved c).After-counts-n)) c.store4_i64.ensures (λ i. x i ∷ y i ∷ denominator i ∷ out i ∷ [])
+    lay_turns c.loop-v.invariant (λ k. refl) (omega (arith, counted (goal.at.loop-v-preserved c).After-counts-n)) c.store.ensures (λ i. x i ∷ y i ∷ denominator i ∷ out i ∷ [])
 
 pub returns : goal.returns
 returns c =

@@ -7,4 +7,4 @@ pub returns : goal.returns
 returns c =
     let a = c.args in
     file-put (counts_of a.c) (tables_by a.vertices.now a.halves.now a.sources.now a.faces.now) a.buffer.now _ _ _ _ _ _
-    c.put_head.ensures c.put_vertices.ensures c.put_edges.ensures c.put_faces.ensures c.wipe_from_u8.ensures c.file_length.ensures c.requires.1
+    c.put_head.ensures c.put_vertices.ensures c.put_edges.ensures c.put_faces.ensures c.wipe_from.ensures c.file_length.ensures c.requires.1

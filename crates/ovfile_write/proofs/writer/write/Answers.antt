@@ -19,7 +19,7 @@ pub returns-in-Bad : goal.returns-in-Bad
 returns-in-Bad c =
     let a = c.args in
     let n = length a.buffer.now in
-    (λ i. record { answer = refused (refusal_of c.in-Bad.r); buffer = (c.wipe_u8.ensures ∙ sym (padded_none 0 n)) i })
+    (λ i. record { answer = refused (refusal_of c.in-Bad.r); buffer = (c.fill.ensures.after (λ y e. e) ∙ sym (padded_none 0 n)) i })
     ∙ write-refused n (counts_of a.c) a.vertices.now a.halves.now a.sources.now a.faces.now _ (sym c.judge-check.ensures ∙ ap verdict c.in-Bad.is)
 
 pub returns-in-Fine : goal.returns-in-Fine

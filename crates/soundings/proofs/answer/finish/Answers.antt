@@ -6,4 +6,4 @@ use Rattle.soundings.proofs.answer.finish.Goals as goal
 pub returns : goal.returns
 returns c =
     let a = c.args in
-    tables-done a.labels.now a.counts.now a.n a.soundings a.read _ _ c.requires.fact_1 c.requires.fact_2 c.wipe_from_u16.ensures c.wipe_from_u32.ensures
+    tables-done a.labels.now a.counts.now a.n a.soundings a.read _ _ c.requires.fact_1 c.requires.fact_2 c.wipe_from.ensures c.wipe_from-2.ensures

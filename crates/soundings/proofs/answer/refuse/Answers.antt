@@ -12,6 +12,6 @@ returns c =
     let a = c.args in
     λ i. record {
       answer = refused (refusal_of a.r);
-      labels = (c.wipe_u16.ensures ∙ sym (padded_none 0 (length a.labels.now))) i;
-      counts = (c.wipe_u32.ensures ∙ sym (padded_none 0 (length a.counts.now))) i;
+      labels = (c.fill.ensures.after (λ y e. e) ∙ sym (padded_none 0 (length a.labels.now))) i;
+      counts = (c.fill-2.ensures.after (λ y e. e) ∙ sym (padded_none 0 (length a.counts.now))) i;
     }

@@ -20,7 +20,7 @@ loop-f-preserved c =
     let a = c.args in
     let f = c.loop-f.f in
     let labels = a.labels.now in
-    lay_turns c.loop-f.invariant (λ k. refl) (omega arith) c.store5_u16.ensures
+    lay_turns c.loop-f.invariant (λ k. refl) (omega arith) c.store.ensures
     (λ i. get_or labels (sym (add-zero (maps * f)) i) 0 ∷ cell 0 maps labels f 1 ∷ cell 0 maps labels f 2 ∷ get_or a.outer.now f 0 ∷ get_or a.holes.now f 0 ∷ [])
 
 pub returns : goal.returns

@@ -10,4 +10,4 @@ use Rattle.tables.proofs.face_rows.store_faces.Goals.{After-lay, Start}
 pub returns : goal.returns
 returns c =
     let a = c.args in
-    laid-wiped 0 (face_width maps) a.count (face_by a.labels.now a.outer.now a.holes.now) a.faces.now (λ k. refl) c.requires.0 c.lay.ensures c.wipe_from_u16.ensures
+    laid-wiped 0 (face_width maps) a.count (face_by a.labels.now a.outer.now a.holes.now) a.faces.now (λ k. refl) c.requires.0 c.lay.ensures c.wipe_from.ensures

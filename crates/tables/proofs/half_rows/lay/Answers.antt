@@ -23,7 +23,7 @@ pub loop-h-preserved : goal.loop-h-preserved
 loop-h-preserved c =
     let a = c.args in
     let h = c.loop-h.h in
-    lay_turns c.loop-h.invariant (λ k. refl) (omega arith) c.store5_u16.ensures
+    lay_turns c.loop-h.invariant (λ k. refl) (omega arith) c.store.ensures
     (λ i. get_or a.origins.now h 0 ∷ c.twin-other.ensures i ∷ get_or a.next.now h 0 ∷ get_or a.prev.now h 0 ∷ get_or a.face.now h 0 ∷ [])
 
 pub returns : goal.returns

@@ -24,7 +24,7 @@ overflow_cast-third c =
 
 pub loop-k-preserved : goal.loop-k-preserved
 loop-k-preserved c =
-    lay_turns c.loop-k.invariant (λ k. refl) (omega arith) c.store3_u32.ensures refl
+    lay_turns c.loop-k.invariant (λ k. refl) (omega arith) c.store.ensures refl
 
 pub returns : goal.returns
 returns c = lay_ends c.loop-k.invariant (λ k. refl) (omega arith)

@@ -9,4 +9,4 @@ use Rattle.tables.proofs.source_rows.store_sources.Goals.{After-lay, Start}
 pub returns : goal.returns
 returns c =
     let a = c.args in
-    laid-wiped 0 maps a.edges (source_of a.pieces.now) a.sources.now (λ k. refl) c.requires.0 c.lay.ensures c.wipe_from_u32.ensures
+    laid-wiped 0 maps a.edges (source_of a.pieces.now) a.sources.now (λ k. refl) c.requires.0 c.lay.ensures c.wipe_from.ensures

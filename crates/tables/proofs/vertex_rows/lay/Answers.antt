@@ -19,7 +19,7 @@ loop-v-preserved c =
     let points = c.args.points.now in
     let v = c.loop-v.v in
     let h = c.of_u16-h in
-    lay_turns c.loop-v.invariant (λ k. refl) (omega arith) c.store4_i64.ensures
+    lay_turns c.loop-v.invariant (λ k. refl) (omega arith) c.store.ensures
     (λ i. read_first 4 points v c.x-1.given i
     ∷ read points (4 * v + 1) c.y-1.given i
     ∷ read points (4 * v + 2) c.d-1.given i

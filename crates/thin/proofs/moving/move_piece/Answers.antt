@@ -25,6 +25,6 @@ returns c =
     let a = c.args in
     let pieces = a.pieces.now in
     let numbers = a.numbers.now in
-    c.store5_u16.ensures
+    c.store.ensures
     ∙ ap (row_stored piece_width a.out.now a.c)
     (λ i. get_or numbers (low_cell pieces a.k i) 0 ∷ get_or numbers (piece_at pieces a.k).hi 0 ∷ c.source_in-first.ensures i ∷ c.source_in-second.ensures i ∷ c.source_in-third.ensures i ∷ [])

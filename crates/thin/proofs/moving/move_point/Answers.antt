@@ -11,6 +11,6 @@ pub returns : goal.returns
 returns c =
     let points = c.args.points.now in
     let v = c.args.v in
-    c.store4_i64.ensures
+    c.store.ensures
     ∙ ap (row_stored 4 c.args.out.now c.args.c)
     (λ i. read_first 4 points v c.x-1.given i ∷ read points (4 * v + 1) c.y-1.given i ∷ read points (4 * v + 2) c.d-1.given i ∷ pos 0 ∷ [])

@@ -5,4 +5,4 @@ use Rattle.year.proofs.face.count.Goals as goal
 pub returns : goal.returns
 returns c =
     let a = c.args in
-    count-row a.rows.now a.r a.file _ _ c.sheets-s.ensures c.store5_u32.ensures
+    count-row a.rows.now a.r a.file _ _ c.sheets-s.ensures c.store.ensures

@@ -8,4 +8,4 @@ use Rattle.year.proofs.face.open_row.Goals as goal
 pub returns : goal.returns
 returns c =
     let a = c.args in
-    c.store5_u32.ensures ∙ ap (λ (w : List ℕ). row_stored tally_width w a.r (cells_of (first_face a.file (a.zone, a.block)))) c.lift_u32.ensures
+    c.store.ensures ∙ ap (λ (w : List ℕ). row_stored tally_width w a.r (cells_of (first_face a.file (a.zone, a.block)))) c.lift.ensures

@@ -1,9 +1,0 @@
--- `wipe_from_i64` meets its contract: where the loop has reached cell i the cells from n to i are 0 and the others as they were. Assumes nothing.
-use Prim.Native.Nat.{◌-◌}
-use lib.ListN.{length}
-use lib.IntN.{pos}
-use Rattle.seq.specs.Loops.Wiping.{Wiping}
-use Rattle.seq.proofs.i64s.wipe_from_i64.Given as goal
-
-abbrev pub invariant-loop-i : goal.invariant-loop-i
-invariant-loop-i l = Wiping (pos 0) l.n l.initial.t l.t l.i
