@@ -1,5 +1,4 @@
 // The digest of an overlay's tables, and of a mended file with its list, as the second program reckons it (second/README.md): FNV-1a of 64 bits.
-use exact::magnitude;
 use limits::{EDGE_WIDTH, FACE_WIDTH, SOURCE_WIDTH, VERTEX_WIDTH};
 use ovfile::{i64_at, u16_at, u32_at};
 use std::io::{Print, Result};
@@ -29,9 +28,9 @@ fn add(digest: u64, number: u64, bytes: u8) -> u64 {
 // A signed number's 64 bits.
 fn bits(x: i64) -> u64 {
     if x < 0 {
-        0u64.wrapping_sub(magnitude(x))
+        0u64.wrapping_sub(x.unsigned_abs())
     } else {
-        magnitude(x)
+        x.unsigned_abs()
     }
 }
 

@@ -4,7 +4,6 @@ ghost use Rattle.tide.specs.Answer.{rule_of, reading_of, answer_of as tide_answe
 ghost use Rattle.bonnetewe.specs.ToldTide.{rule_by, reading_by, told_millimetres, told_tide, told_height};
 
 use crate::answer::join;
-use exact::magnitude;
 use tide::{Reading, TideAnswer, TideRule};
 
 // 0 none, 1 a ratio, any other a pair of weights.
@@ -34,7 +33,7 @@ pub fn reading_by(x: i32) -> Reading
 fn of_millimetres(n: i32) -> u64
     ensures { result ≡ told_millimetres n }
 {
-    let size = magnitude(n as i64);
+    let size = (n as i64).unsigned_abs();
     if n < 0 {
         return 65536 * (1 + 65536 * size);
     }

@@ -2,7 +2,6 @@
 ghost use Rattle.std.specs.Prelude.{◌≤◌};
 
 use crate::lines::{say, say_number};
-use exact::magnitude;
 use limits::{MAP_EDGE_SIZE, MAP_HEAD, MAP_VERTEX_SIZE};
 use map_file::{u16_at, vertex_count};
 use meet::MeetAnswer;
@@ -59,10 +58,10 @@ fn say_first(rt: &impl Print, q: Point) -> Result<()> {
     if q.x < 0 {
         say(rt, b"-")?;
     }
-    say_number(rt, magnitude(q.x))?;
+    say_number(rt, q.x.unsigned_abs())?;
     if q.d != 1 {
         say(rt, b"/")?;
-        say_number(rt, magnitude(q.d))?;
+        say_number(rt, q.d.unsigned_abs())?;
     }
     Ok(())
 }

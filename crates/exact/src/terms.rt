@@ -2,7 +2,6 @@
 ghost use Rattle.std.specs.Prelude.{◌≡◌, pos, ◌<ℤ◌};
 ghost use Rattle.exact.specs.Lowest.{lowest, pt};
 
-use super::cast::{magnitude, of_u64};
 use super::gcd::gcd;
 
 // The point x/d, y/d.
@@ -18,15 +17,15 @@ pub fn lowest(x: i64, y: i64, d: i64) -> Point
     requires { pos 0 <ℤ d }
     ensures { pt result.x result.y result.d ≡ lowest x y d }
 {
-    let c = gcd(magnitude(x), magnitude(d));
+    let c = gcd(x.unsigned_abs(), d.unsigned_abs());
     if c == 1 {
         return Point { x, y, d };
     }
-    let n = gcd(magnitude(y), c);
+    let n = gcd(y.unsigned_abs(), c);
     if n == 1 {
         return Point { x, y, d };
     }
-    let g = of_u64(n);
+    let g = n as i64;
     Point {
         x: x / g,
         y: y / g,

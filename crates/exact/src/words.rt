@@ -5,7 +5,7 @@ ghost use Rattle.exact.specs.Exact.{sgn, lex_s};
 ghost use Rattle.exact.specs.Compare.{sign_of};
 ghost use Rattle.exact.specs.Words.{base, Factors};
 
-use super::compare::{Ordering, order};
+use std::cmp::Ordering;
 
 const BASE: i64 = 2147483648;
 
@@ -28,11 +28,7 @@ fn low(x: i64) -> i64
 fn lex(y: i64, x: i64) -> Ordering
     ensures { sign_of result ≡ lex_s y x }
 {
-    match order(y, 0) {
-        Ordering::Less => Ordering::Less,
-        Ordering::Equal => order(x, 0),
-        Ordering::Greater => Ordering::Greater,
-    }
+    y.cmp(&0).then(x.cmp(&0))
 }
 
 // The order of a·b and c·d.

@@ -11,8 +11,9 @@ ghost use Rattle.graph.specs.Pick.{better};
 ghost use Rattle.graph.specs.Look.{the_seen_of, west_of, height_at, westward_of, nearer_of, candidate_at, nearer_at, east_at, seen_label};
 
 use super::heading::{carrier_at, goes_up, start};
-use exact::{Ordering, products};
+use exact::products;
 use plane::{Point, Seg, Vector, below, cross_of, left_by, rises};
+use std::cmp::Ordering;
 
 // The nearest edge, or no candidate.
 #[derive(Clone, Copy)]

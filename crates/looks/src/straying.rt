@@ -3,20 +3,19 @@ ghost use Rattle.std.specs.Prelude.{◌≡◌, ◌+◌, ◌*◌, ◌≤◌, leng
 ghost use Rattle.seq.specs.Seq.{the_some_below};
 ghost use Rattle.looks.specs.Straying.{strays_by, strays_at};
 
-use exact::magnitude;
 use limits::{CARRIER_WIDTH, REACH};
 
 // Whether a coordinate of an edge's lower end, the way from there, or the upper end's coordinate is beyond what corners have.
 fn strays_by(x: i64, u: i64) -> bool
     ensures { result ≡ strays_by x u }
 {
-    if REACH < magnitude(x) {
+    if REACH < x.unsigned_abs() {
         return true;
     }
-    if 2 * REACH < magnitude(u) {
+    if 2 * REACH < u.unsigned_abs() {
         return true;
     }
-    REACH < magnitude(x + u)
+    REACH < (x + u).unsigned_abs()
 }
 
 // Whether row i is no edge between corners.

@@ -10,7 +10,6 @@ ghost use Rattle.graph.specs.Flat.{Origins};
 ghost use Rattle.map_file.specs.Verdict.{verdict};
 ghost use Rattle.map_check.specs.Parts.{corner_in, far_at, lies_on, doubled_at, bad_ends_at, part_faults_at, Corners, carrier_by, carrier_row_by};
 
-use exact::magnitude;
 use graph::store_carrier;
 use limits::{POINT_WIDTH, REACH};
 use map_file::{Check, first, given};
@@ -34,10 +33,10 @@ fn too_far(points: &[i64], v: usize) -> bool
     ensures { result ≡ far_at points.now v }
 {
     let a = corner(points, v);
-    if REACH < magnitude(a.x) {
+    if REACH < a.x.unsigned_abs() {
         return true;
     }
-    REACH < magnitude(a.y)
+    REACH < a.y.unsigned_abs()
 }
 
 // The least vertex too far out, or the number of vertices.

@@ -8,7 +8,6 @@ ghost use Rattle.map_file.specs.Verdict.{verdict};
 ghost use Rattle.meet.specs.Answer.{answer_of};
 
 use crate::answer::MeetAnswer;
-use exact::magnitude;
 use limits::REACH;
 use map_file::{Check, first, given};
 use plane::{Vector, between, meeting};
@@ -27,10 +26,10 @@ pub fn corner(x: i16, y: i16) -> Vector
 fn beyond(a: Vector) -> bool
     ensures { result ≡ beyond (vec_of a) }
 {
-    if REACH < magnitude(a.x) {
+    if REACH < a.x.unsigned_abs() {
         return true;
     }
-    REACH < magnitude(a.y)
+    REACH < a.y.unsigned_abs()
 }
 
 // 5, of either end.

@@ -27,7 +27,7 @@ fn say_signed(rt: &impl Print, x: i64) -> Result<()> {
     } else {
         say(rt, b" ")?;
     }
-    console::say_number(rt, exact::magnitude(x))
+    console::say_number(rt, x.unsigned_abs())
 }
 
 fn say_point(rt: &impl Print, p: Point) -> Result<()> {

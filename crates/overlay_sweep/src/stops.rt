@@ -8,7 +8,6 @@ ghost use Rattle.overlay_sweep.specs.Loop.{Given, Begun, SweptTo};
 use crate::corners::corners_in;
 use crate::slots::by_lower_end;
 use crate::turn::turn;
-use exact::magnitude;
 use graph::point_at;
 use limits::{MAP_EDGES, MAPS, POINT_CELLS, POINT_WIDTH, VERTEX_ROWS};
 use seq::store;
@@ -27,7 +26,7 @@ pub struct Swept {
 fn guess_at(points: &[i64], n: usize) -> usize
     requires { 4 * n + 4 ≤ length points.now }
 {
-    magnitude(points[POINT_WIDTH * n + 3]) as usize
+    points[POINT_WIDTH * n + 3].unsigned_abs() as usize
 }
 
 // All stops, from the first on. The corners stand in the first k of `rows`, and the first `known` of `points` are the queue.

@@ -5,7 +5,6 @@ ghost use Rattle.seq.specs.Seq.{gather};
 ghost use Rattle.paper.specs.Bytes.{number, signed_at, le};
 ghost use Rattle.laws_file.specs.Bytes.{wrapped};
 
-use exact::magnitude;
 use map_file::byte_at;
 
 // How many numbers w bytes have; of six, as most coordinates have, it is known.
@@ -107,9 +106,9 @@ pub fn twos(z: i64, width: usize) -> u64
     ensures { result ≡ wrapped width z }
 {
     if z < 0 {
-        numbers(width) - magnitude(z)
+        numbers(width) - z.unsigned_abs()
     } else {
-        magnitude(z)
+        z.unsigned_abs()
     }
 }
 

@@ -15,7 +15,6 @@ ghost use Rattle.ovfile_read.specs.Filled.{stored_field, followers_in, vertex_by
 use crate::stored::{
     counts, edge_field, edges_start, face, face_field, faces_start, follower, label, origin, source,
 };
-use exact::{of_u16, of_u64};
 use limits::{
     ABSENT, DENOMINATOR_BYTES, EDGE_WIDTH, FACE_WIDTH, HALVES, SOURCE_WIDTH, VERTEX_WIDTH, VERTICES,
 };
@@ -104,11 +103,11 @@ fn lay_vertices(layout: Layout, file: &[u8], least: &[u16], vertices: &mut [i64]
         let p = vertex_place(layout, v);
         let x = signed_at(file, p, w);
         let y = signed_at(file, p + w, w);
-        let d = of_u64(number_at(file, p + 2 * w, DENOMINATOR_BYTES));
+        let d = number_at(file, p + 2 * w, DENOMINATOR_BYTES) as i64;
         seq::store(
             vertices,
             v as usize,
-            [x, y, d, of_u16(u16_at(least, v as usize))],
+            [x, y, d, i64::from(u16_at(least, v as usize))],
         );
     }
 }

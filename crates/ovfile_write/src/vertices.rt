@@ -8,7 +8,6 @@ ghost use Rattle.tables.specs.Values.{counts_of, tables_by};
 ghost use Rattle.ovfile.specs.Values.{layout};
 ghost use Rattle.ovfile_write.specs.Judged.{bad_vertex_by, LeastStarts};
 
-use exact::{magnitude, of_u16};
 use limits::{ABSENT, COORDINATE_BYTES, DENOMINATOR_BYTES, VERTICES};
 use ovfile::{first_places, numbers_in, u16_at, vertex_cell};
 use tables::Counts;
@@ -20,9 +19,9 @@ fn fits_signed(z: i64, width: usize) -> bool
 {
     let half = numbers_in(width) / 2;
     if z < 0 {
-        magnitude(z) <= half
+        z.unsigned_abs() <= half
     } else {
-        magnitude(z) < half
+        z.unsigned_abs() < half
     }
 }
 
@@ -34,7 +33,7 @@ fn fits_unsigned(z: i64, width: usize) -> bool
     if z < 0 {
         return false;
     }
-    magnitude(z) < numbers_in(width)
+    z.unsigned_abs() < numbers_in(width)
 }
 
 // Whether vertex v is refused, by a table of least outgoing half-edges.
@@ -45,7 +44,7 @@ fn bad_vertex(vertices: &[i64], starts: &[u16], v: u16) -> bool
     let y = fits_signed(vertex_cell(vertices, v, 1), COORDINATE_BYTES);
     let d = fits_unsigned(vertex_cell(vertices, v, 2), DENOMINATOR_BYTES);
     let outgoing = vertex_cell(vertices, v, 3);
-    let least = of_u16(u16_at(starts, v as usize));
+    let least = i64::from(u16_at(starts, v as usize));
     !(x & (y & (d & (outgoing == least))))
 }
 

@@ -20,6 +20,6 @@ pub use edge::between;
 pub use kinds::Meeting;
 pub use meetings::{clash_by, meeting};
 pub use on_edge::on_seg;
-pub use order::{before, below};
+pub use order::{before, below, middling};
 pub use point::{Point, Seg, Vector, whole};
 pub use side::left_by;

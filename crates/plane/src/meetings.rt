@@ -13,9 +13,10 @@ use super::crossings::{Cross, crossing_over, over};
 use super::edge::{foot, head};
 use super::kinds::Meeting;
 use super::on_edge::inside;
-use super::order::{Ordering, before, order, same};
+use super::order::{before, order, same};
 use super::point::{Point, Seg};
 use super::side::left_by;
+use std::cmp::Ordering;
 
 // How s and t meet; both go up.
 pub fn meeting(s: Seg, t: Seg) -> Meeting

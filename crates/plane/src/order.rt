@@ -2,42 +2,25 @@
 ghost use Rattle.std.specs.Prelude.{◌≡◌, ◌-ℤ◌, ◌*ℤ◌};
 ghost use Rattle.exact.specs.Compare.{sign_of};
 ghost use Rattle.exact.specs.Exact.{sgn, is_neg, is_zer};
-ghost use Rattle.exact.specs.Lowest.{pt};
 ghost use Rattle.paper.specs.Plane.{order, before, same, below};
 ghost use Rattle.plane.specs.Values.{pt_of};
 ghost use Rattle.plane.specs.Bounds.{Near, Coordinate, small, middling, short_way, level};
 
 use super::point::Point;
-pub use exact::Ordering;
+use std::cmp::Ordering;
 
 // Whether n/d is small.
 fn small(n: i64, d: i64) -> bool
     ensures { result ≡ small n d }
 {
-    if d < 262144 {
-        if -4294967296 < n {
-            n < 4294967296
-        } else {
-            false
-        }
-    } else {
-        false
-    }
+    d < 262144 && (-4294967296 < n && n < 4294967296)
 }
 
 // Whether n/d is middling.
-fn middling(n: i64, d: i64) -> bool
+pub fn middling(n: i64, d: i64) -> bool
     ensures { result ≡ middling n d }
 {
-    if d < 67108864 {
-        if -68719476736 < n {
-            n < 68719476736
-        } else {
-            false
-        }
-    } else {
-        false
-    }
+    d < 67108864 && (-68719476736 < n && n < 68719476736)
 }
 
 // Whether n·e and m·d fit 64 bits, so that n/d and m/e are compared by them.
@@ -45,14 +28,7 @@ fn short_way(n: i64, d: i64, m: i64, e: i64) -> bool
     requires { Coordinate n d × Coordinate m e }
     ensures { result ≡ short_way n d m e }
 {
-    if small(m, e) {
-        return true;
-    }
-    if middling(n, d) {
-        middling(m, e)
-    } else {
-        false
-    }
+    small(m, e) || (middling(n, d) && middling(m, e))
 }
 
 // The order of n/d and m/e: that of n·e and m·d, which need not fit 64 bits.
@@ -61,7 +37,7 @@ fn crosswise(n: i64, d: i64, m: i64, e: i64) -> Ordering
     ensures { sign_of result ≡ sgn (n *ℤ e -ℤ m *ℤ d) }
 {
     if short_way(n, d, m, e) {
-        exact::order(n * e, m * d)
+        (n * e).cmp(&(m * d))
     } else {
         exact::products(n, e, m, d)
     }
@@ -72,22 +48,7 @@ fn fractions(n: i64, d: i64, m: i64, e: i64) -> Ordering
     requires { Coordinate n d × Coordinate m e }
     ensures { sign_of result ≡ sgn (n *ℤ e -ℤ m *ℤ d) }
 {
-    if d == e {
-        exact::order(n, m)
-    } else {
-        crosswise(n, d, m, e)
-    }
-}
-
-// Whether the answer is that the first is the lesser.
-fn is_less(o: Ordering) -> bool
-    ensures { result ≡ is_neg (sign_of o) }
-{
-    match o {
-        Ordering::Less => true,
-        Ordering::Equal => false,
-        Ordering::Greater => false,
-    }
+    if d == e { n.cmp(&m) } else { crosswise(n, d, m, e) }
 }
 
 // Whether n/d is less than m/e, by the same two ways. Looks ask this most of all, of a corner as the second.
@@ -98,19 +59,7 @@ fn lesser(n: i64, d: i64, m: i64, e: i64) -> bool
     if short_way(n, d, m, e) {
         n * e < m * d
     } else {
-        is_less(exact::products(n, e, m, d))
-    }
-}
-
-// The order of two points by their numbers.
-pub fn order_of(px: i64, py: i64, pd: i64, qx: i64, qy: i64, qd: i64) -> Ordering
-    requires { Near (pt px py pd) × Near (pt qx qy qd) }
-    ensures { sign_of result ≡ order (pt px py pd) (pt qx qy qd) }
-{
-    match fractions(py, pd, qy, qd) {
-        Ordering::Less => Ordering::Less,
-        Ordering::Equal => fractions(px, pd, qx, qd),
-        Ordering::Greater => Ordering::Greater,
+        exact::products(n, e, m, d).is_lt()
     }
 }
 
@@ -119,7 +68,7 @@ pub fn order(p: Point, q: Point) -> Ordering
     requires { Near (pt_of p) × Near (pt_of q) }
     ensures { sign_of result ≡ order (pt_of p) (pt_of q) }
 {
-    order_of(p.x, p.y, p.d, q.x, q.y, q.d)
+    fractions(p.y, p.d, q.y, q.d).then_with(|| fractions(p.x, p.d, q.x, q.d))
 }
 
 // Whether p comes first, of two points with one denominator, as corners have: by their numbers.
@@ -135,7 +84,7 @@ fn level_same(p: Point, q: Point) -> bool
     requires { Near (pt_of p) × Near (pt_of q) }
     ensures { result ≡ is_zer (level (pt_of p) (pt_of q)) }
 {
-    if p.y == q.y { p.x == q.x } else { false }
+    p.y == q.y && p.x == q.x
 }
 
 // Whether p comes first.
@@ -146,7 +95,7 @@ pub fn before(p: Point, q: Point) -> bool
     if p.d == q.d {
         level_before(p, q)
     } else {
-        is_less(order(p, q))
+        order(p, q).is_lt()
     }
 }
 
@@ -156,21 +105,10 @@ pub fn same(p: Point, q: Point) -> bool
     ensures { result ≡ same (pt_of p) (pt_of q) }
 {
     if p.d == q.d {
-        return level_same(p, q);
+        level_same(p, q)
+    } else {
+        order(p, q).is_eq()
     }
-    match order(p, q) {
-        Ordering::Less => false,
-        Ordering::Equal => true,
-        Ordering::Greater => false,
-    }
-}
-
-// Whether the first of two points, by their numbers, has the smaller y.
-pub fn below_of(px: i64, py: i64, pd: i64, qx: i64, qy: i64, qd: i64) -> bool
-    requires { Near (pt px py pd) × Near (pt qx qy qd) }
-    ensures { result ≡ below (pt px py pd) (pt qx qy qd) }
-{
-    lesser(py, pd, qy, qd)
 }
 
 // Whether p has the smaller y.
@@ -178,5 +116,5 @@ pub fn below(p: Point, q: Point) -> bool
     requires { Near (pt_of p) × Near (pt_of q) }
     ensures { result ≡ below (pt_of p) (pt_of q) }
 {
-    below_of(p.x, p.y, p.d, q.x, q.y, q.d)
+    lesser(p.y, p.d, q.y, q.d)
 }

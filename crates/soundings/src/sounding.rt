@@ -6,7 +6,6 @@ ghost use Rattle.plane.specs.Bounds.{Corner};
 ghost use Rattle.soundings.specs.Rows.{Rows, look_by};
 ghost use Rattle.soundings.specs.Labels.{labels_of};
 
-use exact::magnitude;
 use limits::REACH;
 use looks::label_read;
 use map_file::i16_at;
@@ -34,10 +33,10 @@ pub fn sounding_in(bytes: &[u8]) -> Vector
 pub fn too_far(bytes: &[u8]) -> bool
     ensures { result ≡ far bytes.now 0 }
 {
-    if REACH < magnitude(i16_at(bytes, 0)) {
+    if REACH < i16_at(bytes, 0).unsigned_abs() {
         return true;
     }
-    REACH < magnitude(i16_at(bytes, 2))
+    REACH < i16_at(bytes, 2).unsigned_abs()
 }
 
 // The labels of a sounding at c in both maps, of e and f edges, "look west with edges through p counted as west", and how many edges are read for them.

@@ -4,7 +4,6 @@ ghost use Rattle.seq.specs.Seq.{rows, padded, laid};
 ghost use Rattle.paper.specs.Tables.{vertex_width};
 ghost use Rattle.tables.specs.Rows.{vertex_of};
 
-use exact::of_u16;
 use limits::{POINT_WIDTH, VERTEX_WIDTH};
 use seq::{store, wipe_from};
 
@@ -19,7 +18,7 @@ fn lay(vertices: &mut [i64], count: u16, points: &[i64], least: &[u16])
         let x = points[at];
         let y = points[at + 1];
         let d = points[at + 2];
-        let h = of_u16(least[v]);
+        let h = i64::from(least[v]);
         store(vertices, v, [x, y, d, h]);
     }
 }

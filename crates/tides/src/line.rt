@@ -1,6 +1,5 @@
 // The line of an answer.
 use console::{say, say_number, say_refused};
-use exact::magnitude;
 use std::io::{Print, Result};
 use tide::{Height, TideAnswer, TideRule, to_bits};
 
@@ -15,7 +14,7 @@ fn say_signed(rt: &impl Print, n: i32) -> Result<()> {
     } else {
         say(rt, b" ")?;
     }
-    say_number(rt, magnitude(n as i64))
+    say_number(rt, (n as i64).unsigned_abs())
 }
 
 fn say_rule(rt: &impl Print, rule: TideRule) -> Result<()> {

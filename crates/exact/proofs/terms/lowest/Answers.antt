@@ -8,29 +8,26 @@ use lib.IntN.{ℤ, pos, negsuc, nat_abs}
 use lib.Signed.{quot_z, ◌<ℤ◌}
 use mir.Syntax.{w64}
 use mir.Val.{SFits, to_z, of_z}
-use mir.ValLaws.{to_z-of_z}
+use mir.ValLaws.{to_z-of_z, to_z_pos}
 use Rattle.exact.specs.Gcd.{gcd_of, gcd3, gcd3_d, gcd3-pos}
 use Rattle.exact.specs.Lowest.{pt, lowest, lowest-coprime, abs-pos}
 use Rattle.exact.specs.Odd.{gcd3-turned, gcd_one}
 use Rattle.exact.specs.Range.{quot_range}
 use Rattle.exact.proofs.terms.lowest.Goals as goal
-use Rattle.exact.proofs.terms.lowest.Goals.{Start, After-gcd-c, After-gcd-n, After-of_u64-g}
+use Rattle.exact.proofs.terms.lowest.Goals.{Start, After-gcd-c, After-gcd-n, Else-n-eq1}
 
--- a quotient on the machine, by a number r that is a positive g
-module _ (r : ℤ) (g : ℕ) (e : r ≡ pos g) (l : g < 2 ^ 63) where
-  divisor-is : to_z w64 (of_z w64 r) ≡ pos g
-  divisor-is = ap (λ (z : ℤ). to_z w64 (of_z w64 z)) e ∙ to_z-of_z w64 (pos g) (record { sfits = l })
+-- a quotient on the machine, by a number n that is g
+module _ (n g : ℕ) (e : n ≡ g) (l : g < 2 ^ 63) where
+  divisor-is : to_z w64 n ≡ pos g
+  divisor-is = ap (to_z w64) e ∙ to_z_pos w64 g l
 
-  divisor-pos : 0 < g → 0 < of_z w64 r
-  divisor-pos h = subst (λ (z : ℤ). 0 < of_z w64 z) (sym e) h
-
-  quot_is : (x : ℤ) → SFits w64 x → quot_z (to_z w64 (of_z w64 x)) (to_z w64 (of_z w64 r)) ≡ quot_z x (pos g)
+  quot_is : (x : ℤ) → SFits w64 x → quot_z (to_z w64 (of_z w64 x)) (to_z w64 n) ≡ quot_z x (pos g)
   quot_is x f = λ i. quot_z (to_z-of_z w64 x f i) (divisor-is i)
 
-  quot_fits : (x : ℤ) → SFits w64 x → SFits w64 (quot_z (to_z w64 (of_z w64 x)) (to_z w64 (of_z w64 r)))
+  quot_fits : (x : ℤ) → SFits w64 x → SFits w64 (quot_z (to_z w64 (of_z w64 x)) (to_z w64 n))
   quot_fits x f = subst (SFits w64) (sym (quot_is x f)) (quot_range w64 x g f)
 
-  quot-back : (x : ℤ) → SFits w64 x → to_z w64 (of_z w64 (quot_z (to_z w64 (of_z w64 x)) (to_z w64 (of_z w64 r)))) ≡ quot_z x (pos g)
+  quot-back : (x : ℤ) → SFits w64 x → to_z w64 (of_z w64 (quot_z (to_z w64 (of_z w64 x)) (to_z w64 n))) ≡ quot_z x (pos g)
   quot-back x f = ap (λ (z : ℤ). to_z w64 (of_z w64 z)) (quot_is x f) ∙ to_z-of_z w64 (quot_z x (pos g)) (quot_range w64 x g f)
 
 -- the divisor fits
@@ -48,8 +45,8 @@ start c = c.before.before.before
 first : (c : After-gcd-c) → c.gcd-c.result ≡ gcd_of (nat_abs (start c).args.x) (nat_abs (start c).args.d)
 first c =
     let s = start c in
-    let mx = c.before.before.magnitude.ensures ∙ ap nat_abs (to_z-of_z w64 s.args.x s.ranges.x) in
-    let md = c.before.magnitude-2.ensures ∙ ap nat_abs (to_z-of_z w64 s.args.d s.ranges.d) in
+    let mx = c.before.before.unsigned_abs.ensures.value ∙ ap nat_abs (to_z-of_z w64 s.args.x s.ranges.x) in
+    let md = c.before.unsigned_abs-2.ensures.value ∙ ap nat_abs (to_z-of_z w64 s.args.d s.ranges.d) in
     c.gcd-c.ensures ∙ (λ i. gcd_of (mx i) (md i))
 
 -- a point that is not changed
@@ -74,7 +71,7 @@ divisor c = gcd3 (nat_abs (begin c).args.x) (nat_abs (begin c).args.y) (nat_abs 
 calls : (c : After-gcd-n) → c.gcd-n.result ≡ divisor c
 calls c =
     let s = begin c in
-    let my = c.before.magnitude-3.ensures ∙ ap nat_abs (to_z-of_z w64 s.args.y s.ranges.y) in
+    let my = c.before.unsigned_abs-3.ensures.value ∙ ap nat_abs (to_z-of_z w64 s.args.y s.ranges.y) in
     c.gcd-n.ensures ∙ (λ i. gcd_of (my i) (first c.before.before.before i)) ∙ gcd3-turned (nat_abs s.args.x) (nat_abs s.args.y) (nat_abs s.args.d)
 
 small : (c : After-gcd-n) → divisor c < 2 ^ 63
@@ -86,28 +83,24 @@ positive c = gcd3-pos (nat_abs (begin c).args.x) (nat_abs (begin c).args.y) (nat
 pub returns-then-n-eq1 : goal.returns-then-n-eq1
 returns-then-n-eq1 c = unchanged (begin c.before) (sym (calls c.before) ∙ c.if-n-eq1.true)
 
-pub of_u64-g-requires : goal.of_u64-g-requires
-of_u64-g-requires c = subst (λ (n : ℕ). n < 2 ^ 63) (sym (calls c.before)) (small c.before)
+pub overflow_cast-g : goal.overflow_cast-g
+overflow_cast-g c = record { sfits = subst (λ (n : ℕ). n < 2 ^ 63) (sym (calls c.before)) (small c.before) }
 
-given : (c : After-of_u64-g) → c.of_u64-g.result ≡ pos (divisor c.before.before)
-given c = c.of_u64-g.ensures ∙ ap pos (calls c.before.before)
-
-quotient : (c : After-of_u64-g) (x : ℤ) → SFits w64 x → (0 < of_z w64 c.of_u64-g.result) × SFits w64 (quot_z (to_z w64 (of_z w64 x)) (to_z w64 (of_z w64 c.of_u64-g.result)))
+quotient : (c : Else-n-eq1) (x : ℤ) → SFits w64 x → (0 < c.gcd-n.result) × SFits w64 (quot_z (to_z w64 (of_z w64 x)) (to_z w64 c.gcd-n.result))
 quotient c x f =
-    let r = c.of_u64-g.result in let g = divisor c.before.before in
-    (divisor-pos r g (given c) (small c.before.before) (positive c.before.before), quot_fits r g (given c) (small c.before.before) x f)
+    (subst (λ (n : ℕ). 0 < n) (sym (calls c.before)) (positive c.before), quot_fits c.gcd-n.result (divisor c.before) (calls c.before) (small c.before) x f)
 
 pub nonzero_div-result : goal.nonzero_div-result
-nonzero_div-result c = quotient c (begin c.before.before).args.x (begin c.before.before).ranges.x
+nonzero_div-result c = quotient c c.args.x c.ranges.x
 
 pub nonzero_div-result-2 : goal.nonzero_div-result-2
-nonzero_div-result-2 c = quotient c (begin c.before.before).args.y (begin c.before.before).ranges.y
+nonzero_div-result-2 c = quotient c c.args.y c.ranges.y
 
 pub nonzero_div-result-3 : goal.nonzero_div-result-3
-nonzero_div-result-3 c = quotient c (begin c.before.before).args.d (begin c.before.before).ranges.d
+nonzero_div-result-3 c = quotient c c.args.d c.ranges.d
 
 pub returns : goal.returns
 returns c =
-    let s = begin c.before.before in
-    let back = quot-back c.of_u64-g.result (divisor c.before.before) (given c) (small c.before.before) in
+    let s = begin c.before in
+    let back = quot-back c.gcd-n.result (divisor c.before) (calls c.before) (small c.before) in
     λ i. pt (back s.args.x s.ranges.x i) (back s.args.y s.ranges.y i) (back s.args.d s.ranges.d i)

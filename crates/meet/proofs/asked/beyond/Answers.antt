@@ -9,12 +9,12 @@ use Rattle.map_file.proofs.FormLaws.{beyond, within}
 use borrow.Author.Rules.{rules}
 use Rattle.meet.proofs.asked.beyond.Goals as goal
 
-pub returns-then-magnitude-gt-REACH : goal.returns-then-magnitude-gt-REACH
-returns-then-magnitude-gt-REACH c =
+pub returns-then-unsigned_abs-gt-REACH : goal.returns-then-unsigned_abs-gt-REACH
+returns-then-unsigned_abs-gt-REACH c =
     let a = vec_of c.args.a in
     let back_x : back a.x ≡ a.x = plain (search trs depth 20) tt in
-    let x = c.magnitude.ensures ∙ ap nat_abs back_x in
-    beyond reach (nat_abs a.x) (ltb reach (nat_abs a.y)) (rw x at c.if-magnitude-gt-REACH.true)
+    let x = c.unsigned_abs.ensures.value ∙ ap nat_abs back_x in
+    beyond reach (nat_abs a.x) (ltb reach (nat_abs a.y)) (rw x at c.if-unsigned_abs-gt-REACH.true)
 
 pub returns : goal.returns
 returns c =
@@ -22,6 +22,6 @@ returns c =
     let a = vec_of d.args.a in
     let back_x : back a.x ≡ a.x = plain (search trs depth 20) tt in
     let back_y : back a.y ≡ a.y = plain (search trs depth 20) tt in
-    let x = d.magnitude.ensures ∙ ap nat_abs back_x in
-    let y = c.magnitude-2.ensures ∙ ap nat_abs back_y in
-    ap (ltb reach) y ∙ within reach (nat_abs a.x) (ltb reach (nat_abs a.y)) (rw x at d.if-magnitude-gt-REACH.false)
+    let x = d.unsigned_abs.ensures.value ∙ ap nat_abs back_x in
+    let y = c.unsigned_abs-2.ensures.value ∙ ap nat_abs back_y in
+    ap (ltb reach) y ∙ within reach (nat_abs a.x) (ltb reach (nat_abs a.y)) (rw x at d.if-unsigned_abs-gt-REACH.false)

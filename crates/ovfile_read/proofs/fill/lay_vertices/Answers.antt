@@ -3,7 +3,7 @@ use Rattle.std.specs.Prelude.{◌∷◌, ◌+◌, ◌*◌}
 use mathlib.Core.Path.{◌≡◌, refl, ap, ◌∙◌}
 use native.Mathlib.Omega.{arith}
 use mir.Syntax.{w64}
-use mir.ValLaws.{to_z-of_z}
+use mir.ValLaws.{to_z-of_z, to_z_pos}
 use Rattle.seq.specs.Seq.{[], ℕ, pos}
 use Rattle.paper.specs.Bytes.{signed_at, number}
 use Rattle.paper.specs.Tables.{Counts}
@@ -28,9 +28,9 @@ pub overflow_add-p-in-loop-v : goal.overflow_add-p-in-loop-v
 overflow_add-p-in-loop-v c =
     omega (arith, c.vertex_place-p.ensures, vertices-near (layout_from c.args.layout) c.requires.0 c.loop-v.v (omega arith), c.requires.0.coordinate)
 
-pub of_u64-d-requires : goal.of_u64-d-requires
-of_u64-d-requires c =
-    omega (arith, c.number_at.ensures, number_below 4 c.args.file.now (c.vertex_place-p.result + 2 * c.args.layout.coordinate) (λ i. (c.shared_slice_known-1.given i).fits))
+pub overflow_cast-d : goal.overflow_cast-d
+overflow_cast-d c =
+    record { sfits = omega (arith, c.number_at.ensures, number_below 4 c.args.file.now (c.vertex_place-p.result + 2 * c.args.layout.coordinate) (λ i. (c.shared_slice_known-1.given i).fits)) }
 
 pub store-requires : goal.store-requires
 store-requires c =
@@ -43,8 +43,9 @@ loop-v-preserved c =
     let place = c.vertex_place-p.ensures in
     let x = to_z-of_z w64 _ (record { sfits = c.signed_at-x.type_inv }) ∙ c.signed_at-x.ensures ∙ ap (signed_at w s) place in
     let y = to_z-of_z w64 _ (record { sfits = c.signed_at-y.type_inv }) ∙ c.signed_at-y.ensures ∙ ap (λ (q : ℕ). signed_at w s (q + w)) place in
-    let denominator = to_z-of_z w64 _ (record { sfits = c.of_u64-d.type_inv }) ∙ c.of_u64-d.ensures ∙ ap pos (c.number_at.ensures ∙ ap (λ (q : ℕ). number 4 s (q + 2 * w)) place) in
-    let out = to_z-of_z w64 _ (record { sfits = c.of_u16.type_inv }) ∙ c.of_u16.ensures ∙ ap pos c.u16_at.ensures in
+    let fits = number_below 4 s (c.vertex_place-p.result + 2 * w) (λ i. (c.shared_slice_known-1.given i).fits) in
+    let denominator = to_z_pos w64 c.number_at.result (omega (arith, c.number_at.ensures, fits)) ∙ ap pos (c.number_at.ensures ∙ ap (λ (q : ℕ). number 4 s (q + 2 * w)) place) in
+    let out = to_z-of_z w64 _ (record { sfits = c.from.type_inv }) ∙ c.from.ensures ∙ ap pos c.u16_at.ensures in
     lay_turns c.loop-v.invariant (λ k. refl) (omega (arith, counted (goal.at.loop-v-preserved c).After-counts-n)) c.store.ensures (λ i. x i ∷ y i ∷ denominator i ∷ out i ∷ [])
 
 pub returns : goal.returns

@@ -14,4 +14,4 @@ returns c =
     (λ i. not ((c.fits_signed-x.ensures ∙ ap (the_fits_signed coordinate_bytes) (to_z-of_z w64 _ (record { sfits = c.vertex_cell.type_inv }) ∙ c.vertex_cell.ensures)) i
     && ((c.fits_signed-y.ensures ∙ ap (the_fits_signed coordinate_bytes) (to_z-of_z w64 _ (record { sfits = c.vertex_cell-2.type_inv }) ∙ c.vertex_cell-2.ensures)) i
     && ((c.fits_unsigned-d.ensures ∙ ap (fits_unsigned denominator_bytes) (to_z-of_z w64 _ (record { sfits = c.vertex_cell-3.type_inv }) ∙ c.vertex_cell-3.ensures)) i
-    && same_number _ _ (record { sfits = c.vertex_cell-outgoing.type_inv }) (record { sfits = c.of_u16-least.type_inv }) c.vertex_cell-outgoing.ensures (c.of_u16-least.ensures ∙ ap pos c.u16_at.ensures) i))))
+    && same_number _ _ (record { sfits = c.vertex_cell-outgoing.type_inv }) (record { sfits = c.from-least.type_inv }) c.vertex_cell-outgoing.ensures (c.from-least.ensures ∙ ap pos c.u16_at.ensures) i))))

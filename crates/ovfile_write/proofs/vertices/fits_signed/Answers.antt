@@ -12,11 +12,11 @@ use Rattle.ovfile_write.proofs.vertices.fits_signed.Goals as goal
 pub returns-then-z-lt0 : goal.returns-then-z-lt0
 returns-then-z-lt0 c =
     let z = to_z-of_z w64 c.args.z c.ranges.z in
-    (λ i. leb ((c.magnitude.ensures ∙ ap nat_abs z) i) (c.numbers-half.ensures i / 2))
+    (λ i. leb ((c.unsigned_abs.ensures.value ∙ ap nat_abs z) i) (c.numbers-half.ensures i / 2))
     ∙ signed_high c.args.width c.args.z (lt_z_yes (taken c.if-z-lt0.true (search trbs depth 20) tt))
 
 pub returns-else-z-lt0 : goal.returns-else-z-lt0
 returns-else-z-lt0 c =
     let z = to_z-of_z w64 c.args.z c.ranges.z in
-    (λ i. ltb ((c.magnitude-else-z-lt0.ensures ∙ ap nat_abs z) i) (c.numbers-half.ensures i / 2))
+    (λ i. ltb ((c.unsigned_abs-else-z-lt0.ensures.value ∙ ap nat_abs z) i) (c.numbers-half.ensures i / 2))
     ∙ signed_low c.args.width c.args.z (lt_z_no (left c.if-z-lt0.false (search trbs depth 20) tt))

@@ -13,5 +13,5 @@ returns-then-z-lt0 c = let a = c.args in unsigned_high a.width a.z (lt_z_yes (ta
 
 pub returns : goal.returns
 returns c =
-    (λ i. ltb ((c.magnitude.ensures ∙ ap nat_abs (to_z-of_z w64 c.args.z c.ranges.z)) i) (c.numbers.ensures i))
+    (λ i. ltb ((c.unsigned_abs.ensures.value ∙ ap nat_abs (to_z-of_z w64 c.args.z c.ranges.z)) i) (c.numbers.ensures i))
     ∙ unsigned_low c.args.width c.args.z (lt_z_no (left c.if-z-lt0.false (search trbs depth 20) tt))

@@ -2,6 +2,7 @@
 use mathlib.Core.Path.{◌∙◌, ap}
 use borrow.Author.Rules.{rules}
 use Rattle.exact.specs.Sign.{is_neg}
+use Rattle.exact.specs.Compare.{lt_neg}
 use Rattle.plane.proofs.Fractions.{level-order}
 use Rattle.plane.proofs.order.before.Goals as goal
 use Rattle.plane.proofs.order.before.Goals.{Start}
@@ -14,4 +15,4 @@ returns-then-p-q c =
     c.level_before.ensures ∙ ap is_neg (level-order p.x p.y p.d q.x q.y q.d s.requires.0 s.requires.1 c.if-p-q.true)
 
 pub returns-else-p-q : goal.returns-else-p-q
-returns-else-p-q c = c.is_less.ensures ∙ ap is_neg c.order.ensures
+returns-else-p-q c = c.is_lt.ensures ∙ lt_neg c.order.result ∙ ap is_neg c.order.ensures

@@ -1,14 +1,17 @@
 -- `plane::order::below` meets its contract. Assumes nothing.
-use mathlib.Core.Path.{◌∙◌}
-use borrow.Author.Rules.{rules}
-use Rattle.paper.specs.Plane.{below}
-use Rattle.plane.proofs.Machine.{pt_back}
+use mathlib.Core.Path.{◌∙◌, ap}
+use Rattle.exact.specs.Sign.{sgn, is_neg}
+use Rattle.plane.proofs.Fractions.{ys, by_y}
 use Rattle.plane.proofs.order.below.Goals as goal
-use Rattle.plane.proofs.order.below.Goals.{Start}
+
+pub lesser-requires : goal.lesser-requires
+lesser-requires c =
+    let p = c.args.p in
+    let q = c.args.q in
+    ys p.x p.y p.d q.x q.y q.d c.requires.0 c.requires.1
 
 pub returns : goal.returns
 returns c =
-    let st : Start = search rules in
-    let p = st.args.p in
-    let q = st.args.q in
-    c.below_of.ensures ∙ (λ i. below (pt_back p.x p.y p.d st.requires.0 i) (pt_back q.x q.y q.d st.requires.1 i))
+    let p = c.args.p in
+    let q = c.args.q in
+    c.lesser.ensures ∙ ap is_neg (ap sgn (by_y p.x p.y p.d q.x q.y q.d c.requires.0 c.requires.1))

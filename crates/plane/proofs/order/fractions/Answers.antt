@@ -2,6 +2,8 @@
 use mathlib.Core.Path.{◌∙◌, ap}
 use borrow.Author.Rules.{rules}
 use Rattle.exact.specs.Exact.{sgn}
+use Rattle.exact.specs.Compare.{sign_of, cmp_sign}
+use Rattle.plane.proofs.Machine.{back}
 use Rattle.plane.proofs.Fractions.{read, long, level-read}
 use Rattle.plane.proofs.order.fractions.Goals as goal
 use Rattle.plane.proofs.order.fractions.Goals.{Start}
@@ -16,7 +18,7 @@ pub returns-then-d-e : goal.returns-then-d-e
 returns-then-d-e c =
     let s : Start = search rules in
     let a = s.args in
-    c.order.ensures ∙ level-read a.n a.d a.m a.e s.requires.0 s.requires.1 c.if-d-e.true
+    ap sign_of c.cmp.ensures ∙ cmp_sign (back a.n) (back a.m) ∙ level-read a.n a.d a.m a.e s.requires.0 s.requires.1 c.if-d-e.true
 
 pub returns-else-d-e : goal.returns-else-d-e
 returns-else-d-e c =

@@ -2,6 +2,7 @@
 use mathlib.Core.Path.{sym, ◌∙◌, ap}
 use borrow.Author.Rules.{rules}
 use Rattle.exact.specs.Sign.{sgn, is_neg}
+use Rattle.exact.specs.Compare.{lt_neg}
 use Rattle.plane.proofs.Fractions.{Short, short_of, first_fits, second_fits, short_test, factors, long}
 use Rattle.plane.proofs.order.lesser.Goals as goal
 use Rattle.plane.proofs.order.lesser.Goals.{Then-short_way}
@@ -38,4 +39,4 @@ pub returns-else-short_way : goal.returns-else-short_way
 returns-else-short_way c =
     let s = c.before.before.before.before in
     let a = s.args in
-    c.is_less.ensures ∙ ap is_neg (c.products.ensures ∙ ap sgn (long a.n a.d a.m a.e s.requires.0 s.requires.1))
+    c.is_lt.ensures ∙ lt_neg c.products.result ∙ ap is_neg (c.products.ensures ∙ ap sgn (long a.n a.d a.m a.e s.requires.0 s.requires.1))

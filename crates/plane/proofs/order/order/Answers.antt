@@ -1,14 +1,17 @@
--- `plane::order::order` meets its contract. Assumes nothing.
-use mathlib.Core.Path.{◌∙◌}
+-- `plane::order::order` meets its contract: the two calls tell the signs of the two differences, and the definition picks as the code does. Assumes nothing.
+use mathlib.Core.Path.{◌∙◌, ap}
+use lib.IntN.{◌-ℤ◌, ◌*ℤ◌}
 use borrow.Author.Rules.{rules}
-use Rattle.paper.specs.Plane.{order}
-use Rattle.plane.proofs.Machine.{pt_back}
+use Rattle.exact.specs.Compare.{sign_of, then_with_pick}
+use Rattle.exact.specs.Exact.{sgn, pick}
+use Rattle.plane.proofs.Machine.{back}
+use Rattle.plane.proofs.Fractions.{by_x, by_y}
 use Rattle.plane.proofs.order.order.Goals as goal
-use Rattle.plane.proofs.order.order.Goals.{Start}
 
 pub returns : goal.returns
 returns c =
-    let st : Start = search rules in
-    let p = st.args.p in
-    let q = st.args.q in
-    c.order_of.ensures ∙ (λ i. order (pt_back p.x p.y p.d st.requires.0 i) (pt_back q.x q.y q.d st.requires.1 i))
+    let p = c.args.p in
+    let q = c.args.q in
+    let n = c.requires in
+    then_with_pick c.fractions.result c.then_with.result (sgn (back p.x *ℤ back q.d -ℤ back q.x *ℤ back p.d)) c.then_with.ensures (λ e. search rules)
+    ∙ (λ i. pick ((c.fractions.ensures ∙ ap sgn (by_y p.x p.y p.d q.x q.y q.d n.0 n.1)) i) (sgn (by_x p.x p.y p.d q.x q.y q.d n.0 n.1 i)))

@@ -1,7 +1,7 @@
--- `plane::order::same` meets its contract, of one denominator and of two, whatever the answer of `order`. Assumes nothing.
-use mathlib.Core.Path.{sym, ◌∙◌, ap}
+-- `plane::order::same` meets its contract, of one denominator and of two. Assumes nothing.
+use mathlib.Core.Path.{◌∙◌, ap}
 use borrow.Author.Rules.{rules}
-use Rattle.exact.specs.Compare.{sign_of}
+use Rattle.exact.specs.Compare.{eq_zer}
 use Rattle.exact.specs.Sign.{is_zer}
 use Rattle.plane.proofs.Fractions.{level-order}
 use Rattle.plane.proofs.order.same.Goals as goal
@@ -14,11 +14,5 @@ returns-then-p-q c =
     let q = s.args.q in
     c.level_same.ensures ∙ ap is_zer (level-order p.x p.y p.d q.x q.y q.d s.requires.0 s.requires.1 c.if-p-q.true)
 
-pub returns-in-Less : goal.returns-in-Less
-returns-in-Less c = ap is_zer (sym (ap sign_of c.in-Less.is) ∙ c.order.ensures)
-
-pub returns-in-Equal : goal.returns-in-Equal
-returns-in-Equal c = ap is_zer (sym (ap sign_of c.in-Equal.is) ∙ c.order.ensures)
-
-pub returns-in-Greater : goal.returns-in-Greater
-returns-in-Greater c = ap is_zer (sym (ap sign_of c.in-Greater.is) ∙ c.order.ensures)
+pub returns-else-p-q : goal.returns-else-p-q
+returns-else-p-q c = c.is_eq.ensures ∙ eq_zer c.order.result ∙ ap is_zer c.order.ensures

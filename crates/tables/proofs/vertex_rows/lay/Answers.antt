@@ -8,7 +8,7 @@ use mir.Syntax.{w64}
 use mir.ValLaws.{to_z-of_z}
 use Rattle.graph.proofs.Rows.{read, read_first}
 use Rattle.tables.proofs.vertex_rows.lay.Goals as goal
-use Rattle.tables.proofs.vertex_rows.lay.Goals.{After-d-1, After-of_u16-h, After-x-1, After-y-1, At-loop-v, Start}
+use Rattle.tables.proofs.vertex_rows.lay.Goals.{After-d-1, After-from-h, After-x-1, After-y-1, At-loop-v, Start}
 
 pub loop-v-init : goal.loop-v-init
 loop-v-init c =
@@ -18,7 +18,7 @@ pub loop-v-preserved : goal.loop-v-preserved
 loop-v-preserved c =
     let points = c.args.points.now in
     let v = c.loop-v.v in
-    let h = c.of_u16-h in
+    let h = c.from-h in
     lay_turns c.loop-v.invariant (λ k. refl) (omega arith) c.store.ensures
     (λ i. read_first 4 points v c.x-1.given i
     ∷ read points (4 * v + 1) c.y-1.given i
