@@ -9,6 +9,7 @@ pub mod Parts
 pub mod Perm
 pub mod Placed
 pub mod Position
+pub mod Ranges
 pub mod RisingKeys
 pub mod Sum
 pub mod Walks
