@@ -1,17 +1,17 @@
 -- The answer of the height operation is determined by the rule and the readings: two outcomes that keep its promise are one. Assumes nothing.
-use Rattle.std.specs.Prelude.{◌≡◌, refl, Float}
+use Rattle.std.specs.Prelude.{◌≡◌, refl, Float, ℤ, Option, Result, Ok, Err}
 use Rattle.std.proofs.Common.{ap, arith}
 use Rattle.seq.specs.Seq.{ℕ}
 use Rattle.seq.specs.Unique.{determined}
-use Rattle.paper.specs.Refusal.{Answer, done, refused, Refusal}
+use Rattle.paper.specs.Refusal as terms
+use Rattle.paper.specs.Refusal.{Answer, done, refused}
 use Rattle.paper.specs.Tide as paper
 use Rattle.paper.specs.Tide.{unset, ratio, weights, tide}
 use Rattle.map_file.specs.Verdict.{refusal_of}
+use Rattle.map_file.specs.declared.refusal.Refusal.{Refusal}
 use Rattle.tide.specs.declared.rule.TideRule.{TideRule}
 use Rattle.tide.specs.declared.rule.TideRule.TheVariants.{Unset, Ratio, Weights}
-use Rattle.tide.specs.declared.rule.Reading.{Reading}
-use Rattle.tide.specs.declared.rule.TideAnswer.{TideAnswer}
-use Rattle.tide.specs.declared.rule.TideAnswer.TheVariants.{Done, Refused}
+use Rattle.tide.specs.declared.rule.Height.{Height}
 use Rattle.tide.specs.Answer.{rule_of, reading_of, height_from, answer_of}
 
 -- ── the parts of a rule ──
@@ -55,7 +55,7 @@ abbrev given : paper.Height → Answer paper.Height → paper.Height
 given d (done t) = t
 given d (refused r) = d
 
-abbrev refusal : Refusal → Answer paper.Height → Refusal
+abbrev refusal : terms.Refusal → Answer paper.Height → terms.Refusal
 refusal d (done t) = d
 refusal d (refused r) = r
 
@@ -63,17 +63,17 @@ differ : {A : Type 0} (a b : Answer paper.Height) → a ≡ b → (case a ≡ ca
 differ a b e f = absurd (f (ap case e))
 
 -- an answer is that of one outcome
-pub answer-only : (a b : TideAnswer) → answer_of a ≡ answer_of b → a ≡ b
-answer-only (Done a) (Done b) e =
+pub answer-only : (a b : Result Height Refusal) → answer_of a ≡ answer_of b → a ≡ b
+answer-only (Ok a) (Ok b) e =
     let d : height_from a ≡ height_from b = ap (given (height_from a)) e in
     let r : a.rule ≡ b.rule = rule-only a.rule b.rule (ap (λ (t : paper.Height). t.rule) d) in
-    λ i. Done (record { height = (d i).height; millimetres = (d i).millimetres; rule = r i })
-answer-only (Done a) (Refused b) e = differ (answer_of (Done a)) (answer_of (Refused b)) e (λ z. omega arith)
-answer-only (Refused a) (Done b) e = differ (answer_of (Refused a)) (answer_of (Done b)) e (λ z. omega arith)
-answer-only (Refused a) (Refused b) e =
+    λ i. Ok (record { height = (d i).height; millimetres = (d i).millimetres; rule = r i })
+answer-only (Ok a) (Err b) e = differ (answer_of (Ok a)) (answer_of (Err b)) e (λ z. omega arith)
+answer-only (Err a) (Ok b) e = differ (answer_of (Err a)) (answer_of (Ok b)) e (λ z. omega arith)
+answer-only (Err a) (Err b) e =
     let d : refusal_of a ≡ refusal_of b = ap (refusal (refusal_of a)) e in
-    λ i. Refused (record { number = (d i).number; map = (d i).map; place = (d i).place; other = (d i).other })
+    λ i. Err (record { number = (d i).number; map = (d i).map; place = (d i).place; other = (d i).other })
 
-pub height-unique : (t : TideRule) (x y : Reading) (a b : TideAnswer) → answer_of a ≡ tide (rule_of t) (reading_of x) (reading_of y)
+pub height-unique : (t : TideRule) (x y : Option ℤ) (a b : Result Height Refusal) → answer_of a ≡ tide (rule_of t) (reading_of x) (reading_of y)
     → answer_of b ≡ tide (rule_of t) (reading_of x) (reading_of y) → a ≡ b
 height-unique t x y a b p q = answer-only a b (determined (tide (rule_of t) (reading_of x)) (reading_of y) (answer_of a) (answer_of b) p q)

@@ -3,7 +3,6 @@ ghost use Rattle.std.specs.Prelude.{◌≡◌, ◌&&◌};
 ghost use Rattle.paper.specs.Tide.{ratio_in, weight_in, readable, gauge};
 ghost use Rattle.tide.specs.Answer.{reading_of};
 
-use crate::rule::Reading;
 use limits::GAUGE_REACH;
 
 // "from −20,000"
@@ -29,28 +28,28 @@ pub fn weights_in(a: f64, b: f64) -> bool
 }
 
 // "whole millimetres from −20,000 to 20,000, or missing"
-pub fn readable(r: Reading) -> bool
+pub fn readable(r: Option<i32>) -> bool
     ensures { result ≡ readable (reading_of r) }
 {
     match r {
-        Reading::Missing => false,
-        Reading::At(x) => LOWEST <= x && x <= GAUGE_REACH,
+        None => false,
+        Some(x) => LOWEST <= x && x <= GAUGE_REACH,
     }
 }
 
 // "a pair of weights uses both readings"
-pub fn both_readable(first: Reading, second: Reading) -> bool
+pub fn both_readable(first: Option<i32>, second: Option<i32>) -> bool
     ensures { result ≡ (readable (reading_of first) && readable (reading_of second)) }
 {
     readable(first) && readable(second)
 }
 
-// A reading as a float, exactly.
-pub fn gauge(r: Reading) -> f64
+// A reading as a float, exactly. One that is missing is refused before.
+pub fn gauge(r: Option<i32>) -> f64
     ensures { result ≡ gauge (reading_of r) }
 {
     match r {
-        Reading::Missing => 0.0,
-        Reading::At(x) => x as f64,
+        None => 0.0,
+        Some(x) => x as f64,
     }
 }

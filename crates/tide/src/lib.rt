@@ -17,8 +17,8 @@ ghost use Rattle.tide.specs.Answer.{rule_of, reading_of, answer_of};
 use crate::judge::{both_readable, gauge, ratio_in, readable, weights_in};
 use crate::nearest::nearest;
 pub use bits::{of_bits, to_bits};
-use map_file::{Check, given};
-pub use rule::{Height, Reading, TideAnswer, TideRule};
+use map_file::{Check, Refusal, given};
+pub use rule::{Height, TideRule};
 
 // 15 for a rule out of range, then 16 for a reading.
 fn fault(ranged: bool, readable: bool) -> Check
@@ -28,22 +28,26 @@ fn fault(ranged: bool, readable: bool) -> Check
 }
 
 // The refusal, or else the height, brought to the nearest whole millimetre.
-fn answered(fault: Check, h: f64, rule: TideRule) -> TideAnswer
+fn answered(fault: Check, h: f64, rule: TideRule) -> Result<Height, Refusal>
     requires { verdict fault ≡ none → AtMost 80000 h }
     ensures { answer_of result ≡ answer (record { height = h; millimetres = nearest_whole h; rule = rule_of rule }) (verdict fault) }
 {
     match fault {
-        Check::Bad(r) => TideAnswer::Refused(r),
-        Check::Fine => TideAnswer::Done(Height {
+        Check::Bad(r) => Err(r),
+        Check::Fine => Ok(Height {
             height: h,
             millimetres: nearest(h),
-            rule: rule,
+            rule,
         }),
     }
 }
 
-// The height of tide by a zone's rule and both readings, or the first refusal.
-pub fn height(rule: TideRule, first: Reading, second: Reading) -> TideAnswer
+// The height of tide by a zone's rule and both readings, "whole millimetres .., or missing"; or the first refusal.
+pub fn height(
+    rule: TideRule,
+    first: Option<i32>,
+    second: Option<i32>,
+) -> Result<Height, Refusal>
     ensures { answer_of result ≡ tide (rule_of rule) (reading_of first) (reading_of second) }
 {
     match rule {

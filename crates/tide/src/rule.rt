@@ -1,5 +1,4 @@
 // What the height operation takes and answers.
-use map_file::Refusal;
 
 // "none, a ratio of one gauge, or a pair of weights for two gauges"
 #[derive(Clone, Copy)]
@@ -9,23 +8,10 @@ pub enum TideRule {
     Weights(f64, f64),
 }
 
-// "whole millimetres .., or missing"
-#[derive(Clone, Copy)]
-pub enum Reading {
-    Missing,
-    At(i32),
-}
-
 // "The rule used is returned with the height": before rounding, and in whole millimetres.
 #[derive(Clone, Copy)]
 pub struct Height {
     pub height: f64,
     pub millimetres: i32,
     pub rule: TideRule,
-}
-
-#[derive(Clone, Copy)]
-pub enum TideAnswer {
-    Done(Height),
-    Refused(Refusal),
 }

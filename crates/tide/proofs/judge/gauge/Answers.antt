@@ -10,11 +10,11 @@ use Rattle.laws_tide.specs.Ends.{zero-gauge}
 use Rattle.tide.specs.Answer.{reading_of}
 use Rattle.tide.proofs.judge.gauge.Goals as goal
 
-pub returns-in-Missing : goal.returns-in-Missing
-returns-in-Missing c = zero-gauge ∙ sym (ap (λ r. gauge (reading_of r)) c.in-Missing.is)
+pub returns-in-None : goal.returns-in-None
+returns-in-None c = zero-gauge ∙ sym (ap (λ r. gauge (reading_of r)) c.in-None.is)
 
-pub returns-in-At : goal.returns-in-At
-returns-in-At c =
-    let z = c.in-At.x in
+pub returns-in-Some : goal.returns-in-Some
+returns-in-Some c =
+    let z = c.in-Some.x in
     let f : SFits w32 z = search rules in
-    ap (of_int binary64) (to_z-of_z w32 z f) ∙ sym (ap (λ r. gauge (reading_of r)) c.in-At.is)
+    ap (of_int binary64) (to_z-of_z w32 z f) ∙ sym (ap (λ r. gauge (reading_of r)) c.in-Some.is)
