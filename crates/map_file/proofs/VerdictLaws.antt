@@ -1,12 +1,11 @@
 -- Chains of checks: the first of a list of refusals, one check at a time. Assumes nothing.
-use Rattle.std.specs.Prelude.{◌∷◌}
+use Rattle.std.specs.Prelude.{◌∷◌, Result, Ok, Err}
 use mathlib.Core.Path.{◌≡◌, refl, sym, ap, ◌∙◌}
 use Rattle.seq.specs.Seq.{Bool, ℕ, ltb, least, List, [], Option, none, some, Option·getD}
 use Rattle.paper.specs.Refusal.{given, first_at, first_of, Refusal}
 use Rattle.laws_refusals.specs.Refusals.{no_refusal, first_one}
 use Rattle.map_file.specs.Verdict.{refusal_of, verdict}
-use Rattle.map_file.specs.declared.refusal.Check.TheVariants.{Fine, Bad}
-use Rattle.map_file.specs.declared.refusal.Check.{Check}
+use Rattle.map_file.specs.declared.refusal.Refusal as code
 
 first_cons : (x : Option Refusal) (fs : List (Option Refusal)) → first_of (x ∷ first_of fs ∷ []) ≡ first_of (x ∷ fs)
 first_cons none fs = first_one (first_of fs)
@@ -36,10 +35,10 @@ rest {x = some r} c = absurd (no_refusal (sym c.is))
 
 -- ── what a verdict says determines the check ──
 
-pub verdict-only : (a b : Check) → verdict a ≡ verdict b → a ≡ b
-verdict-only Fine Fine e = refl
-verdict-only Fine (Bad r) e = absurd (no_refusal (sym e))
-verdict-only (Bad r) Fine e = absurd (no_refusal e)
-verdict-only (Bad r) (Bad q) e =
+pub verdict-only : (a b : Result (Unit {0}) code.Refusal) → verdict a ≡ verdict b → a ≡ b
+verdict-only (Ok x) (Ok y) e = refl
+verdict-only (Ok x) (Err r) e = absurd (no_refusal (sym e))
+verdict-only (Err r) (Ok x) e = absurd (no_refusal e)
+verdict-only (Err r) (Err q) e =
     let d : refusal_of r ≡ refusal_of q = ap (λ (o : Option Refusal). Option·getD o (refusal_of r)) e in
-    λ i. Bad (record { number = (d i).number; map = (d i).map; place = (d i).place; other = (d i).other })
+    λ i. Err (record { number = (d i).number; map = (d i).map; place = (d i).place; other = (d i).other })

@@ -15,16 +15,10 @@ pub fn byte_at(file: &[u8], at: usize) -> u8
 pub fn marked_at(file: &[u8], at: usize) -> bool
     ensures { result ≡ marked (ascii "ZMP") file.now at }
 {
-    if file.len() <= at {
-        return false;
-    }
-    if byte_at(file, at) != b'Z' {
-        return false;
-    }
-    if byte_at(file, at + 1) != b'M' {
-        return false;
-    }
-    byte_at(file, at + 2) == b'P'
+    at < file.len()
+        && byte_at(file, at) == b'Z'
+        && byte_at(file, at + 1) == b'M'
+        && byte_at(file, at + 2) == b'P'
 }
 
 // The unsigned number in the two bytes at a place. The place after the last possible one is never counted out.

@@ -8,27 +8,21 @@ ghost use Rattle.map_file.specs.Verdict.{verdict};
 
 use crate::fields::vertex_place;
 use crate::reader::Header;
-use crate::refusal::{Check, first, given};
+use crate::refusal::{Check, given};
 use limits::{MAP_EDGE_SIZE, MAP_EDGES, MAP_HEAD, MAP_VERTICES};
 
 // 1 "under 9 bytes, or mark wrong"
 pub fn bad_mark(length: usize, mark: bool) -> bool
     ensures { result ≡ (ltb length map_head || not mark) }
 {
-    if length < MAP_HEAD {
-        return true;
-    }
-    !mark
+    length < MAP_HEAD || !mark
 }
 
 // 3 "V > 200 or E > 300"
 pub fn over_limits(vertices: u16, edges: u16) -> bool
     ensures { result ≡ (ltb map_vertices vertices || ltb map_edges edges) }
 {
-    if MAP_VERTICES < vertices {
-        return true;
-    }
-    MAP_EDGES < edges
+    MAP_VERTICES < vertices || MAP_EDGES < edges
 }
 
 // "Length is 9 + 4V + 8E"
@@ -43,9 +37,8 @@ pub fn form_fault(file: &[u8], h: Header) -> Check
     requires { h ≡ header_of file.now }
     ensures { verdict result ≡ first_of (form_faults file.now) }
 {
-    let mark = given(1, 0, bad_mark(file.len(), h.mark));
-    let version = given(2, 0, h.version != 1);
-    let limits = given(3, 0, over_limits(h.vertices, h.edges));
-    let length = given(4, 0, file.len() != map_length(h.vertices, h.edges));
-    first(mark, first(version, first(limits, length)))
+    given(1, 0, bad_mark(file.len(), h.mark))?;
+    given(2, 0, h.version != 1)?;
+    given(3, 0, over_limits(h.vertices, h.edges))?;
+    given(4, 0, file.len() != map_length(h.vertices, h.edges))
 }

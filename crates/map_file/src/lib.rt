@@ -3,7 +3,7 @@
 // Everything here takes arbitrary bytes: a byte past the end counts as 0, as in the definitions.
 #![tactic(auto)]
 
-mod refusal; // a refusal, and chains of checks
+mod refusal; // a refusal, and the checks that give one
 mod bytes; // the mark and numbers in bytes, low byte first
 mod reader; // the reader that holds the file and its place: header, vertices, edges
 mod rows; // vertices and edges from a place on
@@ -16,4 +16,4 @@ pub use fields::{edge_count, vertex_count, vertex_place};
 pub use form::{form_fault, map_length};
 pub use load::read_map;
 pub use reader::{Header, read_header};
-pub use refusal::{Check, Refusal, beside, first, given};
+pub use refusal::{Check, Refusal, beside, given};

@@ -23,64 +23,64 @@ pub struct Reader<'a> {
     pub at: usize,
 }
 
-// A reader at the start of a file.
-pub fn new<'a>(file: &'a [u8]) -> Reader<'a>
-    ensures { (result.file ≡ file.entry) × (result.at ≡ 0) }
-{
-    Reader { file, at: 0 }
-}
-
-// The reader, n bytes further on.
-pub fn past<'a>(r: Reader<'a>, n: usize) -> Reader<'a>
-    requires { r.at + n < 2 ^ 64 }
-    ensures { (result.file ≡ r.entry.file) × (result.at ≡ r.entry.at + n) }
-{
-    Reader {
-        file: r.file,
-        at: r.at + n,
+impl<'a> Reader<'a> {
+    // A reader at the start of a file.
+    pub fn new(file: &'a [u8]) -> Self
+        ensures { (result.file ≡ file.entry) × (result.at ≡ 0) }
+    {
+        Reader { file, at: 0 }
     }
-}
 
-// Whether the mark stands at its place.
-pub fn mark<'a>(r: Reader<'a>) -> bool
-    ensures { result ≡ marked (ascii "ZMP") r.entry.file.now r.entry.at }
-{
-    marked_at(r.file, r.at)
-}
-
-// The unsigned 16-bit number at its place.
-pub fn word<'a>(r: Reader<'a>) -> u16
-    ensures { result ≡ u16 r.entry.file.now r.entry.at }
-{
-    u16_at(r.file, r.at)
-}
-
-// The n vertices from its place on; the reader behind them.
-pub fn points<'a>(r: Reader<'a>, n: u16, points: &mut [i64]) -> Reader<'a>
-    requires { (r.at + 4 * n < 2 ^ 64) × (4 * n ≤ length points.old) }
-    ensures { (result.file ≡ r.entry.file) × (result.at ≡ r.entry.at + 4 * n) × (points.new ≡ laid n (point_from r.entry.file.now r.entry.at) points.old) }
-{
-    let behind = points_at(r.file, r.at, n, points);
-    Reader {
-        file: r.file,
-        at: behind,
+    // The reader, n bytes further on.
+    pub fn past(self, n: usize) -> Self
+        requires { self.at + n < 2 ^ 64 }
+        ensures { (result.file ≡ self.entry.file) × (result.at ≡ self.entry.at + n) }
+    {
+        Reader {
+            file: self.file,
+            at: self.at + n,
+        }
     }
-}
 
-// The n edges from its place on; the reader behind them.
-pub fn edges<'a>(r: Reader<'a>, n: u16, origins: &mut [u16], labels: &mut [u16]) -> Reader<'a>
-    requires { (r.at + 8 * n < 2 ^ 64) × (2 * n ≤ length origins.old) × (2 * n ≤ length labels.old) }
-    ensures { (result.file ≡ r.entry.file) × (result.at ≡ r.entry.at + 8 * n) × (origins.new ≡ filled (2 * n) (origin_from r.entry.file.now r.entry.at) origins.old) × (labels.new ≡ filled (2 * n) (label_from r.entry.file.now r.entry.at) labels.old) }
-{
-    let behind = edges_at(r.file, r.at, n, origins, labels);
-    Reader {
-        file: r.file,
-        at: behind,
+    // Whether the mark stands at its place.
+    pub fn mark(self) -> bool
+        ensures { result ≡ marked (ascii "ZMP") self.entry.file.now self.entry.at }
+    {
+        marked_at(self.file, self.at)
+    }
+
+    // The unsigned 16-bit number at its place.
+    pub fn word(self) -> u16
+        ensures { result ≡ u16 self.entry.file.now self.entry.at }
+    {
+        u16_at(self.file, self.at)
+    }
+
+    // The n vertices from its place on; the reader behind them.
+    pub fn points(self, n: u16, points: &mut [i64]) -> Self
+        requires { (self.at + 4 * n < 2 ^ 64) × (4 * n ≤ length points.old) }
+        ensures { (result.file ≡ self.entry.file) × (result.at ≡ self.entry.at + 4 * n) × (points.new ≡ laid n (point_from self.entry.file.now self.entry.at) points.old) }
+    {
+        Reader {
+            file: self.file,
+            at: points_at(self.file, self.at, n, points),
+        }
+    }
+
+    // The n edges from its place on; the reader behind them.
+    pub fn edges(self, n: u16, origins: &mut [u16], labels: &mut [u16]) -> Self
+        requires { (self.at + 8 * n < 2 ^ 64) × (2 * n ≤ length origins.old) × (2 * n ≤ length labels.old) }
+        ensures { (result.file ≡ self.entry.file) × (result.at ≡ self.entry.at + 8 * n) × (origins.new ≡ filled (2 * n) (origin_from self.entry.file.now self.entry.at) origins.old) × (labels.new ≡ filled (2 * n) (label_from self.entry.file.now self.entry.at) labels.old) }
+    {
+        Reader {
+            file: self.file,
+            at: edges_at(self.file, self.at, n, origins, labels),
+        }
     }
 }
 
 // "Mark `ZMP`, then .. version (1), vertex count V, edge count E"
-#[derive(Clone, Copy)]
+#[derive(Clone, Copy, PartialEq, Eq, Debug)]
 pub struct Header {
     pub mark: bool,
     pub version: u16,
@@ -92,19 +92,15 @@ pub struct Header {
 pub fn read_header(file: &[u8]) -> Header
     ensures { result ≡ header_of file.now }
 {
-    let start = new(file);
-    let right = mark(start);
-    let first = past(start, MARK);
-    let version = word(first);
-    let second = past(first, WORD);
-    let vertices = word(second);
-    let third = past(second, WORD);
-    let edges = word(third);
+    let start = Reader::new(file);
+    let version = start.past(MARK);
+    let vertices = version.past(WORD);
+    let edges = vertices.past(WORD);
     Header {
-        mark: right,
-        version,
-        vertices,
-        edges,
+        mark: start.mark(),
+        version: version.word(),
+        vertices: vertices.word(),
+        edges: edges.word(),
     }
 }
 
@@ -120,7 +116,8 @@ pub fn read_body(
     requires { (4 * v ≤ length vertices.old) × (2 * e ≤ length origins.old) × (2 * e ≤ length labels.old) }
     ensures { (vertices.new ≡ laid v (point_from file.now map_head) vertices.old) × (origins.new ≡ filled (2 * e) (origin_from file.now (vertex_place v)) origins.old) × (labels.new ≡ filled (2 * e) (label_from file.now (vertex_place v)) labels.old) }
 {
-    let body = past(new(file), MAP_HEAD);
-    let rest = points(body, v, vertices);
-    edges(rest, e, origins, labels);
+    Reader::new(file)
+        .past(MAP_HEAD)
+        .points(v, vertices)
+        .edges(e, origins, labels);
 }

@@ -1,6 +1,6 @@
 -- `map_file::rows::edges_at` meets its contract: below twice the counter the cells of both tables are those of the file, and the others as they were; the place is behind
 -- the last edge read. Assumes nothing.
-use Rattle.std.specs.Prelude.{◌+◌, ◌*◌, ◌-◌}
+use Rattle.std.specs.Prelude.{◌+◌, ◌*◌}
 use mathlib.Core.Path.{◌≡◌}
 use Rattle.seq.specs.Loops.Filling.{Filling}
 use Rattle.map_file.specs.Places.{origin_from, label_from}

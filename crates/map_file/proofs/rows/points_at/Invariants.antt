@@ -1,6 +1,6 @@
 -- `map_file::rows::points_at` meets its contract: below the counter the rows are those of the file, and the other cells as they were; the place is behind the last row
 -- read. Assumes nothing.
-use Rattle.std.specs.Prelude.{◌+◌, ◌*◌, ◌-◌}
+use Rattle.std.specs.Prelude.{◌+◌, ◌*◌}
 use mathlib.Core.Path.{◌≡◌}
 use Rattle.seq.specs.Loops.Storing.{Laying}
 use Rattle.map_file.specs.Places.{point_from}
