@@ -35,8 +35,8 @@ fn read_fault(
     let e = h.edges as usize;
     let c = part_fault(points, origins, n, e);
     match c {
-        Check::Bad(_) => c,
-        Check::Fine => {
+        Err(_) => c,
+        Ok(()) => {
             lay_carriers(points, origins, n, e, carriers);
             net_fault(points, origins, carriers, labels, n, e)
         }
@@ -48,8 +48,8 @@ fn answered(h: Header, c: Check) -> Checked
     ensures { answer_of result ≡ answer (h.vertices, h.edges) (verdict c) }
 {
     match c {
-        Check::Bad(r) => Checked::Bad(r),
-        Check::Fine => Checked::Good(Counts {
+        Err(r) => Checked::Bad(r),
+        Ok(()) => Checked::Good(Counts {
             vertices: h.vertices,
             edges: h.edges,
         }),
@@ -70,8 +70,8 @@ pub fn lay_map(
     let h = read_header(file);
     let c = form_fault(file, h);
     match c {
-        Check::Bad(_) => answered(h, c),
-        Check::Fine => {
+        Err(_) => answered(h, c),
+        Ok(()) => {
             read_map(file, h, corners, origins, labels);
             let d = read_fault(file, h, corners, origins, carriers, labels);
             answered(h, d)

@@ -12,7 +12,7 @@ ghost use Rattle.map_check.specs.Parts.{corner_in, far_at, lies_on, doubled_at, 
 
 use graph::store_carrier;
 use limits::{POINT_WIDTH, REACH};
-use map_file::{Check, first, given};
+use map_file::{Check, given};
 use plane::{Seg, Vector, between};
 
 // The corner in row v.
@@ -132,10 +132,9 @@ pub fn part_fault(points: &[i64], origins: &[u16], n: usize, e: usize) -> Check
     let far = first_too_far(points, n);
     let twice = first_doubled(points, n);
     let ends = first_bad_ends(origins, n, e);
-    let five = given(5, far as u16, far < n);
-    let six = given(6, twice as u16, twice < n);
-    let seven = given(7, ends as u16, ends < e);
-    first(five, first(six, seven))
+    given(5, far as u16, far < n)?;
+    given(6, twice as u16, twice < n)?;
+    given(7, ends as u16, ends < e)
 }
 
 // Edge k from its lower end.

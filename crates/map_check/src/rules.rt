@@ -19,7 +19,7 @@ use graph::{follow_stars, headings, is_small};
 use limits::{
     MAP_HALVES, MAP_HEADING_CELLS, MAP_VERTICES, SMALL_HALVES, SMALL_HEADING_CELLS, SMALL_VERTICES,
 };
-use map_file::{Check, beside, first, given};
+use map_file::{Check, beside, given};
 
 // 8 "an edge shares with another any point that is not an end of both", and "the other edge's number": it comes after the place, and is searched only where there is one.
 fn edges_clash(carriers: &[i16], e: usize) -> Check
@@ -31,7 +31,7 @@ fn edges_clash(carriers: &[i16], e: usize) -> Check
         let j = first_clash(carriers, e, k);
         beside(8, k as u16, j as u16, true)
     } else {
-        Check::Fine
+        Ok(())
     }
 }
 
@@ -110,7 +110,7 @@ fn labels_disagree(
     ensures { verdict result ≡ first_at 10 (disagrees (flat_map points.now origins.now carriers.now (take (2 * e) labels.now) n e) (followers (flat_graph points.now origins.now carriers.now n e))) (the_half_count (flat_graph points.now origins.now carriers.now n e)) }
 {
     if e == 0 {
-        return Check::Fine;
+        return Ok(());
     }
     let m = 2 * e;
     let h = first_by_followers(points, origins, carriers, &labels[0..m], n, e);
@@ -133,12 +133,8 @@ pub fn net_fault(
     requires fact_5 { Laid (flat_graph points.now origins.now carriers.now n e) }
     ensures { verdict result ≡ first_of (net_faults (flat_map points.now origins.now carriers.now (take (2 * e) labels.now) n e)) }
 {
-    let eight = edges_clash(carriers, e);
+    edges_clash(carriers, e)?;
     let lonely = first_lonely(origins, 2 * e, n);
-    let nine = given(9, lonely as u16, lonely < n);
-    let c = first(eight, nine);
-    match c {
-        Check::Bad(_) => c,
-        Check::Fine => labels_disagree(points, origins, carriers, labels, n, e),
-    }
+    given(9, lonely as u16, lonely < n)?;
+    labels_disagree(points, origins, carriers, labels, n, e)
 }

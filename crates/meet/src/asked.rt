@@ -9,7 +9,7 @@ ghost use Rattle.meet.specs.Answer.{answer_of};
 
 use crate::answer::MeetAnswer;
 use limits::REACH;
-use map_file::{Check, first, given};
+use map_file::{Check, given};
 use plane::{Vector, between, meeting};
 
 // The corner x, y.
@@ -56,11 +56,10 @@ fn no_length(a: Vector, b: Vector) -> bool
 fn faults(a: Vector, b: Vector, c: Vector, d: Vector) -> Check
     ensures { verdict result ≡ first_of (meet_faults (vec_of a) (vec_of b) (vec_of c) (vec_of d)) }
 {
-    let far = given(5, 0, either_beyond(a, b));
-    let second_far = given(5, 1, either_beyond(c, d));
-    let short = given(7, 0, no_length(a, b));
-    let second_short = given(7, 1, no_length(c, d));
-    first(far, first(second_far, first(short, second_short)))
+    given(5, 0, either_beyond(a, b))?;
+    given(5, 1, either_beyond(c, d))?;
+    given(7, 0, no_length(a, b))?;
+    given(7, 1, no_length(c, d))
 }
 
 // How the edge from a to b and the edge from c to d meet, or the refusal.
@@ -69,7 +68,7 @@ pub fn meet_corners(a: Vector, b: Vector, c: Vector, d: Vector) -> MeetAnswer
 {
     let found = faults(a, b, c, d);
     match found {
-        Check::Bad(r) => MeetAnswer::Refused(r),
-        Check::Fine => MeetAnswer::Met(meeting(between(a, b), between(c, d))),
+        Err(r) => MeetAnswer::Refused(r),
+        Ok(()) => MeetAnswer::Met(meeting(between(a, b), between(c, d))),
     }
 }

@@ -11,7 +11,6 @@ ghost use Rattle.tables.specs.Promise.{PromisedMelted};
 
 use crate::stages::melt_layers;
 use limits::{LAYER_CARRIER_CELLS, LAYER_HALVES, LAYER_POINT_CELLS, LAYER_STARTS};
-use map_file::Check;
 use overlay_fill::refuse;
 use overlay_maps::lay_maps;
 use tables::Answer;
@@ -47,8 +46,8 @@ pub fn melt(
         &mut labels,
     );
     match c {
-        Check::Bad(r) => refuse(r, vertices, halves, sources, faces),
-        Check::Fine => {
+        Err(r) => refuse(r, vertices, halves, sources, faces),
+        Ok(()) => {
             melt_layers(
                 &vertex_starts,
                 &edge_starts,

@@ -7,7 +7,7 @@ ghost use Rattle.map_file.specs.Verdict.{verdict};
 ghost use Rattle.mend.specs.Steps.{no_vertex_at, table_faults};
 
 use map_check::first_too_far;
-use map_file::{Check, first, given};
+use map_file::{Check, given};
 
 // 7: an end of edge k names none of n vertices.
 fn no_vertex(origins: &[u16], n: usize, k: usize) -> bool
@@ -42,7 +42,6 @@ pub fn table_fault(points: &[i64], origins: &[u16], n: usize, e: usize) -> Check
 {
     let far = first_too_far(points, n);
     let ends = first_no_vertex(origins, n, e);
-    let five = given(5, far as u16, far < n);
-    let seven = given(7, ends as u16, ends < e);
-    first(five, seven)
+    given(5, far as u16, far < n)?;
+    given(7, ends as u16, ends < e)
 }

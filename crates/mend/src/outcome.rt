@@ -22,9 +22,7 @@ use limits::{
     MAP_EDGES, MAP_HALVES, MAP_POINT_CELLS, MAP_VERTICES, SMALL_EDGES, SMALL_HALVES,
     SMALL_POINT_CELLS, SMALL_VERTICES,
 };
-use map_file::{
-    Check, Header, Refusal, first, form_fault, given, map_length, read_header, read_map,
-};
+use map_file::{Check, Header, Refusal, form_fault, given, map_length, read_header, read_map};
 
 // "with file and list left all zero"
 fn refuse(r: Refusal, out: &mut [u8], list: &mut [u16]) -> Mended
@@ -39,9 +37,8 @@ fn refuse(r: Refusal, out: &mut [u8], list: &mut [u16]) -> Mended
 fn judge(n: usize, l: usize, long: usize, many: u16) -> Check
     ensures { verdict result ≡ first_of (given 11 4 (ltb n long) ∷ given 11 5 (ltb (l / entry_width) many) ∷ []) }
 {
-    let short = given(11, 4, n < long);
-    let few = given(11, 5, l / 2 < many as usize);
-    first(short, few)
+    given(11, 4, n < long)?;
+    given(11, 5, l / 2 < many as usize)
 }
 
 // By the tables of a file that can be mended: so many of its n vertices and e edges are kept, and `corners` and `pieces` say in which step each of the others is dropped.
@@ -68,8 +65,8 @@ fn finish(
     let entries = (n - vertices) + (e - edges);
     let check = judge(out.len(), list.len(), bytes, entries);
     match check {
-        Check::Bad(r) => refuse(r, out, list),
-        Check::Fine => {
+        Err(r) => refuse(r, out, list),
+        Ok(()) => {
             put_file(
                 points, labels, ends, numbers, corners, pieces, n, e, vertices, edges, out,
             );
@@ -130,8 +127,8 @@ fn mend_in(
     read_map(file, h, points, origins, labels);
     let check = table_fault(points, origins, h.vertices as usize, h.edges as usize);
     match check {
-        Check::Bad(r) => refuse(r, out, list),
-        Check::Fine => mend_map(file, h, points, origins, labels, out, list),
+        Err(r) => refuse(r, out, list),
+        Ok(()) => mend_map(file, h, points, origins, labels, out, list),
     }
 }
 
@@ -161,7 +158,7 @@ pub fn mend(file: &[u8], out: &mut [u8], list: &mut [u16]) -> Mended
     let h = read_header(file);
     let check = form_fault(file, h);
     match check {
-        Check::Bad(r) => refuse(r, out, list),
-        Check::Fine => mend_read(file, h, out, list),
+        Err(r) => refuse(r, out, list),
+        Ok(()) => mend_read(file, h, out, list),
     }
 }

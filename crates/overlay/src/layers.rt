@@ -11,7 +11,7 @@ use limits::{
     LAYER_CARRIER_CELLS, LAYER_HALVES, LAYER_POINT_CELLS, LAYER_STARTS, POINT_WIDTH,
     SMALL_CARRIER_CELLS, SMALL_EDGES, SMALL_HALVES, SMALL_VERTICES,
 };
-use map_file::{Check, edge_count, vertex_count};
+use map_file::{edge_count, vertex_count};
 use overlay_fill::refuse;
 use overlay_graph::Way;
 use overlay_maps::lay_maps;
@@ -65,8 +65,8 @@ fn overlay_in(
         labels,
     );
     match c {
-        Check::Bad(r) => refuse(r, vertices, halves, sources, faces),
-        Check::Fine => {
+        Err(r) => refuse(r, vertices, halves, sources, faces),
+        Ok(()) => {
             from_layers(
                 way,
                 small,

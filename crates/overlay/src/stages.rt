@@ -11,7 +11,6 @@ use limits::{
     FEW_EDGES, MAPS, PIECE_CELLS, POINT_CELLS, SMALL_EDGES, SMALL_PIECE_CELLS, SMALL_POINT_CELLS,
     SMALL_VERTICES,
 };
-use map_file::Check;
 use overlay_fill::{from_cut, over_room, refuse};
 use overlay_graph::{Way, cut_few, cut_maps};
 use tables::{Answer, room_in};
@@ -41,8 +40,8 @@ fn lay_cut(
     let room = room_in(vertices.len(), halves.len(), sources.len(), faces.len());
     let check = over_room(room, n, e);
     match check {
-        Check::Bad(r) => refuse(r, vertices, halves, sources, faces),
-        Check::Fine => from_cut(
+        Err(r) => refuse(r, vertices, halves, sources, faces),
+        Ok(()) => from_cut(
             vstarts, estarts, corners, origins, carriers, labels, n, points, e, pieces, vertices,
             halves, sources, faces,
         ),

@@ -31,13 +31,13 @@ fn of_map(map: u16, c: Checked) -> Check
     ensures { verdict result ≡ the_of_map map (refused_in (answer_of c)) }
 {
     match c {
-        Checked::Bad(r) => Check::Bad(Refusal {
+        Checked::Bad(r) => Err(Refusal {
             number: r.number,
             map,
             place: r.place,
             other: r.other,
         }),
-        Checked::Good(_) => Check::Fine,
+        Checked::Good(_) => Ok(()),
     }
 }
 
@@ -82,8 +82,8 @@ fn lay_pair(
 {
     let c = lay_behind(zones, 1, 0, 0, corners, origins, carriers, labels);
     match c {
-        Check::Bad(_) => c,
-        Check::Fine => {
+        Err(_) => c,
+        Ok(()) => {
             let v = vertex_count(zones) as usize;
             let e = edge_count(zones) as usize;
             lay_behind(blocks, 2, v, e, corners, origins, carriers, labels)
@@ -106,8 +106,8 @@ fn lay_tables(
 {
     let c = lay_pair(zones, blocks, corners, origins, carriers, labels);
     match c {
-        Check::Bad(_) => c,
-        Check::Fine => {
+        Err(_) => c,
+        Ok(()) => {
             let v = vertex_count(zones) as usize + vertex_count(blocks) as usize;
             let e = edge_count(zones) as usize + edge_count(blocks) as usize;
             lay_behind(bed, 3, v, e, corners, origins, carriers, labels)

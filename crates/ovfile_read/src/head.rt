@@ -9,7 +9,7 @@ ghost use Rattle.map_file.specs.Verdict.{verdict};
 
 use crate::stored::{counts, layout_in};
 use limits::{OVERLAY_HEAD, VERSION};
-use map_file::{Check, byte_at, first, given, u16_at};
+use map_file::{Check, byte_at, given, u16_at};
 use ovfile::{file_length, numbers, over};
 
 // "under 11 bytes or wrong mark"
@@ -39,10 +39,9 @@ fn bad_length(file: &[u8]) -> bool
 pub fn head(file: &[u8]) -> Check
     ensures { verdict result ≡ first_of (head_faults (length layouts) (layout_of layouts (u16 file.now 3)) file.now) }
 {
-    let mark = given(1, 0, bad_mark(file));
-    let version = given(2, 0, bad_version(file));
+    given(1, 0, bad_mark(file))?;
+    given(2, 0, bad_version(file))?;
     let c = counts(file);
-    let limits = given(3, 0, over(numbers(), c));
-    let length = given(4, 0, bad_length(file));
-    first(mark, first(version, first(limits, length)))
+    given(3, 0, over(numbers(), c))?;
+    given(4, 0, bad_length(file))
 }

@@ -17,7 +17,7 @@ use crate::fill::{fill_faces, fill_halves, fill_sources, fill_vertices};
 use crate::head::head;
 use crate::sound::unsound;
 use crate::stored::{counts, layout_in};
-use map_file::{Check, first, given};
+use map_file::{Check, given};
 use ovfile::Layout;
 use tables::{Answer, room_in, wipe_all};
 
@@ -36,11 +36,10 @@ fn body(
     let c = counts(file);
     let room = room_in(vertices, halves, sources, faces);
     let k = unsound(layout, file);
-    let unsound = given(21, k, k < c.edges);
-    let place1 = given(11, 1, room.vertices < c.vertices);
-    let place2 = given(11, 2, room.edges < c.edges);
-    let place3 = given(11, 3, room.faces < c.faces);
-    first(unsound, first(place1, first(place2, place3)))
+    given(21, k, k < c.edges)?;
+    given(11, 1, room.vertices < c.vertices)?;
+    given(11, 2, room.edges < c.edges)?;
+    given(11, 3, room.faces < c.faces)
 }
 
 // What the file is refused for, by tables of these lengths.
@@ -49,8 +48,8 @@ pub fn judge(file: &[u8], vertices: usize, halves: usize, sources: usize, faces:
 {
     let c = head(file);
     match c {
-        Check::Bad(_) => c,
-        Check::Fine => body(layout_in(file), file, vertices, halves, sources, faces),
+        Err(_) => c,
+        Ok(()) => body(layout_in(file), file, vertices, halves, sources, faces),
     }
 }
 
@@ -90,11 +89,11 @@ pub fn read(
         faces.len(),
     );
     match check {
-        Check::Bad(r) => {
+        Err(r) => {
             wipe_all(vertices, halves, sources, faces);
             Answer::Refused(r)
         }
-        Check::Fine => {
+        Ok(()) => {
             fill(layout_in(file), file, vertices, halves, sources, faces);
             Answer::Done(counts(file))
         }

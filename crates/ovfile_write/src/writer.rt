@@ -17,7 +17,7 @@ use crate::bytes::{put_edges, put_faces, put_head, put_vertices};
 use crate::edges::first_bad_edge;
 use crate::places::file_length;
 use crate::vertices::first_bad_vertex;
-use map_file::{Check, first, given};
+use map_file::{Check, given};
 use ovfile::over;
 use seq::wipe_from;
 use tables::{Counts, room_in};
@@ -29,10 +29,9 @@ fn body(c: Counts, vertices: &[i64], halves: &[u16], sources: &[u32], n: usize) 
 {
     let v = first_bad_vertex(c, vertices, halves);
     let k = first_bad_edge(c, halves, sources);
-    let vertex = given(5, v, v < c.vertices);
-    let edge = given(21, k, k < c.edges);
-    let short = given(11, 4, n < file_length(c));
-    first(vertex, first(edge, short))
+    given(5, v, v < c.vertices)?;
+    given(21, k, k < c.edges)?;
+    given(11, 4, n < file_length(c))
 }
 
 // What the counts and tables are refused for: a face table of this length, and a buffer of n bytes.
@@ -49,8 +48,8 @@ fn judge(
     let room = room_in(vertices.len(), halves.len(), sources.len(), faces);
     let check = given(3, 0, over(room, c));
     match check {
-        Check::Bad(_) => check,
-        Check::Fine => body(c, vertices, halves, sources, n),
+        Err(_) => check,
+        Ok(()) => body(c, vertices, halves, sources, n),
     }
 }
 
@@ -86,11 +85,11 @@ pub fn write(
 {
     let check = judge(c, vertices, halves, sources, faces.len(), buffer.len());
     match check {
-        Check::Bad(r) => {
+        Err(r) => {
             buffer.fill(0);
             WriteAnswer::Refused(r)
         }
-        Check::Fine => {
+        Ok(()) => {
             put_file(c, vertices, halves, sources, faces, buffer);
             WriteAnswer::Done(file_length(c))
         }

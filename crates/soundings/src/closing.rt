@@ -23,7 +23,7 @@ fn fault(p: Progress, fit: bool, room: usize) -> Check
     ensures { verdict result ≡ close_fault room fit p }
 {
     if p.bad != 0 {
-        return Check::Bad(Refusal {
+        return Err(Refusal {
             number: p.number,
             map: p.map,
             place: p.place,
@@ -98,8 +98,8 @@ fn answer(
     ensures { counted_of result labels.new counts.new ≡ counted (room_by (length labels.old) (length counts.old)) (cells_by p.entries p.soundings p.read) (entries_in own.now times.now p.entries) (verdict c) }
 {
     match c {
-        Check::Bad(r) => refuse(r, labels, counts),
-        Check::Fine => lay_pairs(own, times, p, labels, counts),
+        Err(r) => refuse(r, labels, counts),
+        Ok(()) => lay_pairs(own, times, p, labels, counts),
     }
 }
 

@@ -11,20 +11,20 @@ ghost use Rattle.soundings.specs.Laid.{RailRoom, Laid, Ready, refused_in};
 use limits::{MAP_CARRIER_CELLS, MAP_EDGES, MAP_HALVES, MAP_POINT_CELLS};
 use looks::{lay_order, lay_rails};
 use map_check::{Checked, lay_map};
-use map_file::{Check, Refusal, edge_count, first};
+use map_file::{Check, Refusal, edge_count};
 
 // The refusal of a check, if there is one, of a map of this number.
 fn of_map(map: u16, c: Checked) -> Check
     ensures { verdict result ≡ the_of_map map (refused_in (answer_of c)) }
 {
     match c {
-        Checked::Bad(r) => Check::Bad(Refusal {
+        Checked::Bad(r) => Err(Refusal {
             number: r.number,
             map,
             place: r.place,
             other: r.other,
         }),
-        Checked::Good(_) => Check::Fine,
+        Checked::Good(_) => Ok(()),
     }
 }
 
@@ -45,8 +45,8 @@ fn put_in_order(
 {
     let mut order = [0u16; MAP_EDGES as usize];
     match d {
-        Check::Bad(_) => {}
-        Check::Fine => {
+        Err(_) => {}
+        Ok(()) => {
             let e = edge_count(file) as usize;
             lay_order(corners, origins, e, &mut order);
             lay_rails(corners, origins, carriers, sides, &order, e, rails, easts);
@@ -84,5 +84,5 @@ pub fn lay_both(
 {
     let c = lay_one(zones, 1, rails, easts);
     let d = lay_one(blocks, 2, rails2, easts2);
-    first(c, d)
+    c.and(d)
 }

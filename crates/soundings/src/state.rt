@@ -82,8 +82,8 @@ fn at_start(c: Check) -> Progress
     ensures { result ≡ start_at (verdict c) }
 {
     match c {
-        Check::Bad(r) => halted(r),
-        Check::Fine => going(0, 0, 0, 0, 0),
+        Err(r) => halted(r),
+        Ok(()) => going(0, 0, 0, 0, 0),
     }
 }
 

@@ -24,7 +24,8 @@ pub use rule::{Height, TideRule};
 fn fault(ranged: bool, readable: bool) -> Check
     ensures { verdict result ≡ first_of (given 15 0 (not ranged) ∷ given 16 0 (not readable) ∷ []) }
 {
-    map_file::first(given(15, 0, !ranged), given(16, 0, !readable))
+    given(15, 0, !ranged)?;
+    given(16, 0, !readable)
 }
 
 // The refusal, or else the height, brought to the nearest whole millimetre.
@@ -33,8 +34,8 @@ fn answered(fault: Check, h: f64, rule: TideRule) -> Result<Height, Refusal>
     ensures { answer_of result ≡ answer (record { height = h; millimetres = nearest_whole h; rule = rule_of rule }) (verdict fault) }
 {
     match fault {
-        Check::Bad(r) => Err(r),
-        Check::Fine => Ok(Height {
+        Err(r) => Err(r),
+        Ok(()) => Ok(Height {
             height: h,
             millimetres: nearest(h),
             rule,

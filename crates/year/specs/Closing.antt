@@ -8,9 +8,8 @@ use Rattle.paper.specs.Refusal.{given, answer}
 use Rattle.paper.specs.Names.{whole_names}
 use Rattle.paper.specs.Year.{Row}
 use Rattle.laws_refusals.specs.Refusals.{nothing, given_none}
-use Rattle.map_file.specs.declared.refusal.Check.{Check}
-use Rattle.map_file.specs.declared.refusal.Check.TheVariants.{Fine, Bad}
 use Rattle.map_file.specs.declared.refusal.Refusal.{Refusal}
+use Rattle.std.specs.Prelude.{Result, Ok, Err}
 use Rattle.map_file.specs.Verdict.{verdict, refusal_of}
 use Rattle.laws_year.specs.Step.{bad_fault, the_row_is}
 use Rattle.laws_year.specs.Capped.{cap_fault, cap_answer}
@@ -46,7 +45,7 @@ bad_some (suc k) q = let e : suc k - 1 ≡ k = omega arith in ap (λ (j : ℕ). 
 -- ── the answer ──
 
 module _ (t : List ℕ) (y : Sums) (zones blocks : List ℕ) where
-  pub refused_is : (c : Check) (r : Refusal) → c ≡ Bad r → verdict c ≡ cap_fault (state_of [] y) zones blocks → closed_of t (Refused r) ≡ cap_answer (state_of t y) zones blocks
+  pub refused_is : (c : Result (Unit {0}) Refusal) (r : Refusal) → c ≡ Err r → verdict c ≡ cap_fault (state_of [] y) zones blocks → closed_of t (Refused r) ≡ cap_answer (state_of t y) zones blocks
   refused_is c r e v = ap (answer (map the_row_is (kept t y.pairs).tallies, y.gaps)) (sym (ap verdict e) ∙ v)
 
   -- where nothing is refused there are at most 500 pairs
@@ -55,10 +54,10 @@ module _ (t : List ℕ) (y : Sums) (zones blocks : List ℕ) where
       let (a, (b, (d, _))) = nothing (bad_fault (minus_one y.bad) ∷ given 18 0 (ltb year_files y.files) ∷ given 19 0 (ltb year_pairs y.pairs) ∷ given 20 0 (not (whole_names zones && whole_names blocks)) ∷ []) (sym n) in
       ltb-false year_pairs y.pairs (given_none 19 0 (ltb year_pairs y.pairs) d)
 
-  pub done_few : (c : Check) → c ≡ Fine → verdict c ≡ cap_fault (state_of [] y) zones blocks → y.pairs ≤ year_pairs
+  pub done_few : (c : Result (Unit {0}) Refusal) → c ≡ Ok tt → verdict c ≡ cap_fault (state_of [] y) zones blocks → y.pairs ≤ year_pairs
   done_few c e v = few_pairs (sym (ap verdict e) ∙ v)
 
-  pub done_is : (c : Check) → c ≡ Fine → verdict c ≡ cap_fault (state_of [] y) zones blocks → closed_of t (Done (record { pairs = y.pairs; gaps = y.gaps })) ≡ cap_answer (state_of t y) zones blocks
+  pub done_is : (c : Result (Unit {0}) Refusal) → c ≡ Ok tt → verdict c ≡ cap_fault (state_of [] y) zones blocks → closed_of t (Done (record { pairs = y.pairs; gaps = y.gaps })) ≡ cap_answer (state_of t y) zones blocks
   done_is c e v =
       let n : none ≡ cap_fault (state_of t y) zones blocks = sym (ap verdict e) ∙ v in
       let m : y.pairs ≡ min year_pairs y.pairs = omega (arith, few_pairs n) in

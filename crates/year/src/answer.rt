@@ -9,7 +9,7 @@ ghost use Rattle.year.specs.Closing.{closed_of};
 
 use crate::state::{Sums, Year};
 use limits::{YEAR_FILES, YEAR_PAIRS};
-use map_file::{Check, Refusal, first, given};
+use map_file::{Check, Refusal, given};
 use names::whole;
 
 // The pairs, as so many rows of the year's table, and the gaps.
@@ -37,7 +37,7 @@ fn bad_file(bad: u16) -> Check
     ensures { verdict result ≡ bad_fault (minus_one bad) }
 {
     if bad == 0 {
-        return Check::Fine;
+        return Ok(());
     }
     given(17, bad - 1, true)
 }
@@ -46,11 +46,10 @@ fn bad_file(bad: u16) -> Check
 fn fault(sums: Sums, zones: &[u8], blocks: &[u8]) -> Check
     ensures { verdict result ≡ cap_fault (state_of [] sums) zones.now blocks.now }
 {
-    let bad = bad_file(sums.bad);
-    let many = given(18, 0, YEAR_FILES < sums.files);
-    let over = given(19, 0, YEAR_PAIRS < sums.pairs);
-    let names = given(20, 0, torn(zones, blocks));
-    first(bad, first(many, first(over, names)))
+    bad_file(sums.bad)?;
+    given(18, 0, YEAR_FILES < sums.files)?;
+    given(19, 0, YEAR_PAIRS < sums.pairs)?;
+    given(20, 0, torn(zones, blocks))
 }
 
 // What comes of the files that were added, with two lists of names.
@@ -59,8 +58,8 @@ pub fn close(year: Year, zones: &[u8], blocks: &[u8]) -> Closed
 {
     let sums = year.sums;
     match fault(sums, zones, blocks) {
-        Check::Bad(r) => Closed::Refused(r),
-        Check::Fine => Closed::Done(Totals {
+        Err(r) => Closed::Refused(r),
+        Ok(()) => Closed::Done(Totals {
             pairs: sums.pairs as u16,
             gaps: sums.gaps,
         }),

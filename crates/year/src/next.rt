@@ -15,7 +15,6 @@ use crate::face::in_order;
 use crate::faces::{add_faces, gaps};
 use crate::state::{Sums, Year, has_room, kept_pairs};
 use limits::{FACE_CELLS, HALF_CELLS, SOURCE_CELLS, VERTEX_CELLS, YEAR_FILES};
-use map_file::Check;
 use ovfile::Layout;
 use ovfile_read::{counts, faces_start, judge, layout_in};
 
@@ -72,13 +71,13 @@ fn add_read(rows: &mut [u32], sums: Sums, file: &[u8]) -> Sums
 {
     let check = judge(file, VERTEX_CELLS, HALF_CELLS, SOURCE_CELLS, FACE_CELLS);
     match check {
-        Check::Bad(_) => Sums {
+        Err(_) => Sums {
             pairs: sums.pairs,
             gaps: sums.gaps,
             files: sums.files + 1,
             bad: first_bad(sums.bad, sums.files),
         },
-        Check::Fine => add_sheet(
+        Ok(()) => add_sheet(
             layout_in(file),
             file,
             others(counts(file).faces),

@@ -26,21 +26,21 @@ pub melt_layers-requires : goal.melt_layers-requires
 melt_layers-requires c =
     let a = c.args in
     let laid = c.lay_maps-c.ensures in
-    let none = sym laid.0 ∙ ap verdict c.in-Fine.is in
+    let none = sym laid.0 ∙ ap verdict c.in-Ok.is in
     let files = a.zones.now ∷ a.blocks.now ∷ a.bed.now ∷ [] in
     layers-held files _ _ (laid.1 none) refl (room files refl) (all_pass files none)
 
-pub returns-in-Bad : goal.returns-in-Bad
-returns-in-Bad c =
+pub returns-in-Err : goal.returns-in-Err
+returns-in-Err c =
     let a = c.args in
     c.refuse.ensures
-    ∙ files-refused (a.zones.now ∷ a.blocks.now ∷ a.bed.now ∷ []) (lengths_of (tables_by a.vertices.now a.halves.now a.sources.now a.faces.now)) _ (sym c.lay_maps-c.ensures.0 ∙ ap verdict c.in-Bad.is)
+    ∙ files-refused (a.zones.now ∷ a.blocks.now ∷ a.bed.now ∷ []) (lengths_of (tables_by a.vertices.now a.halves.now a.sources.now a.faces.now)) _ (sym c.lay_maps-c.ensures.0 ∙ ap verdict c.in-Err.is)
 
-pub returns-in-Fine : goal.returns-in-Fine
-returns-in-Fine c =
+pub returns-in-Ok : goal.returns-in-Ok
+returns-in-Ok c =
     let a = c.args in
     let laid = c.lay_maps-c.ensures in
-    let none = sym laid.0 ∙ ap verdict c.in-Fine.is in
+    let none = sym laid.0 ∙ ap verdict c.in-Ok.is in
     let files = a.zones.now ∷ a.blocks.now ∷ a.bed.now ∷ [] in
     let lengths = lengths_of (tables_by a.vertices.now a.halves.now a.sources.now a.faces.now) in
     c.melt_layers.ensures

@@ -31,7 +31,7 @@ lay_carriers-requires c =
     let s = c.args.file.now in
     let form = c.requires.fact_2 in
     let R = c.requires.fact_3 in
-    let parts = sym (part-faults R v e) ∙ sym c.part_fault-c.ensures ∙ ap verdict c.in-Fine.is in
+    let parts = sym (part-faults R v e) ∙ sym c.part_fault-c.ensures ∙ ap verdict c.in-Ok.is in
     record { fact_1 = corners-read R v e form parts; fact_2 = origins-read R v e form parts; fact_3 = omega (arith, c.requires.fact_4, e) }
 
 pub net_fault-requires : goal.net_fault-requires
@@ -41,7 +41,7 @@ net_fault-requires c =
     let s = c.args.file.now in
     let form = c.requires.fact_2 in
     let R = c.requires.fact_3 in
-    let parts = sym (part-faults R v e) ∙ sym c.part_fault-c.ensures ∙ ap verdict c.in-Fine.is in
+    let parts = sym (part-faults R v e) ∙ sym c.part_fault-c.ensures ∙ ap verdict c.in-Ok.is in
     let is = c.lay_carriers.ensures ∙ carriers-read R v e form parts c.args.carriers.now in
     let room = c.requires.fact_4 in
     record {
@@ -52,21 +52,21 @@ net_fault-requires c =
       fact_5 = laid-read R v e form parts _ _ room is;
     }
 
-pub returns-in-Bad : goal.returns-in-Bad
-returns-in-Bad c =
+pub returns-in-Err : goal.returns-in-Err
+returns-in-Err c =
     let v = ap (λ (h : Header). h.vertices) c.requires.fact_1 in
     let e = ap (λ (h : Header). h.edges) c.requires.fact_1 in
-    let told = ap verdict c.in-Bad.is in
+    let told = ap verdict c.in-Err.is in
     let refused = parts_some c.args.file.now c.requires.fact_2 (sym (part-faults c.requires.fact_3 v e) ∙ sym c.part_fault-c.ensures ∙ told) in
     (told ∙ sym refused, λ q. absurd (no_refusal (sym refused ∙ q)))
 
-pub returns-in-Fine : goal.returns-in-Fine
-returns-in-Fine c =
+pub returns-in-Ok : goal.returns-in-Ok
+returns-in-Ok c =
     let v = ap (λ (h : Header). h.vertices) c.requires.fact_1 in
     let e = ap (λ (h : Header). h.edges) c.requires.fact_1 in
     let s = c.args.file.now in
     let form = c.requires.fact_2 in
     let R = c.requires.fact_3 in
-    let parts = sym (part-faults R v e) ∙ sym c.part_fault-c.ensures ∙ ap verdict c.in-Fine.is in
+    let parts = sym (part-faults R v e) ∙ sym c.part_fault-c.ensures ∙ ap verdict c.in-Ok.is in
     let is = c.lay_carriers.ensures ∙ carriers-read R v e form parts c.args.carriers.now in
     (c.net_fault.ensures ∙ ap (λ (m : Map). first_of (net_faults m)) (map_read R v e form parts _ _ c.requires.fact_4 is) ∙ sym (parts_none s form parts), λ q. is)

@@ -29,10 +29,10 @@ labels_disagree-requires c =
     (gives-eight ps os cs a.n a.e c.edges_clash-eight.ensures)
     (gives-nine ps os cs a.n a.e c.given-nine.ensures c.first_lonely-lonely.ensures) in
     let p = c.requires in
-    record { fact_1 = p.fact_1; fact_2 = p.fact_2; fact_3 = p.fact_3; fact_4 = p.fact_4; fact_5 = clear-plane ps os cs a.n a.e p.fact_5 (none ∙ ap verdict c.in-Fine.is) }
+    record { fact_1 = p.fact_1; fact_2 = p.fact_2; fact_3 = p.fact_3; fact_4 = p.fact_4; fact_5 = clear-plane ps os cs a.n a.e p.fact_5 (none ∙ ap verdict c.in-Ok.is) }
 
-pub returns-in-Bad : goal.returns-in-Bad
-returns-in-Bad c =
+pub returns-in-Err : goal.returns-in-Err
+returns-in-Err c =
     let a = c.args in
     let ps = a.points.now in
     let os = a.origins.now in
@@ -41,11 +41,11 @@ returns-in-Bad c =
     eight-nine ps os cs a.n a.e c.first-c.ensures
     (gives-eight ps os cs a.n a.e c.edges_clash-eight.ensures)
     (gives-nine ps os cs a.n a.e c.given-nine.ensures c.first_lonely-lonely.ensures) in
-    let told = ap verdict c.in-Bad.is in
+    let told = ap verdict c.in-Err.is in
     told ∙ sym (net_some ps os cs a.n a.e (take (2 * a.e) a.labels.now) (found ∙ told))
 
-pub returns-in-Fine : goal.returns-in-Fine
-returns-in-Fine c =
+pub returns-in-Ok : goal.returns-in-Ok
+returns-in-Ok c =
     let a = c.args in
     let ps = a.points.now in
     let os = a.origins.now in
@@ -54,4 +54,4 @@ returns-in-Fine c =
     eight-nine ps os cs a.n a.e c.first-c.ensures
     (gives-eight ps os cs a.n a.e c.edges_clash-eight.ensures)
     (gives-nine ps os cs a.n a.e c.given-nine.ensures c.first_lonely-lonely.ensures) in
-    c.labels_disagree.ensures ∙ sym (net_none ps os cs a.n a.e (take (2 * a.e) a.labels.now) (found ∙ ap verdict c.in-Fine.is))
+    c.labels_disagree.ensures ∙ sym (net_none ps os cs a.n a.e (take (2 * a.e) a.labels.now) (found ∙ ap verdict c.in-Ok.is))

@@ -23,22 +23,22 @@ corner a n = record { x_is = n.0; y_is = n.1 }
 pub between-requires : goal.between-requires
 between-requires c =
     let a = c.args in
-    let k = askable (vec_of a.a) (vec_of a.b) (vec_of a.c) (vec_of a.d) (sym c.faults-found.ensures ∙ ap verdict c.in-Fine.is) in
+    let k = askable (vec_of a.a) (vec_of a.b) (vec_of a.c) (vec_of a.d) (sym c.faults-found.ensures ∙ ap verdict c.in-Ok.is) in
     (corner (vec_of a.a) k.near_a, corner (vec_of a.b) k.near_b)
 
-pub between-requires-in-Fine : goal.between-requires-in-Fine
-between-requires-in-Fine c =
+pub between-requires-in-Ok : goal.between-requires-in-Ok
+between-requires-in-Ok c =
     let a = c.args in
-    let k = askable (vec_of a.a) (vec_of a.b) (vec_of a.c) (vec_of a.d) (sym c.faults-found.ensures ∙ ap verdict c.in-Fine.is) in
+    let k = askable (vec_of a.a) (vec_of a.b) (vec_of a.c) (vec_of a.d) (sym c.faults-found.ensures ∙ ap verdict c.in-Ok.is) in
     (corner (vec_of a.c) k.near_c, corner (vec_of a.d) k.near_d)
 
-pub returns-in-Bad : goal.returns-in-Bad
-returns-in-Bad c =
+pub returns-in-Err : goal.returns-in-Err
+returns-in-Err c =
     let a = c.args in
-    sym (ap (answer (met (vec_of a.a) (vec_of a.b) (vec_of a.c) (vec_of a.d))) (sym c.faults-found.ensures ∙ ap verdict c.in-Bad.is))
+    sym (ap (answer (met (vec_of a.a) (vec_of a.b) (vec_of a.c) (vec_of a.d))) (sym c.faults-found.ensures ∙ ap verdict c.in-Err.is))
 
-pub returns-in-Fine : goal.returns-in-Fine
-returns-in-Fine c =
+pub returns-in-Ok : goal.returns-in-Ok
+returns-in-Ok c =
     let a = c.args in
-    ap done (c.meeting.ensures.is ∙ (λ i. meeting (c.between.ensures.is i) (c.between-in-Fine.ensures.is i)))
-    ∙ sym (ap (answer (met (vec_of a.a) (vec_of a.b) (vec_of a.c) (vec_of a.d))) (sym c.faults-found.ensures ∙ ap verdict c.in-Fine.is))
+    ap done (c.meeting.ensures.is ∙ (λ i. meeting (c.between.ensures.is i) (c.between-in-Ok.ensures.is i)))
+    ∙ sym (ap (answer (met (vec_of a.a) (vec_of a.b) (vec_of a.c) (vec_of a.d))) (sym c.faults-found.ensures ∙ ap verdict c.in-Ok.is))

@@ -50,7 +50,7 @@ module _ (c : After-over_room-check) where
 pub melt_cut-requires : goal.melt_cut-requires
 melt_cut-requires c =
     let p = c.requires in
-    let w = cut_within (ms (goal.at.melt_cut-requires c).Start) (k (goal.at.melt_cut-requires c).Start) p.fact_2 (lent (goal.at.melt_cut-requires c).Start) (sym (judged (goal.at.melt_cut-requires c).After-over_room-check) ∙ ap verdict c.in-Fine.is) in
+    let w = cut_within (ms (goal.at.melt_cut-requires c).Start) (k (goal.at.melt_cut-requires c).Start) p.fact_2 (lent (goal.at.melt_cut-requires c).Start) (sym (judged (goal.at.melt_cut-requires c).After-over_room-check) ∙ ap verdict c.in-Ok.is) in
     record {
       fact_1 = p.fact_1;
       fact_2 = p.fact_2;
@@ -58,33 +58,33 @@ melt_cut-requires c =
       fact_4 = w;
     }
 
-pub returns-in-Bad : goal.returns-in-Bad
-returns-in-Bad c =
-    c.refuse.ensures ∙ room_refused (ms (goal.at.returns-in-Bad c).Start) (lent (goal.at.returns-in-Bad c).Start) _ (cut_over (ms (goal.at.returns-in-Bad c).Start) (k (goal.at.returns-in-Bad c).Start) c.requires.fact_2 (lent (goal.at.returns-in-Bad c).Start) _ (sym (judged (goal.at.returns-in-Bad c).After-over_room-check) ∙ ap verdict c.in-Bad.is))
+pub returns-in-Err : goal.returns-in-Err
+returns-in-Err c =
+    c.refuse.ensures ∙ room_refused (ms (goal.at.returns-in-Err c).Start) (lent (goal.at.returns-in-Err c).Start) _ (cut_over (ms (goal.at.returns-in-Err c).Start) (k (goal.at.returns-in-Err c).Start) c.requires.fact_2 (lent (goal.at.returns-in-Err c).Start) _ (sym (judged (goal.at.returns-in-Err c).After-over_room-check) ∙ ap verdict c.in-Err.is))
 
-pub shape_of-vertices-in-Bad : goal.shape_of-vertices-in-Bad
-shape_of-vertices-in-Bad c = c.refuse.auto.vertices
+pub shape_of-vertices-in-Err : goal.shape_of-vertices-in-Err
+shape_of-vertices-in-Err c = c.refuse.auto.vertices
 
-pub shape_of-halves-in-Bad : goal.shape_of-halves-in-Bad
-shape_of-halves-in-Bad c = c.refuse.auto.halves
+pub shape_of-halves-in-Err : goal.shape_of-halves-in-Err
+shape_of-halves-in-Err c = c.refuse.auto.halves
 
-pub shape_of-sources-in-Bad : goal.shape_of-sources-in-Bad
-shape_of-sources-in-Bad c = c.refuse.auto.sources
+pub shape_of-sources-in-Err : goal.shape_of-sources-in-Err
+shape_of-sources-in-Err c = c.refuse.auto.sources
 
-pub shape_of-faces-in-Bad : goal.shape_of-faces-in-Bad
-shape_of-faces-in-Bad c = c.refuse.auto.faces
+pub shape_of-faces-in-Err : goal.shape_of-faces-in-Err
+shape_of-faces-in-Err c = c.refuse.auto.faces
 
-pub shape_of-vertices-in-Fine : goal.shape_of-vertices-in-Fine
-shape_of-vertices-in-Fine c = c.melt_cut.auto.vertices
+pub shape_of-vertices-in-Ok : goal.shape_of-vertices-in-Ok
+shape_of-vertices-in-Ok c = c.melt_cut.auto.vertices
 
-pub shape_of-halves-in-Fine : goal.shape_of-halves-in-Fine
-shape_of-halves-in-Fine c = c.melt_cut.auto.halves
+pub shape_of-halves-in-Ok : goal.shape_of-halves-in-Ok
+shape_of-halves-in-Ok c = c.melt_cut.auto.halves
 
-pub shape_of-sources-in-Fine : goal.shape_of-sources-in-Fine
-shape_of-sources-in-Fine c = c.melt_cut.auto.sources
+pub shape_of-sources-in-Ok : goal.shape_of-sources-in-Ok
+shape_of-sources-in-Ok c = c.melt_cut.auto.sources
 
-pub shape_of-faces-in-Fine : goal.shape_of-faces-in-Fine
-shape_of-faces-in-Fine c = c.melt_cut.auto.faces
+pub shape_of-faces-in-Ok : goal.shape_of-faces-in-Ok
+shape_of-faces-in-Ok c = c.melt_cut.auto.faces
 
-pub returns-in-Fine : goal.returns-in-Fine
-returns-in-Fine c = c.melt_cut.ensures
+pub returns-in-Ok : goal.returns-in-Ok
+returns-in-Ok c = c.melt_cut.ensures

@@ -37,22 +37,22 @@ overflow_add-entries c =
 pub put_file-requires : goal.put_file-requires
 put_file-requires c =
     let a = c.args in
-    let r = room_both (length a.out.now) (length a.list.now) _ _ (sym c.judge-check.ensures ∙ ap verdict c.in-Fine.is) in
+    let r = room_both (length a.out.now) (length a.list.now) _ _ (sym c.judge-check.ensures ∙ ap verdict c.in-Ok.is) in
     (corners-here a.file.now a.points.now a.labels.now a.ends.now a.numbers.now a.corners.now a.pieces.now a.vertices a.edges c.requires.2 a.n a.e c.requires.0 c.requires.1 (length a.out.now) (length a.list.now) _ _ c.map_length-bytes.ensures refl, counted-here a.file.now a.points.now a.labels.now a.ends.now a.numbers.now a.corners.now a.pieces.now a.vertices a.edges c.requires.2 a.n a.e c.requires.0 c.requires.1 (length a.out.now) (length a.list.now) _ _ c.map_length-bytes.ensures refl, omega (arith, r.0, c.map_length-bytes.ensures))
 
 pub put_list-requires : goal.put_list-requires
 put_list-requires c =
     let a = c.args in
-    let r = room_both (length a.out.now) (length a.list.now) _ _ (sym c.judge-check.ensures ∙ ap verdict c.in-Fine.is) in
+    let r = room_both (length a.out.now) (length a.list.now) _ _ (sym c.judge-check.ensures ∙ ap verdict c.in-Ok.is) in
     (omega (arith, c.requires.0, c.requires.2.counted.vertices_long), omega (arith, c.requires.1, c.requires.2.counted.edges_long), list_room a.file.now a.points.now a.labels.now a.ends.now a.numbers.now a.corners.now a.pieces.now a.vertices a.edges c.requires.2 a.n a.e c.requires.0 c.requires.1 (length a.out.now) (length a.list.now) _ _ c.map_length-bytes.ensures refl r.1)
 
-pub returns-in-Bad : goal.returns-in-Bad
-returns-in-Bad c =
+pub returns-in-Err : goal.returns-in-Err
+returns-in-Err c =
     let a = c.args in
-    c.refuse.ensures ∙ mend-refused a.file.now a.points.now a.labels.now a.ends.now a.numbers.now a.corners.now a.pieces.now a.vertices a.edges c.requires.2 a.n a.e c.requires.0 c.requires.1 (length a.out.now) (length a.list.now) _ _ c.map_length-bytes.ensures refl _ (sym c.judge-check.ensures ∙ ap verdict c.in-Bad.is)
+    c.refuse.ensures ∙ mend-refused a.file.now a.points.now a.labels.now a.ends.now a.numbers.now a.corners.now a.pieces.now a.vertices a.edges c.requires.2 a.n a.e c.requires.0 c.requires.1 (length a.out.now) (length a.list.now) _ _ c.map_length-bytes.ensures refl _ (sym c.judge-check.ensures ∙ ap verdict c.in-Err.is)
 
-pub returns-in-Fine : goal.returns-in-Fine
-returns-in-Fine c =
+pub returns-in-Ok : goal.returns-in-Ok
+returns-in-Ok c =
     let a = c.args in
     (λ i. record { answer = done (c.map_length-bytes.result, (a.n - a.vertices) + (a.e - a.edges)); file = c.put_file.ensures i; list = c.put_list.ensures i })
-    ∙ mend-done a.file.now a.points.now a.labels.now a.ends.now a.numbers.now a.corners.now a.pieces.now a.vertices a.edges c.requires.2 a.n a.e c.requires.0 c.requires.1 (length a.out.now) (length a.list.now) _ _ c.map_length-bytes.ensures refl (sym c.judge-check.ensures ∙ ap verdict c.in-Fine.is)
+    ∙ mend-done a.file.now a.points.now a.labels.now a.ends.now a.numbers.now a.corners.now a.pieces.now a.vertices a.edges c.requires.2 a.n a.e c.requires.0 c.requires.1 (length a.out.now) (length a.list.now) _ _ c.map_length-bytes.ensures refl (sym c.judge-check.ensures ∙ ap verdict c.in-Ok.is)

@@ -22,21 +22,21 @@ pub from_layers-requires : goal.from_layers-requires
 from_layers-requires c =
     let a = c.args in
     let laid = c.lay_maps-c.ensures in
-    let none = sym laid.0 ∙ ap verdict c.in-Fine.is in
+    let none = sym laid.0 ∙ ap verdict c.in-Ok.is in
     let files = a.zones.now ∷ a.blocks.now ∷ a.bed.now ∷ [] in
     layers-held files _ _ (laid.1 none) refl (layer_room files c.requires) (all_pass files none)
 
-pub returns-in-Bad : goal.returns-in-Bad
-returns-in-Bad c =
+pub returns-in-Err : goal.returns-in-Err
+returns-in-Err c =
     let a = c.args in
     c.refuse.ensures
-    ∙ maps-refused (a.zones.now ∷ a.blocks.now ∷ a.bed.now ∷ []) (lengths_of (tables_by a.vertices.now a.halves.now a.sources.now a.faces.now)) _ (sym c.lay_maps-c.ensures.0 ∙ ap verdict c.in-Bad.is)
+    ∙ maps-refused (a.zones.now ∷ a.blocks.now ∷ a.bed.now ∷ []) (lengths_of (tables_by a.vertices.now a.halves.now a.sources.now a.faces.now)) _ (sym c.lay_maps-c.ensures.0 ∙ ap verdict c.in-Err.is)
 
-pub returns-in-Fine : goal.returns-in-Fine
-returns-in-Fine c =
+pub returns-in-Ok : goal.returns-in-Ok
+returns-in-Ok c =
     let a = c.args in
     let laid = c.lay_maps-c.ensures in
-    let none = sym laid.0 ∙ ap verdict c.in-Fine.is in
+    let none = sym laid.0 ∙ ap verdict c.in-Ok.is in
     let files = a.zones.now ∷ a.blocks.now ∷ a.bed.now ∷ [] in
     let lengths = lengths_of (tables_by a.vertices.now a.halves.now a.sources.now a.faces.now) in
     c.from_layers.ensures

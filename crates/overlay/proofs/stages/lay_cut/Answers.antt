@@ -51,43 +51,43 @@ module _ (c : After-over_room-check) where
 pub from_cut-requires : goal.from_cut-requires
 from_cut-requires c =
     let p = c.requires in
-    let w = cut_within (ms (goal.at.from_cut-requires c).Start) (k (goal.at.from_cut-requires c).Start) p.fact_2 (lent (goal.at.from_cut-requires c).Start) (sym (judged (goal.at.from_cut-requires c).After-over_room-check) ∙ ap verdict c.in-Fine.is) in
+    let w = cut_within (ms (goal.at.from_cut-requires c).Start) (k (goal.at.from_cut-requires c).Start) p.fact_2 (lent (goal.at.from_cut-requires c).Start) (sym (judged (goal.at.from_cut-requires c).After-over_room-check) ∙ ap verdict c.in-Ok.is) in
     record {
       fact_1 = p.fact_1;
       fact_2 = cut-drawable (L (goal.at.from_cut-requires c).Start) p.fact_1 (k (goal.at.from_cut-requires c).Start) p.fact_2 (omega (arith, w.vertices)) (omega (arith, w.edges)) (p.fact_3.points (omega (arith, w.vertices))) (p.fact_3.pieces (omega (arith, w.edges)));
       fact_3 = w;
     }
 
-pub returns-in-Bad : goal.returns-in-Bad
-returns-in-Bad c =
-    c.refuse.ensures ∙ cut-refused (ms (goal.at.returns-in-Bad c).Start) (k (goal.at.returns-in-Bad c).Start) c.requires.fact_2 (lent (goal.at.returns-in-Bad c).Start) _ (sym (judged (goal.at.returns-in-Bad c).After-over_room-check) ∙ ap verdict c.in-Bad.is)
+pub returns-in-Err : goal.returns-in-Err
+returns-in-Err c =
+    c.refuse.ensures ∙ cut-refused (ms (goal.at.returns-in-Err c).Start) (k (goal.at.returns-in-Err c).Start) c.requires.fact_2 (lent (goal.at.returns-in-Err c).Start) _ (sym (judged (goal.at.returns-in-Err c).After-over_room-check) ∙ ap verdict c.in-Err.is)
 
-pub returns-in-Fine : goal.returns-in-Fine
-returns-in-Fine c =
+pub returns-in-Ok : goal.returns-in-Ok
+returns-in-Ok c =
     let C = c.requires.fact_2 in
-    let w = cut_within (ms (goal.at.returns-in-Fine c).Start) (k (goal.at.returns-in-Fine c).Start) C (lent (goal.at.returns-in-Fine c).Start) (sym (judged (goal.at.returns-in-Fine c).After-over_room-check) ∙ ap verdict c.in-Fine.is) in
-    c.from_cut.ensures ∙ ap (λ (o : Overlay). laid_out (ms (goal.at.returns-in-Fine c).Start) o (lent (goal.at.returns-in-Fine c).Start)) (overlay_in_lem (ms (goal.at.returns-in-Fine c).Start) (k (goal.at.returns-in-Fine c).Start) C (omega (arith, w.vertices)) (omega (arith, w.edges)))
+    let w = cut_within (ms (goal.at.returns-in-Ok c).Start) (k (goal.at.returns-in-Ok c).Start) C (lent (goal.at.returns-in-Ok c).Start) (sym (judged (goal.at.returns-in-Ok c).After-over_room-check) ∙ ap verdict c.in-Ok.is) in
+    c.from_cut.ensures ∙ ap (λ (o : Overlay). laid_out (ms (goal.at.returns-in-Ok c).Start) o (lent (goal.at.returns-in-Ok c).Start)) (overlay_in_lem (ms (goal.at.returns-in-Ok c).Start) (k (goal.at.returns-in-Ok c).Start) C (omega (arith, w.vertices)) (omega (arith, w.edges)))
 
-pub shape_of-vertices-in-Bad : goal.shape_of-vertices-in-Bad
-shape_of-vertices-in-Bad c = c.refuse.auto.vertices
+pub shape_of-vertices-in-Err : goal.shape_of-vertices-in-Err
+shape_of-vertices-in-Err c = c.refuse.auto.vertices
 
-pub shape_of-halves-in-Bad : goal.shape_of-halves-in-Bad
-shape_of-halves-in-Bad c = c.refuse.auto.halves
+pub shape_of-halves-in-Err : goal.shape_of-halves-in-Err
+shape_of-halves-in-Err c = c.refuse.auto.halves
 
-pub shape_of-sources-in-Bad : goal.shape_of-sources-in-Bad
-shape_of-sources-in-Bad c = c.refuse.auto.sources
+pub shape_of-sources-in-Err : goal.shape_of-sources-in-Err
+shape_of-sources-in-Err c = c.refuse.auto.sources
 
-pub shape_of-faces-in-Bad : goal.shape_of-faces-in-Bad
-shape_of-faces-in-Bad c = c.refuse.auto.faces
+pub shape_of-faces-in-Err : goal.shape_of-faces-in-Err
+shape_of-faces-in-Err c = c.refuse.auto.faces
 
-pub shape_of-vertices-in-Fine : goal.shape_of-vertices-in-Fine
-shape_of-vertices-in-Fine c = c.from_cut.auto.vertices
+pub shape_of-vertices-in-Ok : goal.shape_of-vertices-in-Ok
+shape_of-vertices-in-Ok c = c.from_cut.auto.vertices
 
-pub shape_of-halves-in-Fine : goal.shape_of-halves-in-Fine
-shape_of-halves-in-Fine c = c.from_cut.auto.halves
+pub shape_of-halves-in-Ok : goal.shape_of-halves-in-Ok
+shape_of-halves-in-Ok c = c.from_cut.auto.halves
 
-pub shape_of-sources-in-Fine : goal.shape_of-sources-in-Fine
-shape_of-sources-in-Fine c = c.from_cut.auto.sources
+pub shape_of-sources-in-Ok : goal.shape_of-sources-in-Ok
+shape_of-sources-in-Ok c = c.from_cut.auto.sources
 
-pub shape_of-faces-in-Fine : goal.shape_of-faces-in-Fine
-shape_of-faces-in-Fine c = c.from_cut.auto.faces
+pub shape_of-faces-in-Ok : goal.shape_of-faces-in-Ok
+shape_of-faces-in-Ok c = c.from_cut.auto.faces

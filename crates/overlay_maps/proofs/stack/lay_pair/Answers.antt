@@ -21,7 +21,7 @@ lay_behind-requires c =
     let a = c.args.zones.now in
     let v = c.vertex_count-v.ensures in
     let e = c.edge_count-e.ensures in
-    let pass = of_none 1 (fault a) (sym first.ensures.0 ∙ ap verdict c.in-Fine.is) in
+    let pass = of_none 1 (fault a) (sym first.ensures.0 ∙ ap verdict c.in-Ok.is) in
     let sv = stored_is a pass vertex_count in
     let se = stored_is a pass edges_in in
     let kept = first.auto in
@@ -32,21 +32,21 @@ lay_behind-requires c =
       labels = omega (arith, room.labels, e, se, kept.labels);
     }
 
-pub returns-in-Bad : goal.returns-in-Bad
-returns-in-Bad c =
+pub returns-in-Err : goal.returns-in-Err
+returns-in-Err c =
     let a = c.args in
-    let told = ap verdict c.in-Bad.is in
+    let told = ap verdict c.in-Err.is in
     let refused = before_refused (a.zones.now ∷ []) a.blocks.now (first_one _ ∙ sym c.lay_behind-c.ensures.0 ∙ told) in
     (told ∙ sym refused, λ q. absurd (no_refusal (sym refused ∙ q)))
 
-pub returns-in-Fine : goal.returns-in-Fine
-returns-in-Fine c =
+pub returns-in-Ok : goal.returns-in-Ok
+returns-in-Ok c =
     let room = c.requires in
     let a = c.args.zones.now in
     let b = c.args.blocks.now in
     let first = c.lay_behind-c.ensures in
     let second = c.lay_behind.ensures in
-    let none = sym first.0 ∙ ap verdict c.in-Fine.is in
+    let none = sym first.0 ∙ ap verdict c.in-Ok.is in
     let v = c.vertex_count-v.ensures in
     let e = c.edge_count-e.ensures in (
       second.0 ∙ sym (before_passes (a ∷ []) b (first_one _ ∙ none)),

@@ -18,11 +18,11 @@ lay_behind-requires c =
     let room = c.requires in
     let pair = c.lay_pair-c in
     let files = c.args.zones.now ∷ c.args.blocks.now ∷ [] in
-    let none = sym pair.ensures.0 ∙ ap verdict c.in-Fine.is in
+    let none = sym pair.ensures.0 ∙ ap verdict c.in-Ok.is in
     let v = c.vertex_count.ensures in
-    let w = c.vertex_count-in-Fine.ensures in
+    let w = c.vertex_count-in-Ok.ensures in
     let e = c.edge_count.ensures in
-    let f = c.edge_count-in-Fine.ensures in
+    let f = c.edge_count-in-Ok.ensures in
     let a = c.args.zones.now in
     let b = c.args.blocks.now in
     let pa = all_pass files none 0 (omega arith) in
@@ -39,25 +39,25 @@ lay_behind-requires c =
       labels = omega (arith, room.labels, e, f, ea, eb, kept.labels);
     }
 
-pub returns-in-Bad : goal.returns-in-Bad
-returns-in-Bad c =
+pub returns-in-Err : goal.returns-in-Err
+returns-in-Err c =
     let a = c.args in
-    let told = ap verdict c.in-Bad.is in
+    let told = ap verdict c.in-Err.is in
     let refused = before_refused (a.zones.now ∷ a.blocks.now ∷ []) a.bed.now (sym c.lay_pair-c.ensures.0 ∙ told) in
     (told ∙ sym refused, λ q. absurd (no_refusal (sym refused ∙ q)))
 
-pub returns-in-Fine : goal.returns-in-Fine
-returns-in-Fine c =
+pub returns-in-Ok : goal.returns-in-Ok
+returns-in-Ok c =
     let room = c.requires in
     let files = c.args.zones.now ∷ c.args.blocks.now ∷ [] in
     let s = c.args.bed.now in
     let pair = c.lay_pair-c.ensures in
     let last = c.lay_behind.ensures in
-    let none = sym pair.0 ∙ ap verdict c.in-Fine.is in
+    let none = sym pair.0 ∙ ap verdict c.in-Ok.is in
     let v = c.vertex_count.ensures in
-    let w = c.vertex_count-in-Fine.ensures in
+    let w = c.vertex_count-in-Ok.ensures in
     let e = c.edge_count.ensures in
-    let f = c.edge_count-in-Fine.ensures in
+    let f = c.edge_count-in-Ok.ensures in
     let a = c.args.zones.now in
     let b = c.args.blocks.now in
     let pa = all_pass files none 0 (omega arith) in

@@ -12,25 +12,25 @@ use Rattle.ovfile_read.proofs.reader.judge.Goals as goal
 use Rattle.ovfile_read.proofs.reader.judge.Goals.{In-Fine}
 
 form-is-right : (c : In-Fine) → first_of (head_faults (length layouts) (layout_in c.args.file.now) c.args.file.now) ≡ none
-form-is-right c = sym c.head-c.ensures ∙ ap verdict c.in-Fine.is
+form-is-right c = sym c.head-c.ensures ∙ ap verdict c.in-Ok.is
 
 pub body-requires : goal.body-requires
 body-requires c =
     (c.layout_in.ensures.1, right_counts c.args.file.now (form-is-right (goal.at.body-requires c).In-Fine))
 
-pub returns-in-Bad : goal.returns-in-Bad
-returns-in-Bad c =
+pub returns-in-Err : goal.returns-in-Err
+returns-in-Err c =
     let a = c.args in
     let s = a.file.now in
-    let told = ap verdict c.in-Bad.is in
+    let told = ap verdict c.in-Err.is in
     told ∙ sym (first_some (head_faults (length layouts) (layout_in s) s) (body_in (layout_in s) s (lengths_by a.vertices a.halves a.sources a.faces)) (sym c.head-c.ensures ∙ told))
 
-pub returns-in-Fine : goal.returns-in-Fine
-returns-in-Fine c =
+pub returns-in-Ok : goal.returns-in-Ok
+returns-in-Ok c =
     let a = c.args in
     let s = a.file.now in
     let ls = lengths_by a.vertices a.halves a.sources a.faces in
-    let h = form-is-right (goal.at.returns-in-Fine c).In-Fine in
+    let h = form-is-right (goal.at.returns-in-Ok c).In-Fine in
     c.body.ensures
     ∙ ap (λ (l : Layout). first_of (body_in l s ls)) c.layout_in.ensures.0
     ∙ sym (first_none (head_faults (length layouts) (layout_in s) s) (body_in (layout_in s) s ls) h)

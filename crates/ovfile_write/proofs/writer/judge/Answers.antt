@@ -18,16 +18,16 @@ counts-are c = let a = c.args in c.given-check.ensures ∙ ap (given 3 0) (c.ove
 
 pub body-requires : goal.body-requires
 body-requires c = let a =
-    c.args in within (lengths_by (length a.vertices.now) (length a.halves.now) (length a.sources.now) a.faces) (counts_of a.c) (sym (counts-are (goal.at.body-requires c).After-given-check) ∙ ap verdict c.in-Fine.is)
+    c.args in within (lengths_by (length a.vertices.now) (length a.halves.now) (length a.sources.now) a.faces) (counts_of a.c) (sym (counts-are (goal.at.body-requires c).After-given-check) ∙ ap verdict c.in-Ok.is)
 
-pub returns-in-Bad : goal.returns-in-Bad
-returns-in-Bad c =
+pub returns-in-Err : goal.returns-in-Err
+returns-in-Err c =
     let a = c.args in
-    let told = ap verdict c.in-Bad.is in
-    told ∙ (λ i. first_of ((sym told ∙ counts-are (goal.at.returns-in-Bad c).After-given-check) i ∷ others a.n (counts_of a.c) (tables_by a.vertices.now a.halves.now a.sources.now [])))
+    let told = ap verdict c.in-Err.is in
+    told ∙ (λ i. first_of ((sym told ∙ counts-are (goal.at.returns-in-Err c).After-given-check) i ∷ others a.n (counts_of a.c) (tables_by a.vertices.now a.halves.now a.sources.now [])))
 
-pub returns-in-Fine : goal.returns-in-Fine
-returns-in-Fine c =
+pub returns-in-Ok : goal.returns-in-Ok
+returns-in-Ok c =
     let a = c.args in
-    let told = ap verdict c.in-Fine.is in
-    c.body.ensures ∙ (λ i. first_of ((sym told ∙ counts-are (goal.at.returns-in-Fine c).After-given-check) i ∷ others a.n (counts_of a.c) (tables_by a.vertices.now a.halves.now a.sources.now [])))
+    let told = ap verdict c.in-Ok.is in
+    c.body.ensures ∙ (λ i. first_of ((sym told ∙ counts-are (goal.at.returns-in-Ok c).After-given-check) i ∷ others a.n (counts_of a.c) (tables_by a.vertices.now a.halves.now a.sources.now [])))

@@ -10,27 +10,27 @@ use Rattle.soundings.proofs.closing.answer.Goals as goal
 
 pub lay_pairs-requires : goal.lay_pairs-requires
 lay_pairs-requires c =
-    let n = c.requires.fact_2 (ap verdict c.in-Fine.is) in
+    let n = c.requires.fact_2 (ap verdict c.in-Ok.is) in
     record { fact_1 = c.requires.fact_1; fact_2 = n.0; fact_3 = n.1; fact_4 = n.2; fact_5 = n.3 }
 
-pub returns-in-Bad : goal.returns-in-Bad
-returns-in-Bad c =
+pub returns-in-Err : goal.returns-in-Err
+returns-in-Err c =
     let a = c.args in
-    c.refuse.ensures ∙ sym (ap (counted (room_by (length a.labels.now) (length a.counts.now)) (cells_by a.p.entries a.p.soundings a.p.read) (entries_in a.own.now a.times.now a.p.entries)) (ap verdict c.in-Bad.is))
+    c.refuse.ensures ∙ sym (ap (counted (room_by (length a.labels.now) (length a.counts.now)) (cells_by a.p.entries a.p.soundings a.p.read) (entries_in a.own.now a.times.now a.p.entries)) (ap verdict c.in-Err.is))
 
-pub returns-in-Fine : goal.returns-in-Fine
-returns-in-Fine c =
+pub returns-in-Ok : goal.returns-in-Ok
+returns-in-Ok c =
     let a = c.args in
-    c.lay_pairs.ensures ∙ sym (ap (counted (room_by (length a.labels.now) (length a.counts.now)) (cells_by a.p.entries a.p.soundings a.p.read) (entries_in a.own.now a.times.now a.p.entries)) (ap verdict c.in-Fine.is))
+    c.lay_pairs.ensures ∙ sym (ap (counted (room_by (length a.labels.now) (length a.counts.now)) (cells_by a.p.entries a.p.soundings a.p.read) (entries_in a.own.now a.times.now a.p.entries)) (ap verdict c.in-Ok.is))
 
-pub shape_of-labels-in-Bad : goal.shape_of-labels-in-Bad
-shape_of-labels-in-Bad c = c.refuse.auto.labels
+pub shape_of-labels-in-Err : goal.shape_of-labels-in-Err
+shape_of-labels-in-Err c = c.refuse.auto.labels
 
-pub shape_of-counts-in-Bad : goal.shape_of-counts-in-Bad
-shape_of-counts-in-Bad c = c.refuse.auto.counts
+pub shape_of-counts-in-Err : goal.shape_of-counts-in-Err
+shape_of-counts-in-Err c = c.refuse.auto.counts
 
-pub shape_of-labels-in-Fine : goal.shape_of-labels-in-Fine
-shape_of-labels-in-Fine c = c.lay_pairs.auto.labels
+pub shape_of-labels-in-Ok : goal.shape_of-labels-in-Ok
+shape_of-labels-in-Ok c = c.lay_pairs.auto.labels
 
-pub shape_of-counts-in-Fine : goal.shape_of-counts-in-Fine
-shape_of-counts-in-Fine c = c.lay_pairs.auto.counts
+pub shape_of-counts-in-Ok : goal.shape_of-counts-in-Ok
+shape_of-counts-in-Ok c = c.lay_pairs.auto.counts

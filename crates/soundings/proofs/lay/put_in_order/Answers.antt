@@ -14,7 +14,7 @@ pub lay_order-requires : goal.lay_order-requires
 lay_order-requires c =
     let a = c.args in
     let is = c.edge_count-e.ensures in
-    let L = c.requires.fact_1 (ap verdict c.in-Fine.is) in
+    let L = c.requires.fact_1 (ap verdict c.in-Ok.is) in
     let few = L.few in
     record { fact_1 = omega (arith, is, few); fact_2 = subst (EachEnds a.corners.now a.origins.now) (sym is) (flat_each _ _ _ _ _ L.flat); fact_3 = search rules }
 
@@ -22,7 +22,7 @@ pub lay_rails-requires : goal.lay_rails-requires
 lay_rails-requires c =
     let a = c.args in
     let is = c.edge_count-e.ensures in
-    let L = c.requires.fact_1 (ap verdict c.in-Fine.is) in (
+    let L = c.requires.fact_1 (ap verdict c.in-Ok.is) in (
       (omega (arith, is, L.few), omega (arith, is, L.labels_long), subst (EachEnds a.corners.now a.origins.now) (sym is) (flat_each _ _ _ _ _ L.flat)),
       (
         subst (Carriers a.carriers.now) (sym is) L.flat.carriers,
@@ -30,9 +30,9 @@ lay_rails-requires c =
       ),
     )
 
-pub returns-in-Bad : goal.returns-in-Bad
-returns-in-Bad c = λ q. absurd (no_refusal (sym (ap verdict c.in-Bad.is) ∙ q))
+pub returns-in-Err : goal.returns-in-Err
+returns-in-Err c = λ q. absurd (no_refusal (sym (ap verdict c.in-Err.is) ∙ q))
 
-pub returns-in-Fine : goal.returns-in-Fine
-returns-in-Fine c =
+pub returns-in-Ok : goal.returns-in-Ok
+returns-in-Ok c =
     λ q. is_ready_by c.edge_count-e.ensures (c.requires.fact_1 q) c.lay_order.ensures c.requires.fact_2 c.lay_rails.ensures.rows c.lay_rails.ensures.labels

@@ -7,15 +7,15 @@ pub overflow_cast-result : goal.overflow_cast-result
 overflow_cast-result c =
     let a = c.args in
     let f = c.fault in
-    omega (arith, done_few a.year.rows a.year.sums a.zones.now a.blocks.now f.result c.in-Fine.is f.ensures)
+    omega (arith, done_few a.year.rows a.year.sums a.zones.now a.blocks.now f.result c.in-Ok.is f.ensures)
 
-pub returns-in-Bad : goal.returns-in-Bad
-returns-in-Bad c =
+pub returns-in-Err : goal.returns-in-Err
+returns-in-Err c =
     let a = c.args in
-    refused_is a.year.rows a.year.sums a.zones.now a.blocks.now c.fault.result c.in-Bad.r c.in-Bad.is c.fault.ensures
+    refused_is a.year.rows a.year.sums a.zones.now a.blocks.now c.fault.result c.in-Err.r c.in-Err.is c.fault.ensures
 
-pub returns-in-Fine : goal.returns-in-Fine
-returns-in-Fine c =
+pub returns-in-Ok : goal.returns-in-Ok
+returns-in-Ok c =
     let a = c.args in
     let f = c.fault in
-    done_is a.year.rows a.year.sums a.zones.now a.blocks.now f.result c.in-Fine.is f.ensures
+    done_is a.year.rows a.year.sums a.zones.now a.blocks.now f.result c.in-Ok.is f.ensures

@@ -16,7 +16,7 @@ use Rattle.year.proofs.next.add_read.Goals.{After-others, In-Fine}
 
 -- a file that is not refused, and its faces other than 0
 is-fine : (c : In-Fine) → fault_of c.args.file.now ≡ none
-is-fine c = sym c.judge-check.ensures ∙ ap verdict c.in-Fine.is
+is-fine c = sym c.judge-check.ensures ∙ ap verdict c.in-Ok.is
 
 count : (c : After-others) → c.others.result ≡ (counts_in c.args.file.now).faces - 1
 count c = c.others.ensures ∙ ap (λ (n : Counts). n.faces - 1) c.counts.ensures
@@ -27,18 +27,18 @@ add_sheet-requires c =
     let few : c.others.result ≤ others = omega (arith, count (goal.at.add_sheet-requires c).After-others, fine_few file (is-fine (goal.at.add_sheet-requires c).In-Fine)) in
     record { fact_1 = c.layout_in.ensures.1; fact_2 = few; fact_3 = c.requires.fact_1; fact_4 = c.requires.fact_2 }
 
-pub returns-in-Bad : goal.returns-in-Bad
-returns-in-Bad c =
+pub returns-in-Err : goal.returns-in-Err
+returns-in-Err c =
     let a = c.args in
     let t = a.rows.now in
     bad-added t a.sums c.first_bad.result c.first_bad.ensures _ refl
-    ∙ ap (cap_read (state_of t a.sums)) (sym (sheet-refused a.file.now _ (sym c.judge-check.ensures ∙ ap verdict c.in-Bad.is)))
+    ∙ ap (cap_read (state_of t a.sums)) (sym (sheet-refused a.file.now _ (sym c.judge-check.ensures ∙ ap verdict c.in-Err.is)))
 
-pub returns-in-Fine : goal.returns-in-Fine
-returns-in-Fine c =
+pub returns-in-Ok : goal.returns-in-Ok
+returns-in-Ok c =
     let a = c.args in
     let file = a.file.now in
     let before = state_of a.rows.now a.sums in
     c.add_sheet.ensures
-    ∙ (λ i. cap_read before (some (pairs_from (c.layout_in.ensures.0 i) file (count (goal.at.returns-in-Fine c).After-others i))))
-    ∙ ap (cap_read before) (sym (sheet-fine file (is-fine (goal.at.returns-in-Fine c).In-Fine)))
+    ∙ (λ i. cap_read before (some (pairs_from (c.layout_in.ensures.0 i) file (count (goal.at.returns-in-Ok c).After-others i))))
+    ∙ ap (cap_read before) (sym (sheet-fine file (is-fine (goal.at.returns-in-Ok c).In-Fine)))
