@@ -14,7 +14,7 @@ use crate::earlier::earlier;
 use crate::queue::crossing_in;
 use graph::carrier_at;
 use limits::MAPS;
-use plane::{Cross, Point, Seg, crossing_over, over};
+use plane::{Point, Seg, crossing_over, over};
 
 // The map that edge k is of: the first whose edges end after it.
 fn map_of(starts: &[usize], k: usize) -> usize
@@ -58,8 +58,8 @@ fn cross_in(s: Seg, t: Seg, p: Point, points: &mut [i64], n: usize, guess: i64) 
     ensures { Queued (cross_ahead (pt_of p) (seg_of s) (seg_of t)) points.old n points.new result }
 {
     match crossing_over(s, t, over(s, t)) {
-        Cross::Nothing => n,
-        Cross::At(q) => ahead_in(p, q, points, n, guess),
+        None => n,
+        Some(q) => ahead_in(p, q, points, n, guess),
     }
 }
 

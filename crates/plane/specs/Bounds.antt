@@ -1,6 +1,6 @@
 -- How large the numbers of corners, directions, points and edges are: document 01's limits, by their names. First the numbers, then a record for each kind of
 -- value. Assumes nothing.
-use Rattle.std.specs.Prelude.{ℕ, ◌*◌, ◌≤◌, ℤ, pos, negsuc, nat_abs, ◌-ℤ◌, ◌<ℤ◌, ◌&&◌, ◌||◌}
+use Rattle.std.specs.Prelude.{ℕ, ◌*◌, ◌≤◌, ℤ, pos, negsuc, nat_abs, ◌+ℤ◌, ◌-ℤ◌, ◌<ℤ◌, ◌&&◌, ◌||◌}
 use Rattle.std.specs.Int.Signed.{lt_z}
 use Rattle.paper.specs.Limits.{reach, denominators}
 use Rattle.paper.specs.Plane.{Vec, Pt, Seg, head, Sign, lex_s}
@@ -62,6 +62,12 @@ pub record Edge (s : Seg) : Type 0 where
   pub foot_is : Corner s.foot
   pub head_is : Corner (head s)
   pub up_is : Direction s.up
+
+-- the edge in x alone, or in y: from a to a + u
+pub record Span (a u : ℤ) : Type 0 where
+  pub from_is : nat_abs a ≤ reach
+  pub to_is : nat_abs (a +ℤ u) ≤ reach
+  pub by_is : nat_abs u ≤ span
 
 -- a parameter of a crossing: n over the denominator, which is positive
 pub record Over (n d : ℤ) : Type 0 where

@@ -1,5 +1,5 @@
 -- The values of the code as the values of document 01's definitions: a Point is a point in fractions, a Vector a corner or a direction, a Seg an edge in whole
--- numbers, a Cross a point or none, a Meeting one of the four ways in which two edges meet. Assumes nothing.
+-- numbers, an Option of a Point a point or none, a Meeting one of the four ways in which two edges meet. Assumes nothing.
 use Rattle.std.specs.Prelude.{ℤ}
 use Rattle.exact.specs.Lowest.{pt}
 use Rattle.exact.specs.declared.terms.Point.{Point}
@@ -7,8 +7,8 @@ use Rattle.paper.specs.Plane.{Pt, Vec, vec, minus_v}
 use Rattle.paper.specs.Plane as Plane
 use Rattle.plane.specs.declared.point.Vector.{Vector}
 use Rattle.plane.specs.declared.point.Seg.{Seg}
-use Rattle.plane.specs.declared.crossings.Cross.{Cross}
-use Rattle.plane.specs.declared.crossings.Cross.TheVariants.{Nothing, At}
+use Rattle.std.specs.declared.option.Option as Std
+use Rattle.std.specs.declared.option.Option.TheVariants.{None, Some}
 use Rattle.paper.specs.Meeting.{apart, touching, crossing, sharing}
 use Rattle.paper.specs.Meeting as Meetings
 use Rattle.plane.specs.declared.kinds.Meeting.{Meeting}
@@ -32,9 +32,9 @@ vec_of u = vec u.x u.y
 abbrev pub seg_of : Seg → Plane.Seg
 seg_of s = seg s.x s.y s.u s.v
 
-abbrev pub cross_of : Cross → Option Pt
-cross_of Nothing = none
-cross_of (At p) = some (pt_of p)
+abbrev pub cross_of : Std.Option Point → Option Pt
+cross_of None = none
+cross_of (Some p) = some (pt_of p)
 
 abbrev pub meeting_of : Meeting → Meetings.Meeting
 meeting_of Apart = apart

@@ -7,22 +7,13 @@ ghost use Rattle.plane.specs.Bounds.{Direction};
 
 use super::point::Vector;
 
-// The cross product of the directions a, b and c, d.
+// "u1·v2 − u2·v1" of the directions a, b and c, d: positive where the second is to the left of the first. By numbers, as most callers have edges and not directions.
 pub fn cross_of(a: i64, b: i64, c: i64, d: i64) -> i64
     requires { Direction (vec a b) × Direction (vec c d) }
     ensures is { result ≡ cross (vec a b) (vec c d) }
     ensures bound { nat_abs result ≤ denominators }
 {
     a * d - b * c
-}
-
-// "u1·v2 − u2·v1": positive where v is to the left of u.
-pub fn cross(u: Vector, v: Vector) -> i64
-    requires { Direction (vec_of u) × Direction (vec_of v) }
-    ensures is { result ≡ cross (vec_of u) (vec_of v) }
-    ensures bound { nat_abs result ≤ denominators }
-{
-    cross_of(u.x, u.y, v.x, v.y)
 }
 
 // Whether the angle of u is under 180 degrees.
@@ -37,11 +28,9 @@ pub fn less_angle(u: Vector, v: Vector) -> bool
     requires { Direction (vec_of u) × Direction (vec_of v) }
     ensures { result ≡ less_angle (vec_of u) (vec_of v) }
 {
-    if rises(u) {
-        if rises(v) { 0 < cross(u, v) } else { true }
-    } else if rises(v) {
-        false
+    if rises(u) == rises(v) {
+        0 < cross_of(u.x, u.y, v.x, v.y)
     } else {
-        0 < cross(u, v)
+        rises(u)
     }
 }

@@ -1,8 +1,8 @@
 // Edges whose boxes are apart, by height or by width: they have no point in common.
-ghost use Rattle.std.specs.Prelude.{◌≡◌, ◌||◌};
-ghost use Rattle.laws_plane.specs.Boxes.{lesser, under, west, boxes_apart};
+ghost use Rattle.std.specs.Prelude.{◌≡◌, ◌||◌, ◌+ℤ◌};
+ghost use Rattle.laws_plane.specs.Boxes.{lesser, boxes_apart};
 ghost use Rattle.plane.specs.Values.{seg_of};
-ghost use Rattle.plane.specs.Bounds.{Edge};
+ghost use Rattle.plane.specs.Bounds.{Edge, Span};
 
 use super::point::Seg;
 
@@ -10,43 +10,17 @@ use super::point::Seg;
 fn both_less(a: i64, b: i64, c: i64, d: i64) -> bool
     ensures { result ≡ lesser a b c d }
 {
-    if a < c {
-        if a < d {
-            if b < c { b < d } else { false }
-        } else {
-            false
-        }
-    } else {
-        false
-    }
+    (a < c && a < d) && (b < c && b < d)
 }
 
-// Whether one of s and t lies wholly below the other.
-fn heights_apart(s: Seg, t: Seg) -> bool
-    requires { Edge (seg_of s) × Edge (seg_of t) }
-    ensures { result ≡ (under (seg_of s) (seg_of t) || under (seg_of t) (seg_of s)) }
+// Whether the numbers between a and a + u are all less than those between b and b + v, or all greater.
+fn spans_apart(a: i64, u: i64, b: i64, v: i64) -> bool
+    requires { Span a u × Span b v }
+    ensures { result ≡ (lesser a (a +ℤ u) b (b +ℤ v) || lesser b (b +ℤ v) a (a +ℤ u)) }
 {
-    let top = s.y + s.v;
-    let end = t.y + t.v;
-    if both_less(s.y, top, t.y, end) {
-        true
-    } else {
-        both_less(t.y, end, s.y, top)
-    }
-}
-
-// Whether one of s and t lies wholly west of the other.
-fn widths_apart(s: Seg, t: Seg) -> bool
-    requires { Edge (seg_of s) × Edge (seg_of t) }
-    ensures { result ≡ (west (seg_of s) (seg_of t) || west (seg_of t) (seg_of s)) }
-{
-    let top = s.x + s.u;
-    let end = t.x + t.u;
-    if both_less(s.x, top, t.x, end) {
-        true
-    } else {
-        both_less(t.x, end, s.x, top)
-    }
+    let top = a + u;
+    let end = b + v;
+    both_less(a, top, b, end) || both_less(b, end, a, top)
 }
 
 // Whether one of s and t lies wholly below or wholly west of the other.
@@ -54,9 +28,5 @@ pub fn boxes_apart(s: Seg, t: Seg) -> bool
     requires { Edge (seg_of s) × Edge (seg_of t) }
     ensures { result ≡ boxes_apart (seg_of s) (seg_of t) }
 {
-    if heights_apart(s, t) {
-        true
-    } else {
-        widths_apart(s, t)
-    }
+    spans_apart(s.y, s.v, t.y, t.v) || spans_apart(s.x, s.u, t.x, t.u)
 }

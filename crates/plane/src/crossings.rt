@@ -9,12 +9,7 @@ ghost use Rattle.plane.specs.Parameters.{first_over, second_over, number_over, p
 use super::angle::cross_of;
 use super::point::{Point, Seg};
 use exact::lowest;
-
-#[derive(Clone, Copy)]
-pub enum Cross {
-    Nothing,
-    At(Point),
-}
+use std::cmp::Ordering;
 
 // The denominator of both parameters.
 pub fn over(s: Seg, t: Seg) -> i64
@@ -26,7 +21,7 @@ pub fn over(s: Seg, t: Seg) -> i64
 }
 
 // Where s and t meet, in lowest terms; d is the denominator of both parameters.
-pub fn crossing_over(s: Seg, t: Seg, d: i64) -> Cross
+pub fn crossing_over(s: Seg, t: Seg, d: i64) -> Option<Point>
     requires { Edge (seg_of s) × Edge (seg_of t) × (d ≡ first_over (seg_of s) (seg_of t)) × (nat_abs d ≤ denominators) }
     ensures is { cross_of result ≡ crossing (seg_of s) (seg_of t) }
     ensures near { NearIf (cross_of result) }
@@ -46,36 +41,30 @@ fn number_over(s: Seg, t: Seg, e: Seg) -> i64
 }
 
 // The point at the parameters n/d and m/d, turned so that d is positive.
-fn cross_by(s: Seg, n: i64, m: i64, d: i64) -> Cross
+fn cross_by(s: Seg, n: i64, m: i64, d: i64) -> Option<Point>
     requires { Edge (seg_of s) × (nat_abs n ≤ denominators) × (nat_abs m ≤ denominators) × (nat_abs d ≤ denominators) }
     ensures is { cross_of result ≡ cross_by (seg_of s) n m d }
     ensures near { NearIf (cross_of result) }
 {
-    if d < 0 {
-        cross_at(s, 0 - n, 0 - m, 0 - d)
-    } else if 0 < d {
-        cross_at(s, n, m, d)
-    } else {
-        Cross::Nothing
+    match d.cmp(&0) {
+        Ordering::Less => cross_at(s, -n, -m, -d),
+        Ordering::Equal => None,
+        Ordering::Greater => cross_at(s, n, m, d),
     }
 }
 
 // The point at the parameters n/d and m/d, where both lie from 0 to 1.
-fn cross_at(s: Seg, n: i64, m: i64, d: i64) -> Cross
+fn cross_at(s: Seg, n: i64, m: i64, d: i64) -> Option<Point>
     requires { Edge (seg_of s) × Over n d × Over m d }
     ensures is { cross_of result ≡ cross_at (seg_of s) n m d }
     ensures near { NearIf (cross_of result) }
 {
-    if within(n, d) {
-        if within(m, d) {
-            let p = along(s, n, d);
-            let q = lowest(p.x, p.y, p.d);
-            Cross::At(q)
-        } else {
-            Cross::Nothing
-        }
+    if within(n, d) && within(m, d) {
+        let p = along(s, n, d);
+        let q = lowest(p.x, p.y, p.d);
+        Some(q)
     } else {
-        Cross::Nothing
+        None
     }
 }
 
@@ -83,7 +72,7 @@ fn cross_at(s: Seg, n: i64, m: i64, d: i64) -> Cross
 fn within(n: i64, d: i64) -> bool
     ensures { result ≡ within n d }
 {
-    if 0 <= n { n <= d } else { false }
+    0 <= n && n <= d
 }
 
 // The point of s at n/d, over d.
@@ -95,6 +84,6 @@ fn along(s: Seg, n: i64, d: i64) -> Point
     Point {
         x: s.x * d + n * s.u,
         y: s.y * d + n * s.v,
-        d: d,
+        d,
     }
 }

@@ -7,17 +7,39 @@ ghost use Rattle.plane.specs.Bounds.{Corner, Near, Edge};
 use super::order::before;
 use super::point::{Point, Seg, Vector, whole};
 
+impl Seg {
+    // The corner that the edge starts from.
+    pub fn foot(self) -> Vector
+        requires { Edge (seg_of self) }
+        ensures is { vec_of result ≡ (seg_of self).foot }
+        ensures near { Corner (vec_of result) }
+    {
+        Vector {
+            x: self.x,
+            y: self.y,
+        }
+    }
+
+    // The corner that it ends at.
+    pub fn head(self) -> Vector
+        requires { Edge (seg_of self) }
+        ensures is { vec_of result ≡ head (seg_of self) }
+        ensures near { Corner (vec_of result) }
+    {
+        Vector {
+            x: self.x + self.u,
+            y: self.y + self.v,
+        }
+    }
+}
+
 // The end that s starts from, as a point.
 pub fn foot(s: Seg) -> Point
     requires { Edge (seg_of s) }
     ensures is { pt_of result ≡ whole (seg_of s).foot }
     ensures near { Near (pt_of result) }
 {
-    Point {
-        x: s.x,
-        y: s.y,
-        d: 1,
-    }
+    whole(s.foot())
 }
 
 // The other end.
@@ -26,11 +48,7 @@ pub fn head(s: Seg) -> Point
     ensures is { pt_of result ≡ whole (head (seg_of s)) }
     ensures near { Near (pt_of result) }
 {
-    Point {
-        x: s.x + s.u,
-        y: s.y + s.v,
-        d: 1,
-    }
+    whole(s.head())
 }
 
 // The edge from a to b.

@@ -15,7 +15,7 @@ mod meetings; // meetings.rt: how two edges meet, and which may not stand in one
 
 pub use angle::{cross_of, less_angle, rises};
 pub use boxes::boxes_apart;
-pub use crossings::{Cross, crossing_over, over};
+pub use crossings::{crossing_over, over};
 pub use edge::between;
 pub use kinds::Meeting;
 pub use meetings::{clash_by, meeting};

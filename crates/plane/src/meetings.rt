@@ -9,7 +9,7 @@ ghost use Rattle.plane.specs.Values.{pt_of, seg_of, meeting_of};
 ghost use Rattle.plane.specs.Bounds.{Near, Edge, NearIf};
 ghost use Rattle.plane.specs.Parameters.{first_over};
 
-use super::crossings::{Cross, crossing_over, over};
+use super::crossings::{crossing_over, over};
 use super::edge::{foot, head};
 use super::kinds::Meeting;
 use super::on_edge::inside;
@@ -25,14 +25,12 @@ pub fn meeting(s: Seg, t: Seg) -> Meeting
     ensures near { NearIf (point_of (meeting_of result)) }
 {
     let d = over(s, t);
-    if d == 0 {
-        if left_by(s, foot(t)) == 0 {
-            in_line(s, t)
-        } else {
-            Meeting::Apart
-        }
-    } else {
+    if d != 0 {
         meeting_over(s, t, d)
+    } else if left_by(s, foot(t)) == 0 {
+        in_line(s, t)
+    } else {
+        Meeting::Apart
     }
 }
 
@@ -76,8 +74,8 @@ fn meeting_over(s: Seg, t: Seg, d: i64) -> Meeting
     ensures near { NearIf (point_of (meeting_of result)) }
 {
     match crossing_over(s, t, d) {
-        Cross::Nothing => Meeting::Apart,
-        Cross::At(p) => at_point(s, t, p),
+        Some(p) => at_point(s, t, p),
+        None => Meeting::Apart,
     }
 }
 
@@ -87,12 +85,8 @@ fn at_point(s: Seg, t: Seg, p: Point) -> Meeting
     ensures is { meeting_of result ≡ meeting_at (seg_of s) (seg_of t) (some (pt_of p)) }
     ensures near { NearIf (point_of (meeting_of result)) }
 {
-    if inside(s, p) {
-        if inside(t, p) {
-            Meeting::Crossing(p)
-        } else {
-            Meeting::Touching(p)
-        }
+    if inside(s, p) && inside(t, p) {
+        Meeting::Crossing(p)
     } else {
         Meeting::Touching(p)
     }
@@ -103,11 +97,7 @@ fn is_end(s: Seg, p: Point) -> bool
     requires { Edge (seg_of s) × Near (pt_of p) }
     ensures { result ≡ is_end (seg_of s) (pt_of p) }
 {
-    if same(foot(s), p) {
-        true
-    } else {
-        same(head(s), p)
-    }
+    same(foot(s), p) || same(head(s), p)
 }
 
 // Whether p is not an end of both.
@@ -115,7 +105,7 @@ fn no_corner(s: Seg, t: Seg, p: Point) -> bool
     requires { Edge (seg_of s) × Edge (seg_of t) × Near (pt_of p) }
     ensures { result ≡ not (is_end (seg_of s) (pt_of p) && is_end (seg_of t) (pt_of p)) }
 {
-    if is_end(s, p) { !is_end(t, p) } else { true }
+    !(is_end(s, p) && is_end(t, p))
 }
 
 // Whether s and t share "any point that is not an end of both, a stretch or the whole edge included"; both go up.
@@ -126,7 +116,6 @@ pub fn clash_by(s: Seg, t: Seg) -> bool
     match meeting(s, t) {
         Meeting::Apart => false,
         Meeting::Touching(p) => no_corner(s, t, p),
-        Meeting::Crossing(_) => true,
-        Meeting::Sharing => true,
+        Meeting::Crossing(_) | Meeting::Sharing => true,
     }
 }

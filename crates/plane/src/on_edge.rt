@@ -14,15 +14,7 @@ pub fn inside(s: Seg, p: Point) -> bool
     requires { Edge (seg_of s) × Near (pt_of p) }
     ensures { result ≡ inside (seg_of s) (pt_of p) }
 {
-    if left_by(s, p) == 0 {
-        if before(foot(s), p) {
-            before(p, head(s))
-        } else {
-            false
-        }
-    } else {
-        false
-    }
+    left_by(s, p) == 0 && (before(foot(s), p) && before(p, head(s)))
 }
 
 // Whether p lies on s, its ends included; s goes up.
@@ -30,13 +22,5 @@ pub fn on_seg(s: Seg, p: Point) -> bool
     requires { Edge (seg_of s) × Near (pt_of p) }
     ensures { result ≡ on_seg (seg_of s) (pt_of p) }
 {
-    if left_by(s, p) == 0 {
-        if before(p, foot(s)) {
-            false
-        } else {
-            !before(head(s), p)
-        }
-    } else {
-        false
-    }
+    left_by(s, p) == 0 && (!before(p, foot(s)) && !before(head(s), p))
 }

@@ -48,7 +48,11 @@ fn fractions(n: i64, d: i64, m: i64, e: i64) -> Ordering
     requires { Coordinate n d × Coordinate m e }
     ensures { sign_of result ≡ sgn (n *ℤ e -ℤ m *ℤ d) }
 {
-    if d == e { n.cmp(&m) } else { crosswise(n, d, m, e) }
+    if d == e {
+        n.cmp(&m)
+    } else {
+        crosswise(n, d, m, e)
+    }
 }
 
 // Whether n/d is less than m/e, by the same two ways. Looks ask this most of all, of a corner as the second.

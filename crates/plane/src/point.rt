@@ -7,7 +7,7 @@ ghost use Rattle.plane.specs.Bounds.{Corner, Near};
 pub use exact::Point;
 
 // A direction, or a corner of a map.
-#[derive(Clone, Copy)]
+#[derive(Clone, Copy, PartialEq, Eq)]
 pub struct Vector {
     pub x: i64,
     pub y: i64,

@@ -12,7 +12,7 @@ use Rattle.plane.specs.Parameters.{point_along}
 use Rattle.plane.proofs.Machine.{back, number_back, pt_back}
 use Rattle.plane.proofs.Crosses.{lowest_of, near-lowest}
 use Rattle.plane.proofs.crossings.cross_at.Goals as goal
-use Rattle.plane.proofs.crossings.cross_at.Goals.{After-along-p, After-within, After-within-then-within, Start, Then-within, Then-within-2}
+use Rattle.plane.proofs.crossings.cross_at.Goals.{After-along-p, After-within, After-within-then-within, Start, Then-within, Then-within-2, else-within-via-then-within+else-within-2, else-within-via-else-within}
 
 -- the definition, where it is known of the two parameters
 by : (s : Seg) (n m d : ℤ) {a b : Bool} → a ≡ within n d → b ≡ within m d → cond (a && b) (some (lowest_of (point_along s n d))) none ≡ cross_at s n m d
@@ -55,20 +55,12 @@ returns-then-within-2 c =
     let at : pt_of p.result ≡ point_along s n d = p.ensures.is ∙ (λ i. point_along s (number_back n o.n_is i) (number_back d o.d_is i)) in
     record { is = ap some (low ∙ ap lowest_of at) ∙ by s n st.args.m d first second; near = subst Near (sym low) (near-lowest (pt_of p.result) p.ensures.near) }
 
-pub returns-else-within-2 : goal.returns-else-within-2
-returns-else-within-2 c =
-    let after-within : After-within = search rules in
-    let st : Start = search rules in
-    let n = st.args.n in
-    let d = st.args.d in
-    let first = sym c.if-within.true ∙ after-within.within.ensures ∙ told n d st.requires.1 in
-    let second = sym c.if-within-2.false ∙ c.within-then-within.ensures ∙ told st.args.m d st.requires.2 in
-    record { is = by (seg_of st.args.s) n st.args.m d first second; near = tt }
-
 pub returns-else-within : goal.returns-else-within
 returns-else-within c =
-    let st = c.before.before in
-    let n = st.args.n in
-    let d = st.args.d in
-    let first = sym c.if-within.false ∙ c.within.ensures ∙ told n d st.requires.1 in
-    record { is = by (seg_of st.args.s) n st.args.m d first refl; near = tt }
+    let a = c.args in
+    let first = c.within.ensures ∙ told a.n a.d c.requires.1 in
+    elim c.else-within.branch [
+      | else-within-via-then-within+else-within-2 w ↦
+          record { is = by (seg_of a.s) a.n a.m a.d (sym w.if-within.true ∙ first) (sym w.if-within-2.false ∙ w.within-then-within.ensures ∙ told a.m a.d c.requires.2); near = tt }
+      | else-within-via-else-within w ↦ record { is = by (seg_of a.s) a.n a.m a.d (sym w.if-within.false ∙ first) refl; near = tt }
+    ]

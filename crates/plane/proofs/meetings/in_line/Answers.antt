@@ -4,7 +4,6 @@ use Rattle.exact.specs.Compare.{sign_of}
 use Rattle.paper.specs.Plane.{Pt, Seg, whole, head, order, lower, upper}
 use Rattle.plane.specs.Values.{pt_of, seg_of}
 use Rattle.paper.specs.Meeting.{touching, stretch}
-use borrow.Author.Rules.{rules}
 use Rattle.plane.proofs.meetings.in_line.Goals as goal
 use Rattle.plane.proofs.meetings.in_line.Goals.{After-order, After-upper-lo}
 

@@ -2,7 +2,6 @@
 use mathlib.Core.Path.{sym, ◌∙◌}
 use mathlib.Core.Bool.{cond}
 use Rattle.plane.specs.Values.{pt_of}
-use borrow.Author.Rules.{rules}
 use Rattle.plane.proofs.meetings.lower.Goals as goal
 
 pub returns-then-before : goal.returns-then-before

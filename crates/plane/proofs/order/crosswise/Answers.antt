@@ -1,6 +1,5 @@
 -- `plane::order::crosswise` meets its contract, by the short way and by the long one. Assumes nothing.
 use mathlib.Core.Path.{sym, ◌∙◌, ap}
-use borrow.Author.Rules.{rules}
 use lib.IntN.{◌*ℤ◌}
 use Rattle.exact.specs.Exact.{sgn}
 use Rattle.exact.specs.Compare.{sign_of, cmp_sign}

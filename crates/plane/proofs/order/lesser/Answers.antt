@@ -1,6 +1,5 @@
 -- `plane::order::lesser` meets its contract, by the short way and by the long one. Assumes nothing.
 use mathlib.Core.Path.{sym, ◌∙◌, ap}
-use borrow.Author.Rules.{rules}
 use Rattle.exact.specs.Sign.{sgn, is_neg}
 use Rattle.exact.specs.Compare.{lt_neg}
 use Rattle.plane.proofs.Fractions.{Short, short_of, first_fits, second_fits, short_test, factors, long}

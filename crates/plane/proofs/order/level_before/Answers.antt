@@ -1,8 +1,7 @@
 -- `plane::order::level_before` meets its contract: where both are as high, the numbers of x tell, and otherwise those of y. Assumes nothing.
 use mathlib.Core.Path.{◌≡◌, ◌∙◌}
 use mir.Syntax.{w64}
-use borrow.Author.Rules.{rules}
-use Rattle.exact.specs.Mach.{tr, trb, trbits, test, eq_yes, eq_no}
+use Rattle.exact.specs.Mach.{trb, trbits, test, eq_yes, eq_no}
 use Rattle.plane.proofs.Fractions.{first_level, first_apart}
 use Rattle.plane.proofs.order.level_before.Goals as goal
 use Rattle.plane.proofs.order.level_before.Goals.{Else-p-q, Start, Then-p-q}

@@ -2,7 +2,7 @@
 use mathlib.Core.Path.{◌∙◌, ap}
 use lib.IntN.{◌-ℤ◌, ◌*ℤ◌}
 use borrow.Author.Rules.{rules}
-use Rattle.exact.specs.Compare.{sign_of, then_with_pick}
+use Rattle.exact.specs.Compare.{then_with_pick}
 use Rattle.exact.specs.Exact.{sgn, pick}
 use Rattle.plane.proofs.Machine.{back}
 use Rattle.plane.proofs.Fractions.{by_x, by_y}
