@@ -22,10 +22,7 @@ fn label_seen(easts: &[u16], e: usize, r: usize) -> u16
     requires { e ≤ length easts.now }
     ensures { result ≡ cond (ltb r e) (get_or easts.now r 0) 0 }
 {
-    if r < e {
-        return easts[r];
-    }
-    0
+    if r < e { easts[r] } else { 0 }
 }
 
 // The label of what is seen from c, of e edges laid for looks, and how many of them were read.

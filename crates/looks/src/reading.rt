@@ -51,12 +51,12 @@ fn passes(s: Seg, c: Vector) -> bool
     requires { Edge (seg_of s) × Corner (vec_of c) }
     ensures { result ≡ passes (vec_of c) (seg_of s) }
 {
-    if c.y < s.y + s.v {
-        let left = left_at(s, c);
-        rises(Vector { x: s.v, y: -left })
-    } else {
-        false
-    }
+    let top = s.y + s.v;
+    c.y < top
+        && rises(Vector {
+            x: s.v,
+            y: -left_at(s, c),
+        })
 }
 
 // "The nearest has the greatest x at that height; among equals, the smallest upward angle": whether s is nearer than t.
@@ -78,10 +78,7 @@ fn nearest(rails: &[i16], none: usize, i: usize, r: usize, c: Vector) -> usize
     requires { Carried rails.now i × (r < none → Carried rails.now r) × (r ≤ none) × Corner (vec_of c) }
     ensures { result ≡ better (closer_at rails.now (vec_of c)) none i r }
 {
-    if r == none {
-        return i;
-    }
-    if closer(carrier_at(rails, i), carrier_at(rails, r), c) {
+    if r == none || closer(carrier_at(rails, i), carrier_at(rails, r), c) {
         i
     } else {
         r
@@ -94,9 +91,10 @@ fn take(rails: &[i16], none: usize, i: usize, r: usize, c: Vector) -> usize
     ensures { result ≡ cond (passes_at rails.now (vec_of c) i) (better (closer_at rails.now (vec_of c)) none i r) r }
 {
     if passes(carrier_at(rails, i), c) {
-        return nearest(rails, none, i, r, c);
+        nearest(rails, none, i, r, c)
+    } else {
+        r
     }
-    r
 }
 
 // The nearest of e edges, from c, and how many were read.
@@ -107,8 +105,7 @@ pub fn look_read(rails: &[i16], e: usize, c: Vector) -> Looked
     ensures { Looks rails.now e (vec_of c) result }
 {
     let mut r = e;
-    let mut i = 0;
-    while i < e {
+    for i in 0..e {
         if starts_above(carrier_at(rails, i), c) {
             return Looked {
                 rail: r,
@@ -116,10 +113,9 @@ pub fn look_read(rails: &[i16], e: usize, c: Vector) -> Looked
             };
         }
         r = take(rails, e, i, r, c);
-        i += 1;
     }
     Looked {
         rail: r,
-        read: i as u16,
+        read: e as u16,
     }
 }

@@ -9,13 +9,7 @@ use limits::{CARRIER_WIDTH, REACH};
 fn strays_by(x: i64, u: i64) -> bool
     ensures { result ≡ strays_by x u }
 {
-    if REACH < x.unsigned_abs() {
-        return true;
-    }
-    if 2 * REACH < u.unsigned_abs() {
-        return true;
-    }
-    REACH < (x + u).unsigned_abs()
+    REACH < x.unsigned_abs() || 2 * REACH < u.unsigned_abs() || REACH < (x + u).unsigned_abs()
 }
 
 // Whether row i is no edge between corners.
@@ -24,10 +18,8 @@ fn strays_at(rails: &[i16], i: usize) -> bool
     ensures { result ≡ strays_at rails.now i }
 {
     let at = CARRIER_WIDTH * i;
-    if strays_by(rails[at] as i64, rails[at + 2] as i64) {
-        return true;
-    }
-    strays_by(rails[at + 1] as i64, rails[at + 3] as i64)
+    strays_by(rails[at] as i64, rails[at + 2] as i64)
+        || strays_by(rails[at + 1] as i64, rails[at + 3] as i64)
 }
 
 // Whether one of the first e rows is none.
@@ -35,10 +27,5 @@ pub fn strays(rails: &[i16], e: usize) -> bool
     requires { 4 * e ≤ length rails.now }
     ensures { result ≡ the_some_below (strays_at rails.now) e }
 {
-    for i in 0..e {
-        if strays_at(rails, i) {
-            return true;
-        }
-    }
-    false
+    (0..e).any(|i| strays_at(rails, i))
 }

@@ -9,14 +9,8 @@ returns c =
     let a = c.args in
     record { is = plain (search tr depth 20) tt ∙ left_whole a.x a.y a.u a.v a.a a.b; bound = atmost (search tru depth 20) tt }
 
-pub overflow_sub-result : goal.overflow_sub-result
-overflow_sub-result c = fits (search tr depth 20) tt
-
 pub overflow_mul-result : goal.overflow_mul-result
 overflow_mul-result c = fits (search tr depth 20) tt
-
-pub overflow_sub-result-2 : goal.overflow_sub-result-2
-overflow_sub-result-2 c = fits (search tr depth 20) tt
 
 pub overflow_mul-result-2 : goal.overflow_mul-result-2
 overflow_mul-result-2 c = fits (search tr depth 20) tt

@@ -13,17 +13,6 @@ use Rattle.looks.proofs.reading.look_read.Goals as goal
 carried : (rs : List ℤ) (e : ℕ) → Carriers rs e → (k : ℕ) → k < e → Carried rs k
 carried rs e C k l = record { row = omega (arith, C.long); near = C.near k l }
 
-pub loop-i-init : goal.loop-i-init
-loop-i-init c = read_starts _ _ _
-
-pub carrier_at-requires : goal.carrier_at-requires
-carrier_at-requires c =
-    carried c.args.rails.now c.args.e c.requires.fact_1 c.loop-i.i (search rules)
-
-pub overflow_cast-result : goal.overflow_cast-result
-overflow_cast-result c =
-    omega (arith, c.requires.fact_2, c.loop-i.invariant.upto)
-
 pub returns-then-starts_above : goal.returns-then-starts_above
 returns-then-starts_above c =
     read_ends _ _ _ c.loop-i.invariant (λ q. sym (sym c.if-starts_above.true ∙ c.starts_above.ensures ∙ ap (above (vec_of c.args.c)) c.carrier_at.ensures.is)) _ refl refl
@@ -36,11 +25,3 @@ take-r-requires c =
 pub loop-i-preserved : goal.loop-i-preserved
 loop-i-preserved c =
     read_turns _ _ _ c.loop-i.invariant _ (search rules) (sym (sym c.if-starts_above.false ∙ c.starts_above.ensures ∙ ap (above (vec_of c.args.c)) c.carrier_at.ensures.is)) c.take-r.ensures
-
-pub overflow_cast-result-2 : goal.overflow_cast-result-2
-overflow_cast-result-2 c =
-    omega (arith, c.requires.fact_2, c.loop-i.invariant.upto)
-
-pub returns : goal.returns
-returns c =
-    read_ends _ _ _ c.loop-i.invariant (λ q. absurd (omega arith)) _ refl refl

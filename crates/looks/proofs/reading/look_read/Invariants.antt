@@ -12,6 +12,3 @@ use Rattle.looks.proofs.reading.look_read.Given as goal
 
 abbrev pub invariant-loop-i : goal.invariant-loop-i
 invariant-loop-i l = Reading l.rails l.e (vec_of l.c) l.r l.i
-
-abbrev pub decreases-loop-i : goal.decreases-loop-i
-decreases-loop-i l = l.e - l.i

@@ -3,7 +3,7 @@ use mathlib.Core.Path.{◌≡◌, sym, ◌∙◌, ap}
 use mathlib.Core.Bool.{Bool, ◌&&◌}
 use lib.IntN.{pos, neg_ℤ, ◌+ℤ◌, ◌-ℤ◌}
 use lib.Signed.{lt_z}
-use Rattle.exact.specs.Mach.{tr, trbs, fits, plain, test}
+use Rattle.exact.specs.Mach.{trbs, tr, plain, test}
 use Rattle.paper.specs.Plane.{vec, whole, head, below, rises}
 use Rattle.paper.specs.Soundings.{east}
 use Rattle.plane.proofs.Machine.{back}
@@ -13,27 +13,21 @@ use Rattle.graph.proofs.Rows.{minus}
 use Rattle.looks.proofs.WholeLaws.{below_whole, turn-east}
 use Rattle.looks.proofs.reading.passes.Goals as goal
 
-pub returns-then-c-s : goal.returns-then-c-s
-returns-then-c-s c =
+pub returns-then-c-top : goal.returns-then-c-top
+returns-then-c-top c =
     let s = c.args.s in
     let a = c.args.c in
-    let l = c.left_at-left in
+    let l = c.left_at in
     let near = l.ensures.bound in
     let x : back s.v ≡ s.v = plain (search tr depth 20) tt in
     let y : back (pos 0 -ℤ back l.result) ≡ pos 0 -ℤ l.result = plain (search tr depth 20) tt in
-    let under : lt_z a.y (s.y +ℤ s.v) ≡ _ = sym (test (search trbs depth 20) tt) ∙ c.if-c-s.true in
+    let under : lt_z a.y (s.y +ℤ s.v) ≡ _ = sym (test (search trbs depth 20) tt) ∙ c.if-c-top.true in
     c.rises.ensures ∙ (λ i. rises (vec ((x ∙ turn-east s.u s.v) i) ((y ∙ minus l.result ∙ ap neg_ℤ l.ensures.is) i)))
     ∙ ap (λ (b : Bool). b && westward_of (seg_of s) (whole (vec_of a)) east) (sym under ∙ below_whole a.x a.y (s.x +ℤ s.u) (s.y +ℤ s.v))
 
-pub returns-else-c-s : goal.returns-else-c-s
-returns-else-c-s c =
+pub returns-else-c-top : goal.returns-else-c-top
+returns-else-c-top c =
     let s = c.args.s in
     let a = c.args.c in
-    let over : lt_z a.y (s.y +ℤ s.v) ≡ _ = sym (test (search trbs depth 20) tt) ∙ c.if-c-s.false in
-    ap (λ (b : Bool). b && westward_of (seg_of s) (whole (vec_of a)) east) (sym over ∙ below_whole a.x a.y (s.x +ℤ s.u) (s.y +ℤ s.v))
-
-pub overflow_add-s : goal.overflow_add-s
-overflow_add-s c = fits (search tr depth 20) tt
-
-pub overflow_sub-left : goal.overflow_sub-left
-overflow_sub-left c = fits (search tr depth 20) tt
+    let over : lt_z a.y (s.y +ℤ s.v) ≡ _ = sym (test (search trbs depth 20) tt) ∙ c.if-c-top.false in
+    c.if-c-top.false ∙ ap (λ (b : Bool). b && westward_of (seg_of s) (whole (vec_of a)) east) (sym over ∙ below_whole a.x a.y (s.x +ℤ s.u) (s.y +ℤ s.v))

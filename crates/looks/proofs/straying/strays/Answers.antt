@@ -1,22 +1,14 @@
--- `looks::straying::strays` meets its contract: none of the rows that the loop has passed strays. Assumes nothing.
-use mathlib.Core.Path.{sym, ◌∙◌}
-use Prim.Native.Nat.{◌-◌}
-use Rattle.seq.specs.Loops.Searching.{Searching, search_starts}
-use Rattle.seq.proofs.Loops.Searching.{search_turns, search_has, search_lacks}
+-- `looks::straying::strays` meets its contract. Assumes nothing.
+use Rattle.std.proofs.Common.{refl, ◌∙◌, ◌-◌, ◌≡◌, arith, rules}
+use Rattle.std.proofs.lemmas.Iterator.{YieldsList-from_range}
+use Rattle.std.proofs.lemmas.Iterator.Search.{any_from_yields_List}
+use borrow.Author.Tests.{tests}
 use Rattle.looks.specs.Straying.{strays_at}
-use borrow.Author.Rules.{rules}
+use Rattle.seq.proofs.Ranges.{any-some}
 use Rattle.looks.proofs.straying.strays.Goals as goal
 
-pub returns-then-strays_at : goal.returns-then-strays_at
-returns-then-strays_at c =
-    search_has c.loop-i.invariant (search rules) (sym c.strays_at.ensures ∙ c.if-strays_at.true)
-
-pub loop-i-preserved : goal.loop-i-preserved
-loop-i-preserved c =
-    search_turns c.loop-i.invariant (search rules) (sym c.strays_at.ensures ∙ c.if-strays_at.false)
-
-pub loop-i-init : goal.loop-i-init
-loop-i-init c = search_starts
-
 pub returns : goal.returns
-returns c = search_lacks c.loop-i.invariant (search rules)
+returns c =
+    let e = c.args.e in
+    let p = strays_at c.args.rails.now in
+    any_from_yields_List p _ _ _ c.any.ensures.ran (YieldsList-from_range 0 e e refl (omega arith)) (λ x b q k. search (rules, tests)) ∙ any-some p e
