@@ -1,13 +1,12 @@
 -- The overlay edge record in the definitions' terms, and from five stored numbers. Assumes nothing.
-use Rattle.std.specs.Prelude.{◌∷◌, ◌+◌, ◌*◌, ◌^◌}
+use Rattle.std.specs.Prelude as std
+use Rattle.std.specs.Prelude.{◌∷◌, ◌^◌, Some, None}
 use Rattle.seq.specs.Seq.{Bool, cond, [], Option, none, some, Option·map, ℕ, zero, suc, leb, get_or, all_below}
 use Rattle.paper.specs.Limits.{maps}
 use Rattle.paper.specs.Record as paper
 use Rattle.tables.specs.declared.edge_record.Source.{Source}
 use Rattle.tables.specs.declared.edge_record.Source.TheVariants.{First, Second, Both, Third, FirstThird, SecondThird, All}
 use Rattle.tables.specs.declared.edge_record.OverlayEdge.{OverlayEdge}
-use Rattle.tables.specs.declared.edge_record.Found.{Found}
-use Rattle.tables.specs.declared.edge_record.Found.TheVariants.{Edge, Absent}
 
 abbrev pub source_from : Source → paper.Source
 source_from (First j) = paper.first j
@@ -22,9 +21,14 @@ abbrev pub edge_from : OverlayEdge → paper.OverlayEdge
 edge_from e = record { lower = e.lower; upper = e.upper; source = source_from e.source }
 
 -- the record, or "absent"
-abbrev pub found_of : Found → Option paper.OverlayEdge
-found_of (Edge e) = some (edge_from e)
-found_of Absent = none
+abbrev pub found_of : std.Option OverlayEdge → Option paper.OverlayEdge
+found_of (Some e) = some (edge_from e)
+found_of None = none
+
+-- the source, if there is one
+abbrev pub source_found : std.Option Source → Option paper.Source
+source_found (Some s) = some (source_from s)
+source_found None = none
 
 -- ── from three stored sources, each an edge number + 1 or 0 ──
 
@@ -32,13 +36,10 @@ found_of Absent = none
 abbrev pub all_numbers : ℕ → ℕ → ℕ → Bool
 all_numbers a b c = all_below (λ i. leb (get_or (a ∷ b ∷ c ∷ []) i 0) (256 ^ 2)) maps
 
-abbrev pub one_if : ℕ → ℕ
-one_if zero = 0
-one_if (suc n) = 1
-
--- which of them are there: 1 for the first, 2 for the second, 4 for the third, added up
-abbrev pub which_of : ℕ → ℕ → ℕ → ℕ
-which_of a b c = one_if a + 2 * one_if b + 4 * one_if c
+-- the edge number of one of them, if it is there
+abbrev pub number_of : ℕ → std.Option ℕ
+number_of zero = None
+number_of (suc n) = Some n
 
 abbrev pub edge_with : ℕ → ℕ → paper.Source → paper.OverlayEdge
 edge_with lower upper s = record { lower = lower; upper = upper; source = s }

@@ -6,7 +6,7 @@ use Rattle.paper.specs.Tables.{Tables}
 use Rattle.paper.specs.Lent.{Lengths}
 use Rattle.paper.specs.Overlay.{lent}
 use Rattle.paper.specs.Melt.{lent_melted}
-use Rattle.tables.specs.declared.answer.Answer.{Answer}
+use Rattle.tables.specs.Answers.{Answer}
 use Rattle.tables.specs.Values.{outcome_of}
 
 -- of a list of map files, in lent tables of the lengths l: the answer r and the tables t that come out are those of the definition, every cell

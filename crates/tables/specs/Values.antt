@@ -1,13 +1,13 @@
 -- What the code's structs, enums and slices are in the definitions: counts, lengths, tables, answers. "If the answer is an enum, a definition provides this
 -- paper's number and values for each of its cases. The promises use that definition". Assumes nothing.
+use Rattle.std.specs.Prelude.{Ok, Err}
 use Rattle.seq.specs.Seq.{List, ℕ, ℤ}
 use Rattle.paper.specs.Tables as paper
 use Rattle.paper.specs.Refusal as refusal
 use Rattle.paper.specs.Lent.{Lengths, Outcome}
 use Rattle.map_file.specs.Verdict.{refusal_of}
 use Rattle.tables.specs.declared.room.Counts.{Counts}
-use Rattle.tables.specs.declared.answer.Answer.{Answer}
-use Rattle.tables.specs.declared.answer.Answer.TheVariants.{Done, Refused}
+use Rattle.tables.specs.Answers.{Answer}
 
 -- "the three counts"
 abbrev pub counts_of : Counts → paper.Counts
@@ -21,8 +21,8 @@ tables_by vs hs ss fs = record { vertices = vs; halves = hs; sources = ss; faces
 
 -- "either the three counts or a refusal with number, map and place"
 abbrev pub answer_of : Answer → refusal.Answer paper.Counts
-answer_of (Done c) = refusal.done (counts_of c)
-answer_of (Refused r) = refusal.refused (refusal_of r)
+answer_of (Ok c) = refusal.done (counts_of c)
+answer_of (Err r) = refusal.refused (refusal_of r)
 
 -- all that comes out: the answer, and the four tables
 abbrev pub outcome_of : Answer → paper.Tables → Outcome

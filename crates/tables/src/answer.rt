@@ -2,8 +2,4 @@
 use crate::room::Counts;
 use map_file::Refusal;
 
-#[derive(Clone, Copy)]
-pub enum Answer {
-    Done(Counts),
-    Refused(Refusal),
-}
+pub type Answer = Result<Counts, Refusal>;

@@ -12,7 +12,7 @@ mod wipe; // all lent tables zero
 mod edge_record; // the overlay edge record
 
 pub use answer::Answer;
-pub use edge_record::{Found, OverlayEdge, Source, edge};
+pub use edge_record::{OverlayEdge, Source, edge};
 pub use face_rows::store_faces;
 pub use half_rows::store_halves;
 pub use room::{Counts, room_in};

@@ -10,7 +10,7 @@ use limits::{
     VERTEX_WIDTH,
 };
 
-#[derive(Clone, Copy)]
+#[derive(Clone, Copy, PartialEq, Eq, Debug)]
 pub struct Counts {
     pub vertices: u16,
     pub edges: u16,
@@ -21,20 +21,14 @@ pub struct Counts {
 fn smaller(number: u16, room: usize) -> u16
     ensures { result ≡ min number room }
 {
-    if room < number as usize {
-        room as u16
-    } else {
-        number
-    }
+    room.min(number as usize) as u16
 }
 
 // The edges for which both tables have whole rows.
 pub fn edge_room(halves: usize, sources: usize) -> usize
     ensures { result ≡ edge_room maps (lengths_by 0 halves sources 0) }
 {
-    let a = halves / HALF_WIDTH / 2;
-    let b = sources / SOURCE_WIDTH;
-    if b < a { b } else { a }
+    (halves / HALF_WIDTH / 2).min(sources / SOURCE_WIDTH)
 }
 
 // The room in tables of these lengths.

@@ -1,5 +1,4 @@
 -- `tables::face_rows::lay` meets its contract: before turn f the first f rows are stored. Assumes nothing.
-use Prim.Native.Nat.{◌-◌}
 use Rattle.seq.specs.Loops.Storing.{Laying}
 use Rattle.paper.specs.Limits.{maps}
 use Rattle.paper.specs.Tables.{face_width}

@@ -1,5 +1,4 @@
 -- `tables::half_rows::lay` meets its contract: before turn h the first h rows are stored. Assumes nothing.
-use Prim.Native.Nat.{◌-◌}
 use Rattle.seq.specs.Loops.Storing.{Laying}
 use Rattle.tables.specs.Rows.{half_of}
 use Rattle.tables.proofs.half_rows.lay.Given as goal

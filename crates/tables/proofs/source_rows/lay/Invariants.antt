@@ -1,5 +1,4 @@
 -- `tables::source_rows::lay` meets its contract: before turn k the first k rows are stored. Assumes nothing.
-use Prim.Native.Nat.{◌-◌}
 use Rattle.seq.specs.Loops.Storing.{Laying}
 use Rattle.paper.specs.Limits.{maps}
 use Rattle.tables.specs.Rows.{source_of}

@@ -1,5 +1,4 @@
 -- `tables::vertex_rows::lay` meets its contract: before turn v the first v rows are stored. Assumes nothing.
-use Prim.Native.Nat.{◌-◌}
 use Rattle.seq.specs.Loops.Storing.{Laying}
 use Rattle.tables.specs.Rows.{vertex_of}
 use Rattle.tables.proofs.vertex_rows.lay.Given as goal
