@@ -72,11 +72,11 @@ pub fn of(c: Counts, vertices: &[i64], halves: &[u16], sources: &[u32], faces: &
 // An answer: 0 and the counts, or the four numbers of the refusal.
 fn add_answer(digest: u64, a: Answer) -> u64 {
     match a {
-        Answer::Done(c) => {
+        Ok(c) => {
             let sum = add(add(digest, 0, 2), c.vertices as u64, 2);
             add(add(sum, c.edges as u64, 2), c.faces as u64, 2)
         }
-        Answer::Refused(r) => {
+        Err(r) => {
             let sum = add(add(digest, r.number as u64, 2), r.map as u64, 2);
             add(add(sum, r.place as u64, 2), r.other as u64, 2)
         }

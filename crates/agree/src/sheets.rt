@@ -69,8 +69,8 @@ fn answer(
 ) -> Result<()> {
     let r = ask(melts, zones, blocks, bed, vertices, halves, sources, faces);
     match r {
-        Answer::Done(c) => say_done(rt, c, digest::of(c, vertices, halves, sources, faces)),
-        Answer::Refused(f) => say_refused(rt, f),
+        Ok(c) => say_done(rt, c, digest::of(c, vertices, halves, sources, faces)),
+        Err(f) => say_refused(rt, f),
     }
 }
 

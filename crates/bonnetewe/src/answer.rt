@@ -28,8 +28,8 @@ pub fn of_answer(answer: Answer) -> u64
     ensures { result ≡ told (answer_of answer) }
 {
     match answer {
-        Answer::Done(c) => join(0, c.vertices, c.edges, c.faces),
-        Answer::Refused(r) => join(r.number, r.map, r.place, r.other),
+        Ok(c) => join(0, c.vertices, c.edges, c.faces),
+        Err(r) => join(r.number, r.map, r.place, r.other),
     }
 }
 

@@ -5,7 +5,7 @@ ghost use Rattle.tables.specs.Found.{found_of, source_from};
 ghost use Rattle.bonnetewe.specs.Told.{kind as kind_of, in_first, in_second, in_third, told_ends, told_sources};
 
 use crate::answer::join;
-use tables::{Found, Source};
+use tables::{OverlayEdge, Source};
 
 fn kind(source: Source) -> u16
     ensures { result ≡ kind_of (source_from source) }
@@ -63,23 +63,23 @@ fn in_third(source: Source) -> u16
     }
 }
 
-pub fn ends_of(found: Found) -> u64
+pub fn ends_of(found: Option<OverlayEdge>) -> u64
     ensures { result ≡ told_ends (found_of found) }
 {
     match found {
-        Found::Edge(e) => {
+        Some(e) => {
             let source = e.source;
             join(kind(source), e.lower, e.upper, 0)
         }
-        Found::Absent => 0,
+        None => 0,
     }
 }
 
-pub fn sources_of(found: Found) -> u64
+pub fn sources_of(found: Option<OverlayEdge>) -> u64
     ensures { result ≡ told_sources (found_of found) }
 {
     match found {
-        Found::Edge(e) => {
+        Some(e) => {
             let source = e.source;
             join(
                 kind(source),
@@ -88,6 +88,6 @@ pub fn sources_of(found: Found) -> u64
                 in_third(source),
             )
         }
-        Found::Absent => 0,
+        None => 0,
     }
 }

@@ -2,17 +2,17 @@
 use crate::lines::{say, say_refused};
 use limits::{FACE_CELLS, HALF_CELLS, LINE, SOURCE_CELLS, VERTEX_CELLS};
 use std::io::{Print, Result};
-use tables::{Answer, Found};
+use tables::{Answer, OverlayEdge};
 
 // The line of edge k, if there is one.
-fn say_edge(rt: &impl Print, k: u16, found: Found) -> Result<()> {
+fn say_edge(rt: &impl Print, k: u16, found: Option<OverlayEdge>) -> Result<()> {
     match found {
-        Found::Edge(e) => {
+        Some(e) => {
             let mut line = [0u8; LINE];
             let n = text::edge_line(k, e, &mut line);
             say(rt, &line[..n])
         }
-        Found::Absent => Ok(()),
+        None => Ok(()),
     }
 }
 
@@ -33,8 +33,8 @@ pub fn say_edges(rt: &impl Print, file: &[u8]) -> Result<Answer> {
     let mut faces = [0u16; FACE_CELLS];
     let answer = ovfile_read::read(file, &mut vertices, &mut halves, &mut sources, &mut faces);
     match answer {
-        Answer::Done(c) => say_first(rt, c.edges, &halves, &sources)?,
-        Answer::Refused(r) => say_refused(rt, r.number, r.map, r.place)?,
+        Ok(c) => say_first(rt, c.edges, &halves, &sources)?,
+        Err(r) => say_refused(rt, r.number, r.map, r.place)?,
     }
     Ok(answer)
 }

@@ -23,7 +23,7 @@ use Rattle.laws_soundings.specs.Tally.{times_of, occurs}
 use Rattle.laws_soundings.specs.Told.{told-times}
 use Rattle.laws_promise.proofs.Looks.{looks-once}
 use Rattle.laws_promise.specs.Defined.{graph_in}
-use Rattle.tables.specs.declared.answer.Answer as code
+use Rattle.tables.specs.Answers as code
 use Rattle.tables.specs.Values.{answer_of}
 use Rattle.tables.specs.Promise.{Promised}
 use Rattle.laws_cells.specs.Lies.{seen_from, ms, face_seen, overlay, seen-counted, LiesIn, keep, looks-there, n, stored_pair, pair_rows}

@@ -30,7 +30,7 @@ use Rattle.laws_promise.proofs.Graphs.{graph_is}
 use Rattle.laws_promise.specs.Demands.{counts_for, Overlaid, done_is-overlaid}
 use Rattle.laws_promise.specs.Promised.{held}
 use Rattle.laws_promise.proofs.Promised.{done_is-defined}
-use Rattle.tables.specs.declared.answer.Answer as code
+use Rattle.tables.specs.Answers as code
 use Rattle.tables.specs.Values.{answer_of}
 use Rattle.tables.specs.Promise.{Promised}
 

@@ -9,7 +9,7 @@ use Rattle.paper.specs.Lent.{Lengths}
 use Rattle.laws_orders.specs.Orders.{FilesRenumbered}
 use Rattle.laws_orders.specs.FromCheck.{Good, passes-good}
 use Rattle.laws_orders.specs.TwoMaps.{empty-passes}
-use Rattle.tables.specs.declared.answer.Answer as code
+use Rattle.tables.specs.Answers as code
 use Rattle.tables.specs.Promise.{Promised}
 use Rattle.laws_exchange.specs.AnyOrder.{exchanged-answer, exchanged-done, exchanged_room, exchanged-bad, first_handed_in}
 use Rattle.laws_exchange.specs.SixOrders.{place_in, stands_in, arranged, Order, abc, acb, bac, bca, cab, cba, ThreeExchanged, TwoExchanged}

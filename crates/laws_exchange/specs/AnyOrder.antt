@@ -21,7 +21,7 @@ use Rattle.laws_orders.specs.FromCheck.{Good, AllGood, FirstBad, ByCheck, ForRoo
 use Rattle.laws_orders.proofs.FromCheck.{check-refuses}
 use Rattle.laws_orders.proofs.CheckRefused.{refused_for, by_check-refused}
 use Rattle.laws_promise.specs.Demands.{pair_for, refused_is_first}
-use Rattle.tables.specs.declared.answer.Answer as code
+use Rattle.tables.specs.Answers as code
 use Rattle.tables.specs.Values.{answer_of}
 use Rattle.tables.specs.Promise.{Promised}
 

@@ -12,7 +12,7 @@ use Rattle.laws_orders.specs.TwoMaps as laws
 use Rattle.laws_orders.specs.TwoMaps.{SameRoom, OneMore}
 use Rattle.laws_orders.proofs.TwoMaps.{two_maps}
 use Rattle.laws_promise.specs.Demands.{pair_for}
-use Rattle.tables.specs.declared.answer.Answer as code
+use Rattle.tables.specs.Answers as code
 use Rattle.tables.specs.Values.{answer_of}
 use Rattle.tables.specs.Promise.{Promised}
 

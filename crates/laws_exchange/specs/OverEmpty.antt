@@ -17,7 +17,7 @@ use Rattle.laws_map.specs.Keeps.{edges}
 use Rattle.laws_overlay.specs.Files.{maps_of, layer_is, maps-count}
 use Rattle.laws_promise.specs.Defined.{Near, LabelAlong, Labelled, Defined}
 use Rattle.laws_promise.proofs.Promised.{done_is-defined}
-use Rattle.tables.specs.declared.answer.Answer as code
+use Rattle.tables.specs.Answers as code
 use Rattle.tables.specs.Values.{answer_of}
 use Rattle.tables.specs.Promise.{Promised}
 

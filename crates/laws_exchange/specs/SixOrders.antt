@@ -9,7 +9,7 @@ use Rattle.paper.specs.Tables.{Counts, Tables}
 use Rattle.paper.specs.Lent.{Lengths, zero_tables}
 use Rattle.laws_orders.specs.Orders.{named}
 use Rattle.laws_orders.specs.FromCheck.{Good, AllGood, FirstBad}
-use Rattle.tables.specs.declared.answer.Answer as code
+use Rattle.tables.specs.Answers as code
 use Rattle.tables.specs.Values.{answer_of}
 use Rattle.laws_exchange.specs.AnyOrder.{Exchanged, JustBad}
 

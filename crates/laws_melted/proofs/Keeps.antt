@@ -10,7 +10,7 @@ use Rattle.laws_labels.specs.Demand3.{Agrees}
 use Rattle.laws_promise.specs.Held.{Held}
 use Rattle.laws_promise.specs.Demands.{counts_for, pair_for}
 use Rattle.laws_promise.specs.Promised.{held}
-use Rattle.tables.specs.declared.answer.Answer as code
+use Rattle.tables.specs.Answers as code
 use Rattle.tables.specs.Values.{answer_of}
 use Rattle.tables.specs.Promise.{Promised, PromisedMelted}
 use Rattle.laws_melted.specs.Kept.{Kept, rows-kept}

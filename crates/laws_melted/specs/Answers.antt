@@ -26,7 +26,7 @@ use Rattle.laws_melt.specs.Whole.{melted_fits}
 use Rattle.laws_promise.specs.Defined.{Zeros}
 use Rattle.laws_promise.specs.Rows.{rows-zeros}
 use Rattle.laws_promise.specs.Demands.{counts_for}
-use Rattle.tables.specs.declared.answer.Answer as code
+use Rattle.tables.specs.Answers as code
 use Rattle.tables.specs.Values.{answer_of, outcome_of}
 use Rattle.tables.specs.Promise.{Promised, PromisedMelted}
 use Rattle.tables.specs.Unique.{answer-once}

@@ -25,7 +25,7 @@ use Rattle.laws_promise.specs.Rows.{Rows}
 use Rattle.laws_promise.proofs.HalfRows.{half-rows}
 use Rattle.laws_promise.proofs.FaceRows.{pair-labelled, face-rows}
 use Rattle.laws_promise.specs.Demands.{Overlaid, done_is-overlaid}
-use Rattle.tables.specs.declared.answer.Answer as code
+use Rattle.tables.specs.Answers as code
 use Rattle.tables.specs.Values.{answer_of}
 use Rattle.tables.specs.Promise.{Promised, PromisedMelted}
 use Rattle.laws_melted.specs.Rows.{melted-pieced, melted-rows}

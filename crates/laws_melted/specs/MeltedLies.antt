@@ -36,7 +36,7 @@ use Rattle.laws_promise.specs.Ways.{of_net}
 use Rattle.laws_promise.proofs.Graphs.{graph_is}
 use Rattle.laws_cells.specs.Lies.{face_seen, LiesIn, stored_pair, pair_rows}
 use Rattle.laws_cells.proofs.Lies.{cell-stored}
-use Rattle.tables.specs.declared.answer.Answer as code
+use Rattle.tables.specs.Answers as code
 use Rattle.tables.specs.Values.{answer_of}
 use Rattle.tables.specs.Promise.{Promised, PromisedMelted}
 use Rattle.laws_melted.specs.Rows.{melted-pieced}

@@ -26,7 +26,7 @@ use Rattle.laws_overlay.specs.Files.{maps_of, maps-count}
 use Rattle.laws_orders.specs.TwoMaps.{SameRoom, OneMore, with_last}
 use Rattle.laws_orders.proofs.TwoMaps.{last_empty}
 use Rattle.laws_melt.specs.MeltEmpty.{melted-empty}
-use Rattle.tables.specs.declared.answer.Answer as code
+use Rattle.tables.specs.Answers as code
 use Rattle.tables.specs.Values.{answer_of}
 use Rattle.tables.specs.Promise.{PromisedMelted}
 use Rattle.laws_promise.specs.Rows.{Rows}

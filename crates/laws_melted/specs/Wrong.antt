@@ -21,7 +21,7 @@ use Rattle.paper.specs.Sample.{empty_file}
 use Rattle.paper.specs.Sheets.{ample, counted}
 use Rattle.laws_refusals.specs.Room.{Fits}
 use Rattle.laws_promise.specs.Wrong.{Operation}
-use Rattle.tables.specs.declared.answer.Answer as code
+use Rattle.tables.specs.Answers as code
 use Rattle.tables.specs.Values.{answer_of}
 use Rattle.tables.specs.Promise.{Promised, PromisedMelted}
 use Rattle.laws_melted.specs.Answers.{melted_counts}

@@ -17,8 +17,8 @@ use Rattle.laws_map.proofs.Passes.{passes-form}
 use Rattle.laws_labels.specs.Done.{three_pass}
 use Rattle.laws_refusals.specs.Room.{Fits}
 use Rattle.laws_file.specs.Bytes.{Bytes}
-use Rattle.tables.specs.declared.answer.Answer as code
-use Rattle.tables.specs.declared.answer.Answer.TheVariants.{Done}
+use Rattle.tables.specs.Answers as code
+use Rattle.std.specs.Prelude.{Ok}
 use Rattle.tables.specs.Values.{answer_of}
 use Rattle.tables.specs.Promise.{Promised}
 use Rattle.laws_promise.specs.Demands.{counts_for}
@@ -48,7 +48,7 @@ module _ (l : Lengths) (a b z : List ℕ) (c : Counts) (t : Tables) (D : Defined
       (λ k i p q. D.zeros.sources (maps * k + i) (past_rows maps c.edges k i p))
 
   module _ (A : Bytes a) (B : Bytes b) (Z : Bytes z) where
-    kept : Promised l (a ∷ b ∷ z ∷ []) (Done (record { vertices = c.vertices; edges = c.edges; faces = c.faces })) t
+    kept : Promised l (a ∷ b ∷ z ∷ []) (Ok (record { vertices = c.vertices; edges = c.edges; faces = c.faces })) t
     kept = sym (defined-overlay l (a ∷ b ∷ z ∷ []) c t D)
 
     pub defined_delivered : Delivered l a b z c t

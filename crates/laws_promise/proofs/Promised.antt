@@ -12,7 +12,7 @@ use Rattle.paper.specs.Lent.{Lengths, room_in, padded_tables}
 use Rattle.laws_overlay.specs.Files.{AllPass, maps_of, maps-count, files-reach}
 use Rattle.laws_refusals.specs.Room.{Fits}
 use Rattle.laws_labels.specs.Demand3.{Agrees}
-use Rattle.tables.specs.declared.answer.Answer as code
+use Rattle.tables.specs.Answers as code
 use Rattle.tables.specs.Values.{answer_of}
 use Rattle.tables.specs.Promise.{Promised}
 use Rattle.laws_promise.specs.Demands.{counts_for, tables_for, pair_for, Overlaid, done_is-overlaid, passes_is-overlaid}

@@ -27,7 +27,7 @@ use Rattle.laws_roundtrip.specs.ReadCells.{exact_lengths}
 use Rattle.laws_roundtrip.specs.Zeros.{padded-writes, padded-counted}
 use Rattle.laws_roundtrip.specs.ReadWritten.{FacesFit, write_done, done-file}
 use Rattle.laws_roundtrip.proofs.ReadWritten.{written_is_read}
-use Rattle.tables.specs.declared.answer.Answer as code
+use Rattle.tables.specs.Answers as code
 use Rattle.tables.specs.Values.{answer_of, outcome_of}
 use Rattle.tables.specs.Promise.{Promised}
 use Rattle.laws_promise.specs.Demands.{counts_for, tables_for}

@@ -12,8 +12,8 @@ use Rattle.paper.specs.Writer.{write}
 use Rattle.paper.specs.Reader.{read}
 use Rattle.laws_map.specs.Keeps.{edges}
 use Rattle.laws_file.specs.Bytes.{Bytes}
-use Rattle.tables.specs.declared.answer.Answer as code
-use Rattle.tables.specs.declared.answer.Answer.TheVariants.{Done}
+use Rattle.tables.specs.Answers as code
+use Rattle.std.specs.Prelude.{Ok}
 use Rattle.laws_promise.specs.Defined.{EdgeRecords, Defined}
 use Rattle.laws_promise.specs.Written.{newest}
 
@@ -29,4 +29,4 @@ pub record Delivered (l : Lengths) (a b z : List ℕ) (c : Counts) (t : Tables) 
 module _ (l : Lengths) (a b z : List ℕ) (c : Counts) (t : Tables) (D : Defined l (a ∷ b ∷ z ∷ []) c t) where
   module _ (A : Bytes a) (B : Bytes b) (Z : Bytes z) where
     abbrev pub answer : code.Answer
-    answer = Done (record { vertices = c.vertices; edges = c.edges; faces = c.faces })
+    answer = Ok (record { vertices = c.vertices; edges = c.edges; faces = c.faces })

@@ -14,7 +14,7 @@ use Rattle.laws_overlay.specs.Files.{AllPass, maps_of}
 use Rattle.laws_labels.specs.Done.{passes-done, done-passes, done_fits, done-counts, done-tables}
 use Rattle.laws_labels.specs.Demand3.{Agrees}
 use Rattle.laws_labels.proofs.Demand3.{labels-agree}
-use Rattle.tables.specs.declared.answer.Answer as code
+use Rattle.tables.specs.Answers as code
 use Rattle.tables.specs.Values.{answer_of}
 use Rattle.tables.specs.Promise.{Promised}
 

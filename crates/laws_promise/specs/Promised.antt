@@ -11,7 +11,7 @@ use Rattle.laws_overlay.specs.Files.{AllPass, maps_of, maps-count, files-keep}
 use Rattle.laws_refusals.specs.Room.{Fits}
 use Rattle.laws_roundtrip.specs.ReadCells.{exact_lengths}
 use Rattle.laws_roundtrip.specs.Zeros.{padded-lengths}
-use Rattle.tables.specs.declared.answer.Answer as code
+use Rattle.tables.specs.Answers as code
 use Rattle.laws_promise.specs.Good.{table-lengths}
 use Rattle.laws_promise.specs.Demands.{counts_for, tables_for}
 use Rattle.laws_promise.specs.Held.{Held, padded-held}

@@ -16,7 +16,7 @@ use Rattle.laws_roundtrip.specs.ReadWritten.{done-file}
 use Rattle.laws_roundtrip.proofs.WrittenRead.{written_read}
 use Rattle.laws_roundtrip.specs.OlderRead.{older-written}
 use Rattle.laws_roundtrip.proofs.OlderRead.{older-read}
-use Rattle.tables.specs.declared.answer.Answer as code
+use Rattle.tables.specs.Answers as code
 use Rattle.tables.specs.Values.{answer_of, outcome_of}
 use Rattle.laws_promise.specs.Written.{newest}
 

@@ -11,7 +11,7 @@ use Rattle.paper.specs.Lent.{Lengths}
 use Rattle.paper.specs.Ovfile.{Layout, layouts, layout_of}
 use Rattle.laws_overlay.specs.Files.{AllPass}
 use Rattle.laws_file.specs.Bytes.{Bytes}
-use Rattle.tables.specs.declared.answer.Answer as code
+use Rattle.tables.specs.Answers as code
 use Rattle.tables.specs.Values.{answer_of}
 use Rattle.tables.specs.Promise.{Promised}
 use Rattle.laws_promise.specs.Demands.{counts_for, tables_for}

@@ -14,7 +14,7 @@ use Rattle.paper.specs.Lent.{Lengths, Outcome, lengths_of, zero_tables}
 use Rattle.paper.specs.Overlay.{overlay}
 use Rattle.paper.specs.Sample.{at, empty_file, single, zone}
 use Rattle.paper.specs.Sheets.{ample, counted, s12}
-use Rattle.tables.specs.declared.answer.Answer as code
+use Rattle.tables.specs.Answers as code
 use Rattle.tables.specs.Values.{answer_of}
 use Rattle.tables.specs.Promise.{Promised}
 

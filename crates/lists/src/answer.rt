@@ -21,7 +21,7 @@ pub fn put(answer: Answer, faces: &[u16], out: &mut [u8; LISTING]) -> usize
     ensures { Line 85504 (listing_by maps (faces_only faces.now) (answer_of answer)) out.old out.new result }
 {
     match answer {
-        Answer::Done(c) => text::listing(c.vertices, c.edges, c.faces, faces, out),
-        Answer::Refused(r) => text::refused_listing(r.number, r.map, r.place, out),
+        Ok(c) => text::listing(c.vertices, c.edges, c.faces, faces, out),
+        Err(r) => text::refused_listing(r.number, r.map, r.place, out),
     }
 }

@@ -6,7 +6,7 @@ use Rattle.seq.specs.Unique.{determined}
 use Rattle.paper.specs.Tables.{Tables}
 use Rattle.paper.specs.Lent.{Lengths, Outcome}
 use Rattle.paper.specs.Melt.{lent_melted}
-use Rattle.tables.specs.declared.answer.Answer.{Answer}
+use Rattle.tables.specs.Answers.{Answer}
 use Rattle.tables.specs.Values.{outcome_of}
 use Rattle.tables.specs.Promise.{PromisedMelted}
 use Rattle.tables.specs.Unique.{answer-once}

@@ -91,7 +91,7 @@ fn fill_with(
     store_halves(halves, e, ends, next, prev, face);
     store_sources(sources, e, pieces);
     store_faces(faces, f, triples, outer, counts);
-    Answer::Done(Counts {
+    Ok(Counts {
         vertices: v,
         edges: e,
         faces: f,

@@ -26,7 +26,7 @@ pub fn refuse(
     ensures { outcome_of result (tables_by vertices.new halves.new sources.new faces.new) ≡ refused_with (lengths_of (tables_by vertices.old halves.old sources.old faces.old)) (refusal_of r) }
 {
     wipe_all(vertices, halves, sources, faces);
-    Answer::Refused(r)
+    Err(r)
 }
 
 // of a small sheet a face for each half-edge, and face 0

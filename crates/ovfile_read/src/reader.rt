@@ -91,11 +91,11 @@ pub fn read(
     match check {
         Err(r) => {
             wipe_all(vertices, halves, sources, faces);
-            Answer::Refused(r)
+            Err(r)
         }
         Ok(()) => {
             fill(layout_in(file), file, vertices, halves, sources, faces);
-            Answer::Done(counts(file))
+            Ok(counts(file))
         }
     }
 }

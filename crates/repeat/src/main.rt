@@ -18,7 +18,7 @@ use tables::Answer;
 
 fn say_answer(rt: &impl Print, answer: Answer) -> io::Result<()> {
     match answer {
-        Answer::Done(c) => {
+        Ok(c) => {
             say(rt, b"done ")?;
             say_number(rt, c.vertices as u64)?;
             say(rt, b" ")?;
@@ -27,7 +27,7 @@ fn say_answer(rt: &impl Print, answer: Answer) -> io::Result<()> {
             say_number(rt, c.faces as u64)?;
             say(rt, b"\n")
         }
-        Answer::Refused(r) => console::say_refused(rt, r.number, r.map, r.place),
+        Err(r) => console::say_refused(rt, r.number, r.map, r.place),
     }
 }
 

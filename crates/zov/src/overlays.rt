@@ -13,8 +13,8 @@ use tables::Answer;
 // A refusal in a sentence, under its line.
 fn explain(rt: &impl Print, answer: Answer) -> Result<()> {
     match answer {
-        Answer::Done(_) => Ok(()),
-        Answer::Refused(r) => console::say_sentence(rt, r.number, r.map, r.place),
+        Ok(_) => Ok(()),
+        Err(r) => console::say_sentence(rt, r.number, r.map, r.place),
     }
 }
 
@@ -55,8 +55,8 @@ fn explain_maps(
     bed: &[u8],
 ) -> Result<()> {
     match answer {
-        Answer::Done(_) => Ok(()),
-        Answer::Refused(r) => {
+        Ok(_) => Ok(()),
+        Err(r) => {
             if has_place(r.number) {
                 explain_place(rt, r, maps, zones, blocks, bed)
             } else {

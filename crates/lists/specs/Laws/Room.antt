@@ -14,7 +14,7 @@ use Rattle.paper.specs.Ovfile.{layouts, sound_edge, layout_of}
 use Rattle.paper.specs.Reader.{counts_in, tables_in, head_faults, read}
 use Rattle.paper.specs.Listing.{listing_by, listing}
 use Rattle.text.specs.Lines.{Line, faces_only, line-once}
-use Rattle.tables.specs.declared.answer.Answer as code
+use Rattle.tables.specs.Answers as code
 use Rattle.tables.specs.Values.{answer_of, outcome_of}
 use Rattle.tables.specs.Unique.{answer-once}
 use Rattle.lists.specs.declared.answer.Listed.{Listed}

@@ -6,12 +6,12 @@ use Rattle.lists.proofs.answer.put.Goals as goal
 
 pub listing-requires : goal.listing-requires
 listing-requires c =
-    roomy_as (sym (ap answer_of c.in-Done.is)) c.requires
+    roomy_as (sym (ap answer_of c.in-Ok.is)) c.requires
 
-pub returns-in-Done : goal.returns-in-Done
-returns-in-Done c =
-    line_as c.args.faces.now (ap answer_of c.in-Done.is) c.listing.ensures
+pub returns-in-Ok : goal.returns-in-Ok
+returns-in-Ok c =
+    line_as c.args.faces.now (ap answer_of c.in-Ok.is) c.listing.ensures
 
-pub returns-in-Refused : goal.returns-in-Refused
-returns-in-Refused c =
-    line_as c.args.faces.now (ap answer_of c.in-Refused.is) c.refused_listing.ensures
+pub returns-in-Err : goal.returns-in-Err
+returns-in-Err c =
+    line_as c.args.faces.now (ap answer_of c.in-Err.is) c.refused_listing.ensures

@@ -10,23 +10,23 @@ use Rattle.lists.specs.Listed.{full_tables}
 use Rattle.lists.specs.Filed.{filed_by_lem}
 use Rattle.lists.proofs.from_maps.file.Goals as goal
 
-pub returns-in-Done : goal.returns-in-Done
-returns-in-Done c =
+pub returns-in-Ok : goal.returns-in-Ok
+returns-in-Ok c =
     let a = c.args in
     filed_by_lem
     (length a.buffer.now)
     (overlay full_tables a.zones.now a.blocks.now a.bed.now)
     c.overlay-answer.ensures
-    (ap answer_of c.in-Done.is)
+    (ap answer_of c.in-Ok.is)
     c.write.ensures
 
-pub returns-in-Refused : goal.returns-in-Refused
-returns-in-Refused c =
+pub returns-in-Err : goal.returns-in-Err
+returns-in-Err c =
     let a = c.args in
     let n = length a.buffer.now in
     filed_by_lem
     n
     (overlay full_tables a.zones.now a.blocks.now a.bed.now)
     c.overlay-answer.ensures
-    (ap answer_of c.in-Refused.is)
-    (λ i. record { answer = refused (refusal_of c.in-Refused.r); buffer = (c.fill.ensures.after (λ y e. e) ∙ sym (padded_none 0 n)) i })
+    (ap answer_of c.in-Err.is)
+    (λ i. record { answer = refused (refusal_of c.in-Err.r); buffer = (c.fill.ensures.after (λ y e. e) ∙ sym (padded_none 0 n)) i })
