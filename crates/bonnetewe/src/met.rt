@@ -7,7 +7,7 @@ ghost use Rattle.meet.specs.Answer.{answer_of as met_answer};
 ghost use Rattle.bonnetewe.specs.Met.{meeting_kind, told_meeting, point_in, told_point, point_cell};
 
 use crate::answer::join;
-use meet::MeetAnswer;
+use map_file::Refusal;
 use plane::{Meeting, Point};
 
 fn kind(m: Meeting) -> u16
@@ -21,12 +21,12 @@ fn kind(m: Meeting) -> u16
     }
 }
 
-pub fn of_met(answer: MeetAnswer) -> u64
+pub fn of_met(answer: Result<Meeting, Refusal>) -> u64
     ensures { result ≡ told_meeting (met_answer answer) }
 {
     match answer {
-        MeetAnswer::Met(m) => join(0, kind(m), 0, 0),
-        MeetAnswer::Refused(r) => join(r.number, r.map, r.place, r.other),
+        Ok(m) => join(0, kind(m), 0, 0),
+        Err(r) => join(r.number, r.map, r.place, r.other),
     }
 }
 
@@ -49,12 +49,12 @@ fn point_in(m: Meeting) -> Point
 }
 
 // The point where there is one, three zeros where there is none.
-pub fn point_of(answer: MeetAnswer) -> Point
+pub fn point_of(answer: Result<Meeting, Refusal>) -> Point
     ensures { pt_of result ≡ told_point (met_answer answer) }
 {
     match answer {
-        MeetAnswer::Met(m) => point_in(m),
-        MeetAnswer::Refused(_) => nowhere(),
+        Ok(m) => point_in(m),
+        Err(_) => nowhere(),
     }
 }
 

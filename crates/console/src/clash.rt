@@ -3,8 +3,7 @@ ghost use Rattle.std.specs.Prelude.{◌≤◌};
 
 use crate::lines::{say, say_number};
 use limits::{MAP_EDGE_SIZE, MAP_HEAD, MAP_VERTEX_SIZE};
-use map_file::{u16_at, vertex_count};
-use meet::MeetAnswer;
+use map_file::{Refusal, u16_at, vertex_count};
 use plane::{Meeting, Point};
 use std::io::{Print, Result};
 
@@ -33,7 +32,7 @@ fn coordinate(file: &[u8], at: usize) -> i16 {
 }
 
 // How edges k and j of a map file meet.
-fn meeting_of(file: &[u8], k: u16, j: u16) -> MeetAnswer {
+fn meeting_of(file: &[u8], k: u16, j: u16) -> std::result::Result<Meeting, Refusal> {
     let edges = vertex_at(vertex_count(file));
     let first = edges + MAP_EDGE_SIZE * k as usize;
     let second = edges + MAP_EDGE_SIZE * j as usize;
@@ -110,8 +109,8 @@ fn say_meeting(rt: &impl Print, k: u16, j: u16, m: Meeting) -> Result<()> {
 pub fn say_clash(rt: &impl Print, file: &[u8], k: u16, j: u16) -> Result<()> {
     let met = meeting_of(file, k, j);
     match met {
-        MeetAnswer::Met(m) => say_meeting(rt, k, j, m)?,
-        MeetAnswer::Refused(_) => say_edges(rt, k, b" clashes with", j)?,
+        Ok(m) => say_meeting(rt, k, j, m)?,
+        Err(_) => say_edges(rt, k, b" clashes with", j)?,
     }
     say(rt, b"\n")
 }

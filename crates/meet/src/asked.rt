@@ -7,18 +7,17 @@ ghost use Rattle.plane.specs.Values.{vec_of};
 ghost use Rattle.map_file.specs.Verdict.{verdict};
 ghost use Rattle.meet.specs.Answer.{answer_of};
 
-use crate::answer::MeetAnswer;
 use limits::REACH;
-use map_file::{Check, given};
-use plane::{Vector, between, meeting};
+use map_file::{Check, Refusal, given};
+use plane::{Meeting, Vector, between, meeting};
 
 // The corner x, y.
 pub fn corner(x: i16, y: i16) -> Vector
     ensures { vec_of result ≡ vec x y }
 {
     Vector {
-        x: x as i64,
-        y: y as i64,
+        x: i64::from(x),
+        y: i64::from(y),
     }
 }
 
@@ -26,30 +25,21 @@ pub fn corner(x: i16, y: i16) -> Vector
 fn beyond(a: Vector) -> bool
     ensures { result ≡ beyond (vec_of a) }
 {
-    if REACH < a.x.unsigned_abs() {
-        return true;
-    }
-    REACH < a.y.unsigned_abs()
+    REACH < a.x.unsigned_abs() || REACH < a.y.unsigned_abs()
 }
 
 // 5, of either end.
 fn either_beyond(a: Vector, b: Vector) -> bool
     ensures { result ≡ (beyond (vec_of a) || beyond (vec_of b)) }
 {
-    if beyond(a) { true } else { beyond(b) }
+    beyond(a) || beyond(b)
 }
 
 // 7 "an edge of no length"
 fn no_length(a: Vector, b: Vector) -> bool
     ensures { result ≡ same (whole (vec_of a)) (whole (vec_of b)) }
 {
-    if a.y != b.y {
-        return false;
-    }
-    if a.x != b.x {
-        return false;
-    }
-    true
+    a == b
 }
 
 // The first fault of the edge from a to b and the edge from c to d: 5 of both, then 7 of both.
@@ -63,12 +53,9 @@ fn faults(a: Vector, b: Vector, c: Vector, d: Vector) -> Check
 }
 
 // How the edge from a to b and the edge from c to d meet, or the refusal.
-pub fn meet_corners(a: Vector, b: Vector, c: Vector, d: Vector) -> MeetAnswer
+pub fn meet_corners(a: Vector, b: Vector, c: Vector, d: Vector) -> Result<Meeting, Refusal>
     ensures { answer_of result ≡ meet_corners (vec_of a) (vec_of b) (vec_of c) (vec_of d) }
 {
-    let found = faults(a, b, c, d);
-    match found {
-        Err(r) => MeetAnswer::Refused(r),
-        Ok(()) => MeetAnswer::Met(meeting(between(a, b), between(c, d))),
-    }
+    faults(a, b, c, d)?;
+    Ok(meeting(between(a, b), between(c, d)))
 }

@@ -4,7 +4,6 @@
 #![tactic(auto)]
 
 use map_file::{Refusal, u16_at};
-use meet::MeetAnswer;
 use plane::{Meeting, Point};
 use std::fs;
 use std::io::{Print, Read, Result};
@@ -79,8 +78,8 @@ fn answer(rt: &impl Print, bytes: &[u8]) -> Result<()> {
         signed_at(bytes, 14),
     );
     match r {
-        MeetAnswer::Met(m) => say_meeting(rt, m)?,
-        MeetAnswer::Refused(f) => say_refused(rt, f)?,
+        Ok(m) => say_meeting(rt, m)?,
+        Err(f) => say_refused(rt, f)?,
     }
     say(rt, b"\n")
 }

@@ -6,7 +6,6 @@ use mir.Val.{SFits, to_z, of_z}
 use mir.ValLaws.{to_z-of_z}
 use Rattle.paper.specs.Plane.{Vec, vec}
 use Rattle.paper.specs.Meeting.{meet_corners}
-use borrow.Author.Rules.{rules}
 use Rattle.meet.proofs.meet.Goals as goal
 
 -- a corner of numbers that are read back

@@ -1,51 +1,24 @@
 -- `meet::asked::no_length` meets its contract: two corners are one point where both coordinates are equal. Assumes nothing.
-use mathlib.Core.Path.{◌≡◌, sym, ◌∙◌, ap}
-use mathlib.Core.Bool.{true, false}
-use lib.IntN.{ℤ}
-use mir.Syntax.{w64}
-use mir.Val.{SFits, to_z, of_z}
-use mir.ValLaws.{to_z-of_z}
-use Rattle.exact.specs.Tests.{not-true}
+use mathlib.Core.Path.{◌≡◌, ◌∙◌, ap, subst}
+use Rattle.std.specs.Prelude.{T, true, ◌&&◌}
+use Rattle.std.specs.Ordering.{int_eq}
+use Rattle.std.specs.Cmp.{signed_Decides}
+use Rattle.exact.specs.Tests.{bool_iff, T_true, true_T, and_parts, and_both}
 use Rattle.paper.specs.Plane.{Vec, vec, whole, same}
 use Rattle.laws_plane.specs.Points.{same_self}
 use Rattle.laws_plane.specs.Ends.{corner_same}
 use Rattle.plane.specs.Values.{vec_of}
-use borrow.Author.Rules.{rules}
 use Rattle.meet.proofs.asked.no_length.Goals as goal
-use Rattle.meet.proofs.asked.no_length.Goals.{Start}
 
 module _ (a b : Vec) where
-  two : (a ≡ b → ⊥) → false ≡ same (whole a) (whole b)
-  two n = sym (not-true (same (whole a) (whole b)) (λ q. n (corner_same a b q)))
-
-  one : a.x ≡ b.x → a.y ≡ b.y → true ≡ same (whole a) (whole b)
-  one p q = sym (same_self (whole a)) ∙ (λ i. same (whole a) (whole (vec (p i) (q i))))
-
--- what the test of two numbers tells, as the machine makes it
-module _ (x y : ℤ) where
-  not_equal : (of_z w64 x ≡ of_z w64 y → ⊥) → x ≡ y → ⊥
-  not_equal n e = n (ap (of_z w64) e)
-
-  equal : SFits w64 x → SFits w64 y → of_z w64 x ≡ of_z w64 y → x ≡ y
-  equal f g e = sym (to_z-of_z w64 x f) ∙ ap (to_z w64) e ∙ to_z-of_z w64 y g
-
-pub returns-then-a-b : goal.returns-then-a-b
-returns-then-a-b c =
-    let st : Start = search rules in
-    let a = st.args.a in
-    let b = st.args.b in
-    two (vec_of a) (vec_of b) (λ e. not_equal a.y b.y c.if-a-b.true (ap (λ (v : Vec). v.y) e))
-
-pub returns-then-a-b-2 : goal.returns-then-a-b-2
-returns-then-a-b-2 c =
-    let st : Start = search rules in
-    let a = st.args.a in
-    let b = st.args.b in
-    two (vec_of a) (vec_of b) (λ e. not_equal a.x b.x c.if-a-b-2.true (ap (λ (v : Vec). v.x) e))
+  alike : (int_eq a.x b.x && int_eq a.y b.y) ≡ same (whole a) (whole b)
+  alike =
+      bool_iff (int_eq a.x b.x && int_eq a.y b.y) (same (whole a) (whole b))
+      (λ t. let p = and_parts (int_eq a.x b.x) (int_eq a.y b.y) (T_true _ t) in one ((signed_Decides a.x b.x).0 p.0) ((signed_Decides a.y b.y).0 p.1))
+      (λ t. let e = corner_same a b (T_true _ t) in true_T (and_both ((signed_Decides a.x b.x).1 (ap (λ (v : Vec). v.x) e)) ((signed_Decides a.y b.y).1 (ap (λ (v : Vec). v.y) e))))
+    where
+      one : a.x ≡ b.x → a.y ≡ b.y → T (same (whole a) (whole b))
+      one p q = true_T (subst (λ (v : Vec). same (whole a) (whole v) ≡ true) (λ i. vec (p i) (q i)) (same_self (whole a)))
 
 pub returns : goal.returns
-returns c =
-    let st : Start = search rules in
-    let a = st.args.a in
-    let b = st.args.b in
-    one (vec_of a) (vec_of b) (equal a.x b.x (search rules) (search rules) c.if-a-b-2.false) (equal a.y b.y (search rules) (search rules) c.if-a-b.false)
+returns c = c.eq.ensures ∙ alike (vec_of c.args.a) (vec_of c.args.b)
