@@ -19,8 +19,7 @@ fn one_side(origins: &[u16], k: usize, v: usize) -> bool
     requires { 2 * k + 1 < length origins.now }
     ensures { result ≡ the_one_side origins.now k v }
 {
-    let to = v < origins[2 * k + 1] as usize;
-    if v < origins[2 * k] as usize { to } else { !to }
+    (v < origins[2 * k] as usize) == (v < origins[2 * k + 1] as usize)
 }
 
 // Whether edge k is a candidate from p, the point of vertex v, where only edges strictly west count. Where the points rise none with both ends after v is, and none with neither.
@@ -39,10 +38,8 @@ fn strictly_west(
     requires fact_2 { (k < e) × (v < n) × (pt_of p ≡ the_point_at points.now v) }
     ensures { result ≡ candidate_at points.now origins.now carriers.now (pt_of p) nowhere k }
 {
-    if rising {
-        if one_side(origins, k, v) {
-            return false;
-        }
+    if rising && one_side(origins, k, v) {
+        return false;
     }
     candidate(points, origins, carriers, k, p, Vector { x: 0, y: 0 })
 }

@@ -24,11 +24,7 @@ pub fn leads_hole(lead: &[u16], top: &[u16], h: usize) -> bool
     requires { Kinded lead.now top.now h }
     ensures { result ≡ hole_lead lead.now top.now h }
 {
-    if is_hole(lead, top, h) {
-        lead[h] as usize == h
-    } else {
-        false
-    }
+    is_hole(lead, top, h) && lead[h] as usize == h
 }
 
 // What is known of the walk that half-edge h is the least of, stored at h, with c outer walks before it: of a hole walk what it sees, of an outer walk its number. The
@@ -104,8 +100,7 @@ fn face(lead: &[u16], top: &[u16], known: &[u16], n: usize, m: usize, h: usize) 
     ensures { result ≡ face_from lead.now top.now known.now n h }
 {
     let mut x = h;
-    let mut left = n;
-    while 0 < left {
+    for _step in 0..n {
         let s = known[lead[x] as usize];
         if !is_hole(lead, top, x) {
             return s;
@@ -114,7 +109,6 @@ fn face(lead: &[u16], top: &[u16], known: &[u16], n: usize, m: usize, h: usize) 
             return 0;
         }
         x = s as usize;
-        left -= 1;
     }
     0
 }
@@ -143,7 +137,7 @@ pub fn settle(
         faces[h] = v;
         if leads_hole(lead, top, h) {
             let at = v as usize;
-            inside[at] = inside[at] + 1;
+            inside[at] += 1;
         }
     }
 }

@@ -22,14 +22,12 @@ fn mark(next: &[u16], m: usize, h: usize, lead: &mut [u16])
 {
     lead[h] = h as u16;
     let mut x = next[h] as usize;
-    let mut left = m;
-    while 0 < left {
+    for _step in 0..m {
         if x == h {
             return;
         }
         lead[x] = h as u16;
         x = next[x] as usize;
-        left -= 1;
     }
 }
 
@@ -55,10 +53,7 @@ fn earlier(points: &[i64], origins: &[u16], n: usize, rising: bool, h: usize, r:
     requires fact_3 { (origin_at origins.now h < n) × ((r ≡ absent → ⊥) → origin_at origins.now r < n) }
     ensures { result ≡ better (earlier_at points.now origins.now) absent h r }
 {
-    if r == ABSENT {
-        return h as u16;
-    }
-    if starts_first(points, origins, n, rising, h, r as usize) {
+    if r == ABSENT || starts_first(points, origins, n, rising, h, r as usize) {
         h as u16
     } else {
         r
@@ -119,10 +114,7 @@ pub fn climb(origins: &[u16], e: usize, rising: bool) -> bool
     let mut last = 0u16;
     for k in 0..e {
         let lower = origins[2 * k];
-        if lower < last {
-            return false;
-        }
-        if origins[2 * k + 1] < lower {
+        if lower < last || origins[2 * k + 1] < lower {
             return false;
         }
         last = lower;

@@ -124,6 +124,3 @@ returns c =
       count_is = count-flat (ps (goal.at.returns c).Start) (os (goal.at.returns c).Start) (cs (goal.at.returns c).Start) (n (goal.at.returns c).Start) (e (goal.at.returns c).Start) (F (goal.at.returns c).Start) (P (goal.at.returns c).Start) (big (goal.at.returns c).Start) (lead (goal.at.returns c).Start) (top (goal.at.returns c).Start) (L (goal.at.returns c).Start) (T (goal.at.returns c).Start) c.tell-count.result c.tell-count.ensures.counted;
       holes_is = holes-filled (ps (goal.at.returns c).Start) (os (goal.at.returns c).Start) (cs (goal.at.returns c).Start) (n (goal.at.returns c).Start) (e (goal.at.returns c).Start) (F (goal.at.returns c).Start) (P (goal.at.returns c).Start) (big (goal.at.returns c).Start) (lead (goal.at.returns c).Start) (top (goal.at.returns c).Start) (L (goal.at.returns c).Start) (T (goal.at.returns c).Start) known K c.tell-count.result c.args.inside.now c.settle.new.inside c.settle.ensures.inside;
     }
-
-pub rise-rising-requires : goal.rise-rising-requires
-rise-rising-requires c = (F (goal.at.rise-rising-requires c).Start).points

@@ -105,15 +105,6 @@ module _ (s : Start) where
         leads : Holds (lead_at (walks_of g)) lead (2 * e)
         leads = lead-holds ps os cs n e F P next nexts lead₀ s.requires.fact_5.1 lead L
 
-pub headings_by-requires : goal.headings_by-requires
-headings_by-requires c =
-    record {
-      fact_1 = F (goal.at.headings_by-requires c).Start;
-      fact_2 = c.rise-rising.ensures.rises;
-      fact_3 = big (goal.at.headings_by-requires c).Start;
-      fact_4 = wide (goal.at.headings_by-requires c).Start;
-    }
-
 pub follow_stars-requires : goal.follow_stars-requires
 follow_stars-requires c =
     let W = c.headings_by in
@@ -156,6 +147,3 @@ returns c =
       lead_is = leads_over (ps s) (os s) (cs s) (n s) (e s) (F s) (P s) (lead₀ s) lead (lead_at_lem s ways W.ensures next N.ensures.next lead L.ensures);
       top_is = over_is (ps s) (os s) (cs s) (n s) (e s) (F s) (P s) (top_of (g s)) (top₀ s) top c.tops_of.ensures;
     }
-
-pub rise-rising-requires : goal.rise-rising-requires
-rise-rising-requires c = (F (goal.at.rise-rising-requires c).Start).points

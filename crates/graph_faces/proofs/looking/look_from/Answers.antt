@@ -21,10 +21,6 @@ carried s = flat-carried s.args.points.now s.args.origins.now s.args.carriers.no
 near : (s : Start) → Near (pt_of s.args.p)
 near s = subst Near (sym s.requires.fact_2.1) (s.requires.fact_1.flat.points.near s.args.v s.requires.fact_2.0)
 
-pub strictly_west-requires : goal.strictly_west-requires
-strictly_west-requires c =
-    record { fact_1 = c.requires.fact_1; fact_2 = (c.loop-k-test.true, c.requires.fact_2.0, c.requires.fact_2.1) }
-
 pub nearest-r-requires : goal.nearest-r-requires
 nearest-r-requires c =
     let l = c.loop-k in
@@ -48,6 +44,3 @@ returns-then-r-e c =
 pub returns-else-r-e : goal.returns-else-r-e
 returns-else-r-e c =
     pick_has c.loop-k.invariant (search rules) c.if-r-e.false ∙ flat-best c.args.points.now c.args.origins.now c.args.carriers.now c.args.n c.args.e c.requires.fact_1.flat (pt_of c.args.p) (near (goal.at.returns-else-r-e c).Start) nowhere
-
-pub loop-k-init : goal.loop-k-init
-loop-k-init c = pick_starts

@@ -65,6 +65,3 @@ returns-in-Edge c =
     let q = sym c.look_from-seen.ensures ∙ ap the_seen_of c.in-Edge.is in
     ap (λ (o : Option ℕ). Option·getD o absent)
     (ap some c.east_side.ensures ∙ seen-east a.points.now a.origins.now a.carriers.now a.n a.e F p near nowhere k q ∙ ap (λ (q : Pt). west g q nowhere) c.point_at-p.ensures)
-
-pub point_at-p-requires : goal.point_at-p-requires
-point_at-p-requires c = omega (arith, c.requires.fact_1.flat.points.long, c.requires.fact_2)

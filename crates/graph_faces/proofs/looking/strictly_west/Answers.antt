@@ -9,26 +9,9 @@ use Rattle.graph.specs.Look.{candidate_at}
 use Rattle.graph_faces.specs.Sides.{one_side_none}
 use Rattle.graph_faces.proofs.looking.strictly_west.Goals as goal
 
-pub one_side-requires : goal.one_side-requires
-one_side-requires c =
-    omega (arith, c.requires.fact_1.flat.origins.long, c.requires.fact_2.0)
-
 pub returns-then-one_side : goal.returns-then-one_side
 returns-then-one_side c =
     let a = c.args in
     let S = c.requires.fact_1 in
     sym (ap (λ (q : Pt). candidate_at a.points.now a.origins.now a.carriers.now q nowhere a.k) c.requires.fact_2.2
     ∙ one_side_none a.points.now a.origins.now a.carriers.now a.n a.e S.flat S.plane (S.rises c.if-rising.true) a.k c.requires.fact_2.0 a.v c.requires.fact_2.1 (sym c.one_side.ensures ∙ c.if-one_side.true))
-
-pub candidate-requires : goal.candidate-requires
-candidate-requires c =
-    let a = c.args in
-    let S = c.requires.fact_1 in
-    let ends = flat_ends a.points.now a.origins.now a.carriers.now a.n a.e S.flat a.k c.requires.fact_2.0 in (
-      omega (arith, S.small, c.requires.fact_2.0),
-      ends.0,
-      ends.1,
-      flat-carried a.points.now a.origins.now a.carriers.now a.n a.e S.flat a.k c.requires.fact_2.0,
-      subst Near (sym c.requires.fact_2.2) (S.flat.points.near a.v c.requires.fact_2.1),
-      search rules,
-    )

@@ -14,38 +14,14 @@ pub loop-h-init : goal.loop-h-init
 loop-h-init c =
     (fill_starts c.requires.fact_4.0, tally_starts c.args.inside.now c.requires.fact_4.1 c.fill.ensures)
 
-pub face-v-requires : goal.face-v-requires
-face-v-requires c =
-    record { fact_1 = c.requires.fact_1; fact_2 = c.loop-h-test.true }
-
-pub leads_hole-requires : goal.leads_hole-requires
-leads_hole-requires c =
-    faced_kinded c.requires.fact_1 c.loop-h.h c.loop-h-test.true
-
 -- the face that is found has a cell
 cell : (c : After-face-v) → c.face-v.result < c.args.f
 cell c =
     subst (λ (x : ℕ). x < c.args.f) (sym c.face-v.ensures) (c.requires.fact_3 c.loop-h.h c.loop-h-test.true)
 
-pub offset_bounds-inside-at : goal.offset_bounds-inside-at
-offset_bounds-inside-at c =
-    omega (arith, cell (goal.at.offset_bounds-inside-at c).After-face-v, c.loop-h.invariant.1.kept, c.loop-h.invariant.1.room)
-
-pub bounds-inside-at : goal.bounds-inside-at
-bounds-inside-at c =
-    omega (arith, cell (goal.at.bounds-inside-at c).After-face-v, c.loop-h.invariant.1.kept, c.loop-h.invariant.1.room)
-
 pub overflow_add-inside : goal.overflow_add-inside
 overflow_add-inside c =
     omega (arith, c.requires.fact_2, c.loop-h-test.true, tally-most c.loop-h.invariant.1 c.face-v.result (cell (goal.at.overflow_add-inside c).After-face-v))
-
-pub offset_bounds-inside-at-then-leads_hole : goal.offset_bounds-inside-at-then-leads_hole
-offset_bounds-inside-at-then-leads_hole c =
-    omega (arith, cell (goal.at.offset_bounds-inside-at-then-leads_hole c).After-face-v, c.loop-h.invariant.1.kept, c.loop-h.invariant.1.room)
-
-pub bounds-inside-at-then-leads_hole : goal.bounds-inside-at-then-leads_hole
-bounds-inside-at-then-leads_hole c =
-    omega (arith, cell (goal.at.bounds-inside-at-then-leads_hole c).After-face-v, c.loop-h.invariant.1.kept, c.loop-h.invariant.1.room)
 
 pub loop-h-preserved : goal.loop-h-preserved
 loop-h-preserved c =
@@ -59,12 +35,3 @@ pub returns : goal.returns
 returns c =
     let r = c.loop-h.invariant in
     record { faces = fill_ends r.0 (search rules); inside = tally_ends r.1 c.args.inside.now (omega arith) c.requires.fact_4.1 c.fill.ensures }
-
-pub fill-requires : goal.fill-requires
-fill-requires c = c.requires.fact_4.1
-
-pub bounds-faces-h : goal.bounds-faces-h
-bounds-faces-h c = omega (arith, c.loop-h.invariant.0.kept, c.loop-h.invariant.0.room)
-
-pub shape_of-faces : goal.shape_of-faces
-shape_of-faces c = c.loop-h.invariant.0.kept

@@ -16,18 +16,6 @@ pub loop-h-init : goal.loop-h-init
 loop-h-init c =
     (tell_starts c.requires.fact_3.0, select_starts c.requires.fact_3.1)
 
-pub offset_bounds-lead-h : goal.offset_bounds-lead-h
-offset_bounds-lead-h c =
-    omega (arith, c.requires.fact_2.0.long, c.loop-h-test.true)
-
-pub bounds-lead-h : goal.bounds-lead-h
-bounds-lead-h c =
-    omega (arith, c.requires.fact_2.0.long, c.loop-h-test.true)
-
-pub overflow_cast-lead : goal.overflow_cast-lead
-overflow_cast-lead c =
-    omega (arith, c.requires.fact_1.small, c.requires.fact_2.0.named c.loop-h.h c.loop-h-test.true)
-
 -- what is read of one of the half-edges is there
 kinded : (s : Start) (h : ℕ) → h < 2 * s.args.e → Kinded s.args.lead.now s.args.top.now h
 kinded s h b =
@@ -60,16 +48,3 @@ loop-h-preserved c =
       )
       | else-lead-h w ↦ (rw w.known-is (tell-skips t b w.if-lead-h.false), rw (w.leaders-is, w.c-is) (outer-skips a.lead.now a.top.now r b w.if-lead-h.false))
     ]
-
-pub shape_of-known : goal.shape_of-known
-shape_of-known c = c.loop-h.invariant.0.kept
-
-pub shape_of-leaders : goal.shape_of-leaders
-shape_of-leaders c = c.loop-h.invariant.1.kept
-
-pub returns : goal.returns
-returns c = record {
-  known = tell_ends c.loop-h.invariant.0 (search rules);
-  leaders = select_ends c.loop-h.invariant.1 (search rules);
-  counted = count_ends c.loop-h.invariant.1.counted (search rules);
-}

@@ -39,18 +39,3 @@ loop-h-preserved c =
 pub returns : goal.returns
 returns c =
     choose_ends c.loop-h.invariant c.args.out.now (omega arith) c.requires.fact_4 c.fill.ensures
-
-pub overflow_cast-l : goal.overflow_cast-l
-overflow_cast-l c = omega (arith, fits (goal.at.overflow_cast-l c).In-loop-h)
-
-pub offset_bounds-out-l : goal.offset_bounds-out-l
-offset_bounds-out-l c = omega (arith, fits (goal.at.offset_bounds-out-l c).In-loop-h)
-
-pub bounds-out-l : goal.bounds-out-l
-bounds-out-l c = omega (arith, fits (goal.at.bounds-out-l c).In-loop-h)
-
-pub offset_bounds-out-l-in-loop-h : goal.offset_bounds-out-l-in-loop-h
-offset_bounds-out-l-in-loop-h c = omega (arith, fits (goal.at.offset_bounds-out-l-in-loop-h c).In-loop-h)
-
-pub bounds-out-l-in-loop-h : goal.bounds-out-l-in-loop-h
-bounds-out-l-in-loop-h c = omega (arith, fits (goal.at.bounds-out-l-in-loop-h c).In-loop-h)

@@ -28,33 +28,3 @@ loop-h-preserved c =
 
 pub loop-h-init : goal.loop-h-init
 loop-h-init c = fill_starts c.requires.fact_5
-
-pub overflow_cast-l : goal.overflow_cast-l
-overflow_cast-l c = omega (arith, lead-fits (goal.at.overflow_cast-l c).In-loop-h)
-
-pub offset_bounds-low-l : goal.offset_bounds-low-l
-offset_bounds-low-l c = omega (arith, lead-fits (goal.at.offset_bounds-low-l c).In-loop-h)
-
-pub bounds-low-l : goal.bounds-low-l
-bounds-low-l c = omega (arith, lead-fits (goal.at.bounds-low-l c).In-loop-h)
-
-pub overflow_cast-x : goal.overflow_cast-x
-overflow_cast-x c = omega (arith, low_fits (goal.at.overflow_cast-x c).In-loop-h)
-
-pub offset_bounds-origins-x : goal.offset_bounds-origins-x
-offset_bounds-origins-x c = omega (arith, low_fits (goal.at.offset_bounds-origins-x c).In-loop-h)
-
-pub bounds-origins-x : goal.bounds-origins-x
-bounds-origins-x c = omega (arith, low_fits (goal.at.bounds-origins-x c).In-loop-h)
-
-pub overflow_cast-v : goal.overflow_cast-v
-overflow_cast-v c = omega (arith, start_fits (goal.at.overflow_cast-v c).In-loop-h)
-
-pub offset_bounds-greatest-v : goal.offset_bounds-greatest-v
-offset_bounds-greatest-v c = omega (arith, start_fits (goal.at.offset_bounds-greatest-v c).In-loop-h)
-
-pub bounds-greatest-v : goal.bounds-greatest-v
-bounds-greatest-v c = omega (arith, start_fits (goal.at.bounds-greatest-v c).In-loop-h)
-
-pub returns : goal.returns
-returns c = fill_ends c.loop-h.invariant (search rules)

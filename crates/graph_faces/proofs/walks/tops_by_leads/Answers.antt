@@ -32,27 +32,3 @@ loop-h-preserved c =
 
 pub loop-h-init : goal.loop-h-init
 loop-h-init c = fill_starts c.requires.fact_4
-
-pub overflow_cast-l : goal.overflow_cast-l
-overflow_cast-l c = omega (arith, lead_under (goal.at.overflow_cast-l c).In-loop-h, c.requires.fact_2)
-
-pub overflow_mul-v : goal.overflow_mul-v
-overflow_mul-v c = omega (arith, first_under (goal.at.overflow_mul-v c).In-loop-h, c.requires.fact_2)
-
-pub offset_bounds-origins-l : goal.offset_bounds-origins-l
-offset_bounds-origins-l c = omega (arith, first_fits (goal.at.offset_bounds-origins-l c).In-loop-h)
-
-pub bounds-origins-l : goal.bounds-origins-l
-bounds-origins-l c = first_fits (goal.at.bounds-origins-l c).In-loop-h
-
-pub overflow_cast-v : goal.overflow_cast-v
-overflow_cast-v c = omega (arith, start_fits (goal.at.overflow_cast-v c).In-loop-h)
-
-pub offset_bounds-greatest-v : goal.offset_bounds-greatest-v
-offset_bounds-greatest-v c = omega (arith, start_fits (goal.at.offset_bounds-greatest-v c).In-loop-h)
-
-pub bounds-greatest-v : goal.bounds-greatest-v
-bounds-greatest-v c = start_fits (goal.at.bounds-greatest-v c).In-loop-h
-
-pub returns : goal.returns
-returns c = fill_ends c.loop-h.invariant (search rules)
