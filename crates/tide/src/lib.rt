@@ -33,22 +33,16 @@ fn answered(fault: Check, h: f64, rule: TideRule) -> Result<Height, Refusal>
     requires { verdict fault ≡ none → AtMost 80000 h }
     ensures { answer_of result ≡ answer (record { height = h; millimetres = nearest_whole h; rule = rule_of rule }) (verdict fault) }
 {
-    match fault {
-        Err(r) => Err(r),
-        Ok(()) => Ok(Height {
-            height: h,
-            millimetres: nearest(h),
-            rule,
-        }),
-    }
+    fault?;
+    Ok(Height {
+        height: h,
+        millimetres: nearest(h),
+        rule,
+    })
 }
 
 // The height of tide by a zone's rule and both readings, "whole millimetres .., or missing"; or the first refusal.
-pub fn height(
-    rule: TideRule,
-    first: Option<i32>,
-    second: Option<i32>,
-) -> Result<Height, Refusal>
+pub fn height(rule: TideRule, first: Option<i32>, second: Option<i32>) -> Result<Height, Refusal>
     ensures { answer_of result ≡ tide (rule_of rule) (reading_of first) (reading_of second) }
 {
     match rule {
