@@ -17,15 +17,10 @@ pub fn less(labels: &[u16], r: usize, a: u16, b: u16) -> bool
     ensures { result ≡ less_list (the_labels_at labels.now r) (a ∷ b ∷ []) }
 {
     let at = PAIR_WIDTH * r;
-    let first = labels[at];
-    if first == a {
-        labels[at + 1] < b
-    } else {
-        first < a
-    }
+    labels[at] < a || (labels[at] == a && labels[at + 1] < b)
 }
 
-// The first of n rows whose pair is not less than a, b, or n: by halves, as the rows stand in order.
+// The first of n rows whose pair is not less than a, b, or n: by halves, as the rows stand in order. The rows lie flat in one table that C lends, and std's `partition_point` takes a slice of rows.
 fn place(labels: &[u16], n: usize, a: u16, b: u16) -> usize
     requires fact_1 { pair_width * n ≤ length labels.now }
     requires fact_2 { Rows labels.now n }
@@ -49,15 +44,7 @@ fn stands(labels: &[u16], n: usize, r: usize, a: u16, b: u16) -> bool
     requires { pair_width * n ≤ length labels.now }
     ensures { result ≡ (ltb r n && (eqb (cell 0 pair_width labels.now r 0) a && eqb (cell 0 pair_width labels.now r 1) b)) }
 {
-    if n <= r {
-        return false;
-    }
-    let at = PAIR_WIDTH * r;
-    if labels[at] == a {
-        labels[at + 1] == b
-    } else {
-        false
-    }
+    r < n && (labels[PAIR_WIDTH * r] == a && labels[PAIR_WIDTH * r + 1] == b)
 }
 
 // Puts the pair a, b in at row r of n.

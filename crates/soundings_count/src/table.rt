@@ -13,11 +13,8 @@ fn falls_at(labels: &[u16], i: usize) -> bool
     requires { pair_width * i + pair_width ≤ length labels.now }
     ensures { result ≡ falls_at labels.now i }
 {
-    if i == 0 {
-        return false;
-    }
     let at = PAIR_WIDTH * i;
-    !less(labels, i - 1, labels[at], labels[at + 1])
+    i != 0 && !less(labels, i - 1, labels[at], labels[at + 1])
 }
 
 // Whether one of the first n rows does not.
@@ -25,18 +22,7 @@ pub fn falls(labels: &[u16], n: usize) -> bool
     requires { pair_width * n ≤ length labels.now }
     ensures { result ≡ the_some_below (falls_at labels.now) n }
 {
-    for i in 0..n {
-        if falls_at(labels, i) {
-            return true;
-        }
-    }
-    false
-}
-
-fn wide(x: u32) -> u64
-    ensures { result ≡ x }
-{
-    x as u64
+    (0..n).any(|i| falls_at(labels, i))
 }
 
 // The sum of the first n counts.
@@ -46,8 +32,8 @@ pub fn sum(counts: &[u32], n: usize) -> u64
     ensures { result ≡ sum_of counts.now n }
 {
     let mut total = 0u64;
-    for i in 0..n {
-        total += wide(counts[i]);
+    for &c in &counts[..n] {
+        total += u64::from(c);
     }
     total
 }
