@@ -9,8 +9,8 @@ returns-then-zone-eq0 c =
     let e = eq-eqb s.zone 0 c.if-zone-eq0.true in
     of_block s.zones s.blocks c.entry.result s.zone s.block e c.entry.ensures
 
-pub returns : goal.returns
-returns c =
+pub returns-else-zone-eq0 : goal.returns-else-zone-eq0
+returns-else-zone-eq0 c =
     let s = c.args in
     let e = ne_eqb s.zone 0 c.if-zone-eq0.false in
-    of_zone s.zones s.blocks c.entry-2.result s.zone s.block e c.entry-2.ensures
+    of_zone s.zones s.blocks c.entry-else-zone-eq0.result s.zone s.block e c.entry-else-zone-eq0.ensures
