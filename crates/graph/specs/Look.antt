@@ -12,22 +12,15 @@ use Rattle.plane.specs.Bounds.{Near}
 use Rattle.graph.specs.Flat.{carrier_at, origin_at, start_at, flat_graph, Flat}
 use Rattle.graph.specs.Laws.Decode.{flat-edges, flat_start, flat-upward, flat_left}
 use Rattle.graph.specs.Heading.{the_up_at, flat_up}
-use Rattle.graph.specs.declared.look.Seen.{Seen}
-use Rattle.graph.specs.declared.look.Seen.TheVariants.{Edge, Nothing}
-use Rattle.graph.specs.declared.look.West.{West}
-use Rattle.graph.specs.declared.look.West.TheVariants.{Half, Outside}
+use Rattle.std.specs.declared.option.Option as Std
+use Rattle.std.specs.declared.option.Option.TheVariants.{None, Some}
 
 -- ── what is answered ──
 
--- the edge that is seen
-abbrev pub the_seen_of : Seen → Option ℕ
-the_seen_of (Edge k) = some k
-the_seen_of Nothing = none
-
--- the half-edge that is seen; "With no candidate, the outside is seen"
-abbrev pub west_of : West → Option ℕ
-west_of (Half h) = some h
-west_of Outside = none
+-- the edge, or the half-edge, that is seen; "With no candidate, the outside is seen"
+abbrev pub the_seen_of : Std.Option ℕ → Option ℕ
+the_seen_of (Some k) = some k
+the_seen_of None = none
 
 -- ── the tests ──
 

@@ -11,7 +11,7 @@ ghost use Rattle.graph.specs.Rising.{RisesIf};
 ghost use Rattle.graph.specs.Heading.{the_up_at, heading_at, row};
 
 use super::rising::{rise, starts_first};
-use limits::{CARRIER_WIDTH, HEADING_WIDTH, POINT_WIDTH};
+use limits::{CARRIER_WIDTH, POINT_WIDTH};
 use plane::{Point, Seg, Vector, before};
 
 // The other half-edge of its edge.
@@ -43,10 +43,10 @@ pub fn carrier_at(carriers: &[i16], k: usize) -> Seg
 {
     let at = CARRIER_WIDTH * k;
     Seg {
-        x: carriers[at] as i64,
-        y: carriers[at + 1] as i64,
-        u: carriers[at + 2] as i64,
-        v: carriers[at + 3] as i64,
+        x: i64::from(carriers[at]),
+        y: i64::from(carriers[at + 1]),
+        u: i64::from(carriers[at + 2]),
+        v: i64::from(carriers[at + 3]),
     }
 }
 
@@ -56,15 +56,7 @@ pub fn store_carrier(out: &mut [i16], k: usize, s: Seg)
     requires fact_2 { Edge (seg_of s) }
     ensures { out.new ≡ row_stored 4 out.old k (s.x ∷ s.y ∷ s.u ∷ s.v ∷ []) }
 {
-    let at = CARRIER_WIDTH * k;
-    let x = s.x as i16;
-    let y = s.y as i16;
-    let u = s.u as i16;
-    let v = s.v as i16;
-    out[at] = x;
-    out[at + 1] = y;
-    out[at + 2] = u;
-    out[at + 3] = v;
+    seq::store(out, k, [s.x as i16, s.y as i16, s.u as i16, s.v as i16]);
 }
 
 // The point where half-edge h starts.
@@ -123,11 +115,7 @@ fn store(out: &mut [i16], h: usize, u: Vector)
     requires fact_2 { Direction (vec_of u) }
     ensures { out.new ≡ row_stored 2 out.old h (row (vec_of u)) }
 {
-    let at = HEADING_WIDTH * h;
-    let x = u.x as i16;
-    let y = u.y as i16;
-    out[at] = x;
-    out[at + 1] = y;
+    seq::store(out, h, [u.x as i16, u.y as i16]);
 }
 
 // The heading of every half-edge, a row each; `rising` says that the points rise.

@@ -9,7 +9,7 @@ mod stars; // the follower of every half-edge: the half-edges out of each vertex
 mod look; // looking west
 
 pub use heading::{carrier_at, headings, headings_by, point_at, start, store_carrier, twin};
-pub use look::{Seen, West, candidate, east_side, nearest, seen_half, seen_label};
+pub use look::{candidate, east_side, nearest, seen_half, seen_label};
 pub use places::{fill, first_places};
 pub use rising::{rise, starts_first};
 pub use small::is_small;

@@ -8,26 +8,11 @@ ghost use Rattle.plane.specs.Values.{pt_of, vec_of, seg_of};
 ghost use Rattle.plane.specs.Bounds.{Direction, Near, Edge};
 ghost use Rattle.graph.specs.Flat.{flat_graph, Flat, Starts, Carried};
 ghost use Rattle.graph.specs.Pick.{better};
-ghost use Rattle.graph.specs.Look.{the_seen_of, west_of, height_at, westward_of, nearer_of, candidate_at, nearer_at, east_at, seen_label};
+ghost use Rattle.graph.specs.Look.{the_seen_of, height_at, westward_of, nearer_of, candidate_at, nearer_at, east_at, seen_label};
 
 use super::heading::{carrier_at, goes_up, start};
 use exact::products;
 use plane::{Point, Seg, Vector, below, cross_of, left_by, rises};
-use std::cmp::Ordering;
-
-// The nearest edge, or no candidate.
-#[derive(Clone, Copy)]
-pub enum Seen {
-    Edge(u16),
-    Nothing,
-}
-
-// "What is seen is the half-edge on its east side. With no candidate, the outside is seen."
-#[derive(Clone, Copy)]
-pub enum West {
-    Half(u16),
-    Outside,
-}
 
 // "lower y ≤ y of p < upper y": one end of edge k is above p and the other is not.
 fn at_height(points: &[i64], origins: &[u16], k: usize, p: Point) -> bool
@@ -36,7 +21,7 @@ fn at_height(points: &[i64], origins: &[u16], k: usize, p: Point) -> bool
 {
     let from = below(p, start(points, origins, 2 * k));
     let to = below(p, start(points, origins, 2 * k + 1));
-    if from { !to } else { to }
+    from != to
 }
 
 // "lie west of p, or go through or start at p with an upward direction of greater angle than" d.
@@ -54,11 +39,9 @@ fn nearer(s: Seg, t: Seg, p: Point) -> bool
     requires { Edge (seg_of s) × Edge (seg_of t) × Near (pt_of p) }
     ensures { result ≡ nearer_of (seg_of s) (seg_of t) (pt_of p) }
 {
-    match products(left_by(s, p), t.v, left_by(t, p), s.v) {
-        Ordering::Less => false,
-        Ordering::Equal => 0 < cross_of(s.u, s.v, t.u, t.v),
-        Ordering::Greater => true,
-    }
+    products(left_by(s, p), t.v, left_by(t, p), s.v)
+        .then_with(|| cross_of(s.u, s.v, t.u, t.v).cmp(&0))
+        .is_gt()
 }
 
 // Whether edge k is a candidate.
@@ -73,11 +56,7 @@ pub fn candidate(
     requires { (2 * k ≤ absent) × Starts points.now origins.now (2 * k) × Starts points.now origins.now (2 * k + 1) × Carried carriers.now k × Near (pt_of p) × Direction (vec_of d) }
     ensures { result ≡ candidate_at points.now origins.now carriers.now (pt_of p) (vec_of d) k }
 {
-    if at_height(points, origins, k, p) {
-        westward(carrier_at(carriers, k), p, d)
-    } else {
-        false
-    }
+    at_height(points, origins, k, p) && westward(carrier_at(carriers, k), p, d)
 }
 
 // With r the nearest candidate so far, `none` where there is none yet: k too.
@@ -85,10 +64,7 @@ pub fn nearest(carriers: &[i16], none: usize, k: usize, r: usize, p: Point) -> u
     requires { Carried carriers.now k × (r < none → Carried carriers.now r) × (r ≤ none) × Near (pt_of p) }
     ensures { result ≡ better (nearer_at carriers.now (pt_of p)) none k r }
 {
-    if r == none {
-        return k;
-    }
-    if nearer(carrier_at(carriers, k), carrier_at(carriers, r), p) {
+    if r == none || nearer(carrier_at(carriers, k), carrier_at(carriers, r), p) {
         k
     } else {
         r
@@ -104,7 +80,7 @@ pub fn look(
     e: usize,
     p: Point,
     d: Vector,
-) -> Seen
+) -> Option<u16>
     requires fact_1 { Flat points.now origins.now carriers.now n e }
     requires fact_2 { 2 * e ≤ absent }
     requires fact_3 { Near (pt_of p) }
@@ -117,11 +93,7 @@ pub fn look(
             r = nearest(carriers, e, k, r, p);
         }
     }
-    if r == e {
-        Seen::Nothing
-    } else {
-        Seen::Edge(r as u16)
-    }
+    if r == e { None } else { Some(r as u16) }
 }
 
 // "the half-edge on its east side": the one that goes down.
@@ -136,7 +108,7 @@ pub fn east_side(points: &[i64], origins: &[u16], k: usize) -> usize
     }
 }
 
-// What is seen from p along d.
+// "What is seen is the half-edge on its east side. With no candidate, the outside is seen": from p along d.
 pub fn seen_half(
     points: &[i64],
     origins: &[u16],
@@ -145,18 +117,15 @@ pub fn seen_half(
     e: usize,
     p: Point,
     d: Vector,
-) -> West
+) -> Option<u16>
     requires fact_1 { Flat points.now origins.now carriers.now n e }
     requires fact_2 { 2 * e ≤ absent }
     requires fact_3 { Near (pt_of p) }
     requires fact_4 { Direction (vec_of d) }
-    ensures { west_of result ≡ west (flat_graph points.now origins.now carriers.now n e) (pt_of p) (vec_of d) }
+    ensures { the_seen_of result ≡ west (flat_graph points.now origins.now carriers.now n e) (pt_of p) (vec_of d) }
 {
-    let seen = look(points, origins, carriers, n, e, p, d);
-    match seen {
-        Seen::Nothing => West::Outside,
-        Seen::Edge(k) => West::Half(east_side(points, origins, k as usize) as u16),
-    }
+    let k = look(points, origins, carriers, n, e, p, d)?;
+    Some(east_side(points, origins, k as usize) as u16)
 }
 
 // The label of what is seen from p along d, of labels by half-edge; 0 where the outside is seen.
@@ -177,9 +146,8 @@ pub fn seen_label(
     requires fact_5 { Direction (vec_of d) }
     ensures { result ≡ seen_label (flat_graph points.now origins.now carriers.now n e) labels.now (pt_of p) (vec_of d) }
 {
-    let seen = seen_half(points, origins, carriers, n, e, p, d);
-    match seen {
-        West::Outside => 0,
-        West::Half(x) => labels[x as usize],
+    match seen_half(points, origins, carriers, n, e, p, d) {
+        Some(x) => labels[x as usize],
+        None => 0,
     }
 }

@@ -10,9 +10,7 @@ pub fn fill(out: &mut [u16], n: usize, value: u16)
     requires { n ≤ length out.old }
     ensures { out.new ≡ filled n (λ i. value) out.old }
 {
-    for i in 0..n {
-        out[i] = value;
-    }
+    out[..n].fill(value);
 }
 
 // Where each number below n first stands in the first m cells of xs; `none` where it does not. From the last place down, so that the first is stored last.
@@ -23,10 +21,7 @@ pub fn first_places(xs: &[u16], m: usize, none: u16, out: &mut [u16], n: usize)
     ensures { out.new ≡ filled n (first_place xs.now m none) out.old }
 {
     fill(out, n, none);
-    let mut i = m;
-    while 0 < i {
-        i -= 1;
-        let x = xs[i] as usize;
-        out[x] = i as u16;
+    for i in (0..m).rev() {
+        out[xs[i] as usize] = i as u16;
     }
 }

@@ -1,28 +1,29 @@
 -- `graph::heading::carrier_at` meets its contract. Assumes nothing.
-use mathlib.Core.Path.{◌≡◌, sym, subst}
-use Prim.Native.Nat.{◌+◌, ◌*◌}
+use mathlib.Core.Path.{◌≡◌, sym, ◌∙◌, ap, subst}
+use Prim.Native.Nat.{ℕ, ◌*◌}
+use native.Mathlib.Nat.{add-zero}
+use lib.IntN.{ℤ, pos}
+use lib.ListN.{get_or}
+use mir.Syntax.{w16}
+use mir.Val.{to_z, of_z}
+use Rattle.exact.specs.Mach.{tr, plain}
+use Rattle.plane.proofs.Machine.{back}
 use Rattle.plane.specs.Bounds.{Edge}
 use Rattle.plane.specs.Values.{seg, seg_of}
 use Rattle.graph.specs.Flat.{carrier_at}
-use Rattle.graph.proofs.Rows.{wide, widened, widened_first}
 use Rattle.graph.proofs.heading.carrier_at.Goals as goal
 
 pub returns : goal.returns
 returns c =
-    let s = c.before.before.before.before in
-    let cs = s.args.carriers.now in
-    let at = 4 * s.args.k in
-    let e : seg_of _ ≡ carrier_at cs s.args.k = λ i. seg (widened_first 4 cs s.args.k c.result-1.given i) (widened cs (at + 1) c.result-2-1.given i) (widened cs (at + 2) c.result-3-1.given i) (widened cs (at + 3) c.result-4-1.given i) in
-    record { is = e; near = subst Edge (sym e) s.requires.near }
-
-pub overflow_cast-result : goal.overflow_cast-result
-overflow_cast-result c = wide c.args.carriers.now (4 * c.args.k) c.result-1.given
-
-pub overflow_cast-result-2 : goal.overflow_cast-result-2
-overflow_cast-result-2 c = wide c.args.carriers.now (4 * c.args.k + 1) c.result-2-1.given
-
-pub overflow_cast-result-3 : goal.overflow_cast-result-3
-overflow_cast-result-3 c = wide c.args.carriers.now (4 * c.args.k + 2) c.result-3-1.given
-
-pub overflow_cast-result-4 : goal.overflow_cast-result-4
-overflow_cast-result-4 c = wide c.args.carriers.now (4 * c.args.k + 3) c.result-4-1.given
+    let cs = c.args.carriers.now in
+    let k = c.args.k in
+    let s = carrier_at cs k in
+    let near : Edge s = c.requires.near in
+    let first = ap (λ (j : ℕ). get_or cs j (pos 0)) (sym (add-zero (4 * k))) in
+    let x : back (to_z w16 (of_z w16 s.foot.x)) ≡ s.foot.x = plain (search tr depth 20) tt in
+    let y : back (to_z w16 (of_z w16 s.foot.y)) ≡ s.foot.y = plain (search tr depth 20) tt in
+    let u : back (to_z w16 (of_z w16 s.up.x)) ≡ s.up.x = plain (search tr depth 20) tt in
+    let v : back (to_z w16 (of_z w16 s.up.y)) ≡ s.up.y = plain (search tr depth 20) tt in
+    let e : seg_of _ ≡ s =
+    λ i. seg ((ap back (c.from.ensures ∙ ap (λ (z : ℤ). to_z w16 (of_z w16 z)) first) ∙ x) i) ((ap back c.from-2.ensures ∙ y) i) ((ap back c.from-3.ensures ∙ u) i) ((ap back c.from-4.ensures ∙ v) i) in
+    record { is = e; near = subst Edge (sym e) near }

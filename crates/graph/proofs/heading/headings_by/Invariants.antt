@@ -1,5 +1,5 @@
 -- `graph::heading::headings_by` meets its contract. Assumes nothing.
-use Rattle.std.specs.Prelude.{◌*◌, ◌-◌}
+use Rattle.std.specs.Prelude.{◌*◌}
 use Rattle.paper.specs.Graph.{heading}
 use Rattle.seq.specs.Loops.Storing.{Laying}
 use Rattle.graph.specs.Flat.{flat_graph}

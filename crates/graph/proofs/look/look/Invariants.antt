@@ -1,5 +1,4 @@
 -- `graph::look::look` meets its contract. Assumes nothing.
-use Rattle.std.specs.Prelude.{◌-◌}
 use Rattle.seq.specs.Loops.Picking.{Picking}
 use Rattle.plane.specs.Values.{pt_of, vec_of}
 use Rattle.graph.specs.Look.{candidate_at, nearer_at}

@@ -1,13 +1,12 @@
 -- `graph::look::nearer` meets its contract, whatever the answer of `products`. Assumes nothing.
-use mathlib.Core.Path.{◌≡◌, sym, ◌∙◌, ap}
-use lib.IntN.{pos, ◌-ℤ◌, ◌*ℤ◌}
-use lib.Signed.{lt_z}
-use Rattle.exact.specs.Compare.{sign_of}
+use mathlib.Core.Path.{◌≡◌, ◌∙◌, ap}
+use lib.IntN.{◌-ℤ◌, ◌*ℤ◌}
+use borrow.Author.Rules.{rules}
+use Rattle.exact.specs.Compare.{sign_of, cmp_0, gt_plus, then_with_pick}
 use Rattle.exact.specs.Mach.{tr, tru, plain, atmost, under}
 use Rattle.exact.specs.Sign.{sgn, pick, is_plus}
 use Rattle.paper.specs.Plane.{vec, cross, the_left_by}
 use Rattle.plane.proofs.Machine.{back, vec_back}
-use Rattle.plane.proofs.Signs.{plus-test}
 use Rattle.plane.specs.Values.{seg_of, pt_of}
 use Rattle.graph.proofs.look.nearer.Goals as goal
 use Rattle.graph.proofs.look.nearer.Goals.{After-products}
@@ -32,21 +31,11 @@ told c =
     let y : back l.result *ℤ back a.t.v -ℤ back m.result *ℤ back a.s.v ≡ l.result *ℤ a.t.v -ℤ m.result *ℤ a.s.v = plain (search tr depth 20) tt in
     c.products.ensures ∙ ap sgn (y ∙ (λ j. l.ensures.is j *ℤ a.t.v -ℤ m.ensures.is j *ℤ a.s.v))
 
-pub returns-in-Less : goal.returns-in-Less
-returns-in-Less c =
-    let a = c.args in
-    λ i. is_plus (pick ((sym (ap sign_of c.in-Less.is) ∙ told (goal.at.returns-in-Less c).After-products) i) (sgn (cross (seg_of a.s).up (seg_of a.t).up)))
-
-pub returns-in-Equal : goal.returns-in-Equal
-returns-in-Equal c =
+pub returns : goal.returns
+returns c =
     let a = c.args in
     let turn : cross (vec (back a.s.u) (back a.s.v)) (vec (back a.t.u) (back a.t.v)) ≡ cross (seg_of a.s).up (seg_of a.t).up =
     λ i. cross (vec_back a.s.u a.s.v c.requires.0.up_is i) (vec_back a.t.u a.t.v c.requires.1.up_is i) in
-    let x : back c.cross_of.result ≡ c.cross_of.result = plain (search tr depth 20) tt in
-    (λ i. lt_z (pos 0) ((x ∙ c.cross_of.ensures.is ∙ turn) i)) ∙ plus-test (cross (seg_of a.s).up (seg_of a.t).up)
-    ∙ (λ i. is_plus (pick ((sym (ap sign_of c.in-Equal.is) ∙ told (goal.at.returns-in-Equal c).After-products) i) (sgn (cross (seg_of a.s).up (seg_of a.t).up))))
-
-pub returns-in-Greater : goal.returns-in-Greater
-returns-in-Greater c =
-    let a = c.args in
-    λ i. is_plus (pick ((sym (ap sign_of c.in-Greater.is) ∙ told (goal.at.returns-in-Greater c).After-products) i) (sgn (cross (seg_of a.s).up (seg_of a.t).up)))
+    c.is_gt.ensures ∙ gt_plus c.then_with.result
+    ∙ ap is_plus (then_with_pick c.products.result c.then_with.result (sgn (cross (vec (back a.s.u) (back a.s.v)) (vec (back a.t.u) (back a.t.v)))) c.then_with.ensures (λ e. search (cmp_0, rules))
+    ∙ (λ i. pick (told (goal.at.returns c).After-products i) (sgn (turn i))))

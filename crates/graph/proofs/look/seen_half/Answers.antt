@@ -27,8 +27,8 @@ east_side-requires c =
     let e = c.args.e in
     let p = pt_of c.args.p in
     let d = vec_of c.args.d in
-    let k = c.in-Edge.k in
-    let q = sym c.look-seen.ensures ∙ ap the_seen_of c.in-Edge.is in
+    let k = c.in_ok-k.k in
+    let q = sym c.in_ok-k.ensures in
     let l = seen_below ps os cs n e c.requires.fact_1 p c.requires.fact_3 d k q in
     let ends = flat_ends ps os cs n e c.requires.fact_1 k l in
     (omega (arith, c.requires.fact_2), ends.0, ends.1)
@@ -42,23 +42,21 @@ overflow_cast-result c =
     let e = c.args.e in
     let p = pt_of c.args.p in
     let d = vec_of c.args.d in
-    let k = c.in-Edge.k in
-    let q = sym c.look-seen.ensures ∙ ap the_seen_of c.in-Edge.is in
+    let k = c.in_ok-k.k in
+    let q = sym c.in_ok-k.ensures in
     omega (arith, c.requires.fact_2, seen_below ps os cs n e c.requires.fact_1 p c.requires.fact_3 d k q, c.east_side.ensures, east-le ps os k)
 
-pub returns-in-Nothing : goal.returns-in-Nothing
-returns-in-Nothing c =
+pub returns-in_err-k : goal.returns-in_err-k
+returns-in_err-k c =
     let ps = c.args.points.now in
     let os = c.args.origins.now in
     let cs = c.args.carriers.now in
     let n = c.args.n in
     let e = c.args.e in
-    let p = pt_of c.args.p in
-    let d = vec_of c.args.d in
-    ap (Option·map (east_side (flat_graph ps os cs n e))) (sym (ap the_seen_of c.in-Nothing.is) ∙ c.look-seen.ensures) ∙ flat-west ps os cs n e c.requires.fact_1 p c.requires.fact_3 d
+    ap the_seen_of c.from_residual.ensures ∙ ap (Option·map (east_side (flat_graph ps os cs n e))) c.in_err-k.ensures ∙ flat-west ps os cs n e c.requires.fact_1 (pt_of c.args.p) c.requires.fact_3 (vec_of c.args.d)
 
-pub returns-in-Edge : goal.returns-in-Edge
-returns-in-Edge c =
+pub returns : goal.returns
+returns c =
     let ps = c.args.points.now in
     let os = c.args.origins.now in
     let cs = c.args.carriers.now in
@@ -66,6 +64,6 @@ returns-in-Edge c =
     let e = c.args.e in
     let p = pt_of c.args.p in
     let d = vec_of c.args.d in
-    let k = c.in-Edge.k in
-    let q = sym c.look-seen.ensures ∙ ap the_seen_of c.in-Edge.is in
+    let k = c.in_ok-k.k in
+    let q = sym c.in_ok-k.ensures in
     ap some c.east_side.ensures ∙ seen-east ps os cs n e c.requires.fact_1 p c.requires.fact_3 d k q

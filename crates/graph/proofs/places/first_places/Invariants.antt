@@ -5,6 +5,3 @@ use Rattle.graph.proofs.places.first_places.Given as goal
 
 abbrev pub invariant-loop-i : goal.invariant-loop-i
 invariant-loop-i l = Placing (λ k. get_or l.xs k 0) l.m l.initial.out l.out l.i
-
-abbrev pub decreases-loop-i : goal.decreases-loop-i
-decreases-loop-i l = l.i

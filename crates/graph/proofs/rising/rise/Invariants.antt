@@ -1,5 +1,4 @@
 -- `graph::rising::rise` meets its contract. Assumes nothing.
-use Rattle.std.specs.Prelude.{◌-◌}
 use Prim.Native.Nat.{◌<◌}
 use Rattle.graph.specs.Rising.{Rises}
 use Rattle.graph.proofs.rising.rise.Given as goal
