@@ -10,7 +10,7 @@ ghost use Rattle.graph.specs.Look.{the_seen_of, candidate_at};
 ghost use Rattle.graph_faces.specs.Kinds.{seen_from};
 ghost use Rattle.graph_faces.specs.Sides.{Sighted, the_one_side};
 
-use graph::{Seen, candidate, east_side, nearest, point_at};
+use graph::{candidate, east_side, nearest, point_at};
 use limits::ABSENT;
 use plane::{Point, Vector};
 
@@ -54,7 +54,7 @@ fn look_from(
     rising: bool,
     v: usize,
     p: Point,
-) -> Seen
+) -> Option<u16>
     requires fact_1 { Sighted points.now origins.now carriers.now n e rising }
     requires fact_2 { (v < n) × (pt_of p ≡ the_point_at points.now v) }
     ensures { the_seen_of result ≡ best (candidate (flat_graph points.now origins.now carriers.now n e) (pt_of p) nowhere) (nearer (flat_graph points.now origins.now carriers.now n e) (pt_of p)) e }
@@ -65,11 +65,7 @@ fn look_from(
             r = nearest(carriers, e, k, r, p);
         }
     }
-    if r == e {
-        Seen::Nothing
-    } else {
-        Seen::Edge(r as u16)
-    }
+    if r == e { None } else { Some(r as u16) }
 }
 
 // The half-edge that is seen strictly west of vertex v. ABSENT where it is the outside.
@@ -89,7 +85,7 @@ pub fn seen_from(
     let p = point_at(points, v);
     let seen = look_from(points, origins, carriers, n, e, rising, v, p);
     match seen {
-        Seen::Nothing => ABSENT,
-        Seen::Edge(k) => east_side(points, origins, k as usize) as u16,
+        None => ABSENT,
+        Some(k) => east_side(points, origins, k as usize) as u16,
     }
 }

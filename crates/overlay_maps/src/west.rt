@@ -11,7 +11,7 @@ ghost use Rattle.graph.specs.Look.{the_seen_of, candidate_at, nearer_at, seen_la
 ghost use Rattle.graph.specs.Pick.{better};
 ghost use Rattle.overlay_maps.specs.Ended.{Ended, height_of};
 
-use graph::{Seen, candidate, carrier_at, east_side, nearest};
+use graph::{candidate, carrier_at, east_side, nearest};
 use plane::{Point, Seg, Vector};
 
 // "lower y ≤ y of p < upper y", of an edge between corners.
@@ -61,7 +61,7 @@ fn look(
     e: usize,
     p: Point,
     d: Vector,
-) -> Seen
+) -> Option<u16>
     requires fact_1 { Flat points.now origins.now carriers.now n e }
     requires fact_2 { 2 * e ≤ absent }
     requires fact_3 { Ended (flat_graph points.now origins.now carriers.now n e) }
@@ -73,11 +73,7 @@ fn look(
     for k in 0..e {
         r = take(points, origins, carriers, e, k, r, p, d);
     }
-    if r == e {
-        Seen::Nothing
-    } else {
-        Seen::Edge(r as u16)
-    }
+    if r == e { None } else { Some(r as u16) }
 }
 
 // The label of what is seen from p along d, of labels by half-edge; 0 where the outside is seen.
@@ -100,7 +96,7 @@ pub fn seen_label(
 {
     let seen = look(points, origins, carriers, n, e, p, d);
     match seen {
-        Seen::Nothing => 0,
-        Seen::Edge(k) => labels[east_side(points, origins, k as usize)],
+        None => 0,
+        Some(k) => labels[east_side(points, origins, k as usize)],
     }
 }

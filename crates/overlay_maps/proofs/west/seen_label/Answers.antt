@@ -24,38 +24,38 @@ below-e s k q =
 pub east_side-requires : goal.east_side-requires
 east_side-requires c =
     let a = c.args in
-    let k = c.in-Edge.k in
-    let l = below-e (goal.at.east_side-requires c).Start k (sym c.look-seen.ensures ∙ ap the_seen_of c.in-Edge.is) in
+    let k = c.in-Some.k in
+    let l = below-e (goal.at.east_side-requires c).Start k (sym c.look-seen.ensures ∙ ap the_seen_of c.in-Some.is) in
     let ends = flat_ends a.points.now a.origins.now a.carriers.now a.n a.e c.requires.fact_1.0 k l in
     (omega (arith, c.requires.fact_2), ends.0, ends.1)
 
 -- and what is seen is one of its half-edges
-half-within : (c : After-east_side) (s : Start) (a : After-look-seen) → c.east_side.result ≡ east_at s.args.points.now s.args.origins.now c.in-Edge.k →
-    c.in-Edge.k < s.args.e → c.east_side.result < 2 * s.args.e
-half-within c s a e l = omega (arith, e, l, east-most s.args.points.now s.args.origins.now c.in-Edge.k)
+half-within : (c : After-east_side) (s : Start) (a : After-look-seen) → c.east_side.result ≡ east_at s.args.points.now s.args.origins.now c.in-Some.k →
+    c.in-Some.k < s.args.e → c.east_side.result < 2 * s.args.e
+half-within c s a e l = omega (arith, e, l, east-most s.args.points.now s.args.origins.now c.in-Some.k)
 
 pub offset_bounds-labels-east_side : goal.offset_bounds-labels-east_side
 offset_bounds-labels-east_side c =
-    let l = below-e (goal.at.offset_bounds-labels-east_side c).Start c.in-Edge.k (sym c.look-seen.ensures ∙ ap the_seen_of c.in-Edge.is) in
+    let l = below-e (goal.at.offset_bounds-labels-east_side c).Start c.in-Some.k (sym c.look-seen.ensures ∙ ap the_seen_of c.in-Some.is) in
     omega (arith, half-within (goal.at.offset_bounds-labels-east_side c).After-east_side (goal.at.offset_bounds-labels-east_side c).Start (goal.at.offset_bounds-labels-east_side c).After-look-seen c.east_side.ensures l, c.requires.fact_2)
 
 pub bounds-labels-east_side : goal.bounds-labels-east_side
 bounds-labels-east_side c =
-    let l = below-e (goal.at.bounds-labels-east_side c).Start c.in-Edge.k (sym c.look-seen.ensures ∙ ap the_seen_of c.in-Edge.is) in
+    let l = below-e (goal.at.bounds-labels-east_side c).Start c.in-Some.k (sym c.look-seen.ensures ∙ ap the_seen_of c.in-Some.is) in
     omega (arith, half-within (goal.at.bounds-labels-east_side c).After-east_side (goal.at.bounds-labels-east_side c).Start (goal.at.bounds-labels-east_side c).After-look-seen c.east_side.ensures l, c.requires.fact_3)
 
-pub returns-in-Nothing : goal.returns-in-Nothing
-returns-in-Nothing c =
+pub returns-in-None : goal.returns-in-None
+returns-in-None c =
     let t = c.args in
     let g = flat_graph t.points.now t.origins.now t.carriers.now t.n t.e in
     ap (or_zero (λ (x : ℕ). get_or t.labels.now x 0))
-    (ap (Option·map (east_side g)) (sym (ap the_seen_of c.in-Nothing.is) ∙ c.look-seen.ensures)
+    (ap (Option·map (east_side g)) (sym (ap the_seen_of c.in-None.is) ∙ c.look-seen.ensures)
     ∙ flat-west t.points.now t.origins.now t.carriers.now t.n t.e c.requires.fact_1.0 (pt_of t.p) c.requires.fact_4 (vec_of t.d))
 
-pub returns-in-Edge : goal.returns-in-Edge
-returns-in-Edge c =
+pub returns-in-Some : goal.returns-in-Some
+returns-in-Some c =
     let t = c.args in
-    let k = c.in-Edge.k in
-    let q = sym c.look-seen.ensures ∙ ap the_seen_of c.in-Edge.is in
+    let k = c.in-Some.k in
+    let q = sym c.look-seen.ensures ∙ ap the_seen_of c.in-Some.is in
     ap (or_zero (λ (x : ℕ). get_or t.labels.now x 0))
     (ap some c.east_side.ensures ∙ seen-east t.points.now t.origins.now t.carriers.now t.n t.e c.requires.fact_1.0 (pt_of t.p) c.requires.fact_4 (vec_of t.d) k q)
