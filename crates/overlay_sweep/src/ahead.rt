@@ -5,13 +5,14 @@ ghost use Rattle.paper.specs.Limits.{maps};
 ghost use Rattle.paper.specs.Plane.{before};
 ghost use Rattle.plane.specs.Bounds.{Near, Edge};
 ghost use Rattle.plane.specs.Values.{pt_of, seg_of};
-ghost use Rattle.graph.specs.Flat.{Carriers, Numbers};
+ghost use Rattle.graph.specs.Flat.{Numbers};
 ghost use Rattle.laws_sweep.specs.Sweep.{ahead};
 ghost use Rattle.overlay_sweep.specs.Ahead.{the_map_at, strand_at, Queued, Room, cross_ahead};
 ghost use Rattle.overlay_sweep.specs.Neighbours.{joint_at};
 
 use crate::earlier::earlier;
 use crate::queue::crossing_in;
+use crate::sheet::Sheet;
 use graph::carrier_at;
 use limits::MAPS;
 use plane::{Point, Seg, crossing_over, over};
@@ -70,9 +71,7 @@ fn guess_of(j: usize) -> i64 {
 
 // The same of the edges in the cells j and j + 1 of c in the status, if they are of different maps.
 fn tested(
-    carriers: &[i16],
-    e: usize,
-    starts: &[usize],
+    sheet: Sheet,
     status: &[u16],
     c: usize,
     j: usize,
@@ -80,20 +79,19 @@ fn tested(
     points: &mut [i64],
     n: usize,
 ) -> usize
-    requires fact_1 { Carriers carriers.now e × (maps < length starts.now) }
-    requires fact_2 { Numbers status.now c e × (j + 1 < c) }
-    requires fact_3 { Near (pt_of p) }
-    requires fact_4 { Room points.old n }
-    ensures { Queued (ahead (pt_of p) (strand_at carriers.now starts.now (get_or status.now j 0)) (strand_at carriers.now starts.now (get_or status.now (j + 1) 0))) points.old n points.new result }
+    requires fact_1 { Numbers status.now c sheet.e × (j + 1 < c) }
+    requires fact_2 { Near (pt_of p) }
+    requires fact_3 { Room points.old n }
+    ensures { Queued (ahead (pt_of p) (strand_at sheet.entry.carriers.now sheet.entry.starts.now (get_or status.now j 0)) (strand_at sheet.entry.carriers.now sheet.entry.starts.now (get_or status.now (j + 1) 0))) points.old n points.new result }
 {
     let k = status[j] as usize;
     let l = status[j + 1] as usize;
-    if one_map(starts, k, l) {
+    if one_map(sheet.starts, k, l) {
         return n;
     }
     cross_in(
-        carrier_at(carriers, k),
-        carrier_at(carriers, l),
+        carrier_at(sheet.carriers, k),
+        carrier_at(sheet.carriers, l),
         p,
         points,
         n,
@@ -103,9 +101,7 @@ fn tested(
 
 // Tests the edges in the cells j - 1 and j of c in the status, if cell j - 1 is not before `from` and there is a cell j.
 pub fn joined(
-    carriers: &[i16],
-    e: usize,
-    starts: &[usize],
+    sheet: Sheet,
     status: &[u16],
     c: usize,
     from: usize,
@@ -114,17 +110,14 @@ pub fn joined(
     points: &mut [i64],
     n: usize,
 ) -> usize
-    requires fact_1 { Carriers carriers.now e × (maps < length starts.now) }
-    requires fact_2 { Numbers status.now c e }
-    requires fact_3 { Near (pt_of p) }
-    requires fact_4 { Room points.old n }
-    ensures { Queued (joint_at carriers.now starts.now (pt_of p) status.now from j c) points.old n points.new result }
+    requires fact_1 { Numbers status.now c sheet.e }
+    requires fact_2 { Near (pt_of p) }
+    requires fact_3 { Room points.old n }
+    ensures { Queued (joint_at sheet.entry.carriers.now sheet.entry.starts.now (pt_of p) status.now from j c) points.old n points.new result }
 {
-    if from < j {
-        if j < c {
-            return tested(carriers, e, starts, status, c, j - 1, p, points, n);
-        }
-        return n;
+    if from < j && j < c {
+        tested(sheet, status, c, j - 1, p, points, n)
+    } else {
+        n
     }
-    n
 }

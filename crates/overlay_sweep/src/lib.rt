@@ -1,6 +1,7 @@
 // The overlay's vertices as a line meets them that passes over the plane from the smallest point upward (02, Ask 10).
 #![tactic(auto)]
 
+mod sheet; // the edges of all maps
 mod ends; // which of an edge's end and a point comes first
 mod search; // where the status has a point on its right, and where it goes through it
 mod slots; // edges put in their slots: in a fan by falling angle, waiting by lower end

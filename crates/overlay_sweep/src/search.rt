@@ -1,35 +1,34 @@
 // Where in the status a point stands. The status holds edge numbers from west to east; along it the sides of the next stop rise, so that a search by halves finds
 // the first edge that does not have it on its right.
 ghost use Rattle.std.specs.Prelude.{◌≡◌, true, ◌≤◌, ◌<◌};
-ghost use Rattle.graph.specs.Flat.{Carriers, Numbers};
+ghost use Rattle.graph.specs.Flat.{Numbers};
 ghost use Rattle.plane.specs.Bounds.{Near};
 ghost use Rattle.plane.specs.Values.{pt_of};
 ghost use Rattle.seq.specs.Search.{Steady, Stop, ScanStop};
 ghost use Rattle.overlay_sweep.specs.Sides.{right_at, on_at};
 
+use crate::sheet::Sheet;
 use graph::carrier_at;
 use plane::{Point, left_by};
 
-// Whether the edge in cell i of the status has p on its right. The table holds e carriers.
-fn is_right(carriers: &[i16], e: usize, status: &[u16], n: usize, i: usize, p: Point) -> bool
-    requires fact_1 { Carriers carriers.now e }
-    requires fact_2 { Numbers status.now n e }
-    requires fact_3 { i < n }
-    requires fact_4 { Near (pt_of p) }
-    ensures { result ≡ right_at carriers.now status.now (pt_of p) i }
+// Whether the edge in cell i of the status has p on its right.
+fn is_right(sheet: Sheet, status: &[u16], n: usize, i: usize, p: Point) -> bool
+    requires fact_1 { Numbers status.now n sheet.e }
+    requires fact_2 { i < n }
+    requires fact_3 { Near (pt_of p) }
+    ensures { result ≡ right_at sheet.entry.carriers.now status.now (pt_of p) i }
 {
     let k = status[i] as usize;
-    let s = carrier_at(carriers, k);
+    let s = carrier_at(sheet.carriers, k);
     left_by(s, p) < 0
 }
 
 // Whether the first g edges of the status, some and not all, are those that have p on their right: by the two edges there.
-fn parts_at(carriers: &[i16], e: usize, status: &[u16], n: usize, p: Point, g: usize) -> bool
-    requires fact_1 { Carriers carriers.now e }
-    requires fact_2 { Numbers status.now n e }
-    requires fact_3 { Near (pt_of p) }
-    requires fact_4 { Steady (right_at carriers.now status.now (pt_of p)) n }
-    ensures { result ≡ true → Stop (right_at carriers.now status.now (pt_of p)) n g }
+fn parts_at(sheet: Sheet, status: &[u16], n: usize, p: Point, g: usize) -> bool
+    requires fact_1 { Numbers status.now n sheet.e }
+    requires fact_2 { Near (pt_of p) }
+    requires fact_3 { Steady (right_at sheet.carriers.now status.now (pt_of p)) n }
+    ensures { result ≡ true → Stop (right_at sheet.entry.carriers.now status.now (pt_of p)) n g }
 {
     if g < 1 {
         return false;
@@ -37,36 +36,28 @@ fn parts_at(carriers: &[i16], e: usize, status: &[u16], n: usize, p: Point, g: u
     if n <= g {
         return false;
     }
-    if is_right(carriers, e, status, n, g - 1, p) {
-        !is_right(carriers, e, status, n, g, p)
+    if is_right(sheet, status, n, g - 1, p) {
+        !is_right(sheet, status, n, g, p)
     } else {
         false
     }
 }
 
 // How many of the first n edges of the status have p on their right: as many as is guessed, if that is so, or by halves.
-pub fn west_of(
-    carriers: &[i16],
-    e: usize,
-    status: &[u16],
-    n: usize,
-    p: Point,
-    guess: usize,
-) -> usize
-    requires fact_1 { Carriers carriers.now e }
-    requires fact_2 { Numbers status.now n e }
-    requires fact_3 { Near (pt_of p) }
-    requires fact_4 { Steady (right_at carriers.now status.now (pt_of p)) n }
-    ensures { Stop (right_at carriers.now status.now (pt_of p)) n result }
+pub fn west_of(sheet: Sheet, status: &[u16], n: usize, p: Point, guess: usize) -> usize
+    requires fact_1 { Numbers status.now n sheet.e }
+    requires fact_2 { Near (pt_of p) }
+    requires fact_3 { Steady (right_at sheet.carriers.now status.now (pt_of p)) n }
+    ensures { Stop (right_at sheet.entry.carriers.now status.now (pt_of p)) n result }
 {
-    if parts_at(carriers, e, status, n, p, guess) {
+    if parts_at(sheet, status, n, p, guess) {
         return guess;
     }
     let mut a = 0;
     let mut b = n;
     while a < b {
         let m = a + (b - a) / 2;
-        if is_right(carriers, e, status, n, m, p) {
+        if is_right(sheet, status, n, m, p) {
             a = m + 1;
         } else {
             b = m;
@@ -76,29 +67,27 @@ pub fn west_of(
 }
 
 // Whether it goes through p.
-fn is_on(carriers: &[i16], e: usize, status: &[u16], n: usize, i: usize, p: Point) -> bool
-    requires fact_1 { Carriers carriers.now e }
-    requires fact_2 { Numbers status.now n e }
-    requires fact_3 { i < n }
-    requires fact_4 { Near (pt_of p) }
-    ensures { result ≡ on_at carriers.now status.now (pt_of p) i }
+fn is_on(sheet: Sheet, status: &[u16], n: usize, i: usize, p: Point) -> bool
+    requires fact_1 { Numbers status.now n sheet.e }
+    requires fact_2 { i < n }
+    requires fact_3 { Near (pt_of p) }
+    ensures { result ≡ on_at sheet.entry.carriers.now status.now (pt_of p) i }
 {
     let k = status[i] as usize;
-    let s = carrier_at(carriers, k);
+    let s = carrier_at(sheet.carriers, k);
     if left_by(s, p) == 0 { true } else { false }
 }
 
 // From cell a on, the first of the first n edges of the status that does not go through p, or n.
-pub fn through_to(carriers: &[i16], e: usize, status: &[u16], n: usize, a: usize, p: Point) -> usize
-    requires fact_1 { Carriers carriers.now e }
-    requires fact_2 { Numbers status.now n e }
-    requires fact_3 { a ≤ n }
-    requires fact_4 { Near (pt_of p) }
-    ensures { ScanStop (on_at carriers.now status.now (pt_of p)) n a result }
+pub fn through_to(sheet: Sheet, status: &[u16], n: usize, a: usize, p: Point) -> usize
+    requires fact_1 { Numbers status.now n sheet.e }
+    requires fact_2 { a ≤ n }
+    requires fact_3 { Near (pt_of p) }
+    ensures { ScanStop (on_at sheet.entry.carriers.now status.now (pt_of p)) n a result }
 {
     let mut i = a;
     while i < n {
-        if is_on(carriers, e, status, n, i, p) {
+        if is_on(sheet, status, n, i, p) {
             i += 1;
         } else {
             return i;

@@ -6,6 +6,7 @@ ghost use Rattle.overlay_sweep.specs.Threading.{Unthreaded};
 ghost use Rattle.overlay_sweep.specs.Loop.{Given, Begun, SweptTo};
 
 use crate::corners::corners_in;
+use crate::sheet::Sheet;
 use crate::slots::by_lower_end;
 use crate::turn::turn;
 use graph::point_at;
@@ -31,11 +32,9 @@ fn guess_at(points: &[i64], n: usize) -> usize
 
 // All stops, from the first on. The corners stand in the first k of `rows`, and the first `known` of `points` are the queue.
 fn all_turns(
+    sheet: Sheet,
     rows: &[i64],
     k: usize,
-    carriers: &[i16],
-    e: usize,
-    starts: &[usize],
     waits: &[u16],
     status: &mut [u16],
     fan: &mut [u16],
@@ -46,9 +45,9 @@ fn all_turns(
     nodes: &mut [u16],
     room: usize,
 ) -> Swept
-    requires fact_1 { Begun carriers.now e starts.now rows.now k waits.now status.old fan.old points.old out.old known }
-    requires fact_2 { Unthreaded e room last.old nodes.old }
-    ensures { SweptTo carriers.now e starts.now rows.now k room out.new result.stops last.new nodes.new result.nodes }
+    requires fact_1 { Begun sheet.carriers.now sheet.e sheet.starts.now rows.now k waits.now status.old fan.old points.old out.old known }
+    requires fact_2 { Unthreaded sheet.e room last.old nodes.old }
+    ensures { SweptTo sheet.entry.carriers.now sheet.entry.e sheet.entry.starts.now rows.now k room out.new result.stops last.new nodes.new result.nodes }
 {
     let mut c = 0;
     let mut w = 0;
@@ -66,9 +65,7 @@ fn all_turns(
         let g = guess_at(points, n - 1);
         store(out, i, [p.x, p.y, p.d, 0]);
         let l = turn(
-            carriers,
-            e,
-            starts,
+            sheet,
             waits,
             status,
             fan,
@@ -109,19 +106,21 @@ pub fn sweep(
     requires fact_2 { Unthreaded (start_of starts.now maps) room last.old nodes.old }
     ensures { SweptTo carriers.now (start_of starts.now maps) starts.now rows.now k room out.new result.stops last.new nodes.new result.nodes }
 {
-    let e = starts[MAPS];
+    let sheet = Sheet {
+        carriers,
+        e: starts[MAPS],
+        starts,
+    };
     let mut waits = [0u16; EDGES];
     let mut status = [0u16; EDGES];
     let mut fan = [0u16; EDGES];
     let mut points = [0i64; POINT_CELLS];
-    by_lower_end(carriers, e, &mut waits);
+    by_lower_end(sheet, &mut waits);
     let n = corners_in(rows, k, &mut points);
     all_turns(
+        sheet,
         rows,
         k,
-        carriers,
-        e,
-        starts,
         &waits,
         &mut status,
         &mut fan,

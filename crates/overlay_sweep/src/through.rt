@@ -3,7 +3,7 @@ ghost use Rattle.std.specs.Prelude.{◌≤◌};
 ghost use Rattle.seq.specs.Search.{Steady};
 ghost use Rattle.plane.specs.Bounds.{Near};
 ghost use Rattle.plane.specs.Values.{pt_of};
-ghost use Rattle.graph.specs.Flat.{Carriers, Numbers};
+ghost use Rattle.graph.specs.Flat.{Numbers};
 ghost use Rattle.overlay_cut.specs.Threads.{RememberedIf};
 ghost use Rattle.overlay_sweep.specs.Sides.{right_at};
 ghost use Rattle.overlay_sweep.specs.Meets.{Meets};
@@ -11,6 +11,7 @@ ghost use Rattle.overlay_sweep.specs.Threading.{at_stop, Wound};
 
 use crate::fans::start_to;
 use crate::search::{through_to, west_of};
+use crate::sheet::Sheet;
 use overlay_cut::remember_all;
 use plane::Point;
 
@@ -24,8 +25,7 @@ pub struct Through {
 
 // The edges through the next stop p, for which `guess` edges of the status may be in the west. The line cuts c edges, and w have started.
 pub fn edges_through(
-    carriers: &[i16],
-    e: usize,
+    sheet: Sheet,
     waits: &[u16],
     status: &[u16],
     c: usize,
@@ -33,16 +33,15 @@ pub fn edges_through(
     p: Point,
     guess: usize,
 ) -> Through
-    requires fact_1 { Carriers carriers.now e }
-    requires fact_2 { Numbers status.now c e }
-    requires fact_3 { Numbers waits.now e e × (w ≤ e) }
-    requires fact_4 { Near (pt_of p) }
-    requires fact_5 { Steady (right_at carriers.now status.now (pt_of p)) c }
-    ensures { Meets carriers.now e waits.now status.now (pt_of p) c w result.from result.to result.started }
+    requires fact_1 { Numbers status.now c sheet.e }
+    requires fact_2 { Numbers waits.now sheet.e sheet.e × (w ≤ sheet.e) }
+    requires fact_3 { Near (pt_of p) }
+    requires fact_4 { Steady (right_at sheet.carriers.now status.now (pt_of p)) c }
+    ensures { Meets sheet.entry.carriers.now sheet.entry.e waits.now status.now (pt_of p) c w result.from result.to result.started }
 {
-    let from = west_of(carriers, e, status, c, p, guess);
-    let to = through_to(carriers, e, status, c, from, p);
-    let started = start_to(carriers, waits, e, w, p);
+    let from = west_of(sheet, status, c, p, guess);
+    let to = through_to(sheet, status, c, from, p);
+    let started = start_to(sheet, waits, w, p);
     Through { from, to, started }
 }
 

@@ -10,6 +10,7 @@ ghost use Rattle.overlay_sweep.specs.Threading.{Wound, Threading};
 
 use crate::ahead::joined;
 use crate::fans::{going_on, starting};
+use crate::sheet::Sheet;
 use crate::splice::splice;
 use crate::through::{Through, edges_through, thread};
 use plane::Point;
@@ -23,9 +24,7 @@ struct Exchanged {
 
 // The edges `at` p exchanged for those that leave it, and new neighbours tested. n points are left in the queue.
 fn exchange(
-    carriers: &[i16],
-    e: usize,
-    starts: &[usize],
+    sheet: Sheet,
     waits: &[u16],
     status: &mut [u16],
     fan: &mut [u16],
@@ -36,21 +35,21 @@ fn exchange(
     w: usize,
     n: usize,
 ) -> Exchanged
-    requires fact_1 { Ready carriers.now e starts.now waits.now status.old fan.old c w }
+    requires fact_1 { Ready sheet.carriers.now sheet.e sheet.starts.now waits.now status.old fan.old c w }
     requires fact_2 { Room points.old n }
     requires fact_3 { Near (pt_of p) }
-    requires fact_4 { Meets carriers.now e waits.now status.old (pt_of p) c w at.from at.to at.started }
-    ensures { Turned carriers.now e starts.now (pt_of p) waits.now status.old c w points.old n status.new result.cut at.started points.new result.known }
+    requires fact_4 { Meets sheet.carriers.now sheet.e waits.now status.old (pt_of p) c w at.from at.to at.started }
+    ensures { Turned sheet.entry.carriers.now sheet.entry.e sheet.entry.starts.now (pt_of p) waits.now status.old c w points.old n status.new result.cut at.started points.new result.known }
 {
     let a = at.from;
     let b = at.to;
     let s = at.started;
-    let g = going_on(carriers, e, status, a, b, p, fan);
-    starting(carriers, waits, e, w, s, fan, g);
+    let g = going_on(sheet, status, a, b, p, fan);
+    starting(sheet, waits, w, s, fan, g);
     let m = g + (s - w);
     let cut = splice(status, c, a, b, fan, m);
-    let east = joined(carriers, e, starts, status, cut, a, a + m, p, points, n);
-    let known = joined(carriers, e, starts, status, cut, 0, a, p, points, east);
+    let east = joined(sheet, status, cut, a, a + m, p, points, n);
+    let known = joined(sheet, status, cut, 0, a, p, points, east);
     Exchanged { cut, known }
 }
 
@@ -65,9 +64,7 @@ pub struct Line {
 
 // The line goes on to p, which is vertex v, and for which `guess` edges of the status may be in the west. n points are left in the queue; t nodes of `room` hold the threads.
 pub fn turn(
-    carriers: &[i16],
-    e: usize,
-    starts: &[usize],
+    sheet: Sheet,
     waits: &[u16],
     status: &mut [u16],
     fan: &mut [u16],
@@ -83,19 +80,17 @@ pub fn turn(
     t: usize,
     v: u16,
 ) -> Line
-    requires fact_1 { Ready carriers.now e starts.now waits.now status.old fan.old c w }
+    requires fact_1 { Ready sheet.carriers.now sheet.e sheet.starts.now waits.now status.old fan.old c w }
     requires fact_2 { Room points.old n }
     requires fact_3 { Near (pt_of p) }
-    requires fact_4 { Steady (right_at carriers.now status.old (pt_of p)) c }
-    requires fact_5 { Wound e room last.old nodes.old t }
-    ensures turned { Turned carriers.now e starts.now (pt_of p) waits.now status.old c w points.old n status.new result.cut result.started points.new result.known }
-    ensures threads { Threading carriers.now e room v waits.now status.old (pt_of p) c w result.started last.old nodes.old t last.new nodes.new result.nodes }
+    requires fact_4 { Steady (right_at sheet.carriers.now status.old (pt_of p)) c }
+    requires fact_5 { Wound sheet.e room last.old nodes.old t }
+    ensures turned { Turned sheet.entry.carriers.now sheet.entry.e sheet.entry.starts.now (pt_of p) waits.now status.old c w points.old n status.new result.cut result.started points.new result.known }
+    ensures threads { Threading sheet.entry.carriers.now sheet.entry.e room v waits.now status.old (pt_of p) c w result.started last.old nodes.old t last.new nodes.new result.nodes }
 {
-    let at = edges_through(carriers, e, waits, status, c, w, p, guess);
-    let u = thread(waits, status, w, at, last, e, nodes, room, t, v);
-    let x = exchange(
-        carriers, e, starts, waits, status, fan, points, p, at, c, w, n,
-    );
+    let at = edges_through(sheet, waits, status, c, w, p, guess);
+    let u = thread(waits, status, w, at, last, sheet.e, nodes, room, t, v);
+    let x = exchange(sheet, waits, status, fan, points, p, at, c, w, n);
     Line {
         cut: x.cut,
         started: at.started,

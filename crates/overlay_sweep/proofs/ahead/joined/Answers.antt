@@ -11,23 +11,13 @@ use Rattle.overlay_sweep.proofs.ahead.joined.Goals as goal
 use Rattle.overlay_sweep.proofs.ahead.joined.Goals.{Start}
 
 pub tested-requires : goal.tested-requires
-tested-requires c = record { fact_1 = c.requires.fact_1; fact_2 = (c.requires.fact_2, omega arith); fact_3 = c.requires.fact_3; fact_4 = c.requires.fact_4 }
+tested-requires c = record { fact_1 = (c.requires.fact_1, omega arith); fact_2 = c.requires.fact_2; fact_3 = c.requires.fact_3 }
 
 pub returns-then-j-c : goal.returns-then-j-c
 returns-then-j-c c =
     let a = c.args in
     let e : a.j - 1 + 1 ≡ a.j = omega (arith, c.if-from-j.true) in
     requeued
-    (ap (λ (k : ℕ). ahead (pt_of a.p) (strand_at a.carriers.now a.starts.now (get_or a.status.now (a.j - 1) 0)) (strand_at a.carriers.now a.starts.now (get_or a.status.now k 0))) e
-    ∙ sym (joint_both a.carriers.now a.starts.now (pt_of a.p) a.status.now a.from a.j a.c c.if-from-j.true c.if-j-c.true))
+    (ap (λ (k : ℕ). ahead (pt_of a.p) (strand_at a.sheet.carriers.now a.sheet.starts.now (get_or a.status.now (a.j - 1) 0)) (strand_at a.sheet.carriers.now a.sheet.starts.now (get_or a.status.now k 0))) e
+    ∙ sym (joint_both a.sheet.carriers.now a.sheet.starts.now (pt_of a.p) a.status.now a.from a.j a.c c.if-from-j.true c.if-j-c.true))
     c.tested.ensures
-
-pub returns-then-from-j : goal.returns-then-from-j
-returns-then-from-j c =
-    let a = c.args in
-    requeued (sym (joint_right a.carriers.now a.starts.now (pt_of a.p) a.status.now a.from a.j a.c (omega (arith, c.if-j-c.false)))) (queued_none a.points.now a.n c.requires.fact_4)
-
-pub returns : goal.returns
-returns c =
-    let a = c.args in
-    requeued (sym (joint_left a.carriers.now a.starts.now (pt_of a.p) a.status.now a.from a.j a.c (omega (arith, c.if-from-j.false)))) (queued_none a.points.now a.n c.requires.fact_4)

@@ -10,36 +10,30 @@ use Rattle.overlay_sweep.proofs.ahead.tested.Goals as goal
 use Rattle.overlay_sweep.proofs.ahead.tested.Goals.{After-carrier_at, After-carrier_at-2, After-cross_in, After-one_map, Else-one_map, Start}
 
 pub bounds-status-j : goal.bounds-status-j
-bounds-status-j c = let p = c.requires in omega (arith, p.fact_2.0.long, p.fact_2.1)
-
-pub overflow_cast-k : goal.overflow_cast-k
-overflow_cast-k c = omega (arith, c.shared_slice_known-3-1.given c.args.j)
+bounds-status-j c = let p = c.requires in omega (arith, p.fact_1.0.long, p.fact_1.1)
 
 pub bounds-status-j-2 : goal.bounds-status-j-2
-bounds-status-j-2 c = let p = c.requires in omega (arith, p.fact_2.0.long, p.fact_2.1)
-
-pub overflow_cast-l : goal.overflow_cast-l
-overflow_cast-l c = omega (arith, c.shared_slice_known-4-1.given (c.args.j + 1))
+bounds-status-j-2 c = let p = c.requires in omega (arith, p.fact_1.0.long, p.fact_1.1)
 
 pub returns-then-one_map : goal.returns-then-one_map
 returns-then-one_map c =
     let a = c.args in
     requeued
-    (sym (ahead_same (pt_of a.p) (strand_at a.carriers.now a.starts.now (get_or a.status.now a.j 0)) (strand_at a.carriers.now a.starts.now (get_or a.status.now (a.j + 1) 0)) (sym c.one_map.ensures ∙ c.if-one_map.true)))
-    (queued_none a.points.now a.n c.requires.fact_4)
+    (sym (ahead_same (pt_of a.p) (strand_at a.sheet.carriers.now a.sheet.starts.now (get_or a.status.now a.j 0)) (strand_at a.sheet.carriers.now a.sheet.starts.now (get_or a.status.now (a.j + 1) 0)) (sym c.one_map.ensures ∙ c.if-one_map.true)))
+    (queued_none a.points.now a.n c.requires.fact_3)
 
 pub carrier_at-requires : goal.carrier_at-requires
-carrier_at-requires c = carried c.requires.fact_1.0 (c.requires.fact_2.0.named c.args.j (omega (arith, c.requires.fact_2.1)))
+carrier_at-requires c = carried c.args.sheet.carried (c.requires.fact_1.0.named c.args.j (omega (arith, c.requires.fact_1.1)))
 
 pub carrier_at-requires-2 : goal.carrier_at-requires-2
-carrier_at-requires-2 c = carried c.requires.fact_1.0 (c.requires.fact_2.0.named (c.args.j + 1) c.requires.fact_2.1)
+carrier_at-requires-2 c = carried c.args.sheet.carried (c.requires.fact_1.0.named (c.args.j + 1) c.requires.fact_1.1)
 
 pub cross_in-requires : goal.cross_in-requires
 cross_in-requires c =
-    record { fact_1 = (c.carrier_at.ensures.near, c.carrier_at-2.ensures.near); fact_2 = c.requires.fact_3; fact_3 = c.requires.fact_4 }
+    record { fact_1 = (c.carrier_at.ensures.near, c.carrier_at-2.ensures.near); fact_2 = c.requires.fact_2; fact_3 = c.requires.fact_3 }
 
 pub returns : goal.returns
 returns c =
     let a = c.args in
-    let other = ahead_other (pt_of a.p) (strand_at a.carriers.now a.starts.now (get_or a.status.now a.j 0)) (strand_at a.carriers.now a.starts.now (get_or a.status.now (a.j + 1) 0)) (sym c.one_map.ensures ∙ c.if-one_map.false) in
+    let other = ahead_other (pt_of a.p) (strand_at a.sheet.carriers.now a.sheet.starts.now (get_or a.status.now a.j 0)) (strand_at a.sheet.carriers.now a.sheet.starts.now (get_or a.status.now (a.j + 1) 0)) (sym c.one_map.ensures ∙ c.if-one_map.false) in
     requeued ((λ i. cross_ahead (pt_of a.p) (c.carrier_at.ensures.is i) (c.carrier_at-2.ensures.is i)) ∙ sym other) c.cross_in.ensures

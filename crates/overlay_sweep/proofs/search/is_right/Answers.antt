@@ -16,14 +16,14 @@ overflow_cast-k c = omega (arith, c.shared_slice_known-2-1.given c.args.i)
 
 pub carrier_at-s-requires : goal.carrier_at-s-requires
 carrier_at-s-requires c =
-    let k = c.requires.fact_2.named c.args.i c.requires.fact_3 in
-    record { row = omega (arith, k, c.requires.fact_1.long); near = c.requires.fact_1.near (get_or c.args.status.now c.args.i 0) k }
+    let k = c.requires.fact_1.named c.args.i c.requires.fact_2 in
+    record { row = omega (arith, k, c.args.sheet.carried.long); near = c.args.sheet.carried.near (get_or c.args.status.now c.args.i 0) k }
 
 pub left_by-requires : goal.left_by-requires
-left_by-requires c = (c.carrier_at-s.ensures.near, c.requires.fact_4)
+left_by-requires c = (c.carrier_at-s.ensures.near, c.requires.fact_3)
 
 pub returns : goal.returns
 returns c =
     let a = c.args in
     test (search trb depth 20) tt ∙ ap (λ (z : ℤ). lt_z z (pos 0)) (c.left_by.ensures.is ∙ ap (λ (t : Seg). the_left_by t (pt_of a.p)) c.carrier_at-s.ensures.is)
-    ∙ neg-test (the_left_by (carrier_at a.carriers.now (get_or a.status.now a.i 0)) (pt_of a.p))
+    ∙ neg-test (the_left_by (carrier_at a.sheet.carriers.now (get_or a.status.now a.i 0)) (pt_of a.p))

@@ -6,7 +6,7 @@ use Rattle.overlay_sweep.specs.Sides.{on_at}
 use Rattle.overlay_sweep.proofs.search.through_to.Given as goal
 
 abbrev pub invariant-loop-i : goal.invariant-loop-i
-invariant-loop-i l = Scan (on_at l.carriers l.status (pt_of l.p)) l.n l.a l.i
+invariant-loop-i l = Scan (on_at l.sheet.carriers.now l.status (pt_of l.p)) l.n l.a l.i
 
 abbrev pub decreases-loop-i : goal.decreases-loop-i
 decreases-loop-i l = l.n - l.i

@@ -83,7 +83,7 @@ turn-l-requires c =
       fact_1 = l.invariant.0.ready;
       fact_2 = room_less l.invariant.0.room t;
       fact_3 = near point;
-      fact_4 = subst (λ (x : Pt). Steady (right_at c.args.carriers.now l.status x) l.c) (sym c.point_at-p.ensures) (loop-steady l.invariant.0 (omega (arith, c.if-n-i-ge-VERTEX_ROWS.false)) t);
+      fact_4 = subst (λ (x : Pt). Steady (right_at c.args.sheet.carriers.now l.status x) l.c) (sym c.point_at-p.ensures) (loop-steady l.invariant.0 (omega (arith, c.if-n-i-ge-VERTEX_ROWS.false)) t);
       fact_5 = record { spools = l.invariant.1.spools; chains = λ h. (l.invariant.1.threads h).chains; within = l.invariant.1.within };
     }
 

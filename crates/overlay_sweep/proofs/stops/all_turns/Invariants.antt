@@ -7,7 +7,7 @@ use Rattle.overlay_sweep.proofs.stops.all_turns.Given as goal
 
 abbrev pub invariant-loop-n : goal.invariant-loop-n
 invariant-loop-n l =
-    Looping l.carriers l.e l.starts l.rows l.k l.waits l.initial.status l.status l.initial.fan l.fan l.initial.points l.points l.initial.out l.out l.c l.w l.n l.i × Spun l.carriers l.e l.room l.initial.last l.last l.initial.nodes l.nodes l.out l.t l.i
+    Looping l.sheet.carriers.now l.sheet.e l.sheet.starts.now l.rows l.k l.waits l.initial.status l.status l.initial.fan l.fan l.initial.points l.points l.initial.out l.out l.c l.w l.n l.i × Spun l.sheet.carriers.now l.sheet.e l.room l.initial.last l.last l.initial.nodes l.nodes l.out l.t l.i
 
 abbrev pub decreases-loop-n : goal.decreases-loop-n
 decreases-loop-n l = vertex_rows - l.i

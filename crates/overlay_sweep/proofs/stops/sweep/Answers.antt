@@ -13,7 +13,7 @@ bounds-starts-3 c =
 pub by_lower_end-requires : goal.by_lower_end-requires
 by_lower_end-requires c =
     let g = c.requires.fact_1 in
-    record { fact_1 = g.carriers; fact_2 = omega (arith, g.few); fact_3 = omega (arith, g.few) }
+    record { fact_1 = omega (arith, g.few); fact_2 = omega (arith, g.few) }
 
 pub corners_in-n-requires : goal.corners_in-n-requires
 corners_in-n-requires c =

@@ -12,11 +12,10 @@ going_on-g-requires c =
     let m = c.requires.fact_4 in
     let b = m.through.scan in
     record {
-      fact_1 = r.carriers;
-      fact_2 = numbers-fewer r.named b.within;
-      fact_3 = b.low;
-      fact_4 = c.requires.fact_3;
-      fact_5 = omega (arith, b.within, r.fewer, r.started, r.fan_room_lem);
+      fact_1 = numbers-fewer r.named b.within;
+      fact_2 = b.low;
+      fact_3 = c.requires.fact_3;
+      fact_4 = omega (arith, b.within, r.fewer, r.started, r.fan_room_lem);
     }
 
 pub starting-requires : goal.starting-requires
@@ -27,11 +26,10 @@ starting-requires c =
     let g = c.going_on-g.ensures in
     let s = m.starts.scan in
     record {
-      fact_1 = r.carriers;
-      fact_2 = r.waits;
-      fact_3 = (omega (arith, g.1, b, r.fewer), s.low, s.within);
-      fact_4 = g.0.named;
-      fact_5 = omega (arith, c.going_on-g.auto, g.1, b, r.fewer, r.started, r.fan_room_lem);
+      fact_1 = r.waits;
+      fact_2 = (omega (arith, g.1, b, r.fewer), s.low, s.within);
+      fact_3 = g.0.named;
+      fact_4 = omega (arith, c.going_on-g.auto, g.1, b, r.fewer, r.started, r.fan_room_lem);
     }
 
 pub overflow_sub-m : goal.overflow_sub-m
@@ -60,14 +58,14 @@ splice-cut-requires c =
 
 -- after the splice
 module _ (c : After-splice-cut) where
-  numbers : Numbers c.splice-cut.new.t c.splice-cut.result c.args.e
+  numbers : Numbers c.splice-cut.new.t c.splice-cut.result c.args.sheet.e
   numbers =
       let a = c.args in
       let m = c.requires.fact_4 in
       let g = c.going_on-g in
       let x = c.splice-cut in
-      cut_at a.carriers.now a.starts.now (pt_of a.p) a.status.now a.c a.at.from a.at.to m.west m.through
-      a.waits.now a.e a.w a.at.started m.starts _ _ g.result g.ensures.0 c.starting.ensures x.new.t x.ensures.is c.requires.fact_1 g.ensures.1 x.auto.t x.result x.ensures.count
+      cut_at a.sheet.carriers.now a.sheet.starts.now (pt_of a.p) a.status.now a.c a.at.from a.at.to m.west m.through
+      a.waits.now a.sheet.e a.w a.at.started m.starts _ _ g.result g.ensures.0 c.starting.ensures x.new.t x.ensures.is c.requires.fact_1 g.ensures.1 x.auto.t x.result x.ensures.count
 
 pub overflow_add-a : goal.overflow_add-a
 overflow_add-a c =
@@ -77,11 +75,11 @@ overflow_add-a c =
 
 pub joined-east-requires : goal.joined-east-requires
 joined-east-requires c =
-    record { fact_1 = (c.requires.fact_1.carriers, c.requires.fact_1.starts_long); fact_2 = numbers (goal.at.joined-east-requires c).After-splice-cut; fact_3 = c.requires.fact_3; fact_4 = c.requires.fact_2 }
+    record { fact_1 = numbers (goal.at.joined-east-requires c).After-splice-cut; fact_2 = c.requires.fact_3; fact_3 = c.requires.fact_2 }
 
 pub joined-known-requires : goal.joined-known-requires
 joined-known-requires c =
-    record { fact_1 = (c.requires.fact_1.carriers, c.requires.fact_1.starts_long); fact_2 = numbers (goal.at.joined-known-requires c).After-splice-cut; fact_3 = c.requires.fact_3; fact_4 = c.joined-east.ensures.rows }
+    record { fact_1 = numbers (goal.at.joined-known-requires c).After-splice-cut; fact_2 = c.requires.fact_3; fact_3 = c.joined-east.ensures.rows }
 
 pub shape_of-status : goal.shape_of-status
 shape_of-status c =
@@ -93,6 +91,6 @@ returns c =
     let m = c.requires.fact_4 in
     let g = c.going_on-g in
     let x = c.splice-cut in
-    turn_at a.carriers.now a.starts.now (pt_of a.p) a.status.now a.c a.at.from a.at.to m.west m.through
-    a.waits.now a.e a.w a.at.started m.starts _ _ g.result g.ensures.0 c.starting.ensures x.new.t x.ensures.is c.requires.fact_1 g.ensures.1 x.auto.t x.result x.ensures.count
+    turn_at a.sheet.carriers.now a.sheet.starts.now (pt_of a.p) a.status.now a.c a.at.from a.at.to m.west m.through
+    a.waits.now a.sheet.e a.w a.at.started m.starts _ _ g.result g.ensures.0 c.starting.ensures x.new.t x.ensures.is c.requires.fact_1 g.ensures.1 x.auto.t x.result x.ensures.count
     c.joined-east.ensures c.joined-known.ensures
