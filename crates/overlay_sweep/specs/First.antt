@@ -1,11 +1,11 @@
 -- Which of two points comes first where one of them is a corner, by whole numbers over one denominator. Assumes nothing.
-use Rattle.std.specs.Prelude.{◌≡◌, refl, [], ◌∷◌, ℤ, pos, ◌-ℤ◌, ◌*ℤ◌}
+use Rattle.std.specs.Prelude.{◌≡◌, refl, [], ◌∷◌, ℤ, pos, ◌-ℤ◌, ◌*ℤ◌, ◌&&◌, ◌||◌}
 use Rattle.std.proofs.Common.{sym, ◌∙◌}
 use Rattle.std.specs.Int.Signed.{lt_z}
 use Rattle.seq.specs.Seq.{Bool, true, false}
 use Rattle.exact.specs.Solve.{ring, reify}
-use Rattle.exact.specs.Tests.{never, lt-sign, gt-sign}
-use Rattle.exact.specs.Sign.{Sign, neg, zer, plus, sgn, is_neg, is_plus, pick, lex_s}
+use Rattle.exact.specs.Tests.{never, lt-sign, gt-sign, eq_z, eq-sign}
+use Rattle.exact.specs.Sign.{Sign, neg, zer, plus, sgn, is_neg, is_zer, is_plus, pick, lex_s}
 use Rattle.paper.specs.Plane.{Pt, Vec, whole, before}
 
 -- x, y comes before u, v: "smaller y first, then smaller x"
@@ -37,6 +37,14 @@ module _ (x y u v : ℤ) where
 
   pub first_level : lt_z y v ≡ false → lt_z v y ≡ false → lt_z x u ≡ first x y u v
   first_level e f = lt-sign x u ∙ level (sgn (y -ℤ v)) (sgn (x -ℤ u)) (sym (lt-sign y v) ∙ e) (sym (gt-sign y v) ∙ f)
+
+  both : (s t : Sign) → (is_neg s || (is_zer s && is_neg t)) ≡ is_neg (pick s t)
+  both neg t = refl
+  both zer t = refl
+  both plus t = refl
+
+  pub first_test : (lt_z y v || (eq_z y v && lt_z x u)) ≡ first x y u v
+  first_test = (λ i. lt-sign y v i || (eq-sign y v i && lt-sign x u i)) ∙ both (sgn (y -ℤ v)) (sgn (x -ℤ u))
 
 one : (z : ℤ) → z ≡ z *ℤ pos 1
 one z = ring (z ∷ []) (search reify depth 20) tt

@@ -15,9 +15,7 @@ pub fn corners_in(rows: &[i64], c: usize, points: &mut [i64]) -> usize
     ensures { Queued (points_of rows.now c) points.old 0 points.new result }
 {
     let mut n = 0;
-    let mut v = c;
-    while 0 < v {
-        v -= 1;
+    for v in (0..c).rev() {
         n = corner_in(points, n, point_at(rows, v));
     }
     n

@@ -11,13 +11,7 @@ use plane::Point;
 pub fn first_of(x: i64, y: i64, u: i64, v: i64) -> bool
     ensures { result ≡ first x y u v }
 {
-    if y < v {
-        return true;
-    }
-    if v < y {
-        return false;
-    }
-    x < u
+    y < v || (y == v && x < u)
 }
 
 // Whether the corner x, y comes before p.

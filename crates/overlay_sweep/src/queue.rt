@@ -2,7 +2,6 @@
 // of a row has where the line is to look for the point in its status, which is a guess.
 ghost use Rattle.std.specs.Prelude.{◌≡◌, ◌+◌, ◌*◌, ◌≤◌, ◌<◌, length};
 ghost use Rattle.seq.specs.Halves.{Lasts, Halving};
-ghost use Rattle.seq.specs.Loops.Lifting.{lifted};
 ghost use Rattle.plane.specs.Bounds.{Near};
 ghost use Rattle.plane.specs.Values.{pt_of};
 ghost use Rattle.graph.specs.Flat.{Points};
@@ -13,7 +12,7 @@ use crate::earlier::earlier;
 use graph::point_at;
 use limits::{POINT_WIDTH, VERTEX_ROWS};
 use plane::Point;
-use seq::store;
+use seq::{lift, store};
 
 // The first of n rows that comes before p, or n: by halves. It is none below `from`, and none after `to`.
 fn place_in(points: &[i64], n: usize, from: usize, to: usize, p: Point) -> usize
@@ -23,6 +22,7 @@ fn place_in(points: &[i64], n: usize, from: usize, to: usize, p: Point) -> usize
     requires fact_4 { Halving (the_before_at points.now (pt_of p)) n from to }
     ensures { Place points.now (pt_of p) n result }
 {
+    // Not `partition_point`: a point is a row of four cells, and a slice of cells has no items that are points.
     let mut a = from;
     let mut b = to;
     while a < b {
@@ -62,24 +62,7 @@ fn stands_at(points: &[i64], n: usize, a: usize, p: Point) -> bool
     requires fact_2 { Near (pt_of p) }
     ensures { Stands points.now a (pt_of p) result }
 {
-    if 0 < a {
-        !earlier(p, point_at(points, a - 1))
-    } else {
-        false
-    }
-}
-
-// Moves the cells from `from` to `to` up by `by` cells, the last first.
-fn lift_i64(t: &mut [i64], from: usize, to: usize, by: usize)
-    requires fact_1 { from ≤ to }
-    requires fact_2 { to + by ≤ length t.old }
-    ensures { t.new ≡ lifted from to by t.old }
-{
-    let mut i = to;
-    while from < i {
-        i -= 1;
-        t[i + by] = t[i];
-    }
+    0 < a && !earlier(p, point_at(points, a - 1))
 }
 
 // Puts p at its place a among n rows where it is not there yet. Answers how many rows there are.
@@ -92,7 +75,7 @@ fn put_at(points: &mut [i64], n: usize, a: usize, p: Point, guess: i64) -> usize
     if stands_at(points, n, a, p) {
         return n;
     }
-    lift_i64(points, POINT_WIDTH * a, POINT_WIDTH * n, POINT_WIDTH);
+    lift(points, POINT_WIDTH * a, POINT_WIDTH * n, POINT_WIDTH);
     store(points, a, [p.x, p.y, p.d, guess]);
     n + 1
 }

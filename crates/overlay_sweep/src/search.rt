@@ -30,17 +30,10 @@ fn parts_at(sheet: Sheet, status: &[u16], n: usize, p: Point, g: usize) -> bool
     requires fact_3 { Steady (right_at sheet.carriers.now status.now (pt_of p)) n }
     ensures { result ≡ true → Stop (right_at sheet.entry.carriers.now status.now (pt_of p)) n g }
 {
-    if g < 1 {
+    if g == 0 || n <= g {
         return false;
     }
-    if n <= g {
-        return false;
-    }
-    if is_right(sheet, status, n, g - 1, p) {
-        !is_right(sheet, status, n, g, p)
-    } else {
-        false
-    }
+    is_right(sheet, status, n, g - 1, p) && !is_right(sheet, status, n, g, p)
 }
 
 // How many of the first n edges of the status have p on their right: as many as is guessed, if that is so, or by halves.
@@ -53,6 +46,7 @@ pub fn west_of(sheet: Sheet, status: &[u16], n: usize, p: Point, guess: usize) -
     if parts_at(sheet, status, n, p, guess) {
         return guess;
     }
+    // Not `partition_point`: it asks for a test of every number, and only edges below e have carriers.
     let mut a = 0;
     let mut b = n;
     while a < b {
@@ -75,7 +69,7 @@ fn is_on(sheet: Sheet, status: &[u16], n: usize, i: usize, p: Point) -> bool
 {
     let k = status[i] as usize;
     let s = carrier_at(sheet.carriers, k);
-    if left_by(s, p) == 0 { true } else { false }
+    left_by(s, p) == 0
 }
 
 // From cell a on, the first of the first n edges of the status that does not go through p, or n.
@@ -85,11 +79,8 @@ pub fn through_to(sheet: Sheet, status: &[u16], n: usize, a: usize, p: Point) ->
     requires fact_3 { Near (pt_of p) }
     ensures { ScanStop (on_at sheet.entry.carriers.now status.now (pt_of p)) n a result }
 {
-    let mut i = a;
-    while i < n {
-        if is_on(sheet, status, n, i, p) {
-            i += 1;
-        } else {
+    for i in a..n {
+        if !is_on(sheet, status, n, i, p) {
             return i;
         }
     }

@@ -5,8 +5,8 @@ use native.Mathlib.Omega.{arith}
 use Rattle.seq.specs.Seq.{ℕ, get_or}
 use Rattle.plane.specs.Values.{pt_of}
 use Rattle.laws_sweep.specs.Sweep.{ahead}
-use Rattle.overlay_sweep.specs.Ahead.{strand_at, queued_none, requeued}
-use Rattle.overlay_sweep.specs.Neighbours.{joint_both, joint_left, joint_right}
+use Rattle.overlay_sweep.specs.Ahead.{strand_at, requeued}
+use Rattle.overlay_sweep.specs.Neighbours.{joint_both}
 use Rattle.overlay_sweep.proofs.ahead.joined.Goals as goal
 use Rattle.overlay_sweep.proofs.ahead.joined.Goals.{Start}
 

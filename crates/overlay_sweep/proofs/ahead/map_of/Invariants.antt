@@ -1,5 +1,5 @@
 -- `overlay_sweep::ahead::map_of` meets its contract: none of the maps that the loop has passed ends after edge k. Assumes nothing.
-use Prim.Native.Nat.{◌+◌, ◌-◌}
+use Prim.Native.Nat.{◌+◌}
 use lib.Dec.{ltb}
 use Rattle.paper.specs.Limits.{maps}
 use Rattle.seq.specs.Loops.Searching.{Searching}

@@ -4,6 +4,3 @@ use Rattle.overlay_sweep.proofs.corners.corners_in.Given as goal
 
 abbrev pub invariant-loop-v : goal.invariant-loop-v
 invariant-loop-v l = Cornered l.rows l.c l.initial.points l.points l.n l.v
-
-abbrev pub decreases-loop-v : goal.decreases-loop-v
-decreases-loop-v l = l.v

@@ -5,7 +5,7 @@ use Rattle.plane.proofs.Machine.{pt_back}
 use Rattle.overlay_cut.specs.Rooms.{vertex_rows}
 use Rattle.overlay_sweep.specs.Queue.{queue_old, queue_new, stands_yes, stands_no}
 use Rattle.overlay_sweep.proofs.queue.put_at.Goals as goal
-use Rattle.overlay_sweep.proofs.queue.put_at.Goals.{After-lift_i64, After-stands_at, After-store, Else-stands_at, Start}
+use Rattle.overlay_sweep.proofs.queue.put_at.Goals.{After-lift, After-stands_at, After-store, Else-stands_at, Start}
 
 pub stands_at-requires : goal.stands_at-requires
 stands_at-requires c = record { fact_1 = (c.requires.fact_1.0, c.requires.fact_3.within); fact_2 = c.requires.fact_2 }
@@ -22,16 +22,16 @@ overflow_mul-a c = omega (arith, c.requires.fact_3.within, c.requires.fact_1.1)
 pub overflow_mul-n : goal.overflow_mul-n
 overflow_mul-n c = omega (arith, c.requires.fact_1.1)
 
-pub lift_i64-requires : goal.lift_i64-requires
-lift_i64-requires c = omega (arith, c.requires.fact_3.within, c.requires.fact_1.1, c.requires.fact_1.2)
+pub lift-requires : goal.lift-requires
+lift-requires c = omega (arith, c.requires.fact_3.within, c.requires.fact_1.1, c.requires.fact_1.2)
 
 pub store-requires : goal.store-requires
 store-requires c =
-    omega (arith, c.requires.fact_3.within, c.requires.fact_1.1, c.requires.fact_1.2, c.lift_i64.auto)
+    omega (arith, c.requires.fact_3.within, c.requires.fact_1.1, c.requires.fact_1.2, c.lift.auto)
 
 pub returns : goal.returns
 returns c =
     let a = c.args in
     queue_new vertex_rows a.points.now a.n (pt_of a.p) c.requires.fact_1.1 a.a c.requires.fact_3
     (stands_no a.points.now a.a (pt_of a.p) c.stands_at.result c.stands_at.ensures c.if-stands_at.false) (omega (arith, c.requires.fact_1.1, c.requires.fact_1.2)) _ _ _ _
-    (pt_back a.p.x a.p.y a.p.d c.requires.fact_2) c.lift_i64.ensures c.store.ensures
+    (pt_back a.p.x a.p.y a.p.d c.requires.fact_2) c.lift.ensures c.store.ensures

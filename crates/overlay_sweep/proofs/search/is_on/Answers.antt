@@ -1,14 +1,15 @@
 -- `overlay_sweep::search::is_on` meets its contract. Assumes nothing.
-use mathlib.Core.Path.{◌≡◌, sym, ◌∙◌, ap}
-use lib.IntN.{pos}
+use mathlib.Core.Path.{◌∙◌, ap}
+use lib.IntN.{ℤ, pos}
 use native.Mathlib.Omega.{arith}
-use mir.Syntax.{w64}
-use Rattle.exact.specs.Mach.{trbits, eq_yes, eq_no}
+use Rattle.std.proofs.Math.IntN.{+ℤ_idr}
+use Rattle.exact.specs.Mach.{trbits, test, eq_z}
+use Rattle.exact.specs.Tests.{eq-sign}
+use Rattle.exact.specs.Sign.{sgn, is_zer}
 use Rattle.paper.specs.Plane.{Seg, the_left_by}
 use Rattle.seq.specs.Seq.{get_or}
 use Rattle.graph.specs.Flat.{carrier_at}
 use Rattle.plane.specs.Values.{pt_of}
-use Rattle.plane.proofs.Signs.{zer_yes, zer_no}
 use Rattle.overlay_sweep.proofs.search.is_on.Goals as goal
 
 pub overflow_cast-k : goal.overflow_cast-k
@@ -22,16 +23,10 @@ carrier_at-s-requires c =
 pub left_by-requires : goal.left_by-requires
 left_by-requires c = (c.carrier_at-s.ensures.near, c.requires.fact_3)
 
-pub returns-then-left_by-eq0 : goal.returns-then-left_by-eq0
-returns-then-left_by-eq0 c =
+pub returns : goal.returns
+returns c =
     let a = c.args in
-    let zero : c.left_by.result ≡ pos 0 = eq_yes w64 c.if-left_by-eq0.true (search trbits depth 20) (search trbits depth 20) tt in
-    sym (zer_yes (the_left_by (carrier_at a.sheet.carriers.now (get_or a.status.now a.i 0)) (pt_of a.p))
-    (ap (λ (t : Seg). the_left_by t (pt_of a.p)) (sym c.carrier_at-s.ensures.is) ∙ sym c.left_by.ensures.is ∙ zero))
-
-pub returns-else-left_by-eq0 : goal.returns-else-left_by-eq0
-returns-else-left_by-eq0 c =
-    let a = c.args in
-    let off : c.left_by.result ≡ pos 0 → ⊥ = eq_no w64 c.if-left_by-eq0.false (search trbits depth 20) (search trbits depth 20) tt in
-    sym (zer_no (the_left_by (carrier_at a.sheet.carriers.now (get_or a.status.now a.i 0)) (pt_of a.p))
-    (λ z. off (c.left_by.ensures.is ∙ ap (λ (t : Seg). the_left_by t (pt_of a.p)) c.carrier_at-s.ensures.is ∙ z)))
+    let z : ℤ = the_left_by (carrier_at a.sheet.carriers.now (get_or a.status.now a.i 0)) (pt_of a.p) in
+    test (search trbits depth 20) tt
+    ∙ ap (λ (y : ℤ). eq_z y (pos 0)) (c.left_by.ensures.is ∙ ap (λ (t : Seg). the_left_by t (pt_of a.p)) c.carrier_at-s.ensures.is)
+    ∙ eq-sign z (pos 0) ∙ ap (λ (y : ℤ). is_zer (sgn y)) (+ℤ_idr z)

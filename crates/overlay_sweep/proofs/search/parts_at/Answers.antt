@@ -1,7 +1,7 @@
 -- `overlay_sweep::search::parts_at` meets its contract: the two edges decide. Assumes nothing.
-use mathlib.Core.Path.{refl, sym, ◌∙◌}
+use mathlib.Core.Path.{sym, ◌∙◌}
 use native.Mathlib.Omega.{arith}
-use Rattle.seq.specs.Tests.{clash, was-false}
+use Rattle.seq.specs.Tests.{was-false}
 use Rattle.plane.specs.Values.{pt_of}
 use Rattle.overlay_sweep.specs.Sides.{right_at}
 use Rattle.overlay_sweep.specs.Numbers.{stop-beside}
@@ -19,12 +19,3 @@ returns-then-is_right c =
     let a = c.args in
     λ e.
     stop-beside (right_at a.sheet.carriers.now a.status.now (pt_of a.p)) a.n a.g c.requires.fact_3 (omega arith) (omega arith) (sym c.is_right.ensures ∙ c.if-is_right.true) (sym c.is_right-then-is_right.ensures ∙ was-false c.is_right-then-is_right.result e)
-
-pub returns-then-g-lt1 : goal.returns-then-g-lt1
-returns-then-g-lt1 c = λ e. absurd (clash e refl)
-
-pub returns-then-n-g : goal.returns-then-n-g
-returns-then-n-g c = λ e. absurd (clash e refl)
-
-pub returns-else-is_right : goal.returns-else-is_right
-returns-else-is_right c = λ e. absurd (clash e refl)

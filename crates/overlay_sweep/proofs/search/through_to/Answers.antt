@@ -12,10 +12,10 @@ pub is_on-requires : goal.is_on-requires
 is_on-requires c = record { fact_1 = c.requires.fact_1; fact_2 = search rules; fact_3 = c.requires.fact_3 }
 
 pub loop-i-preserved : goal.loop-i-preserved
-loop-i-preserved c = scan_turns _ _ _ c.loop-i.invariant (search rules) (sym c.is_on.ensures ∙ c.if-is_on.true)
+loop-i-preserved c = scan_turns _ _ _ c.loop-i.invariant (search rules) (sym c.is_on.ensures ∙ c.if-not-is_on.false)
 
-pub returns-else-is_on : goal.returns-else-is_on
-returns-else-is_on c = scan-stops _ _ _ c.loop-i.invariant (sym c.is_on.ensures ∙ c.if-is_on.false)
+pub returns-then-not-is_on : goal.returns-then-not-is_on
+returns-then-not-is_on c = scan-stops _ _ _ c.loop-i.invariant (sym c.is_on.ensures ∙ c.if-not-is_on.true)
 
 pub returns : goal.returns
 returns c = scan_ends _ _ _ c.loop-i.invariant (search rules)

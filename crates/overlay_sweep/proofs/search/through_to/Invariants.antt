@@ -1,5 +1,4 @@
 -- `overlay_sweep::search::through_to` meets its contract: all from a on that the loop has passed go through p. Assumes nothing.
-use Prim.Native.Nat.{◌-◌}
 use Rattle.plane.specs.Values.{pt_of}
 use Rattle.seq.specs.Search.{Scan}
 use Rattle.overlay_sweep.specs.Sides.{on_at}
@@ -7,6 +6,3 @@ use Rattle.overlay_sweep.proofs.search.through_to.Given as goal
 
 abbrev pub invariant-loop-i : goal.invariant-loop-i
 invariant-loop-i l = Scan (on_at l.sheet.carriers.now l.status (pt_of l.p)) l.n l.a l.i
-
-abbrev pub decreases-loop-i : goal.decreases-loop-i
-decreases-loop-i l = l.n - l.i
