@@ -4,7 +4,7 @@ ghost use Rattle.std.specs.Prelude.{◌≡◌};
 ghost use Rattle.exact.specs.Lowest.{pt};
 ghost use Rattle.seq.specs.Seq.{least};
 ghost use Rattle.seq.specs.Halves.{reached};
-ghost use Rattle.paper.specs.Plane.{before, whole, head};
+ghost use Rattle.paper.specs.Plane.{before, whole};
 ghost use Rattle.plane.specs.Bounds.{Near, Corner, Edge};
 ghost use Rattle.plane.specs.Values.{seg, pt_of, vec_of, seg_of};
 ghost use Rattle.graph.specs.Flat.{Points, the_point_at};
@@ -13,27 +13,6 @@ ghost use Rattle.overlay_cut.specs.Between.{InRowOrder};
 
 use graph::point_at;
 use plane::{Point, Seg, Vector};
-
-// An edge's lower end.
-pub fn foot(s: Seg) -> Vector
-    requires { Edge (seg_of s) }
-    ensures is { vec_of result ≡ (seg_of s).foot }
-    ensures near { Corner (vec_of result) }
-{
-    Vector { x: s.x, y: s.y }
-}
-
-// Its upper end.
-pub fn head(s: Seg) -> Vector
-    requires { Edge (seg_of s) }
-    ensures is { vec_of result ≡ head (seg_of s) }
-    ensures near { Corner (vec_of result) }
-{
-    Vector {
-        x: s.x + s.u,
-        y: s.y + s.v,
-    }
-}
 
 // Whether p comes before the corner a.
 fn before_corner(p: Point, a: Vector) -> bool
@@ -55,6 +34,7 @@ pub fn place(points: &[i64], n: usize, a: Vector) -> usize
     requires fact_3 { InRowOrder points.now n }
     ensures { result ≡ least (reached before (the_point_at points.now) (whole (vec_of a))) n }
 {
+    // Not `partition_point`: a point is a row of four cells, and a slice of cells has no items that are points.
     let mut low = 0;
     let mut high = n;
     while low < high {
@@ -73,11 +53,7 @@ fn across(x: i64, y: i64, u: i64, v: i64, px: i64, py: i64, d: i64) -> bool
     requires { Edge (seg x y u v) × Near (pt px py d) }
     ensures { result ≡ the_on_line (seg x y u v) (pt px py d) }
 {
-    if u * py - v * px == (u * y - v * x) * d {
-        true
-    } else {
-        false
-    }
+    u * py - v * px == (u * y - v * x) * d
 }
 
 // Whether p lies on the line of s.

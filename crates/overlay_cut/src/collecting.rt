@@ -26,15 +26,7 @@ fn is_at(points: &[i64], k: usize, p: Point) -> bool
     ensures { result ≡ equal (pt_of p) (the_point_at points.now k) }
 {
     let at = POINT_WIDTH * k;
-    if p.x == points[at] {
-        if p.y == points[at + 1] {
-            p.d == points[at + 2]
-        } else {
-            false
-        }
-    } else {
-        false
-    }
+    p.x == points[at] && (p.y == points[at + 1] && p.d == points[at + 2])
 }
 
 // Whether one of the first n rows does.
@@ -43,12 +35,7 @@ fn stands(points: &[i64], n: usize, p: Point) -> bool
     requires fact_2 { Near (pt_of p) }
     ensures { result ≡ stands_among points.now n (pt_of p) }
 {
-    for k in 0..n {
-        if is_at(points, k, p) {
-            return true;
-        }
-    }
-    false
+    (0..n).any(|k| is_at(points, k, p))
 }
 
 // Appends p to n points where it is new, if there is room for one more row. Answers how many there are.

@@ -12,7 +12,7 @@ ghost use Rattle.overlay_cut.specs.Cutting.{puts, upper};
 ghost use Rattle.overlay_cut.specs.Between.{InRowOrder, EndsIn, Ended};
 ghost use Rattle.overlay_cut.specs.Cuts.{start_of, Starts, cut_edge, cut_map, cut_all};
 
-use crate::between::{foot, head, on_line, place};
+use crate::between::{on_line, place};
 use crate::put::put;
 use graph::{carrier_at, point_at};
 use limits::MAPS;
@@ -72,8 +72,8 @@ fn cut_edge(
     requires fact_5 { number < absent }
     ensures { Linked room rows.new links.new n result × (pieced rows.new result ≡ puts room (pieced rows.old count) (cut_edge points.now n (seg_of s) m number)) }
 {
-    let first = place(points, n, foot(s));
-    let top = place(points, n, head(s));
+    let first = place(points, n, s.foot());
+    let top = place(points, n, s.head());
     let mut total = count;
     let mut next = n;
     for v in (first..top + 1).rev() {

@@ -40,12 +40,9 @@ fn first_map(pieces: &[u16], k: usize) -> usize
     requires { piece_width * k + piece_width ≤ length pieces.now }
     ensures { result ≡ first_map pieces.now k }
 {
-    for m in 0..MAPS {
-        if 0 < source_in(pieces, k, m) {
-            return m;
-        }
-    }
-    MAPS
+    (0..MAPS)
+        .position(|m| 0 < source_in(pieces, k, m))
+        .unwrap_or(MAPS)
 }
 
 // No edge.

@@ -8,10 +8,7 @@ fn is_of(nodes: &[u16], x: usize, v: u16) -> bool
     requires { 2 * x ≤ length nodes.now }
     ensures { result ≡ heads v (thread nodes.now x) }
 {
-    if x == 0 {
-        return false;
-    }
-    nodes[2 * (x - 1)] == v
+    0 < x && nodes[2 * (x - 1)] == v
 }
 
 // Remembers that v is on edge k of e, where that is not remembered yet, with room for so many nodes. Answers how many there are, or `room` where they are no longer kept.

@@ -22,12 +22,7 @@ fn map_of(starts: &[usize], k: usize) -> usize
     requires { maps < length starts.now }
     ensures { result ≡ the_map_at starts.now k }
 {
-    for m in 0..MAPS {
-        if k < starts[m + 1] {
-            return m;
-        }
-    }
-    MAPS
+    (0..MAPS).position(|m| k < starts[m + 1]).unwrap_or(MAPS)
 }
 
 // Whether the edges k and l are of one map.

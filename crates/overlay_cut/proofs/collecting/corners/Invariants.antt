@@ -1,6 +1,5 @@
 -- `overlay_cut::collecting::corners` meets its contract. Assumes nothing.
 use mathlib.Core.List.{[], ◌∷◌}
-use Prim.Native.Nat.{◌-◌}
 use Rattle.graph.specs.Flat.{the_point_at}
 use Rattle.overlay_cut.specs.Collecting.{Gathering}
 use Rattle.overlay_cut.proofs.collecting.corners.Given as goal

@@ -1,5 +1,5 @@
 -- `overlay_cut::collecting::cross_map` meets its contract. Assumes nothing.
-use Prim.Native.Nat.{◌+◌, ◌-◌}
+use Prim.Native.Nat.{◌+◌}
 use Rattle.graph.specs.Flat.{carrier_at}
 use Rattle.overlay_cut.specs.Crossed.{cross_row}
 use Rattle.overlay_cut.specs.Collecting.{Gathering}

@@ -1,5 +1,4 @@
 -- `overlay_cut::collecting::cross_row` meets its contract. Assumes nothing.
-use Prim.Native.Nat.{◌-◌}
 use Rattle.seq.specs.Seq.{optional}
 use Rattle.paper.specs.Meeting.{meeting, point_of}
 use Rattle.plane.specs.Values.{seg_of}

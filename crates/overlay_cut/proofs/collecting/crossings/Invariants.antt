@@ -1,5 +1,4 @@
 -- `overlay_cut::collecting::crossings` meets its contract. Assumes nothing.
-use Prim.Native.Nat.{◌-◌}
 use Rattle.paper.specs.Limits.{maps}
 use Rattle.overlay_cut.specs.Crossed.{cross_part}
 use Rattle.overlay_cut.specs.Collecting.{Gathering}

@@ -1,5 +1,6 @@
 -- `overlay_cut::collecting::is_at` meets its contract: three numbers, one after the other. Assumes nothing.
 use mathlib.Core.Path.{◌≡◌, sym, ◌∙◌, ap}
+use Rattle.std.proofs.Common.{ne_eqb}
 use mathlib.Core.List.{List}
 use Prim.Native.Nat.{ℕ, ◌*◌}
 use native.Mathlib.Nat.{add-zero}
@@ -17,7 +18,7 @@ use Rattle.graph.specs.Flat.{number_at, the_point_at}
 use Rattle.overlay_cut.specs.Points.{equal_first, equal-second, equal-third}
 use Rattle.overlay_cut.proofs.Bits.{Small, bits_yes, bits_no, bits-test}
 use Rattle.overlay_cut.proofs.collecting.is_at.Goals as goal
-use Rattle.overlay_cut.proofs.collecting.is_at.Goals.{After-t13-1, After-t7-1, Start, Then-p-points, Then-p-points-2}
+use Rattle.overlay_cut.proofs.collecting.is_at.Goals.{Start, Then-p-points, Then-p-points-2}
 
 -- the first number of a row
 abbrev first : List ℤ → ℕ → ℤ
@@ -49,18 +50,18 @@ returns-then-p-points-2 c =
     let t = c.args.points.now in
     let k = c.args.k in
     d-test p c.requires.fact_2 t k c.result-1.given
-    ∙ equal-third p (the_point_at t k) (x-yes p c.requires.fact_2 t k c.t7-1.given c.if-p-points.true) (y-yes p c.requires.fact_2 t k c.t13-1.given c.if-p-points-2.true)
+    ∙ equal-third p (the_point_at t k) (x-yes p c.requires.fact_2 t k c.t8-1.given c.if-p-points.true) (y-yes p c.requires.fact_2 t k c.t13-1.given c.if-p-points-2.true)
 
 pub returns-else-p-points-2 : goal.returns-else-p-points-2
 returns-else-p-points-2 c =
     let p = pt_of c.args.p in
     let t = c.args.points.now in
     let k = c.args.k in
-    equal-second p (the_point_at t k) (x-yes p c.requires.fact_2 t k c.t7-1.given c.if-p-points.true) (y-no p c.requires.fact_2 t k c.t13-1.given c.if-p-points-2.false)
+    ne_eqb _ _ c.if-p-points-2.false ∙ equal-second p (the_point_at t k) (x-yes p c.requires.fact_2 t k c.t8-1.given c.if-p-points.true) (y-no p c.requires.fact_2 t k c.t13-1.given c.if-p-points-2.false)
 
 pub returns-else-p-points : goal.returns-else-p-points
 returns-else-p-points c =
     let p = pt_of c.args.p in
     let t = c.args.points.now in
     let k = c.args.k in
-    equal_first p (the_point_at t k) (x-no p c.requires.fact_2 t k c.t7-1.given c.if-p-points.false)
+    ne_eqb _ _ c.if-p-points.false ∙ equal_first p (the_point_at t k) (x-no p c.requires.fact_2 t k c.t8-1.given c.if-p-points.false)

@@ -1,24 +1,18 @@
--- `overlay_cut::collecting::stands` meets its contract: none of the rows that the loop has passed is the point. Assumes nothing.
-use mathlib.Core.Path.{sym, ◌∙◌}
+-- `overlay_cut::collecting::stands` meets its contract. Assumes nothing.
+use Rattle.std.proofs.Common.{refl, sym, ◌∙◌, arith, rules}
+use Rattle.std.proofs.lemmas.Iterator.{YieldsList-from_range}
+use Rattle.std.proofs.lemmas.Iterator.Search.{any_from_yields_List}
+use Rattle.seq.specs.Seq.{ℕ}
+use Rattle.seq.proofs.Ranges.{any-some}
 use Rattle.plane.specs.Values.{pt_of}
-use Rattle.seq.specs.Loops.Searching.{search_starts}
-use Rattle.seq.proofs.Loops.Searching.{search_turns, search_has, search_lacks}
+use Rattle.graph.specs.Flat.{the_point_at}
+use Rattle.overlay_cut.specs.Points.{equal}
 use Rattle.overlay_cut.specs.Collecting.{among-rows}
-use borrow.Author.Rules.{rules}
 use Rattle.overlay_cut.proofs.collecting.stands.Goals as goal
-use Rattle.overlay_cut.proofs.collecting.stands.Goals.{At-loop-k, Start}
-
-pub returns-then-is_at : goal.returns-then-is_at
-returns-then-is_at c =
-    search_has c.loop-k.invariant (search rules) (sym c.is_at.ensures ∙ c.if-is_at.true) ∙ sym (among-rows c.args.points.now c.args.n (pt_of c.args.p))
-
-pub loop-k-preserved : goal.loop-k-preserved
-loop-k-preserved c =
-    search_turns c.loop-k.invariant (search rules) (sym c.is_at.ensures ∙ c.if-is_at.false)
 
 pub returns : goal.returns
 returns c =
-    search_lacks c.loop-k.invariant (search rules) ∙ sym (among-rows c.args.points.now c.args.n (pt_of c.args.p))
-
-pub loop-k-init : goal.loop-k-init
-loop-k-init c = search_starts
+    let a = c.args in
+    let f = λ (k : ℕ). equal (pt_of a.p) (the_point_at a.points.now k) in
+    any_from_yields_List f _ _ _ c.any.ensures.ran (YieldsList-from_range 0 a.n a.n refl (omega arith)) (λ x b q k. search rules) ∙ any-some f a.n
+    ∙ sym (among-rows a.points.now a.n (pt_of a.p))

@@ -1,5 +1,4 @@
 -- `overlay_cut::edges::carriers` meets its contract. Assumes nothing.
-use Prim.Native.Nat.{◌-◌}
 use Rattle.overlay_cut.specs.Net.{carrier_in, seg_row}
 use Rattle.seq.specs.Loops.Storing.{Laying}
 use Rattle.overlay_cut.proofs.edges.carriers.Given as goal

@@ -1,5 +1,4 @@
 -- `overlay_cut::edges::origins` meets its contract. Assumes nothing.
-use Prim.Native.Nat.{◌-◌}
 use Rattle.seq.specs.Loops.Storing.{Laying}
 use Rattle.overlay_cut.specs.Net.{ends_of}
 use Rattle.overlay_cut.proofs.edges.origins.Given as goal

@@ -1,21 +1,17 @@
--- `overlay_sweep::ahead::map_of` meets its contract: none of the maps that the loop has passed ends after edge k. Assumes nothing.
-use borrow.Author.Tests.{lt-ltb, le-ltb}
-use Rattle.seq.specs.Loops.Searching.{search_starts}
-use Rattle.seq.proofs.Loops.Searching.{search_turns, search_finds, search_ends}
-use native.Mathlib.Omega.{arith}
+-- `overlay_sweep::ahead::map_of` meets its contract. Assumes nothing.
+use Rattle.std.proofs.Common.{refl, ◌∙◌, ◌+◌, arith, rules, Bool}
+use Rattle.std.proofs.lemmas.Iterator.{YieldsList-from_range}
+use Rattle.std.proofs.lemmas.Iterator.Search.{position_from_yields_List}
+use borrow.Author.Tests.{tests}
+use lib.Dec.{ltb}
+use Rattle.seq.specs.Seq.{ℕ}
+use Rattle.seq.proofs.Ranges.{position-least}
+use Rattle.paper.specs.Limits.{maps}
+use Rattle.overlay_cut.specs.Cuts.{start_of}
 use Rattle.overlay_sweep.proofs.ahead.map_of.Goals as goal
-use Rattle.overlay_sweep.proofs.ahead.map_of.Goals.{At-loop-m}
-
-pub returns-then-k-starts : goal.returns-then-k-starts
-returns-then-k-starts c =
-    search_finds c.loop-m.invariant (omega arith) (lt-ltb _ _ c.if-k-starts.true)
-
-pub loop-m-preserved : goal.loop-m-preserved
-loop-m-preserved c =
-    search_turns c.loop-m.invariant (omega arith) (le-ltb _ _ c.if-k-starts.false)
-
-pub loop-m-init : goal.loop-m-init
-loop-m-init c = search_starts
 
 pub returns : goal.returns
-returns c = search_ends c.loop-m.invariant (omega arith)
+returns c =
+    let f : ℕ → Bool = λ m. ltb c.args.k (start_of c.args.starts.now (m + 1)) in
+    c.unwrap_or.ensures
+    ∙ position-least f maps _ (position_from_yields_List f _ _ _ c.position.ensures.ran (YieldsList-from_range 0 maps maps refl (omega arith)) (λ x b q k. search (rules, tests)))
