@@ -1,11 +1,10 @@
 -- Counting the gaps: before turn f the gaps among the faces 1 to f - 1 are counted. Assumes nothing.
-use Rattle.std.specs.Prelude.{◌&&◌, ◌+◌, ◌*◌, ◌-◌}
-use mathlib.Core.Path.{◌≡◌, refl, sym, ◌∙◌, ap, subst}
+use Rattle.std.specs.Prelude.{◌+◌, ◌*◌, ◌-◌}
+use mathlib.Core.Path.{◌≡◌, refl, ◌∙◌, ap, subst}
 use Prim.Native.Nat.{◌≤◌, ◌<◌}
 use native.Mathlib.Omega.{arith}
-use native.Mathlib.Nat.{add-zero}
-use borrow.Author.Tests.{eq-eqb, ne_eqb}
-use Rattle.seq.specs.Seq.{List, Bool, true, false, not, ℕ, suc, cond, eqb, get_or}
+use mir.Val.{bool_byte}
+use Rattle.seq.specs.Seq.{List, Bool, true, false, ℕ, suc, cond, get_or}
 use Rattle.paper.specs.Limits.{maps}
 use Rattle.paper.specs.Tables.{face_width}
 use Rattle.paper.specs.Listing.{is_gap}
@@ -28,14 +27,11 @@ gaps-turn fs {n} {found} {f} {r} k from h e =
 
 -- ── one face ──
 
-pub in_a-zone : (zone block : ℕ) → (zone ≡ 0 → ⊥) → false ≡ is_gap zone block
-in_a-zone zone block e = sym (ap (λ (b : Bool). b && not (eqb block 0)) (ne_eqb zone 0 e))
+-- the number that the code adds
+pub byte_is : (b : Bool) → bool_byte b ≡ cond b 1 0
+byte_is true = refl
+byte_is false = refl
 
-pub by_block : (zone block : ℕ) → zone ≡ 0 → not (eqb block 0) ≡ is_gap zone block
-by_block zone block e = sym (ap (λ (b : Bool). b && not (eqb block 0)) (eq-eqb zone 0 e))
-
-pub one_more : (found : ℕ) {gap : Bool} → gap ≡ true → found + 1 ≡ found + cond gap 1 0
-one_more found e = sym (ap (λ (b : Bool). found + cond b 1 0) e)
-
-pub no_more : (found : ℕ) {gap : Bool} → gap ≡ false → found ≡ found + cond gap 1 0
-no_more found e = sym (ap (λ (b : Bool). found + cond b 1 0) e ∙ add-zero found)
+pub byte_most : (b : Bool) → bool_byte b ≤ 1
+byte_most true = omega arith
+byte_most false = omega arith

@@ -71,10 +71,6 @@ face-fields fs f {a} {b} {h} {o} ea eb eh eo =
 pub put_none : (d : List ℕ) (at : ℕ) → Put [] 0 d at d at
 put_none d at = record { is = refl; end = omega arith; kept = refl; within = omega arith }
 
--- a line of at most 64 bytes, put somewhere
-pub put-lined : {text blank line d t : List ℕ} {n at r : ℕ} → Line 64 text blank line n → Put (take n line) (length (take n line)) d at t r → Put text 64 d at t r
-put-lined l p = put_as p l.is (omega (arith, l.within, l.counts.1))
-
 -- one face's line more
 pub put-face_more : (fs : List ℕ) (f : ℕ) {d t u : List ℕ} {at k r : ℕ}
     → Put (rows (face_text fs) f) (64 * f) d at t k → Put (face_text fs f) 64 t k u r → Put (rows (face_text fs) (f + 1)) (64 * (f + 1)) d at u r

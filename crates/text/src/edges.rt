@@ -60,7 +60,6 @@ pub fn edge_line(k: u16, edge: OverlayEdge, line: &mut [u8; LINE]) -> usize
     ensures { Line 64 (edge_text k (edge_from edge)) line.old line.new result }
 {
     let at = ends_field(line, k, edge.lower, edge.upper);
-    let source = edge.source;
-    let at = source_field(line, at, source);
+    let at = source_field(line, at, edge.source);
     words(line, at, b"\n")
 }

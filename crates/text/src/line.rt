@@ -8,10 +8,9 @@ pub fn words(line: &mut [u8], at: usize, text: &[u8]) -> usize
     requires { at + length text.now ≤ length line.old }
     ensures { Put text.now (length text.now) line.old at line.new result }
 {
-    for i in 0..text.len() {
-        line[at + i] = text[i];
-    }
-    at + text.len()
+    let end = at + text.len();
+    line[at..end].copy_from_slice(text);
+    end
 }
 
 // A number in decimal; it has at most five digits.

@@ -1,14 +1,14 @@
--- `text::line::words` meets its contract: before turn i the first i bytes stand. Assumes nothing.
-use mathlib.Core.Path.{refl}
-use native.Mathlib.Omega.{arith}
-use Rattle.seq.specs.Loops.Copying.{copy_starts, copy_turns, copy_ends}
+-- `text::line::words` meets its contract. Assumes nothing.
+use Rattle.std.proofs.Common.{refl, ◌∙◌, ap, ◌-◌, ◌+◌, length, arith}
+use Rattle.std.proofs.Math.Seq.{length-sets}
+use Rattle.seq.proofs.Parts.{part_stored}
 use Rattle.text.proofs.line.words.Goals as goal
 
-pub loop-i-init : goal.loop-i-init
-loop-i-init c = copy_starts
-
-pub loop-i-preserved : goal.loop-i-preserved
-loop-i-preserved c = copy_turns c.loop-i.invariant 0 c.loop-i-test.true
-
 pub returns : goal.returns
-returns c = record { is = copy_ends c.loop-i.invariant c.loop-i-test.false; end = refl; kept = c.loop-i.invariant.kept; within = omega arith }
+returns c =
+    let t = c.args.line.now in
+    let text = c.args.text.now in
+    let at = c.args.at in
+    let k = at + length text - at in
+    let is = part_stored t at k text _ c.copy_from_slice.ensures.after (omega arith) (omega arith) in
+    record { is = is; end = refl; kept = ap length is ∙ length-sets t at text; within = omega arith }

@@ -1,15 +1,13 @@
 -- `text::lines::face_line` meets its contract. Assumes nothing.
 use native.Mathlib.Omega.{arith}
-use Prim.Native.Nat.{◌≤◌}
-use Rattle.seq.specs.Seq.{cond, eqb, length}
+use Rattle.seq.specs.Seq.{cond, eqb}
 use Rattle.paper.specs.Bytes.{ascii}
 use Rattle.paper.specs.Listing.{decimal}
-use Rattle.text.proofs.LineLaws.{put_as, put-behind, put-field, put-line, face-fields}
+use Rattle.text.proofs.LineLaws.{put_as, put-behind, put-field, face-fields}
 use Rattle.text.proofs.lines.face_line.Goals as goal
 
 pub returns : goal.returns
 returns c =
-    let long : 64 ≤ length c.args.line.now = omega arith in
     let a = c.args in
     let h = c.cell-3 in
     let o = c.cell-4 in
@@ -17,4 +15,4 @@ returns c =
     let two = put-field (ascii " ") dash c.labels_field-at.ensures c.least_field-at.ensures in
     let three = put-field (ascii " ") (decimal o.result) two c.field-at.ensures in
     let text = face-fields a.faces.now a.face c.cell.ensures c.cell-2.ensures h.ensures o.ensures in
-    put-line {m = 64} (put_as (put-behind three c.words.ensures) text (omega arith)) (omega arith) long
+    put_as (put-behind three c.words.ensures) text (omega arith)

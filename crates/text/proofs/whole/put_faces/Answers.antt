@@ -7,7 +7,7 @@ pub loop-f-init : goal.loop-f-init
 loop-f-init c = (put_none _ _, omega arith)
 
 pub loop-f-preserved : goal.loop-f-preserved
-loop-f-preserved c = let l = c.loop-f in (put-face_more c.args.faces.now l.f l.invariant.0 c.put_face-end.ensures, omega arith)
+loop-f-preserved c = let l = c.loop-f in (put-face_more c.args.faces.now l.f l.invariant.0 c.face_line-end.ensures, omega arith)
 
 pub returns : goal.returns
 returns c =

@@ -1,5 +1,5 @@
 -- `text::whole::put_faces` meets its contract: before turn f the lines of the first f faces stand. Assumes nothing.
-use Rattle.std.specs.Prelude.{◌*◌, ◌-◌}
+use Rattle.std.specs.Prelude.{◌*◌}
 use Prim.Native.Nat.{◌≤◌}
 use Rattle.seq.specs.Seq.{rows}
 use Rattle.text.specs.Line.{Put}
