@@ -1,4 +1,5 @@
 pub mod Flat
+pub mod Given
 pub mod Upright
 pub mod Rising
 pub mod Small

@@ -6,10 +6,12 @@ ghost use Rattle.paper.specs.Plane.{opposite};
 ghost use Rattle.paper.specs.Graph.{twin, heading};
 ghost use Rattle.plane.specs.Values.{pt_of, vec_of, seg_of};
 ghost use Rattle.plane.specs.Bounds.{Direction, Near, Edge};
-ghost use Rattle.graph.specs.Flat.{the_point_at, carrier_at, origin_at, start_at, flat_graph, Flat, Starts, Carried};
+ghost use Rattle.graph.specs.Flat.{the_point_at, carrier_at, origin_at, start_at, Starts, Carried};
+ghost use Rattle.graph.specs.Given.{Drawn, graph_of};
 ghost use Rattle.graph.specs.Rising.{RisesIf};
 ghost use Rattle.graph.specs.Heading.{the_up_at, heading_at, row};
 
+use super::flat::FlatGraph;
 use super::rising::{rise, starts_first};
 use limits::{CARRIER_WIDTH, POINT_WIDTH};
 use plane::{Point, Seg, Vector, before};
@@ -84,25 +86,18 @@ fn opposite(u: Vector) -> Vector
     Vector { x: -u.x, y: -u.y }
 }
 
-// The direction in which half-edge h goes, of a graph of n vertices; `rising` says that their points rise.
-fn heading(
-    points: &[i64],
-    origins: &[u16],
-    carriers: &[i16],
-    n: usize,
-    rising: bool,
-    h: usize,
-) -> Vector
-    requires fact_1 { (h ≤ absent) × Starts points.now origins.now h × Starts points.now origins.now (twin h) × Carried carriers.now (h / 2) }
-    requires fact_2 { RisesIf rising points.now n }
-    requires fact_3 { (origin_at origins.now h < n) × (origin_at origins.now (twin h) < n) }
-    ensures is { vec_of result ≡ heading_at points.now origins.now carriers.now h }
+// The direction in which half-edge h goes; `rising` says that the points rise.
+fn heading(g: FlatGraph, rising: bool, h: usize) -> Vector
+    requires fact_1 { (h ≤ absent) × Starts g.points.now g.origins.now h × Starts g.points.now g.origins.now (twin h) × Carried g.carriers.now (h / 2) }
+    requires fact_2 { RisesIf rising g.points.now g.vertices }
+    requires fact_3 { (origin_at g.origins.now h < g.vertices) × (origin_at g.origins.now (twin h) < g.vertices) }
+    ensures is { vec_of result ≡ heading_at g.entry.points.now g.entry.origins.now g.entry.carriers.now h }
     ensures near { Direction (vec_of result) }
 {
-    let s = carrier_at(carriers, h / 2);
+    let s = carrier_at(g.carriers, h / 2);
     let u = Vector { x: s.u, y: s.v };
     let t = twin(h);
-    if starts_first(points, origins, n, rising, h, t) {
+    if starts_first(g.points, g.origins, g.vertices, rising, h, t) {
         u
     } else {
         opposite(u)
@@ -119,39 +114,22 @@ fn store(out: &mut [i16], h: usize, u: Vector)
 }
 
 // The heading of every half-edge, a row each; `rising` says that the points rise.
-pub fn headings_by(
-    points: &[i64],
-    origins: &[u16],
-    carriers: &[i16],
-    n: usize,
-    rising: bool,
-    e: usize,
-    out: &mut [i16],
-)
-    requires fact_1 { Flat points.now origins.now carriers.now n e }
-    requires fact_2 { RisesIf rising points.now n }
-    requires fact_3 { 2 * e ≤ absent }
-    requires fact_4 { 2 * (2 * e) ≤ length out.old }
-    ensures { out.new ≡ laid (2 * e) (λ h. row (heading (flat_graph points.now origins.now carriers.now n e) h)) out.old }
+pub fn headings_by(g: FlatGraph, rising: bool, out: &mut [i16])
+    requires fact_1 { Drawn g }
+    requires fact_2 { RisesIf rising g.points.now g.vertices }
+    requires fact_3 { 2 * g.edges ≤ absent }
+    requires fact_4 { 2 * (2 * g.edges) ≤ length out.old }
+    ensures { out.new ≡ laid (2 * g.entry.edges) (λ h. row (heading (graph_of g.entry) h)) out.old }
 {
-    let m = 2 * e;
-    for h in 0..m {
-        store(out, h, heading(points, origins, carriers, n, rising, h));
+    for h in 0..2 * g.edges {
+        store(out, h, heading(g, rising, h));
     }
 }
 
 // The heading of every half-edge, a row each.
-pub fn headings(
-    points: &[i64],
-    origins: &[u16],
-    carriers: &[i16],
-    n: usize,
-    e: usize,
-    out: &mut [i16],
-)
-    requires { (Flat points.now origins.now carriers.now n e) × ((2 * e ≤ absent) × (2 * (2 * e) ≤ length out.old)) }
-    ensures { out.new ≡ laid (2 * e) (λ h. row (heading (flat_graph points.now origins.now carriers.now n e) h)) out.old }
+pub fn headings(g: FlatGraph, out: &mut [i16])
+    requires { Drawn g × ((2 * g.edges ≤ absent) × (2 * (2 * g.edges) ≤ length out.old)) }
+    ensures { out.new ≡ laid (2 * g.entry.edges) (λ h. row (heading (graph_of g.entry) h)) out.old }
 {
-    let rising = rise(points, n);
-    headings_by(points, origins, carriers, n, rising, e, out);
+    headings_by(g, rise(g.points, g.vertices), out);
 }

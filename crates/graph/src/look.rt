@@ -6,10 +6,12 @@ ghost use Rattle.paper.specs.Graph.{twin, nearer, west};
 ghost use Rattle.laws_graph.specs.West.{candidate};
 ghost use Rattle.plane.specs.Values.{pt_of, vec_of, seg_of};
 ghost use Rattle.plane.specs.Bounds.{Direction, Near, Edge};
-ghost use Rattle.graph.specs.Flat.{flat_graph, Flat, Starts, Carried};
+ghost use Rattle.graph.specs.Flat.{Starts, Carried};
+ghost use Rattle.graph.specs.Given.{Drawn, graph_of};
 ghost use Rattle.graph.specs.Pick.{better};
 ghost use Rattle.graph.specs.Look.{the_seen_of, height_at, westward_of, nearer_of, candidate_at, nearer_at, east_at, seen_label};
 
+use super::flat::FlatGraph;
 use super::heading::{carrier_at, goes_up, start};
 use exact::products;
 use plane::{Point, Seg, Vector, below, cross_of, left_by, rises};
@@ -72,25 +74,18 @@ pub fn nearest(carriers: &[i16], none: usize, k: usize, r: usize, p: Point) -> u
 }
 
 // The nearest candidate, from p along d.
-pub fn look(
-    points: &[i64],
-    origins: &[u16],
-    carriers: &[i16],
-    n: usize,
-    e: usize,
-    p: Point,
-    d: Vector,
-) -> Option<u16>
-    requires fact_1 { Flat points.now origins.now carriers.now n e }
-    requires fact_2 { 2 * e ≤ absent }
+pub fn look(g: FlatGraph, p: Point, d: Vector) -> Option<u16>
+    requires fact_1 { Drawn g }
+    requires fact_2 { 2 * g.edges ≤ absent }
     requires fact_3 { Near (pt_of p) }
     requires fact_4 { Direction (vec_of d) }
-    ensures { the_seen_of result ≡ best (candidate (flat_graph points.now origins.now carriers.now n e) (pt_of p) (vec_of d)) (nearer (flat_graph points.now origins.now carriers.now n e) (pt_of p)) e }
+    ensures { the_seen_of result ≡ best (candidate (graph_of g.entry) (pt_of p) (vec_of d)) (nearer (graph_of g.entry) (pt_of p)) g.entry.edges }
 {
+    let e = g.edges;
     let mut r = e;
     for k in 0..e {
-        if candidate(points, origins, carriers, k, p, d) {
-            r = nearest(carriers, e, k, r, p);
+        if candidate(g.points, g.origins, g.carriers, k, p, d) {
+            r = nearest(g.carriers, e, k, r, p);
         }
     }
     if r == e { None } else { Some(r as u16) }
@@ -109,44 +104,27 @@ pub fn east_side(points: &[i64], origins: &[u16], k: usize) -> usize
 }
 
 // "What is seen is the half-edge on its east side. With no candidate, the outside is seen": from p along d.
-pub fn seen_half(
-    points: &[i64],
-    origins: &[u16],
-    carriers: &[i16],
-    n: usize,
-    e: usize,
-    p: Point,
-    d: Vector,
-) -> Option<u16>
-    requires fact_1 { Flat points.now origins.now carriers.now n e }
-    requires fact_2 { 2 * e ≤ absent }
+pub fn seen_half(g: FlatGraph, p: Point, d: Vector) -> Option<u16>
+    requires fact_1 { Drawn g }
+    requires fact_2 { 2 * g.edges ≤ absent }
     requires fact_3 { Near (pt_of p) }
     requires fact_4 { Direction (vec_of d) }
-    ensures { the_seen_of result ≡ west (flat_graph points.now origins.now carriers.now n e) (pt_of p) (vec_of d) }
+    ensures { the_seen_of result ≡ west (graph_of g.entry) (pt_of p) (vec_of d) }
 {
-    let k = look(points, origins, carriers, n, e, p, d)?;
-    Some(east_side(points, origins, k as usize) as u16)
+    let k = look(g, p, d)?;
+    Some(east_side(g.points, g.origins, k as usize) as u16)
 }
 
 // The label of what is seen from p along d, of labels by half-edge; 0 where the outside is seen.
-pub fn seen_label(
-    points: &[i64],
-    origins: &[u16],
-    carriers: &[i16],
-    labels: &[u16],
-    n: usize,
-    e: usize,
-    p: Point,
-    d: Vector,
-) -> u16
-    requires fact_1 { Flat points.now origins.now carriers.now n e }
-    requires fact_2 { 2 * e ≤ absent }
-    requires fact_3 { 2 * e ≤ length labels.now }
+pub fn seen_label(g: FlatGraph, labels: &[u16], p: Point, d: Vector) -> u16
+    requires fact_1 { Drawn g }
+    requires fact_2 { 2 * g.edges ≤ absent }
+    requires fact_3 { 2 * g.edges ≤ length labels.now }
     requires fact_4 { Near (pt_of p) }
     requires fact_5 { Direction (vec_of d) }
-    ensures { result ≡ seen_label (flat_graph points.now origins.now carriers.now n e) labels.now (pt_of p) (vec_of d) }
+    ensures { result ≡ seen_label (graph_of g.entry) labels.now (pt_of p) (vec_of d) }
 {
-    match seen_half(points, origins, carriers, n, e, p, d) {
+    match seen_half(g, p, d) {
         Some(x) => labels[x as usize],
         None => 0,
     }

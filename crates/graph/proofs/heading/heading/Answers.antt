@@ -20,10 +20,10 @@ by ps os cs h e f = λ i. cond (sym f i) (e i) (opposite (e i))
 abbrev begun : After-starts_first → Start
 begun c = search rules
 
-went : (c : After-starts_first) → the_up_at (begun c).args.points.now (begun c).args.origins.now (begun c).args.h ≡ c.starts_first.result
+went : (c : After-starts_first) → the_up_at (begun c).args.g.points.now (begun c).args.g.origins.now (begun c).args.h ≡ c.starts_first.result
 went c =
     let a = c.args in
-    sym (c.starts_first.ensures ∙ ap (λ (k : ℕ). before (start_at a.points.now a.origins.now a.h) (start_at a.points.now a.origins.now k)) c.twin-t.ensures)
+    sym (c.starts_first.ensures ∙ ap (λ (k : ℕ). before (start_at a.g.points.now a.g.origins.now a.h) (start_at a.g.points.now a.g.origins.now k)) c.twin-t.ensures)
 
 pub starts_first-requires : goal.starts_first-requires
 starts_first-requires c =
@@ -31,7 +31,7 @@ starts_first-requires c =
     record {
       fact_1 = p.fact_2;
       fact_2 = (p.fact_1.1, subst (Starts _ _) (sym c.twin-t.ensures) p.fact_1.2);
-      fact_3 = (p.fact_3.0, subst (λ (k : ℕ). origin_at c.args.origins.now k < c.args.n) (sym c.twin-t.ensures) p.fact_3.1);
+      fact_3 = (p.fact_3.0, subst (λ (k : ℕ). origin_at c.args.g.origins.now k < c.args.g.vertices) (sym c.twin-t.ensures) p.fact_3.1);
     }
 
 pub returns-then-starts_first : goal.returns-then-starts_first
@@ -39,7 +39,7 @@ returns-then-starts_first c =
     let r = c.carrier_at-s in
     let same = vec_back r.result.u r.result.v r.ensures.near.up_is in
     record {
-      is = by c.args.points.now c.args.origins.now c.args.carriers.now c.args.h (same ∙ ap (λ (z : Seg). z.up) r.ensures.is) (went (goal.at.returns-then-starts_first c).After-starts_first ∙ c.if-starts_first.true);
+      is = by c.args.g.points.now c.args.g.origins.now c.args.g.carriers.now c.args.h (same ∙ ap (λ (z : Seg). z.up) r.ensures.is) (went (goal.at.returns-then-starts_first c).After-starts_first ∙ c.if-starts_first.true);
       near = subst Direction (sym same) r.ensures.near.up_is;
     }
 
@@ -48,6 +48,6 @@ returns-else-starts_first c =
     let r = c.carrier_at-s in
     let same = vec_back r.result.u r.result.v r.ensures.near.up_is in
     record {
-      is = c.opposite.ensures.is ∙ by c.args.points.now c.args.origins.now c.args.carriers.now c.args.h (same ∙ ap (λ (z : Seg). z.up) r.ensures.is) (went (goal.at.returns-else-starts_first c).After-starts_first ∙ c.if-starts_first.false);
+      is = c.opposite.ensures.is ∙ by c.args.g.points.now c.args.g.origins.now c.args.g.carriers.now c.args.h (same ∙ ap (λ (z : Seg). z.up) r.ensures.is) (went (goal.at.returns-else-starts_first c).After-starts_first ∙ c.if-starts_first.false);
       near = c.opposite.ensures.near;
     }

@@ -27,15 +27,15 @@ heading-requires c =
     let l = c.loop-h-test.true in
     let O = c.requires.fact_1.origins in
     record {
-      fact_1 = asked c.args.points.now c.args.origins.now c.args.carriers.now c.args.n c.args.e h c.requires.fact_1 l c.requires.fact_3;
+      fact_1 = asked c.args.g.points.now c.args.g.origins.now c.args.g.carriers.now c.args.g.vertices c.args.g.edges h c.requires.fact_1 l c.requires.fact_3;
       fact_2 = c.requires.fact_2;
-      fact_3 = (O.named h l, O.named (twin h) (twin_under c.args.e h l));
+      fact_3 = (O.named h l, O.named (twin h) (twin_under c.args.g.edges h l));
     }
 
 pub loop-h-preserved : goal.loop-h-preserved
 loop-h-preserved c =
     let l = c.loop-h in
-    let e = stored c.args.points.now c.args.origins.now c.args.carriers.now c.args.n c.args.e l.h c.requires.fact_1 c.loop-h-test.true c.heading.ensures.is in
+    let e = stored c.args.g.points.now c.args.g.origins.now c.args.g.carriers.now c.args.g.vertices c.args.g.edges l.h c.requires.fact_1 c.loop-h-test.true c.heading.ensures.is in
     lay_turns l.invariant (λ k. refl) c.loop-h-test.true c.store.ensures e
 
 pub loop-h-init : goal.loop-h-init

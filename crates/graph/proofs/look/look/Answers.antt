@@ -13,14 +13,14 @@ use Rattle.graph.proofs.look.look.Goals as goal
 use Rattle.graph.proofs.look.look.Goals.{Start, then-candidate, else-candidate}
 
 -- the edges are carried
-carried : (s : Start) (k : ℕ) → k < s.args.e → Carried s.args.carriers.now k
-carried s = flat-carried s.args.points.now s.args.origins.now s.args.carriers.now s.args.n s.args.e s.requires.fact_1
+carried : (s : Start) (k : ℕ) → k < s.args.g.edges → Carried s.args.g.carriers.now k
+carried s = flat-carried s.args.g.points.now s.args.g.origins.now s.args.g.carriers.now s.args.g.vertices s.args.g.edges s.requires.fact_1
 
 pub candidate-requires : goal.candidate-requires
 candidate-requires c =
     let k = c.loop-k.k in
     let l = c.loop-k-test.true in
-    let ends = flat_ends c.args.points.now c.args.origins.now c.args.carriers.now c.args.n c.args.e c.requires.fact_1 k l in
+    let ends = flat_ends c.args.g.points.now c.args.g.origins.now c.args.g.carriers.now c.args.g.vertices c.args.g.edges c.requires.fact_1 k l in
     (omega (arith, c.requires.fact_2), ends.0, ends.1, carried (goal.at.candidate-requires c).Start k l, c.requires.fact_3, c.requires.fact_4)
 
 pub nearest-r-requires : goal.nearest-r-requires
@@ -41,11 +41,11 @@ overflow_cast-result c =
 
 pub returns-then-r-e : goal.returns-then-r-e
 returns-then-r-e c =
-    pick-lacks c.loop-k.invariant (search rules) c.if-r-e.true ∙ flat-best c.args.points.now c.args.origins.now c.args.carriers.now c.args.n c.args.e c.requires.fact_1 (pt_of c.args.p) c.requires.fact_3 (vec_of c.args.d)
+    pick-lacks c.loop-k.invariant (search rules) c.if-r-e.true ∙ flat-best c.args.g.points.now c.args.g.origins.now c.args.g.carriers.now c.args.g.vertices c.args.g.edges c.requires.fact_1 (pt_of c.args.p) c.requires.fact_3 (vec_of c.args.d)
 
 pub returns-else-r-e : goal.returns-else-r-e
 returns-else-r-e c =
-    pick_has c.loop-k.invariant (search rules) c.if-r-e.false ∙ flat-best c.args.points.now c.args.origins.now c.args.carriers.now c.args.n c.args.e c.requires.fact_1 (pt_of c.args.p) c.requires.fact_3 (vec_of c.args.d)
+    pick_has c.loop-k.invariant (search rules) c.if-r-e.false ∙ flat-best c.args.g.points.now c.args.g.origins.now c.args.g.carriers.now c.args.g.vertices c.args.g.edges c.requires.fact_1 (pt_of c.args.p) c.requires.fact_3 (vec_of c.args.d)
 
 pub loop-k-init : goal.loop-k-init
 loop-k-init c = pick_starts

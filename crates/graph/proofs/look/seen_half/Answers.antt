@@ -20,11 +20,11 @@ east-le ps os k = east_by k (the_up_at ps os (2 * k))
 
 pub east_side-requires : goal.east_side-requires
 east_side-requires c =
-    let ps = c.args.points.now in
-    let os = c.args.origins.now in
-    let cs = c.args.carriers.now in
-    let n = c.args.n in
-    let e = c.args.e in
+    let ps = c.args.g.points.now in
+    let os = c.args.g.origins.now in
+    let cs = c.args.g.carriers.now in
+    let n = c.args.g.vertices in
+    let e = c.args.g.edges in
     let p = pt_of c.args.p in
     let d = vec_of c.args.d in
     let k = c.in_ok-k.k in
@@ -35,11 +35,11 @@ east_side-requires c =
 
 pub overflow_cast-result : goal.overflow_cast-result
 overflow_cast-result c =
-    let ps = c.args.points.now in
-    let os = c.args.origins.now in
-    let cs = c.args.carriers.now in
-    let n = c.args.n in
-    let e = c.args.e in
+    let ps = c.args.g.points.now in
+    let os = c.args.g.origins.now in
+    let cs = c.args.g.carriers.now in
+    let n = c.args.g.vertices in
+    let e = c.args.g.edges in
     let p = pt_of c.args.p in
     let d = vec_of c.args.d in
     let k = c.in_ok-k.k in
@@ -48,20 +48,20 @@ overflow_cast-result c =
 
 pub returns-in_err-k : goal.returns-in_err-k
 returns-in_err-k c =
-    let ps = c.args.points.now in
-    let os = c.args.origins.now in
-    let cs = c.args.carriers.now in
-    let n = c.args.n in
-    let e = c.args.e in
+    let ps = c.args.g.points.now in
+    let os = c.args.g.origins.now in
+    let cs = c.args.g.carriers.now in
+    let n = c.args.g.vertices in
+    let e = c.args.g.edges in
     ap the_seen_of c.from_residual.ensures ∙ ap (Option·map (east_side (flat_graph ps os cs n e))) c.in_err-k.ensures ∙ flat-west ps os cs n e c.requires.fact_1 (pt_of c.args.p) c.requires.fact_3 (vec_of c.args.d)
 
 pub returns : goal.returns
 returns c =
-    let ps = c.args.points.now in
-    let os = c.args.origins.now in
-    let cs = c.args.carriers.now in
-    let n = c.args.n in
-    let e = c.args.e in
+    let ps = c.args.g.points.now in
+    let os = c.args.g.origins.now in
+    let cs = c.args.g.carriers.now in
+    let n = c.args.g.vertices in
+    let e = c.args.g.edges in
     let p = pt_of c.args.p in
     let d = vec_of c.args.d in
     let k = c.in_ok-k.k in
