@@ -13,7 +13,7 @@ ghost use Rattle.graph_faces.specs.Linked.{Linked};
 ghost use Rattle.graph_faces.specs.Walked.{top_of};
 
 use super::walks::{climb, leads, lows, tops, tops_by_leads};
-use graph::{follow_stars, headings_by, rise};
+use graph::{FlatGraph, follow_stars, headings_by, rise};
 use limits::HALVES;
 
 // The half-edge of greatest angle out of the smallest vertex of the walk of every half-edge, from the least half-edge of each walk and the half-edge of greatest angle out of each vertex. The edges of an overlay climb;
@@ -68,7 +68,14 @@ pub fn link_in(
 {
     let m = 2 * e;
     let rising = rise(points, n);
-    headings_by(points, origins, carriers, n, rising, e, ways);
+    let g = FlatGraph {
+        points,
+        origins,
+        carriers,
+        vertices: n,
+        edges: e,
+    };
+    headings_by(g, rising, ways);
     follow_stars(origins, ways, n, e, out, next);
     leads(next, m, lead);
     tops_of(points, origins, carriers, n, e, rising, lead, out, top);

@@ -8,7 +8,7 @@ ghost use Rattle.plane.specs.Values.{pt_of};
 ghost use Rattle.graph.specs.Flat.{origin_at, Starts, Flat};
 ghost use Rattle.map_check.specs.Labels.{earlier_at, smallest_at, makes_hole_at, seen_west, disagrees_at, Walked, Linked};
 
-use graph::{seen_label, start};
+use graph::{FlatGraph, seen_label, start};
 use plane::{Point, Vector, before};
 
 // Whether p comes before q. Of corners the whole numbers tell: "smaller y first, then smaller x".
@@ -90,16 +90,14 @@ fn seen_west(
     ensures { result ≡ seen_west points.now origins.now carriers.now labels.now n e h }
 {
     let p = start(points, origins, h);
-    seen_label(
+    let g = FlatGraph {
         points,
         origins,
         carriers,
-        labels,
-        n,
-        e,
-        p,
-        Vector { x: 0, y: 0 },
-    )
+        vertices: n,
+        edges: e,
+    };
+    seen_label(g, labels, p, Vector { x: 0, y: 0 })
 }
 
 // Whether labels disagree at half-edge h.

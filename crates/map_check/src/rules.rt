@@ -15,7 +15,7 @@ ghost use Rattle.map_check.specs.Held.{flat_map};
 
 use super::edges::{first_clash, first_clashing, first_lonely};
 use super::labels::first_disagreeing;
-use graph::{follow_stars, headings, is_small};
+use graph::{FlatGraph, follow_stars, headings, is_small};
 use limits::{
     MAP_HALVES, MAP_HEADING_CELLS, MAP_VERTICES, SMALL_HALVES, SMALL_HEADING_CELLS, SMALL_VERTICES,
 };
@@ -55,7 +55,14 @@ fn first_by_followers_in(
     requires fact_5 { (2 * (2 * e) ≤ length ways.old) × (n ≤ length heads.old) × (2 * e ≤ length next.old) }
     ensures { result ≡ least (disagrees (flat_map points.now origins.now carriers.now labels.now n e) (followers (flat_graph points.now origins.now carriers.now n e))) (2 * e) }
 {
-    headings(points, origins, carriers, n, e, ways);
+    let g = FlatGraph {
+        points,
+        origins,
+        carriers,
+        vertices: n,
+        edges: e,
+    };
+    headings(g, ways);
     follow_stars(origins, ways, n, e, heads, next);
     first_disagreeing(points, origins, carriers, labels, heads, next, n, e)
 }
