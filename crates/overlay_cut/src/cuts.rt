@@ -12,6 +12,7 @@ ghost use Rattle.overlay_cut.specs.Cuts.{start_of, Starts, cut_all};
 ghost use Rattle.overlay_cut.specs.Threads.{Spools, ThreadedIf};
 
 use crate::along::thread_all;
+use crate::chart::Chart;
 use crate::cutting::cut_all;
 use crate::laying::lay;
 use limits::{
@@ -20,10 +21,7 @@ use limits::{
 
 // Puts in the pieces of all edges: along t nodes if there are fewer than `limit`, or by tests.
 fn cut(
-    points: &[i64],
-    n: usize,
-    carriers: &[i16],
-    starts: &[usize],
+    chart: Chart,
     last: &[u16],
     nodes: &[u16],
     limit: usize,
@@ -32,24 +30,20 @@ fn cut(
     links: &mut [u16],
     room: usize,
 ) -> usize
-    requires fact_1 { Points points.now n × (n ≤ vertex_rows) × InRowOrder points.now n }
-    requires fact_2 { Starts starts.now carriers.now × Ended points.now n carriers.now (start_of starts.now maps) }
-    requires fact_3 { Spools (start_of starts.now maps) limit last.now nodes.now × ThreadedIf points.now carriers.now (start_of starts.now maps) last.now nodes.now limit t n }
-    requires fact_4 { Linked room rows.old links.old n 0 }
-    ensures { Linked room rows.new links.new n result × (pieced rows.new result ≡ puts room [] (cut_all points.now n carriers.now starts.now)) }
+    requires ended { Ended chart.points.now chart.n chart.carriers.now (start_of chart.starts.now maps) }
+    requires fact_1 { Spools (start_of chart.starts.now maps) limit last.now nodes.now × ThreadedIf chart.points.now chart.carriers.now (start_of chart.starts.now maps) last.now nodes.now limit t chart.n }
+    requires fact_2 { Linked room rows.old links.old chart.n 0 }
+    ensures { Linked room rows.new links.new chart.entry.n result × (pieced rows.new result ≡ puts room [] (cut_all chart.entry.points.now chart.entry.n chart.entry.carriers.now chart.entry.starts.now)) }
 {
     if t < limit {
-        return thread_all(starts, last, nodes, n, rows, links, room);
+        return thread_all(chart.starts, last, nodes, chart.n, rows, links, room);
     }
-    cut_all(points, n, carriers, starts, rows, links, room)
+    cut_all(chart, rows, links, room)
 }
 
 // The pieces of all edges, in order, by way of tables that nothing is put into yet.
 fn pieces_in(
-    points: &[i64],
-    n: usize,
-    carriers: &[i16],
-    starts: &[usize],
+    chart: Chart,
     last: &[u16],
     limit: usize,
     t: usize,
@@ -58,17 +52,14 @@ fn pieces_in(
     room: usize,
     out: &mut [u16],
 ) -> usize
-    requires fact_1 { Points points.now n × (n ≤ vertex_rows) × InRowOrder points.now n }
-    requires fact_2 { Starts starts.now carriers.now × Ended points.now n carriers.now (start_of starts.now maps) }
-    requires fact_3 { Spools (start_of starts.now maps) limit last.now out.old × ThreadedIf points.now carriers.now (start_of starts.now maps) last.now out.old limit t n }
-    requires fact_4 { Linked room rows.old links.old n 0 }
-    requires fact_5 { piece_width * room ≤ length out.old }
-    ensures { pieces_in out.new result ≡ puts room [] (cut_all points.now n carriers.now starts.now) }
+    requires ended { Ended chart.points.now chart.n chart.carriers.now (start_of chart.starts.now maps) }
+    requires fact_1 { Spools (start_of chart.starts.now maps) limit last.now out.old × ThreadedIf chart.points.now chart.carriers.now (start_of chart.starts.now maps) last.now out.old limit t chart.n }
+    requires fact_2 { Linked room rows.old links.old chart.n 0 }
+    requires fact_3 { piece_width * room ≤ length out.old }
+    ensures { pieces_in out.new result ≡ puts room [] (cut_all chart.entry.points.now chart.entry.n chart.entry.carriers.now chart.entry.starts.now) }
 {
-    let count = cut(
-        points, n, carriers, starts, last, out, limit, t, rows, links, room,
-    );
-    lay(rows, links, n, count, out)
+    let count = cut(chart, last, out, limit, t, rows, links, room);
+    lay(rows, links, chart.n, count, out)
 }
 
 // Whether small tables have room for the links of n lower ends and for so many pieces.
@@ -98,17 +89,19 @@ pub fn pieces(
     requires fact_5 { piece_width * room ≤ length out.old }
     ensures { pieces_in out.new result ≡ puts room [] (cut_all points.now n carriers.now starts.now) }
 {
+    let chart = Chart {
+        points,
+        n,
+        carriers,
+        starts,
+    };
     if few(n, room) {
         let mut rows = [0u16; SMALL_PIECE_CELLS];
         let mut links = [0u16; SMALL_VERTICES + SMALL_EDGE_ROWS];
-        pieces_in(
-            points, n, carriers, starts, last, limit, t, &mut rows, &mut links, room, out,
-        )
+        pieces_in(chart, last, limit, t, &mut rows, &mut links, room, out)
     } else {
         let mut rows = [0u16; PIECE_CELLS];
         let mut links = [0u16; VERTEX_ROWS + EDGE_ROWS];
-        pieces_in(
-            points, n, carriers, starts, last, limit, t, &mut rows, &mut links, room, out,
-        )
+        pieces_in(chart, last, limit, t, &mut rows, &mut links, room, out)
     }
 }

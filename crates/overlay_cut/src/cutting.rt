@@ -13,6 +13,7 @@ ghost use Rattle.overlay_cut.specs.Between.{InRowOrder, EndsIn, Ended};
 ghost use Rattle.overlay_cut.specs.Cuts.{start_of, Starts, cut_edge, cut_map, cut_all};
 
 use crate::between::{on_line, place};
+use crate::chart::Chart;
 use crate::put::put;
 use graph::{carrier_at, point_at};
 use limits::MAPS;
@@ -55,8 +56,7 @@ pub fn link(
 
 // Puts in the pieces of the edge s, which is edge `number` of map m: its ends stand in the table, and of the rows from one to the other those on its line are on it.
 fn cut_edge(
-    points: &[i64],
-    n: usize,
+    chart: Chart,
     s: Seg,
     m: usize,
     number: u16,
@@ -65,20 +65,19 @@ fn cut_edge(
     count: usize,
     room: usize,
 ) -> usize
-    requires fact_1 { Linked room rows.old links.old n count }
-    requires fact_2 { Points points.now n × (n ≤ vertex_rows) × InRowOrder points.now n }
-    requires fact_3 { Edge (seg_of s) × EndsIn points.now n (seg_of s) }
-    requires fact_4 { m < maps }
-    requires fact_5 { number < absent }
-    ensures { Linked room rows.new links.new n result × (pieced rows.new result ≡ puts room (pieced rows.old count) (cut_edge points.now n (seg_of s) m number)) }
+    requires fact_1 { Linked room rows.old links.old chart.n count }
+    requires fact_2 { Edge (seg_of s) × EndsIn chart.points.now chart.n (seg_of s) }
+    requires fact_3 { m < maps }
+    requires fact_4 { number < absent }
+    ensures { Linked room rows.new links.new chart.entry.n result × (pieced rows.new result ≡ puts room (pieced rows.old count) (cut_edge chart.entry.points.now chart.entry.n (seg_of s) m number)) }
 {
-    let first = place(points, n, s.foot());
-    let top = place(points, n, s.head());
+    let first = place(chart.points, chart.n, s.foot());
+    let top = place(chart.points, chart.n, s.head());
     let mut total = count;
-    let mut next = n;
+    let mut next = chart.n;
     for v in (first..top + 1).rev() {
-        if on_line(s, point_at(points, v)) {
-            total = link(rows, links, total, room, v, next, n, m, number);
+        if on_line(s, point_at(chart.points, v)) {
+            total = link(rows, links, total, room, v, next, chart.n, m, number);
             next = v;
         }
     }
@@ -87,9 +86,7 @@ fn cut_edge(
 
 // Puts in the pieces of the e edges of map m, whose carriers stand from row `from` on.
 fn cut_map(
-    points: &[i64],
-    n: usize,
-    carriers: &[i16],
+    chart: Chart,
     from: usize,
     e: usize,
     m: usize,
@@ -98,41 +95,31 @@ fn cut_map(
     count: usize,
     room: usize,
 ) -> usize
-    requires fact_1 { Linked room rows.old links.old n count }
-    requires fact_2 { Points points.now n × (n ≤ vertex_rows) × InRowOrder points.now n }
-    requires fact_3 { Carriers carriers.now (from + e) × Ended points.now n carriers.now (from + e) }
-    requires fact_4 { m < maps }
-    requires fact_5 { e < absent }
-    ensures { Linked room rows.new links.new n result × (pieced rows.new result ≡ puts room (pieced rows.old count) (cut_map points.now n carriers.now from m e)) }
+    requires fact_1 { Linked room rows.old links.old chart.n count }
+    requires fact_2 { Carriers chart.carriers.now (from + e) × Ended chart.points.now chart.n chart.carriers.now (from + e) }
+    requires fact_3 { m < maps }
+    requires fact_4 { e < absent }
+    ensures { Linked room rows.new links.new chart.entry.n result × (pieced rows.new result ≡ puts room (pieced rows.old count) (cut_map chart.entry.points.now chart.entry.n chart.entry.carriers.now from m e)) }
 {
     let mut total = count;
     for k in (0..e).rev() {
-        let s = carrier_at(carriers, from + k);
-        total = cut_edge(points, n, s, m, k as u16, rows, links, total, room);
+        let s = carrier_at(chart.carriers, from + k);
+        total = cut_edge(chart, s, m, k as u16, rows, links, total, room);
     }
     total
 }
 
 // Puts in the pieces of all edges.
-pub fn cut_all(
-    points: &[i64],
-    n: usize,
-    carriers: &[i16],
-    starts: &[usize],
-    rows: &mut [u16],
-    links: &mut [u16],
-    room: usize,
-) -> usize
-    requires fact_1 { Points points.now n × (n ≤ vertex_rows) × InRowOrder points.now n }
-    requires fact_2 { Starts starts.now carriers.now × Ended points.now n carriers.now (start_of starts.now maps) }
-    requires fact_3 { Linked room rows.old links.old n 0 }
-    ensures { Linked room rows.new links.new n result × (pieced rows.new result ≡ puts room [] (cut_all points.now n carriers.now starts.now)) }
+pub fn cut_all(chart: Chart, rows: &mut [u16], links: &mut [u16], room: usize) -> usize
+    requires ended { Ended chart.points.now chart.n chart.carriers.now (start_of chart.starts.now maps) }
+    requires linked { Linked room rows.old links.old chart.n 0 }
+    ensures { Linked room rows.new links.new chart.entry.n result × (pieced rows.new result ≡ puts room [] (cut_all chart.entry.points.now chart.entry.n chart.entry.carriers.now chart.entry.starts.now)) }
 {
     let mut total = 0;
     for m in (0..MAPS).rev() {
-        let from = starts[m];
-        let e = starts[m + 1] - from;
-        total = cut_map(points, n, carriers, from, e, m, rows, links, total, room);
+        let from = chart.starts[m];
+        let e = chart.starts[m + 1] - from;
+        total = cut_map(chart, from, e, m, rows, links, total, room);
     }
     total
 }

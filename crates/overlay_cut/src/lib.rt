@@ -6,6 +6,7 @@ mod ordering; // points put in order, by halves
 mod between; // which vertices may be on an edge
 mod put; // a piece put into a table
 mod laying; // the table laid in order
+mod chart; // the vertices and the edges
 mod cutting; // the edges cut into pieces, by tests
 mod threads; // the vertices on each edge, remembered
 mod along; // the edges cut into pieces, along threads

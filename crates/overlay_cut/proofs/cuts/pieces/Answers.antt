@@ -15,14 +15,13 @@ pieces_in-requires c =
     let a = c.args in
     let small = and_parts _ _ (sym c.few.ensures ∙ c.if-few.true) in
     record {
-      fact_1 = p.fact_1;
-      fact_2 = p.fact_2;
-      fact_3 = p.fact_3;
-      fact_4 = linked-clear (small_edges + 1) small_vertices p.fact_1.1 p.fact_4 (leb-true a.n small_vertices small.0) (leb-true a.room (small_edges + 1) small.1);
-      fact_5 = p.fact_5;
+      ended = p.fact_2.1;
+      fact_1 = p.fact_3;
+      fact_2 = linked-clear (small_edges + 1) small_vertices p.fact_1.1 p.fact_4 (leb-true a.n small_vertices small.0) (leb-true a.room (small_edges + 1) small.1);
+      fact_3 = p.fact_5;
     }
 
 pub pieces_in-requires-else-few : goal.pieces_in-requires-else-few
 pieces_in-requires-else-few c =
     let p = c.requires in
-    record { fact_1 = p.fact_1; fact_2 = p.fact_2; fact_3 = p.fact_3; fact_4 = linked-clear edge_rows vertex_rows p.fact_1.1 p.fact_4 p.fact_1.1 p.fact_4; fact_5 = p.fact_5 }
+    record { ended = p.fact_2.1; fact_1 = p.fact_3; fact_2 = linked-clear edge_rows vertex_rows p.fact_1.1 p.fact_4 p.fact_1.1 p.fact_4; fact_3 = p.fact_5 }

@@ -10,21 +10,20 @@ use Rattle.overlay_cut.proofs.cutting.cut_all.Goals as goal
 use Rattle.overlay_cut.proofs.cutting.cut_all.Goals.{After-cut_map-total, At-loop-m, Start}
 
 pub loop-m-init : goal.loop-m-init
-loop-m-init c = (search rules, refl, refl, c.requires.fact_3, cut_starts _ _ _ 0 _)
+loop-m-init c = (search rules, refl, refl, c.requires.linked, cut_starts _ _ _ 0 _)
 
 pub overflow_sub-e : goal.overflow_sub-e
 overflow_sub-e c =
-    omega (arith, c.requires.fact_2.0.rises (c.loop-m.m - 1) (omega arith))
+    omega (arith, c.args.chart.starting.rises (c.loop-m.m - 1) (omega arith))
 
 pub cut_map-total-requires : goal.cut_map-total-requires
 cut_map-total-requires c =
     let l = c.loop-m in
     record {
       fact_1 = l.invariant.3;
-      fact_2 = c.requires.fact_1;
-      fact_3 = (part-carried c.requires.fact_2.0 (l.m - 1) (omega arith), ended-part c.requires.fact_2.1 _ (part_within c.requires.fact_2.0 (l.m - 1) (omega arith)));
-      fact_4 = omega arith;
-      fact_5 = c.requires.fact_2.0.few (l.m - 1) (omega arith);
+      fact_2 = (part-carried c.args.chart.starting (l.m - 1) (omega arith), ended-part c.requires.ended _ (part_within c.args.chart.starting (l.m - 1) (omega arith)));
+      fact_3 = omega arith;
+      fact_4 = c.args.chart.starting.few (l.m - 1) (omega arith);
     }
 
 pub loop-m-preserved : goal.loop-m-preserved

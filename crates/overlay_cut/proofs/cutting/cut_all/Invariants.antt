@@ -11,5 +11,5 @@ use Rattle.overlay_cut.proofs.cutting.cut_all.Given as goal
 
 abbrev pub invariant-loop-m : goal.invariant-loop-m
 invariant-loop-m l =
-    (l.m ≤ maps) × (length l.rows ≡ length l.initial.rows) × (length l.links ≡ length l.initial.links) × Linked l.room l.rows l.links l.n l.total
-    × Cutting l.room (cut_part l.points l.n l.carriers l.starts) (puts l.room [] (cut_all l.points l.n l.carriers l.starts)) l.rows l.total l.m
+    (l.m ≤ maps) × (length l.rows ≡ length l.initial.rows) × (length l.links ≡ length l.initial.links) × Linked l.room l.rows l.links l.chart.n l.total
+    × Cutting l.room (cut_part l.chart.points.now l.chart.n l.chart.carriers.now l.chart.starts.now) (puts l.room [] (cut_all l.chart.points.now l.chart.n l.chart.carriers.now l.chart.starts.now)) l.rows l.total l.m

@@ -15,5 +15,5 @@ use Rattle.overlay_cut.proofs.cutting.cut_edge.Given as goal
 
 abbrev pub invariant-loop-v : goal.invariant-loop-v
 invariant-loop-v l =
-    (length l.rows ≡ length l.initial.rows) × (length l.links ≡ length l.initial.links) × (l.v ≤ l.top + 1) × Span l.points l.n (seg_of l.s) l.first l.top × Linked l.room l.rows l.links l.n l.total
-    × Linking l.room l.n (λ v. on_seg (seg_of l.s) (the_point_at l.points v)) (only maps l.m l.number) (puts l.room (pieced l.initial.rows l.count) (cut_edge l.points l.n (seg_of l.s) l.m l.number)) l.rows l.total l.v l.next
+    (length l.rows ≡ length l.initial.rows) × (length l.links ≡ length l.initial.links) × (l.v ≤ l.top + 1) × Span l.chart.points.now l.chart.n (seg_of l.s) l.first l.top × Linked l.room l.rows l.links l.chart.n l.total
+    × Linking l.room l.chart.n (λ v. on_seg (seg_of l.s) (the_point_at l.chart.points.now v)) (only maps l.m l.number) (puts l.room (pieced l.initial.rows l.count) (cut_edge l.chart.points.now l.chart.n (seg_of l.s) l.m l.number)) l.rows l.total l.v l.next

@@ -17,16 +17,15 @@ loop-k-init c =
 
 pub carrier_at-s-requires : goal.carrier_at-s-requires
 carrier_at-s-requires c =
-    record { row = omega (arith, c.requires.fact_3.0.long); near = c.requires.fact_3.0.near (c.args.from + (c.loop-k.k - 1)) (omega arith) }
+    record { row = omega (arith, c.requires.fact_2.0.long); near = c.requires.fact_2.0.near (c.args.from + (c.loop-k.k - 1)) (omega arith) }
 
 pub cut_edge-total-requires : goal.cut_edge-total-requires
 cut_edge-total-requires c =
     record {
       fact_1 = c.loop-k.invariant.3;
-      fact_2 = c.requires.fact_2;
-      fact_3 = (c.carrier_at-s.ensures.near, subst (EndsIn c.args.points.now c.args.n) (sym c.carrier_at-s.ensures.is) (c.requires.fact_3.1.ends (c.args.from + (c.loop-k.k - 1)) (omega arith)));
-      fact_4 = c.requires.fact_4;
-      fact_5 = omega arith;
+      fact_2 = (c.carrier_at-s.ensures.near, subst (EndsIn c.args.chart.points.now c.args.chart.n) (sym c.carrier_at-s.ensures.is) (c.requires.fact_2.1.ends (c.args.from + (c.loop-k.k - 1)) (omega arith)));
+      fact_3 = c.requires.fact_3;
+      fact_4 = omega arith;
     }
 
 pub loop-k-preserved : goal.loop-k-preserved
@@ -38,8 +37,8 @@ loop-k-preserved c =
       r.auto.rows ∙ l.invariant.1,
       r.auto.links ∙ l.invariant.2,
       r.ensures.0,
-      cut_turns _ (cut_row s.points.now s.n s.carriers.now s.from s.m) l.invariant.4 r.new.rows r.result (search rules)
-          (r.ensures.1 ∙ ap (λ (q : Seg). puts s.room (pieced l.rows l.total) (cut_edge s.points.now s.n q s.m (l.k - 1))) c.carrier_at-s.ensures.is),
+      cut_turns _ (cut_row s.chart.points.now s.chart.n s.chart.carriers.now s.from s.m) l.invariant.4 r.new.rows r.result (search rules)
+          (r.ensures.1 ∙ ap (λ (q : Seg). puts s.room (pieced l.rows l.total) (cut_edge s.chart.points.now s.chart.n q s.m (l.k - 1))) c.carrier_at-s.ensures.is),
     )
 
 pub returns : goal.returns

@@ -9,5 +9,5 @@ use Rattle.overlay_cut.proofs.cutting.cut_map.Given as goal
 
 abbrev pub invariant-loop-k : goal.invariant-loop-k
 invariant-loop-k l =
-    (l.k ≤ l.e) × (length l.rows ≡ length l.initial.rows) × (length l.links ≡ length l.initial.links) × Linked l.room l.rows l.links l.n l.total
-    × Cutting l.room (cut_row l.points l.n l.carriers l.from l.m) (puts l.room (pieced l.initial.rows l.count) (cut_map l.points l.n l.carriers l.from l.m l.e)) l.rows l.total l.k
+    (l.k ≤ l.e) × (length l.rows ≡ length l.initial.rows) × (length l.links ≡ length l.initial.links) × Linked l.room l.rows l.links l.chart.n l.total
+    × Cutting l.room (cut_row l.chart.points.now l.chart.n l.chart.carriers.now l.from l.m) (puts l.room (pieced l.initial.rows l.count) (cut_map l.chart.points.now l.chart.n l.chart.carriers.now l.from l.m l.e)) l.rows l.total l.k
