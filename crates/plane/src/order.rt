@@ -1,15 +1,15 @@
 // "Order: smaller y first, then smaller x".
 ghost use Rattle.std.specs.Prelude.{◌≡◌, ◌-ℤ◌, ◌*ℤ◌};
 ghost use Rattle.exact.specs.Compare.{sign_of};
-ghost use Rattle.exact.specs.Exact.{sgn, is_neg, is_zer};
+ghost use Rattle.exact.specs.Exact.{sgn};
 ghost use Rattle.paper.specs.Plane.{order, before, same, below};
 ghost use Rattle.plane.specs.Values.{pt_of};
-ghost use Rattle.plane.specs.Bounds.{Near, Coordinate, small, middling, short_way, level};
+ghost use Rattle.plane.specs.Bounds.{Near, Coordinate, small, middling, short_way};
 
 use super::point::Point;
 use std::cmp::Ordering;
 
-// Whether n/d is small.
+// Whether n/d is small. This and the next are a line each, and the numbers are all that differs: one function of both would take them as parameters, and be no plainer.
 fn small(n: i64, d: i64) -> bool
     ensures { result ≡ small n d }
 {
@@ -43,52 +43,16 @@ fn crosswise(n: i64, d: i64, m: i64, e: i64) -> Ordering
     }
 }
 
-// The same; where d is e, as of two corners, it is the order of n and m.
-fn fractions(n: i64, d: i64, m: i64, e: i64) -> Ordering
-    requires { Coordinate n d × Coordinate m e }
-    ensures { sign_of result ≡ sgn (n *ℤ e -ℤ m *ℤ d) }
-{
-    if d == e {
-        n.cmp(&m)
-    } else {
-        crosswise(n, d, m, e)
-    }
-}
-
-// Whether n/d is less than m/e, by the same two ways. Looks ask this most of all, of a corner as the second.
-fn lesser(n: i64, d: i64, m: i64, e: i64) -> bool
-    requires { Coordinate n d × Coordinate m e }
-    ensures { result ≡ is_neg (sgn (n *ℤ e -ℤ m *ℤ d)) }
-{
-    if short_way(n, d, m, e) {
-        n * e < m * d
-    } else {
-        exact::products(n, e, m, d).is_lt()
-    }
-}
-
-// Which of p and q comes first; equal where they are one point.
+// Which of p and q comes first; equal where they are one point. Of one denominator, as corners have, it is the order of their numbers.
 pub fn order(p: Point, q: Point) -> Ordering
     requires { Near (pt_of p) × Near (pt_of q) }
     ensures { sign_of result ≡ order (pt_of p) (pt_of q) }
 {
-    fractions(p.y, p.d, q.y, q.d).then_with(|| fractions(p.x, p.d, q.x, q.d))
-}
-
-// Whether p comes first, of two points with one denominator, as corners have: by their numbers.
-fn level_before(p: Point, q: Point) -> bool
-    requires { Near (pt_of p) × Near (pt_of q) }
-    ensures { result ≡ is_neg (level (pt_of p) (pt_of q)) }
-{
-    if p.y == q.y { p.x < q.x } else { p.y < q.y }
-}
-
-// Whether these are one point.
-fn level_same(p: Point, q: Point) -> bool
-    requires { Near (pt_of p) × Near (pt_of q) }
-    ensures { result ≡ is_zer (level (pt_of p) (pt_of q)) }
-{
-    p.y == q.y && p.x == q.x
+    if p.d == q.d {
+        p.y.cmp(&q.y).then(p.x.cmp(&q.x))
+    } else {
+        crosswise(p.y, p.d, q.y, q.d).then_with(|| crosswise(p.x, p.d, q.x, q.d))
+    }
 }
 
 // Whether p comes first.
@@ -96,11 +60,7 @@ pub fn before(p: Point, q: Point) -> bool
     requires { Near (pt_of p) × Near (pt_of q) }
     ensures { result ≡ before (pt_of p) (pt_of q) }
 {
-    if p.d == q.d {
-        level_before(p, q)
-    } else {
-        order(p, q).is_lt()
-    }
+    order(p, q).is_lt()
 }
 
 // Whether p and q are one point.
@@ -108,11 +68,7 @@ pub fn same(p: Point, q: Point) -> bool
     requires { Near (pt_of p) × Near (pt_of q) }
     ensures { result ≡ same (pt_of p) (pt_of q) }
 {
-    if p.d == q.d {
-        level_same(p, q)
-    } else {
-        order(p, q).is_eq()
-    }
+    order(p, q).is_eq()
 }
 
 // Whether p has the smaller y.
@@ -120,5 +76,5 @@ pub fn below(p: Point, q: Point) -> bool
     requires { Near (pt_of p) × Near (pt_of q) }
     ensures { result ≡ below (pt_of p) (pt_of q) }
 {
-    lesser(p.y, p.d, q.y, q.d)
+    crosswise(p.y, p.d, q.y, q.d).is_lt()
 }

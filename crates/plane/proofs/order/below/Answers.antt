@@ -1,11 +1,12 @@
 -- `plane::order::below` meets its contract. Assumes nothing.
 use mathlib.Core.Path.{◌∙◌, ap}
+use Rattle.exact.specs.Compare.{lt_neg}
 use Rattle.exact.specs.Sign.{sgn, is_neg}
 use Rattle.plane.proofs.Fractions.{ys, by_y}
 use Rattle.plane.proofs.order.below.Goals as goal
 
-pub lesser-requires : goal.lesser-requires
-lesser-requires c =
+pub crosswise-requires : goal.crosswise-requires
+crosswise-requires c =
     let p = c.args.p in
     let q = c.args.q in
     ys p.x p.y p.d q.x q.y q.d c.requires.0 c.requires.1
@@ -14,4 +15,4 @@ pub returns : goal.returns
 returns c =
     let p = c.args.p in
     let q = c.args.q in
-    c.lesser.ensures ∙ ap is_neg (ap sgn (by_y p.x p.y p.d q.x q.y q.d c.requires.0 c.requires.1))
+    c.is_lt.ensures ∙ lt_neg c.crosswise.result ∙ ap is_neg (c.crosswise.ensures ∙ ap sgn (by_y p.x p.y p.d q.x q.y q.d c.requires.0 c.requires.1))
