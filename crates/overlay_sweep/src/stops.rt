@@ -8,7 +8,7 @@ ghost use Rattle.overlay_sweep.specs.Loop.{Given, Begun, SweptTo};
 use crate::corners::corners_in;
 use crate::sheet::Sheet;
 use crate::slots::by_lower_end;
-use crate::turn::turn;
+use crate::turn::{Line, turn};
 use graph::point_at;
 use limits::{MAP_EDGES, MAPS, POINT_CELLS, POINT_WIDTH, VERTEX_ROWS};
 use seq::store;
@@ -49,45 +49,37 @@ fn all_turns(
     requires fact_2 { Unthreaded sheet.e room last.old nodes.old }
     ensures { SweptTo sheet.entry.carriers.now sheet.entry.e sheet.entry.starts.now rows.now k room out.new result.stops last.new nodes.new result.nodes }
 {
-    let mut c = 0;
-    let mut w = 0;
-    let mut n = known;
+    let mut line = Line {
+        cut: 0,
+        started: 0,
+        known,
+        nodes: 0,
+    };
     let mut i = 0;
-    let mut t = 0;
-    while 0 < n {
-        if VERTEX_ROWS <= n + i {
+    while 0 < line.known {
+        if VERTEX_ROWS <= line.known + i {
             return Swept {
                 stops: VERTEX_ROWS,
                 nodes: room,
             };
         }
-        let p = point_at(points, n - 1);
-        let g = guess_at(points, n - 1);
+        let left = line.known - 1;
+        let p = point_at(points, left);
+        let g = guess_at(points, left);
         store(out, i, [p.x, p.y, p.d, 0]);
-        let l = turn(
-            sheet,
-            waits,
-            status,
-            fan,
-            points,
-            p,
-            g,
-            c,
-            w,
-            n - 1,
-            last,
-            nodes,
-            room,
-            t,
-            i as u16,
+        let l = Line {
+            known: left,
+            ..line
+        };
+        line = turn(
+            sheet, waits, status, fan, points, p, g, l, last, nodes, room, i as u16,
         );
-        c = l.cut;
-        w = l.started;
-        n = l.known;
-        t = l.nodes;
         i += 1;
     }
-    Swept { stops: i, nodes: t }
+    Swept {
+        stops: i,
+        nodes: line.nodes,
+    }
 }
 
 // The corners and the crossings in point order, each once, and the vertices on each edge as threads, while there are fewer than `room` nodes. The corners stand in the first k of

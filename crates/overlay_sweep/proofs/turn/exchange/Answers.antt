@@ -1,4 +1,5 @@
 -- `overlay_sweep::turn::exchange` meets its contract. Assumes nothing.
+use mathlib.Core.Path.{refl}
 use native.Mathlib.Omega.{arith}
 use Rattle.plane.specs.Values.{pt_of}
 use Rattle.graph.specs.Flat.{Numbers}
@@ -64,8 +65,8 @@ module _ (c : After-splice-cut) where
       let m = c.requires.fact_4 in
       let g = c.going_on-g in
       let x = c.splice-cut in
-      cut_at a.sheet.carriers.now a.sheet.starts.now (pt_of a.p) a.status.now a.c a.at.from a.at.to m.west m.through
-      a.waits.now a.sheet.e a.w a.at.started m.starts _ _ g.result g.ensures.0 c.starting.ensures x.new.t x.ensures.is c.requires.fact_1 g.ensures.1 x.auto.t x.result x.ensures.count
+      cut_at a.sheet.carriers.now a.sheet.starts.now (pt_of a.p) a.status.now a.line.cut a.at.from a.at.to m.west m.through
+      a.waits.now a.sheet.e a.line.started a.at.started m.starts _ _ g.result g.ensures.0 c.starting.ensures x.new.t x.ensures.is c.requires.fact_1 g.ensures.1 x.auto.t x.result x.ensures.count
 
 pub overflow_add-a : goal.overflow_add-a
 overflow_add-a c =
@@ -91,6 +92,9 @@ returns c =
     let m = c.requires.fact_4 in
     let g = c.going_on-g in
     let x = c.splice-cut in
-    turn_at a.sheet.carriers.now a.sheet.starts.now (pt_of a.p) a.status.now a.c a.at.from a.at.to m.west m.through
-    a.waits.now a.sheet.e a.w a.at.started m.starts _ _ g.result g.ensures.0 c.starting.ensures x.new.t x.ensures.is c.requires.fact_1 g.ensures.1 x.auto.t x.result x.ensures.count
-    c.joined-east.ensures c.joined-known.ensures
+    record {
+      turned = turn_at a.sheet.carriers.now a.sheet.starts.now (pt_of a.p) a.status.now a.line.cut a.at.from a.at.to m.west m.through
+          a.waits.now a.sheet.e a.line.started a.at.started m.starts _ _ g.result g.ensures.0 c.starting.ensures x.new.t x.ensures.is c.requires.fact_1 g.ensures.1 x.auto.t x.result x.ensures.count
+          c.joined-east.ensures c.joined-known.ensures;
+      same = (refl, refl);
+    }

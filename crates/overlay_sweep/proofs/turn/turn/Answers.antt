@@ -1,4 +1,8 @@
 -- `overlay_sweep::turn::turn` meets its contract. Assumes nothing.
+use mathlib.Core.Path.{sym, subst}
+use Rattle.seq.specs.Seq.{ℕ}
+use Rattle.plane.specs.Values.{pt_of}
+use Rattle.overlay_sweep.specs.Threading.{Threading}
 use Rattle.overlay_sweep.specs.Turned.{numbers-fewer}
 use Rattle.overlay_sweep.proofs.turn.turn.Goals as goal
 use Rattle.overlay_sweep.proofs.turn.turn.Goals.{After-edges_through-at, After-exchange-x, After-thread-u, Start}
@@ -21,9 +25,12 @@ exchange-x-requires c =
 
 pub returns : goal.returns
 returns c =
+    let a = c.args in
     let at = c.edges_through-at in
     let t = c.thread-u in
+    let x = c.exchange-x.ensures in
     record {
-      turned = c.exchange-x.ensures;
-      threads = record { from = at.result.from; to = at.result.to; meets = at.ensures; remembered = t.ensures.0; within = t.ensures.1 };
+      turned = x.turned;
+      threads = subst (λ (s : ℕ). Threading a.sheet.carriers.now a.sheet.e a.room a.v a.waits.now a.status.now (pt_of a.p) a.line.cut a.line.started s a.last.now a.nodes.now a.line.nodes t.new.last t.new.nodes t.result) (sym x.same.0)
+          (record { from = at.result.from; to = at.result.to; meets = at.ensures; remembered = t.ensures.0; within = t.ensures.1 });
     }
