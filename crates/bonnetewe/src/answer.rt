@@ -48,8 +48,8 @@ pub fn of_checked(answer: Checked) -> u64
     ensures { result ≡ told_map (checked_answer answer) }
 {
     match answer {
-        Checked::Good(c) => join(0, c.vertices, c.edges, 0),
-        Checked::Bad(r) => join(r.number, r.map, r.place, r.other),
+        Ok(c) => join(0, c.vertices, c.edges, 0),
+        Err(r) => join(r.number, r.map, r.place, r.other),
     }
 }
 

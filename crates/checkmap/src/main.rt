@@ -3,7 +3,6 @@
 
 ghost use Rattle.io.specs.Counts.{IsPrefixLen};
 
-use map_check::Checked;
 use std::io::{Print, Result};
 use std::rt::{Env, Files};
 
@@ -35,11 +34,11 @@ fn put(rt: &impl Print, text: &[u8], x: u16) -> Result<()> {
 fn report(rt: &impl Print, file: &[u8]) -> Result<()> {
     let r = map_check::check(file);
     match r {
-        Checked::Good(c) => {
+        Ok(c) => {
             put(rt, b"ok ", c.vertices)?;
             put(rt, b" ", c.edges)?;
         }
-        Checked::Bad(f) => {
+        Err(f) => {
             put(rt, b"refused ", f.number)?;
             put(rt, b" map ", f.map)?;
             put(rt, b" place ", f.place)?;

@@ -5,5 +5,5 @@ mod cells; // a corner as a number, and the cell of an edge
 mod sort; // cells sorted, with nothing promised
 mod turn; // cells laid, sorted and tested
 
-pub use cells::{CELLS, cells_from, edge_in, foot};
+pub use cells::{CELLS, cells_from, edge_in};
 pub use turn::in_turn;

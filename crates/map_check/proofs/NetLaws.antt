@@ -92,6 +92,13 @@ module _ (ps : List ℤ) (os : List ℕ) (cs : List ℤ) (n e : ℕ) where
     pub net_none : first_of (eight ∷ nine ∷ []) ≡ none → first_of (net_faults m) ≡ ten
     net_none e = first_none (eight ∷ nine ∷ []) (ten ∷ []) e ∙ first_one ten
 
-  -- rules 8 and 9 as the code has them
-  pub eight-nine : {c x y : Option Refusal} → c ≡ first_of (x ∷ y ∷ []) → x ≡ eight → y ≡ nine → first_of (eight ∷ nine ∷ []) ≡ c
-  eight-nine e p q = sym (e ∙ (λ i. first_of (p i ∷ q i ∷ [])))
+    -- rule 8 gives the refusal, or rule 9 after it
+    pub eight-some : {r : Refusal} → some r ≡ clash_fault_at cs e → some r ≡ first_of (net_faults m)
+    eight-some p = sym (net_some (ap (λ (x : Option Refusal). first_of (x ∷ nine ∷ [])) (sym (gives-eight p))))
+
+    pub nine-some : {r : Refusal} {v : ℕ} → none ≡ clash_fault_at cs e → some r ≡ given 9 v (ltb v n) → v ≡ least (lonely_at os (2 * e)) n → some r ≡ first_of (net_faults m)
+    nine-some p q f = sym (net_some (λ i. first_of (sym (gives-eight p) i ∷ sym (gives-nine q f) i ∷ [])))
+
+  -- neither does
+  pub neither : {v : ℕ} → none ≡ clash_fault_at cs e → none ≡ given 9 v (ltb v n) → v ≡ least (lonely_at os (2 * e)) n → first_of (eight ∷ nine ∷ []) ≡ none
+  neither p q f = λ i. first_of (sym (gives-eight p) i ∷ sym (gives-nine q f) i ∷ [])

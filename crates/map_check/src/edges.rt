@@ -32,6 +32,7 @@ fn clashes(carriers: &[i16], e: usize, k: usize, j: usize) -> bool
 {
     let s = carrier_at(carriers, k);
     let t = carrier_at(carriers, j);
+    // One test after the other: joined by ||, the proof does not close, as it asks which of them held.
     if lies_under(s, t) {
         return false;
     }
@@ -87,12 +88,7 @@ fn first_holding(cells: &[u16], m: usize, v: usize) -> usize
     requires { m ≤ length cells.now }
     ensures { result ≡ least (starts_at cells.now v) m }
 {
-    for i in 0..m {
-        if cells[i] as usize == v {
-            return i;
-        }
-    }
-    m
+    (0..m).position(|i| cells[i] as usize == v).unwrap_or(m)
 }
 
 // 9 "a vertex has no edge": the least such vertex of n, or n, with a table lent. It is the least whose first outgoing half-edge, of m, is m: there is none.

@@ -2,35 +2,18 @@
 ghost use Rattle.std.specs.Prelude.{◌≡◌, ◌*◌, ◌≤◌, ◌<◌, length};
 ghost use Rattle.seq.specs.Seq.{least};
 ghost use Rattle.paper.specs.Limits.{absent};
-ghost use Rattle.paper.specs.Plane.{before};
-ghost use Rattle.plane.specs.Bounds.{Near};
-ghost use Rattle.plane.specs.Values.{pt_of};
 ghost use Rattle.graph.specs.Flat.{origin_at, Starts, Flat};
 ghost use Rattle.map_check.specs.Labels.{earlier_at, smallest_at, makes_hole_at, seen_west, disagrees_at, Walked, Linked};
 
 use graph::{FlatGraph, seen_label, start};
-use plane::{Point, Vector, before};
-
-// Whether p comes before q. Of corners the whole numbers tell: "smaller y first, then smaller x".
-fn comes_before(p: Point, q: Point) -> bool
-    requires { Near (pt_of p) × Near (pt_of q) }
-    ensures { result ≡ before (pt_of p) (pt_of q) }
-{
-    if p.d != 1 {
-        return before(p, q);
-    }
-    if q.d != 1 {
-        return before(p, q);
-    }
-    if p.y == q.y { p.x < q.x } else { p.y < q.y }
-}
+use plane::{Vector, before};
 
 // Whether half-edge x starts at a smaller vertex than h.
 fn earlier(points: &[i64], origins: &[u16], h: usize, x: usize) -> bool
     requires { Starts points.now origins.now h × Starts points.now origins.now x }
     ensures { result ≡ earlier_at points.now origins.now h x }
 {
-    comes_before(start(points, origins, x), start(points, origins, h))
+    before(start(points, origins, x), start(points, origins, h))
 }
 
 // Whether no half-edge of the walk of h starts at a smaller vertex.
@@ -39,8 +22,7 @@ fn is_smallest(points: &[i64], origins: &[u16], next: &[u16], m: usize, h: usize
     ensures { result ≡ smallest_at points.now origins.now next.now m h }
 {
     let mut x = next[h] as usize;
-    let mut left = m;
-    while 0 < left {
+    for _step in 0..m {
         if x == h {
             return true;
         }
@@ -48,7 +30,6 @@ fn is_smallest(points: &[i64], origins: &[u16], next: &[u16], m: usize, h: usize
             return false;
         }
         x = next[x] as usize;
-        left -= 1;
     }
     true
 }
@@ -67,10 +48,7 @@ fn makes_hole(
     ensures { result ≡ makes_hole_at points.now origins.now heads.now next.now m h }
 {
     let v = origins[h] as usize;
-    if heads[v] != h as u16 {
-        return false;
-    }
-    is_smallest(points, origins, next, m, h)
+    heads[v] == h as u16 && is_smallest(points, origins, next, m, h)
 }
 
 // The label of the half-edge seen strictly west of where h starts, or 0 where the outside is seen.
@@ -117,14 +95,9 @@ fn disagrees(
 {
     let f = next[h] as usize;
     let label = labels[h];
-    if label != labels[f] {
-        return true;
-    }
-    if makes_hole(points, origins, heads, next, 2 * e, h) {
-        label != seen_west(points, origins, carriers, labels, n, e, h)
-    } else {
-        false
-    }
+    label != labels[f]
+        || (makes_hole(points, origins, heads, next, 2 * e, h)
+            && label != seen_west(points, origins, carriers, labels, n, e, h))
 }
 
 // The least half-edge at which labels disagree, or the number of half-edges.
@@ -142,10 +115,7 @@ pub fn first_disagreeing(
     ensures { result ≡ least (disagrees_at points.now origins.now carriers.now labels.now heads.now next.now n e) (2 * e) }
 {
     let m = 2 * e;
-    for h in 0..m {
-        if disagrees(points, origins, carriers, labels, heads, next, n, e, h) {
-            return h;
-        }
-    }
-    m
+    (0..m)
+        .position(|h| disagrees(points, origins, carriers, labels, heads, next, n, e, h))
+        .unwrap_or(m)
 }

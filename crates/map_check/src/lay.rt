@@ -3,7 +3,7 @@
 ghost use Rattle.std.specs.Prelude.{◌≡◌, ◌*◌, ◌≤◌, length};
 ghost use Rattle.std.proofs.Math.Option.{none};
 ghost use Rattle.seq.specs.Seq.{laid};
-ghost use Rattle.paper.specs.Refusal.{first_of, answer};
+ghost use Rattle.paper.specs.Refusal.{first_of};
 ghost use Rattle.paper.specs.Map.{map_of, vertex_count, edges_in, form_faults, fault, check};
 ghost use Rattle.map_file.specs.Header.{header_of};
 ghost use Rattle.map_file.specs.Rows.{carrier_row};
@@ -33,27 +33,9 @@ fn read_fault(
 {
     let n = h.vertices as usize;
     let e = h.edges as usize;
-    let c = part_fault(points, origins, n, e);
-    match c {
-        Err(_) => c,
-        Ok(()) => {
-            lay_carriers(points, origins, n, e, carriers);
-            net_fault(points, origins, carriers, labels, n, e)
-        }
-    }
-}
-
-// What is answered: the counts in the header, or the refusal that was found.
-fn answered(h: Header, c: Check) -> Checked
-    ensures { answer_of result ≡ answer (h.vertices, h.edges) (verdict c) }
-{
-    match c {
-        Err(r) => Checked::Bad(r),
-        Ok(()) => Checked::Good(Counts {
-            vertices: h.vertices,
-            edges: h.edges,
-        }),
-    }
+    part_fault(points, origins, n, e)?;
+    lay_carriers(points, origins, n, e, carriers);
+    net_fault(points, origins, carriers, labels, n, e)
 }
 
 // The check of a file of any bytes, and where it passes its map in the tables, over what stood there.
@@ -68,13 +50,11 @@ pub fn lay_map(
     ensures { (answer_of result ≡ check file.now) × (fault file.now ≡ none → MapLaid file.now corners.old origins.old carriers.old labels.old corners.new origins.new carriers.new labels.new) }
 {
     let h = read_header(file);
-    let c = form_fault(file, h);
-    match c {
-        Err(_) => answered(h, c),
-        Ok(()) => {
-            read_map(file, h, corners, origins, labels);
-            let d = read_fault(file, h, corners, origins, carriers, labels);
-            answered(h, d)
-        }
-    }
+    form_fault(file, h)?;
+    read_map(file, h, corners, origins, labels);
+    read_fault(file, h, corners, origins, carriers, labels)?;
+    Ok(Counts {
+        vertices: h.vertices,
+        edges: h.edges,
+    })
 }

@@ -12,9 +12,8 @@ ghost use Rattle.map_check.specs.Net.{clashing_at};
 ghost use Rattle.map_check.specs.Pass.{ClearAbove};
 ghost use Rattle.map_check.specs.Near.{west_of, east_of, from_west, beside_of, carrier_in, Boxes, Picked};
 
-use super::pairs::{clear, head};
+use super::pairs::clear;
 use super::pass::{carrier_in, end_of};
-use keys::foot;
 use limits::{MAP_EDGES, REACH};
 use plane::Vector;
 
@@ -29,51 +28,46 @@ fn from_west(a: Vector) -> u16
     (a.x + WEST) as u16
 }
 
-// How far from the west of the reach the edge in cell i starts.
-fn west_in(carriers: &[i16], cells: &[usize], e: usize, i: usize) -> u16
+// From where to where an edge reaches, from the west of the reach.
+#[derive(Clone, Copy)]
+struct Span {
+    west: u16,
+    east: u16,
+}
+
+// From where to where the edge in cell i reaches.
+fn span_in(carriers: &[i16], cells: &[usize], e: usize, i: usize) -> Span
     requires { Carriers carriers.now e × InTurn carriers.now cells.now e × (i < e) }
-    ensures { result ≡ from_west (west_of (carrier_in carriers.now cells.now i)) }
+    ensures west { result.west ≡ from_west (west_of (carrier_in carriers.now cells.now i)) }
+    ensures east { result.east ≡ from_west (east_of (carrier_in carriers.now cells.now i)) }
 {
     let s = carrier_in(carriers, cells, e, i);
+    let foot = from_west(s.foot());
+    let head = from_west(s.head());
     if s.u < 0 {
-        from_west(head(s))
+        Span {
+            west: head,
+            east: foot,
+        }
     } else {
-        from_west(foot(s))
+        Span {
+            west: foot,
+            east: head,
+        }
     }
 }
 
-// How far from it the edge ends.
-fn east_in(carriers: &[i16], cells: &[usize], e: usize, i: usize) -> u16
-    requires { Carriers carriers.now e × InTurn carriers.now cells.now e × (i < e) }
-    ensures { result ≡ from_west (east_of (carrier_in carriers.now cells.now i)) }
-{
-    let s = carrier_in(carriers, cells, e, i);
-    if s.u < 0 {
-        from_west(foot(s))
-    } else {
-        from_west(head(s))
-    }
-}
-
-// Where every edge starts in the west, by its cell.
-fn lay_wests(carriers: &[i16], cells: &[usize], e: usize, wests: &mut [u16])
+// Where every edge starts in the west, and where it ends in the east, by its cell.
+fn lay_spans(carriers: &[i16], cells: &[usize], e: usize, wests: &mut [u16], easts: &mut [u16])
     requires fact_1 { Carriers carriers.now e × InTurn carriers.now cells.now e }
-    requires fact_2 { e ≤ length wests.old }
-    ensures { wests.new ≡ filled e (λ i. from_west (west_of (carrier_in carriers.now cells.now i))) wests.old }
+    requires fact_2 { (e ≤ length wests.old) × (e ≤ length easts.old) }
+    ensures wests { wests.new ≡ filled e (λ i. from_west (west_of (carrier_in carriers.now cells.now i))) wests.old }
+    ensures easts { easts.new ≡ filled e (λ i. from_west (east_of (carrier_in carriers.now cells.now i))) easts.old }
 {
     for i in 0..e {
-        wests[i] = west_in(carriers, cells, e, i);
-    }
-}
-
-// Where it ends in the east.
-fn lay_easts(carriers: &[i16], cells: &[usize], e: usize, easts: &mut [u16])
-    requires fact_1 { Carriers carriers.now e × InTurn carriers.now cells.now e }
-    requires fact_2 { e ≤ length easts.old }
-    ensures { easts.new ≡ filled e (λ i. from_west (east_of (carrier_in carriers.now cells.now i))) easts.old }
-{
-    for i in 0..e {
-        easts[i] = east_in(carriers, cells, e, i);
+        let span = span_in(carriers, cells, e, i);
+        wests[i] = span.west;
+        easts[i] = span.east;
     }
 }
 
@@ -82,13 +76,7 @@ fn over(w: u16, e: u16, v: u16, f: u16) -> usize
     ensures is { result ≡ cond (beside_of w e v f) 0 1 }
     ensures few { result ≤ 1 }
 {
-    if e < v {
-        0
-    } else if f < w {
-        0
-    } else {
-        1
-    }
+    usize::from(v <= e && w <= f)
 }
 
 // Lists the cells after cell i whose edges may clash with that in cell i, up to the first that starts where it ends, or after, and counts them. Each cell is put at the end of the list, which
@@ -185,9 +173,8 @@ pub fn each_clear(carriers: &[i16], cells: &[usize], e: usize) -> bool
     ensures { result ≡ true → least (clashing_at carriers.now e) e ≡ e }
 {
     let mut wests = [0u16; MAP_EDGES as usize];
-    lay_wests(carriers, cells, e, &mut wests);
     let mut easts = [0u16; MAP_EDGES as usize];
-    lay_easts(carriers, cells, e, &mut easts);
+    lay_spans(carriers, cells, e, &mut wests, &mut easts);
     let mut near = [0u16; MAP_EDGES as usize];
     all_above(carriers, cells, e, &wests, &easts, &mut near)
 }

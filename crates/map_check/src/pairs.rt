@@ -7,43 +7,20 @@ ghost use Rattle.plane.specs.Values.{vec_of, seg_of};
 ghost use Rattle.plane.specs.Bounds.{Corner, Edge};
 ghost use Rattle.map_check.specs.Pairs.{CommonEnd};
 
-use keys::foot;
 use plane::{Seg, Vector, boxes_apart, cross_of, left_by, whole};
-
-// The upper end of s.
-pub fn head(s: Seg) -> Vector
-    requires { Edge (seg_of s) }
-    ensures is { vec_of result ≡ head (seg_of s) }
-    ensures near { Corner (vec_of result) }
-{
-    Vector {
-        x: s.x + s.u,
-        y: s.y + s.v,
-    }
-}
 
 // Whether a and b are one corner.
 fn one_corner(a: Vector, b: Vector) -> bool
-    requires { Corner (vec_of a) × Corner (vec_of b) }
     ensures { result ≡ true → vec_of a ≡ vec_of b }
 {
-    if a.y != b.y {
-        return false;
-    }
-    a.x == b.x
+    a == b
 }
 
 // Whether a and b are both positive or both negative.
 fn one_side(a: i64, b: i64) -> bool
     ensures { result ≡ the_one_side a b }
 {
-    if 0 < a {
-        0 < b
-    } else if a < 0 {
-        b < 0
-    } else {
-        false
-    }
+    (0 < a && 0 < b) || (a < 0 && b < 0)
 }
 
 // Whether both ends of t lie strictly on one side of s.
@@ -51,8 +28,8 @@ fn lies_aside(s: Seg, t: Seg) -> bool
     requires { Edge (seg_of s) × Edge (seg_of t) }
     ensures { result ≡ the_one_side (the_left_by (seg_of s) (whole (seg_of t).foot)) (the_left_by (seg_of s) (whole (head (seg_of t)))) }
 {
-    let a = left_by(s, whole(foot(t)));
-    let b = left_by(s, whole(head(t)));
+    let a = left_by(s, whole(t.foot()));
+    let b = left_by(s, whole(t.head()));
     one_side(a, b)
 }
 
@@ -61,10 +38,7 @@ fn share_end(s: Seg, t: Seg) -> bool
     requires { Edge (seg_of s) × Edge (seg_of t) }
     ensures { result ≡ true → CommonEnd (seg_of s) (seg_of t) }
 {
-    if one_corner(foot(s), foot(t)) {
-        return true;
-    }
-    one_corner(head(s), head(t))
+    one_corner(s.foot(), t.foot()) || one_corner(s.head(), t.head())
 }
 
 // Whether s and t go different ways from a common lower end, or to a common upper end.
@@ -72,13 +46,7 @@ fn fork(s: Seg, t: Seg) -> bool
     requires { Edge (seg_of s) × Edge (seg_of t) × UpV (seg_of s).up × UpV (seg_of t).up }
     ensures { result ≡ true → clash (seg_of s) (seg_of t) ≡ false }
 {
-    if !share_end(s, t) {
-        return false;
-    }
-    if cross_of(s.u, s.v, t.u, t.v) == 0 {
-        return false;
-    }
-    true
+    share_end(s, t) && cross_of(s.u, s.v, t.u, t.v) != 0
 }
 
 // Whether s and t have an end in common and nothing else: one ends where the other starts, or they fork.
@@ -86,10 +54,11 @@ fn join(s: Seg, t: Seg) -> bool
     requires { Edge (seg_of s) × Edge (seg_of t) × UpV (seg_of s).up × UpV (seg_of t).up }
     ensures { result ≡ true → clash (seg_of s) (seg_of t) ≡ false }
 {
-    if one_corner(head(s), foot(t)) {
+    // One test after the other, here and below: joined by ||, the proof does not close, as it asks which of them held.
+    if one_corner(s.head(), t.foot()) {
         return true;
     }
-    if one_corner(head(t), foot(s)) {
+    if one_corner(t.head(), s.foot()) {
         return true;
     }
     fork(s, t)

@@ -33,10 +33,7 @@ fn too_far(points: &[i64], v: usize) -> bool
     ensures { result ≡ far_at points.now v }
 {
     let a = corner(points, v);
-    if REACH < a.x.unsigned_abs() {
-        return true;
-    }
-    REACH < a.y.unsigned_abs()
+    REACH < a.x.unsigned_abs() || REACH < a.y.unsigned_abs()
 }
 
 // The least vertex too far out, or the number of vertices.
@@ -44,12 +41,7 @@ pub fn first_too_far(points: &[i64], n: usize) -> usize
     requires { 4 * n ≤ length points.now }
     ensures { result ≡ least (far_at points.now) n }
 {
-    for v in 0..n {
-        if too_far(points, v) {
-            return v;
-        }
-    }
-    n
+    (0..n).position(|v| too_far(points, v)).unwrap_or(n)
 }
 
 // Vertex v lies on vertex u.
@@ -57,12 +49,7 @@ fn lies_on(points: &[i64], v: usize, u: usize) -> bool
     requires { (4 * v + 4 ≤ length points.now) × (4 * u + 4 ≤ length points.now) }
     ensures { result ≡ lies_on points.now v u }
 {
-    let a = corner(points, v);
-    let b = corner(points, u);
-    if a.y != b.y {
-        return false;
-    }
-    a.x == b.x
+    corner(points, v) == corner(points, u)
 }
 
 // The least vertex below v that v lies on, or v.
@@ -70,12 +57,7 @@ fn first_under(points: &[i64], v: usize) -> usize
     requires { 4 * v + 4 ≤ length points.now }
     ensures { result ≡ least (lies_on points.now v) v }
 {
-    for u in 0..v {
-        if lies_on(points, v, u) {
-            return u;
-        }
-    }
-    v
+    (0..v).position(|u| lies_on(points, v, u)).unwrap_or(v)
 }
 
 // 6 "a vertex lies on one of lower number": the least such, or the number of vertices.
@@ -99,13 +81,7 @@ fn bad_ends(origins: &[u16], n: usize, k: usize) -> bool
 {
     let a = origins[2 * k] as usize;
     let b = origins[2 * k + 1] as usize;
-    if n <= a {
-        return true;
-    }
-    if n <= b {
-        return true;
-    }
-    a == b
+    n <= a || n <= b || a == b
 }
 
 // The least edge with bad ends, or the number of edges.
@@ -113,12 +89,7 @@ fn first_bad_ends(origins: &[u16], n: usize, e: usize) -> usize
     requires { 2 * e ≤ length origins.now }
     ensures { result ≡ least (bad_ends_at origins.now n) e }
 {
-    for k in 0..e {
-        if bad_ends(origins, n, k) {
-            return k;
-        }
-    }
-    e
+    (0..e).position(|k| bad_ends(origins, n, k)).unwrap_or(e)
 }
 
 // The first of rules 5 to 7 that a map of n vertices and e edges breaks.
@@ -130,10 +101,10 @@ pub fn part_fault(points: &[i64], origins: &[u16], n: usize, e: usize) -> Check
     ensures { verdict result ≡ first_of (part_faults_at points.now origins.now n e) }
 {
     let far = first_too_far(points, n);
-    let twice = first_doubled(points, n);
-    let ends = first_bad_ends(origins, n, e);
     given(5, far as u16, far < n)?;
+    let twice = first_doubled(points, n);
     given(6, twice as u16, twice < n)?;
+    let ends = first_bad_ends(origins, n, e);
     given(7, ends as u16, ends < e)
 }
 

@@ -1,6 +1,5 @@
 // What is printed: `STEP NUMBER` and words for people, the check's line, a refusal.
 use console::{say, say_number};
-use map_check::Checked;
 use map_file::Refusal;
 use ovfile::u16_at;
 use std::io::{Print, Result};
@@ -42,13 +41,13 @@ pub fn say_refused(rt: &impl Print, r: Refusal) -> Result<()> {
 pub fn say_check(rt: &impl Print, file: &[u8]) -> Result<()> {
     let r = map_check::check(file);
     match r {
-        Checked::Good(c) => {
+        Ok(c) => {
             say(rt, b"ok ")?;
             say_number(rt, c.vertices as u64)?;
             say(rt, b" ")?;
             say_number(rt, c.edges as u64)?;
             say(rt, b"\n")
         }
-        Checked::Bad(f) => console::say_refused(rt, f.number, f.map, f.place),
+        Err(f) => console::say_refused(rt, f.number, f.map, f.place),
     }
 }

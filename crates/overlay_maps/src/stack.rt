@@ -31,13 +31,13 @@ fn of_map(map: u16, c: Checked) -> Check
     ensures { verdict result ≡ the_of_map map (refused_in (answer_of c)) }
 {
     match c {
-        Checked::Bad(r) => Err(Refusal {
+        Err(r) => Err(Refusal {
             number: r.number,
             map,
             place: r.place,
             other: r.other,
         }),
-        Checked::Good(_) => Ok(()),
+        Ok(_) => Ok(()),
     }
 }
 

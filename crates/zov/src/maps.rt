@@ -1,6 +1,5 @@
 // Map files, checked.
 use console::{load_arg, say, say_number};
-use map_check::Checked;
 use map_file::Refusal;
 use std::io::{Print, Result};
 use std::rt::{Env, Files};
@@ -61,11 +60,11 @@ fn check_arg(rt: &(impl Files + Env + Print), i: usize) -> Result<bool> {
     let n = load_arg(rt, i, &mut file);
     let r = map_check::check(&file[..n]);
     match r {
-        Checked::Good(c) => {
+        Ok(c) => {
             say_good(rt, c.vertices, c.edges)?;
             Ok(true)
         }
-        Checked::Bad(f) => {
+        Err(f) => {
             say_bad(rt, f, &file[..n])?;
             console::say_missing(rt, i)?;
             Ok(false)

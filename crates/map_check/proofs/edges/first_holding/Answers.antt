@@ -1,23 +1,16 @@
--- `map_check::edges::first_holding` meets its contract: nothing below the counter has been found. Assumes nothing.
-use borrow.Author.Tests.{eq-eqb, ne_eqb}
-use native.Mathlib.Omega.{arith}
-use Rattle.seq.specs.Loops.Searching.{search_starts}
-use Rattle.seq.proofs.Loops.Searching.{search_turns, search_finds, search_ends}
+-- `map_check::edges::first_holding` meets its contract. Assumes nothing.
+use Rattle.std.specs.Prelude.{refl}
+use Rattle.std.proofs.Common.{◌∙◌, arith, rules}
+use Rattle.std.proofs.lemmas.Iterator.{YieldsList-from_range}
+use Rattle.std.proofs.lemmas.Iterator.Search.{position_from_yields_List}
+use borrow.Author.Tests.{tests}
+use Rattle.seq.proofs.Ranges.{position-least}
+use Rattle.map_check.specs.Net.{starts_at}
 use Rattle.map_check.proofs.edges.first_holding.Goals as goal
 
-pub overflow_cast-cells : goal.overflow_cast-cells
-overflow_cast-cells c = omega (arith, c.shared_slice_known-1.given c.loop-i.i)
-
-pub returns-then-cells-i : goal.returns-then-cells-i
-returns-then-cells-i c =
-    search_finds c.loop-i.invariant (omega arith) (eq-eqb _ _ c.if-cells-i.true)
-
-pub loop-i-preserved : goal.loop-i-preserved
-loop-i-preserved c =
-    search_turns c.loop-i.invariant (omega arith) (ne_eqb _ _ c.if-cells-i.false)
-
-pub loop-i-init : goal.loop-i-init
-loop-i-init c = search_starts
-
 pub returns : goal.returns
-returns c = search_ends c.loop-i.invariant (omega arith)
+returns c =
+    let n = c.args.m in
+    let p = starts_at c.args.cells.now c.args.v in
+    c.unwrap_or.ensures
+    ∙ position-least p n c.position.result (position_from_yields_List p _ _ _ c.position.ensures.ran (YieldsList-from_range 0 n n refl (omega arith)) (λ x b q k. search (rules, tests)))

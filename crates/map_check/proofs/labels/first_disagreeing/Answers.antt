@@ -1,20 +1,17 @@
--- `map_check::labels::first_disagreeing` meets its contract: nothing below the counter has been found. Assumes nothing.
-use mathlib.Core.Path.{sym, ◌∙◌}
-use native.Mathlib.Omega.{arith}
-use Rattle.seq.specs.Loops.Searching.{search_starts}
-use Rattle.seq.proofs.Loops.Searching.{search_turns, search_finds, search_ends}
+-- `map_check::labels::first_disagreeing` meets its contract. Assumes nothing.
+use Rattle.std.specs.Prelude.{refl}
+use Rattle.std.proofs.Common.{◌∙◌, arith, rules}
+use Rattle.std.proofs.lemmas.Iterator.{YieldsList-from_range}
+use Rattle.std.proofs.lemmas.Iterator.Search.{position_from_yields_List}
+use borrow.Author.Tests.{tests}
+use Rattle.seq.proofs.Ranges.{position-least}
+use Rattle.std.specs.Prelude.{◌*◌}
+use Rattle.map_check.specs.Labels.{disagrees_at}
 use Rattle.map_check.proofs.labels.first_disagreeing.Goals as goal
 
-pub returns-then-disagrees : goal.returns-then-disagrees
-returns-then-disagrees c =
-    search_finds c.loop-h.invariant (omega arith) (sym c.disagrees.ensures ∙ c.if-disagrees.true)
-
-pub loop-h-preserved : goal.loop-h-preserved
-loop-h-preserved c =
-    search_turns c.loop-h.invariant (omega arith) (sym c.disagrees.ensures ∙ c.if-disagrees.false)
-
-pub loop-h-init : goal.loop-h-init
-loop-h-init c = search_starts
-
 pub returns : goal.returns
-returns c = search_ends c.loop-h.invariant (omega arith)
+returns c =
+    let n = 2 * c.args.e in
+    let p = disagrees_at c.args.points.now c.args.origins.now c.args.carriers.now c.args.labels.now c.args.heads.now c.args.next.now c.args.n c.args.e in
+    c.unwrap_or.ensures
+    ∙ position-least p n c.position.result (position_from_yields_List p _ _ _ c.position.ensures.ran (YieldsList-from_range 0 n n refl (omega arith)) (λ x b q k. search (rules, tests)))

@@ -1,10 +1,8 @@
 -- `map_check::labels::is_smallest` meets its contract: what is left of the walk has none exactly if the walk has none. Assumes nothing.
+use Rattle.std.specs.Prelude.{◌-◌}
 use Rattle.map_check.specs.Labels.{earlier_at}
 use Rattle.map_check.specs.Laws.Walking.{Walking}
 use Rattle.map_check.proofs.labels.is_smallest.Given as goal
 
-abbrev pub invariant-loop-left : goal.invariant-loop-left
-invariant-loop-left l = Walking (earlier_at l.points l.origins l.h) l.next l.h l.m l.x l.left
-
-abbrev pub decreases-loop-left : goal.decreases-loop-left
-decreases-loop-left l = l.left
+abbrev pub invariant-loop-step : goal.invariant-loop-step
+invariant-loop-step l = Walking (earlier_at l.points l.origins l.h) l.next l.h l.m l.x (l.m - l._step)

@@ -13,12 +13,6 @@ use Rattle.map_check.proofs.pairs.join.Goals as goal
 meets : (s t : Seg) → UpV s.up → UpV t.up → head t ≡ s.foot → clash s t ≡ false
 meets s t us ut e = end_to_end s t us ut (ap (λ (v : Vec). before (whole s.foot) (whole v)) e ∙ before_irr (whole s.foot))
 
-pub one_corner-requires : goal.one_corner-requires
-one_corner-requires c = (c.head.ensures.near, c.foot.ensures.near)
-
-pub one_corner-requires-2 : goal.one_corner-requires-2
-one_corner-requires-2 c = (c.head-2.ensures.near, c.foot-2.ensures.near)
-
 pub returns-then-one_corner : goal.returns-then-one_corner
 returns-then-one_corner c =
     let s = seg_of c.args.s in

@@ -1,20 +1,16 @@
--- `map_check::parts::first_bad_ends` meets its contract: nothing below the counter has been found. Assumes nothing.
-use mathlib.Core.Path.{sym, ◌∙◌}
-use native.Mathlib.Omega.{arith}
-use Rattle.seq.specs.Loops.Searching.{search_starts}
-use Rattle.seq.proofs.Loops.Searching.{search_turns, search_finds, search_ends}
+-- `map_check::parts::first_bad_ends` meets its contract. Assumes nothing.
+use Rattle.std.specs.Prelude.{refl}
+use Rattle.std.proofs.Common.{◌∙◌, arith, rules}
+use Rattle.std.proofs.lemmas.Iterator.{YieldsList-from_range}
+use Rattle.std.proofs.lemmas.Iterator.Search.{position_from_yields_List}
+use borrow.Author.Tests.{tests}
+use Rattle.seq.proofs.Ranges.{position-least}
+use Rattle.map_check.specs.Parts.{bad_ends_at}
 use Rattle.map_check.proofs.parts.first_bad_ends.Goals as goal
 
-pub returns-then-bad_ends : goal.returns-then-bad_ends
-returns-then-bad_ends c =
-    search_finds c.loop-k.invariant (omega arith) (sym c.bad_ends.ensures ∙ c.if-bad_ends.true)
-
-pub loop-k-preserved : goal.loop-k-preserved
-loop-k-preserved c =
-    search_turns c.loop-k.invariant (omega arith) (sym c.bad_ends.ensures ∙ c.if-bad_ends.false)
-
-pub loop-k-init : goal.loop-k-init
-loop-k-init c = search_starts
-
 pub returns : goal.returns
-returns c = search_ends c.loop-k.invariant (omega arith)
+returns c =
+    let n = c.args.e in
+    let p = bad_ends_at c.args.origins.now c.args.n in
+    c.unwrap_or.ensures
+    ∙ position-least p n c.position.result (position_from_yields_List p _ _ _ c.position.ensures.ran (YieldsList-from_range 0 n n refl (omega arith)) (λ x b q k. search (rules, tests)))

@@ -1,20 +1,16 @@
--- `map_check::parts::first_under` meets its contract: nothing below the counter has been found. Assumes nothing.
-use mathlib.Core.Path.{sym, ◌∙◌}
-use native.Mathlib.Omega.{arith}
-use Rattle.seq.specs.Loops.Searching.{search_starts}
-use Rattle.seq.proofs.Loops.Searching.{search_turns, search_finds, search_ends}
+-- `map_check::parts::first_under` meets its contract. Assumes nothing.
+use Rattle.std.specs.Prelude.{refl}
+use Rattle.std.proofs.Common.{◌∙◌, arith, rules}
+use Rattle.std.proofs.lemmas.Iterator.{YieldsList-from_range}
+use Rattle.std.proofs.lemmas.Iterator.Search.{position_from_yields_List}
+use borrow.Author.Tests.{tests}
+use Rattle.seq.proofs.Ranges.{position-least}
+use Rattle.map_check.specs.Parts.{lies_on}
 use Rattle.map_check.proofs.parts.first_under.Goals as goal
 
-pub returns-then-lies_on : goal.returns-then-lies_on
-returns-then-lies_on c =
-    search_finds c.loop-u.invariant (omega arith) (sym c.lies_on.ensures ∙ c.if-lies_on.true)
-
-pub loop-u-preserved : goal.loop-u-preserved
-loop-u-preserved c =
-    search_turns c.loop-u.invariant (omega arith) (sym c.lies_on.ensures ∙ c.if-lies_on.false)
-
-pub loop-u-init : goal.loop-u-init
-loop-u-init c = search_starts
-
 pub returns : goal.returns
-returns c = search_ends c.loop-u.invariant (omega arith)
+returns c =
+    let n = c.args.v in
+    let p = lies_on c.args.points.now c.args.v in
+    c.unwrap_or.ensures
+    ∙ position-least p n c.position.result (position_from_yields_List p _ _ _ c.position.ensures.ran (YieldsList-from_range 0 n n refl (omega arith)) (λ x b q k. search (rules, tests)))

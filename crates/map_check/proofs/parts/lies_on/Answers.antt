@@ -1,27 +1,25 @@
 -- `map_check::parts::lies_on` meets its contract: two corners are one point where both coordinates are equal. Assumes nothing.
-use mathlib.Core.Path.{◌∙◌}
-use mir.Syntax.{w64}
-use Rattle.exact.specs.Mach.{trn_sfits, eq_no, eq_yes, eqb_is}
-use Rattle.paper.specs.Plane.{whole, same}
+use mathlib.Core.Path.{◌≡◌, ◌∙◌, ap, subst}
+use Rattle.std.specs.Prelude.{T, true, ◌&&◌}
+use Rattle.std.specs.Ordering.{int_eq}
+use Rattle.std.specs.Cmp.{signed_Decides}
+use Rattle.exact.specs.Tests.{bool_iff, T_true, true_T, and_parts, and_both}
+use Rattle.paper.specs.Plane.{Vec, vec, whole, same}
+use Rattle.laws_plane.specs.Points.{same_self}
+use Rattle.laws_plane.specs.Ends.{corner_same}
 use Rattle.plane.specs.Values.{vec_of}
-use Rattle.map_check.proofs.PartsLaws.{other_y, by_x}
 use Rattle.map_check.proofs.parts.lies_on.Goals as goal
 
-pub returns-then-a-b : goal.returns-then-a-b
-returns-then-a-b c =
-    let a = c.corner-a.result in
-    let b = c.corner-b.result in
-    let p = c.struct_told-1.given in
-    let q = c.struct_told-2-1.given in
-    other_y (vec_of a) (vec_of b) (eq_no w64 c.if-a-b.true (trn_sfits {x = a.y} (record { sfits = p.1.0.1 })) (trn_sfits {x = b.y} (record { sfits = q.1.0.1 })) tt)
-    ∙ (λ i. same (whole (c.corner-a.ensures i)) (whole (c.corner-b.ensures i)))
+module _ (a b : Vec) where
+  alike : (int_eq a.x b.x && int_eq a.y b.y) ≡ same (whole a) (whole b)
+  alike =
+      bool_iff (int_eq a.x b.x && int_eq a.y b.y) (same (whole a) (whole b))
+      (λ t. let p = and_parts (int_eq a.x b.x) (int_eq a.y b.y) (T_true _ t) in one ((signed_Decides a.x b.x).0 p.0) ((signed_Decides a.y b.y).0 p.1))
+      (λ t. let e = corner_same a b (T_true _ t) in true_T (and_both ((signed_Decides a.x b.x).1 (ap (λ (v : Vec). v.x) e)) ((signed_Decides a.y b.y).1 (ap (λ (v : Vec). v.y) e))))
+    where
+      one : a.x ≡ b.x → a.y ≡ b.y → T (same (whole a) (whole b))
+      one p q = true_T (subst (λ (v : Vec). same (whole a) (whole v) ≡ true) (λ i. vec (p i) (q i)) (same_self (whole a)))
 
 pub returns : goal.returns
 returns c =
-    let a = c.corner-a.result in
-    let b = c.corner-b.result in
-    let p = c.struct_told-1.given in
-    let q = c.struct_told-2-1.given in
-    eqb_is w64 (trn_sfits {x = a.x} (record { sfits = p.0.1 })) (trn_sfits {x = b.x} (record { sfits = q.0.1 })) tt
-    ∙ by_x (vec_of a) (vec_of b) (eq_yes w64 c.if-a-b.false (trn_sfits {x = a.y} (record { sfits = p.1.0.1 })) (trn_sfits {x = b.y} (record { sfits = q.1.0.1 })) tt)
-    ∙ (λ i. same (whole (c.corner-a.ensures i)) (whole (c.corner-b.ensures i)))
+    c.eq.ensures ∙ alike (vec_of c.corner.result) (vec_of c.corner-2.result) ∙ (λ i. same (whole (c.corner.ensures i)) (whole (c.corner-2.ensures i)))
