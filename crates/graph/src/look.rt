@@ -61,7 +61,7 @@ pub fn candidate(
     at_height(points, origins, k, p) && westward(carrier_at(carriers, k), p, d)
 }
 
-// With r the nearest candidate so far, `none` where there is none yet: k too.
+// With r the nearest candidate so far, `none` where there is none yet: k too. `none` is the number of edges, as in the laws of a search (Picking of seq), where an Option would be read back into it.
 pub fn nearest(carriers: &[i16], none: usize, k: usize, r: usize, p: Point) -> usize
     requires { Carried carriers.now k × (r < none → Carried carriers.now r) × (r ≤ none) × Near (pt_of p) }
     ensures { result ≡ better (nearer_at carriers.now (pt_of p)) none k r }

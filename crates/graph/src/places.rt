@@ -5,7 +5,7 @@ ghost use Rattle.paper.specs.Limits.{absent};
 ghost use Rattle.graph.specs.Flat.{Numbers};
 ghost use Rattle.graph.specs.Places.{first_place};
 
-// Stores one value in the first n cells.
+// Stores one value in the first n cells: std's `fill`, in the words of specs/.
 pub fn fill(out: &mut [u16], n: usize, value: u16)
     requires { n ≤ length out.old }
     ensures { out.new ≡ filled n (λ i. value) out.old }

@@ -21,7 +21,8 @@ pub fn rise(points: &[i64], n: usize) -> bool
     true
 }
 
-// Whether half-edge h starts at a vertex that comes before that of k: by their numbers, where the points rise.
+// Whether half-edge h starts at a vertex that comes before that of k: by their numbers, where the points rise. `rising` is what `rise` told of the points, once for all half-edges, and no
+// choice of the caller's: of a closure in its place each contract would have to say what it was told.
 pub fn starts_first(
     points: &[i64],
     origins: &[u16],
