@@ -13,8 +13,17 @@ use Rattle.laws_file.specs.Bytes.{Bytes, wrapped, number_below}
 
 -- ── how many numbers there are ──
 
-pub powers_fit : (i w : ℕ) → i < w → w < 8 → 256 * 256 ^ i < 2 ^ 64
-powers_fit i w l h = omega (arith, pow-le-pow_right {n = 256} (omega arith) {i = i} {j = 6} (omega arith))
+-- a one shifted by as many bytes
+pub shifted_is : (w : ℕ) → w < 8 → 1 * 2 ^ (8 * w) % 18446744073709551616 ≡ 256 ^ w
+shifted_is zero h = refl
+shifted_is (suc zero) h = refl
+shifted_is (suc (suc zero)) h = refl
+shifted_is (suc (suc (suc zero))) h = refl
+shifted_is (suc (suc (suc (suc zero)))) h = refl
+shifted_is (suc (suc (suc (suc (suc zero))))) h = refl
+shifted_is (suc (suc (suc (suc (suc (suc zero)))))) h = refl
+shifted_is (suc (suc (suc (suc (suc (suc (suc zero))))))) h = refl
+shifted_is (suc (suc (suc (suc (suc (suc (suc (suc w)))))))) h = absurd (omega arith)
 
 pub powers_small : (w : ℕ) → w < 8 → 256 ^ w ≤ 256 ^ 7
 powers_small w h = pow-le-pow_right {n = 256} (omega arith) {i = w} {j = 7} (omega arith)
@@ -24,13 +33,6 @@ powers_small w h = pow-le-pow_right {n = 256} (omega arith) {i = w} {j = 7} (ome
 pub number_past : (w : ℕ) (s : List ℕ) (i : ℕ) → length s ≤ i → number w s i ≡ 0
 number_past zero s i h = refl
 number_past (suc w) s i h = rw (get_or-eq_default s 0 h, number_past w s (suc i) (omega arith)) (omega arith)
-
--- four bytes and six, two by two
-pub number-four : (s : List ℕ) (i : ℕ) → number 4 s i ≡ number 2 s i + 65536 * number 2 s (i + 2)
-number-four s i = let e : i + 2 ≡ suc (suc i) = omega arith in rw e (omega arith)
-
-pub number-six : (s : List ℕ) (i : ℕ) → number 6 s i ≡ number 4 s i + 4294967296 * number 2 s (i + 4)
-number-six s i = let e : i + 4 ≡ suc (suc (suc (suc i))) = omega arith in rw e (omega arith)
 
 -- n is the number in the bytes from byte i on of w bytes at a place
 pub record Reading (w : ℕ) (s : List ℕ) (at i n : ℕ) : Type 0 where

@@ -51,6 +51,12 @@ follower-test hs t n h starts l r =
     (λ b. ap (λ (x : ℕ). eqb x h) (r.at f (ltb-true f n b) (omega (arith, least_at_most (λ j. eqb (column hs 2 j) f) n h own)))
     ∙ first_or_not (λ j. eqb (column hs 2 j) f) n h l own)
 
+-- of three tests the last decides where the others hold
+pub last_decides : (a b c : Bool) → a ≡ true → b ≡ true → c ≡ (a && (b && c))
+last_decides true true c p q = refl
+last_decides true false c p q = cc
+last_decides false b c p q = cc
+
 -- ── twins ──
 
 pub twin-le : (h : ℕ) → twin h ≤ h + 1

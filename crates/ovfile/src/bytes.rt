@@ -7,47 +7,24 @@ ghost use Rattle.laws_file.specs.Bytes.{wrapped};
 
 use map_file::byte_at;
 
-// How many numbers w bytes have; of six, as most coordinates have, it is known.
+// How many numbers w bytes have.
 pub fn numbers(width: usize) -> u64
     requires { width < 8 }
     ensures { result ≡ 256 ^ width }
 {
-    if width == 6 {
-        return 281474976710656;
-    }
-    let mut n: u64 = 1;
-    for _ in 0..width {
-        n = 256 * n;
+    1 << (8 * width)
+}
+
+// The unsigned number in W bytes at a place, where there are so many: from the high byte down.
+fn number_of<const W: usize>(file: &[u8], at: usize) -> u64
+    requires { (W < 8) × (at + W ≤ length file.now) }
+    ensures { result ≡ number W file.now at }
+{
+    let mut n: u64 = 0;
+    for i in (0..W).rev() {
+        n = file[at + i] as u64 + 256 * n;
     }
     n
-}
-
-fn wide(x: u8) -> u64
-    ensures { (result ≡ x) × (result < 256) }
-{
-    x as u64
-}
-
-// The unsigned number in two bytes at a place, where there are two; and so in four and in six.
-fn two(file: &[u8], at: usize) -> u64
-    requires { at + 2 ≤ length file.now }
-    ensures { (result ≡ number 2 file.now at) × (result < 65536) }
-{
-    wide(file[at]) + 256 * wide(file[at + 1])
-}
-
-fn four(file: &[u8], at: usize) -> u64
-    requires { at + 4 ≤ length file.now }
-    ensures { (result ≡ number 4 file.now at) × (result < 4294967296) }
-{
-    two(file, at) + 65536 * two(file, at + 2)
-}
-
-fn six(file: &[u8], at: usize) -> u64
-    requires { at + 6 ≤ length file.now }
-    ensures { result ≡ number 6 file.now at }
-{
-    four(file, at) + 4294967296 * two(file, at + 4)
 }
 
 // The unsigned number in the bytes at a place, from the high byte down.
@@ -59,9 +36,7 @@ fn number_by(file: &[u8], at: usize, width: usize) -> u64
         return 0;
     }
     let mut n: u64 = 0;
-    let mut i = width;
-    while 0 < i {
-        i -= 1;
+    for i in (0..width).rev() {
         n = byte_at(file, at + i) as u64 + 256 * n;
     }
     n
@@ -77,10 +52,10 @@ pub fn number_at(file: &[u8], at: usize, width: usize) -> u64
     }
     if 6 <= file.len() - at {
         if width == 6 {
-            return six(file, at);
+            return number_of::<6>(file, at);
         }
         if width == 4 {
-            return four(file, at);
+            return number_of::<4>(file, at);
         }
     }
     number_by(file, at, width)

@@ -6,57 +6,37 @@ ghost use Rattle.paper.specs.Tables.{vertex_width, half_width, face_width};
 
 use limits::{FACE_WIDTH, HALF_WIDTH, SOURCE_WIDTH, VERTEX_WIDTH};
 
-pub fn u16_at(t: &[u16], i: usize) -> u16
-    ensures { result ≡ get_or t.now i 0 }
+// Cell i, or what stands for one past the end.
+pub fn at_or<T: Copy>(t: &[T], i: usize, none: T) -> T
+    ensures { result ≡ get_or t.now i none }
 {
-    if t.len() <= i {
-        return 0;
-    }
-    t[i]
-}
-
-pub fn u32_at(t: &[u32], i: usize) -> u32
-    ensures { result ≡ get_or t.now i 0 }
-{
-    if t.len() <= i {
-        return 0;
-    }
-    t[i]
-}
-
-pub fn i64_at(t: &[i64], i: usize) -> i64
-    ensures { result ≡ get_or t.now i (pos 0) }
-{
-    if t.len() <= i {
-        return 0;
-    }
-    t[i]
+    if i < t.len() { t[i] } else { none }
 }
 
 // X, Y, D, least outgoing half-edge
 pub fn vertex_cell(vertices: &[i64], v: u16, j: u16) -> i64
     ensures { result ≡ cell (pos 0) vertex_width vertices.now v j }
 {
-    i64_at(vertices, VERTEX_WIDTH * v as usize + j as usize)
+    at_or(vertices, VERTEX_WIDTH * v as usize + j as usize, 0)
 }
 
 // origin, twin, follower, predecessor, face
 pub fn half_cell(halves: &[u16], h: u32, j: u16) -> u16
     ensures { result ≡ cell 0 half_width halves.now h j }
 {
-    u16_at(halves, HALF_WIDTH * h as usize + j as usize)
+    at_or(halves, HALF_WIDTH * h as usize + j as usize, 0)
 }
 
 // an edge number in map i + 1, or 0
 pub fn source_cell(sources: &[u32], k: u16, i: u16) -> u32
     ensures { result ≡ cell 0 maps sources.now k i }
 {
-    u32_at(sources, SOURCE_WIDTH * k as usize + i as usize)
+    at_or(sources, SOURCE_WIDTH * k as usize + i as usize, 0)
 }
 
 // labels, least half-edge, holes
 pub fn face_cell(faces: &[u16], f: u16, j: u16) -> u16
     ensures { result ≡ cell 0 (face_width maps) faces.now f j }
 {
-    u16_at(faces, FACE_WIDTH * f as usize + j as usize)
+    at_or(faces, FACE_WIDTH * f as usize + j as usize, 0)
 }

@@ -9,8 +9,8 @@ mod cells; // the cells of flat tables
 mod sound; // sound edge records
 
 pub use bytes::{number_at, numbers as numbers_in, put, put_fields, signed_at, twos};
-pub use cells::{face_cell, half_cell, i64_at, source_cell, u16_at, u32_at, vertex_cell};
-pub use layout::{Layout, layout_of};
-pub use places::{edge_size, edges_at, face_size, faces_at, field_at, file_length, vertex_place};
+pub use cells::{at_or, face_cell, half_cell, source_cell, vertex_cell};
+pub use layout::{Layout, NEWEST};
+pub use places::field_at;
 pub use room::{numbers, over};
 pub use sound::{first_places, sound_edge, store, twin};

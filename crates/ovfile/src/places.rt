@@ -5,38 +5,14 @@ ghost use Rattle.paper.specs.Limits.{overlay_head};
 ghost use Rattle.paper.specs.Ovfile.{vertex_size, edge_size, face_size, edges_at, faces_at, file_length};
 ghost use Rattle.tables.specs.Values.{counts_of};
 ghost use Rattle.ovfile.specs.Values.{layout_from};
-ghost use Rattle.ovfile.specs.Known.{Known, largest};
+ghost use Rattle.ovfile.specs.Known.{largest};
 
 use crate::layout::Layout;
 use limits::{DENOMINATOR_BYTES, OVERLAY_HEAD};
 use tables::Counts;
 
-// The bytes of one vertex.
-pub fn vertex_size(layout: Layout) -> usize
-    requires { Known (layout_from layout) }
-    ensures { result ≡ vertex_size (layout_from layout) }
-{
-    2 * layout.coordinate + DENOMINATOR_BYTES
-}
-
-// The bytes of one edge.
-pub fn edge_size(layout: Layout) -> usize
-    requires { Known (layout_from layout) }
-    ensures { result ≡ edge_size (layout_from layout) }
-{
-    12 + 2 * layout.maps
-}
-
-// The bytes of one face.
-pub fn face_size(layout: Layout) -> usize
-    requires { Known (layout_from layout) }
-    ensures { result ≡ face_size (layout_from layout) }
-{
-    4 + 2 * layout.maps
-}
-
 // Where row n starts, of rows of one size from a place on.
-pub fn row_at(start: usize, size: usize, n: usize) -> usize
+fn row_at(start: usize, size: usize, n: usize) -> usize
     requires { (start < 2 ^ 32) × (size ≤ largest) × (n < 2 ^ 32) }
     ensures { result ≡ start + size * n }
 {
@@ -51,33 +27,52 @@ pub fn field_at(start: usize, size: usize, n: u32, j: u32) -> usize
     row_at(start, size, n as usize) + 2 * j as usize
 }
 
-// Where vertex v starts.
-pub fn vertex_place(layout: Layout, v: u16) -> usize
-    requires { Known (layout_from layout) }
-    ensures { result ≡ overlay_head + vertex_size (layout_from layout) * v }
-{
-    row_at(OVERLAY_HEAD, vertex_size(layout), v as usize)
-}
+impl Layout {
+    // The bytes of one vertex.
+    pub fn vertex_size(self) -> usize
+        ensures { result ≡ vertex_size (layout_from self) }
+    {
+        2 * self.coordinate + DENOMINATOR_BYTES
+    }
 
-// Where the edges start.
-pub fn edges_at(layout: Layout, c: Counts) -> usize
-    requires { Known (layout_from layout) }
-    ensures { result ≡ edges_at (layout_from layout) (counts_of c) }
-{
-    vertex_place(layout, c.vertices)
-}
+    // The bytes of one edge.
+    pub fn edge_size(self) -> usize
+        ensures { result ≡ edge_size (layout_from self) }
+    {
+        12 + 2 * self.maps
+    }
 
-// Where the faces start.
-pub fn faces_at(layout: Layout, c: Counts) -> usize
-    requires { Known (layout_from layout) }
-    ensures { result ≡ faces_at (layout_from layout) (counts_of c) }
-{
-    row_at(edges_at(layout, c), edge_size(layout), c.edges as usize)
-}
+    // The bytes of one face.
+    pub fn face_size(self) -> usize
+        ensures { result ≡ face_size (layout_from self) }
+    {
+        4 + 2 * self.maps
+    }
 
-pub fn file_length(layout: Layout, c: Counts) -> usize
-    requires { Known (layout_from layout) }
-    ensures { result ≡ file_length (layout_from layout) (counts_of c) }
-{
-    row_at(faces_at(layout, c), face_size(layout), c.faces as usize)
+    // Where vertex v starts.
+    pub fn vertex_place(self, v: u16) -> usize
+        ensures { result ≡ overlay_head + vertex_size (layout_from self) * v }
+    {
+        row_at(OVERLAY_HEAD, self.vertex_size(), v as usize)
+    }
+
+    // Where the edges start.
+    pub fn edges_at(self, c: Counts) -> usize
+        ensures { result ≡ edges_at (layout_from self) (counts_of c) }
+    {
+        self.vertex_place(c.vertices)
+    }
+
+    // Where the faces start.
+    pub fn faces_at(self, c: Counts) -> usize
+        ensures { result ≡ faces_at (layout_from self) (counts_of c) }
+    {
+        row_at(self.edges_at(c), self.edge_size(), c.edges as usize)
+    }
+
+    pub fn file_length(self, c: Counts) -> usize
+        ensures { result ≡ file_length (layout_from self) (counts_of c) }
+    {
+        row_at(self.faces_at(c), self.face_size(), c.faces as usize)
+    }
 }

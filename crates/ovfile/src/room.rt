@@ -22,5 +22,5 @@ pub fn numbers() -> Counts
 pub fn over(room: Counts, c: Counts) -> bool
     ensures { result ≡ over (counts_of room) (counts_of c) }
 {
-    (room.vertices < c.vertices) | ((room.edges < c.edges) | (room.faces < c.faces))
+    room.vertices < c.vertices || room.edges < c.edges || room.faces < c.faces
 }

@@ -8,7 +8,7 @@ ghost use Rattle.tables.specs.Values.{counts_of};
 ghost use Rattle.ovfile.specs.Values.{edge_tables};
 ghost use Rattle.ovfile.specs.Firsts.{column, FirstPlaces, Followed};
 
-use crate::cells::{half_cell, source_cell, u16_at};
+use crate::cells::{at_or, half_cell, source_cell};
 use tables::Counts;
 
 // "Half-edge 2k goes from lower to upper, 2k+1 back"
@@ -33,9 +33,7 @@ pub fn first_places(halves: &[u16], j: u16, n: u32, out: &mut [u16])
     requires { n ≤ 65536 }
     ensures { FirstPlaces (column halves.now j) n out.old out.new }
 {
-    let mut h = n;
-    while 0 < h {
-        h -= 1;
+    for h in (0..n).rev() {
         store(out, half_cell(halves, h, j) as usize, h as u16);
     }
 }
@@ -46,17 +44,18 @@ fn sound_follower(edges: u16, halves: &[u16], first: &[u16], h: u32) -> bool
     ensures { result ≡ sound_follower (record { vertices = 0; edges = edges; faces = 0 }) (edge_tables halves.now []) h }
 {
     let f = half_cell(halves, h, 2) as u32;
-    (f < 2 * edges as u32)
-        & ((half_cell(halves, f, 0) == half_cell(halves, twin(h), 0))
-            & (u16_at(first, f as usize) as u32 == h))
+    f < 2 * edges as u32
+        && half_cell(halves, f, 0) == half_cell(halves, twin(h), 0)
+        && at_or(first, f as usize, 0) as u32 == h
 }
 
 // "a source is not 0"
 fn has_source(sources: &[u32], k: u16) -> bool
     ensures { result ≡ has_source maps (edge_tables [] sources.now) k }
 {
-    (source_cell(sources, k, 0) != 0)
-        | ((source_cell(sources, k, 1) != 0) | (source_cell(sources, k, 2) != 0))
+    source_cell(sources, k, 0) != 0
+        || source_cell(sources, k, 1) != 0
+        || source_cell(sources, k, 2) != 0
 }
 
 // Whether record k of the counted edges is sound.
@@ -68,10 +67,9 @@ pub fn sound_edge(c: Counts, halves: &[u16], sources: &[u32], first: &[u16], k: 
     let b = a + 1;
     let lower = half_cell(halves, a, 0);
     let upper = half_cell(halves, b, 0);
-    let ends = (lower < upper) & (upper < c.vertices);
-    let faces = (half_cell(halves, a, 4) < c.faces) & (half_cell(halves, b, 4) < c.faces);
-    let edges = c.edges;
-    let followers = sound_follower(edges, halves, first, a)
-        & sound_follower(edges, halves, first, b);
-    ends & (has_source(sources, k) & (faces & followers))
+    let ends = lower < upper && upper < c.vertices;
+    let faces = half_cell(halves, a, 4) < c.faces && half_cell(halves, b, 4) < c.faces;
+    let followers = sound_follower(c.edges, halves, first, a)
+        && sound_follower(c.edges, halves, first, b);
+    ends && has_source(sources, k) && faces && followers
 }

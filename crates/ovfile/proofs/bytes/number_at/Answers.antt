@@ -14,9 +14,9 @@ returns-then-file-at c =
 pub returns-then-width-eq6 : goal.returns-then-width-eq6
 returns-then-width-eq6 c =
     let a = c.args in
-    c.six.ensures ∙ ap (λ (w : ℕ). number w a.file.now a.at) (sym c.if-width-eq6.true)
+    c.number_of.ensures ∙ ap (λ (w : ℕ). number w a.file.now a.at) (sym c.if-width-eq6.true)
 
 pub returns-then-width-eq4 : goal.returns-then-width-eq4
 returns-then-width-eq4 c =
     let a = c.args in
-    c.four.ensures.0 ∙ ap (λ (w : ℕ). number w a.file.now a.at) (sym c.if-width-eq4.true)
+    c.number_of-then-width-eq4.ensures ∙ ap (λ (w : ℕ). number w a.file.now a.at) (sym c.if-width-eq4.true)

@@ -12,11 +12,11 @@ overflow_add-at c = omega (arith, c.loop-i.invariant.within)
 
 pub overflow_mul-n : goal.overflow_mul-n
 overflow_mul-n c =
-    omega (arith, read_small c.loop-i.invariant (λ i. (c.shared_slice_known-1.given i).fits) (omega arith) c.loop-i-test.true)
+    omega (arith, read_small c.loop-i.invariant (λ i. (c.type_inv.file i).fits) (omega arith) c.loop-i-test.true)
 
 pub overflow_add-n : goal.overflow_add-n
 overflow_add-n c =
-    omega (arith, read_small c.loop-i.invariant (λ i. (c.shared_slice_known-1.given i).fits) (omega arith) c.loop-i-test.true)
+    omega (arith, read_small c.loop-i.invariant (λ i. (c.type_inv.file i).fits) (omega arith) c.loop-i-test.true)
 
 pub loop-i-init : goal.loop-i-init
 loop-i-init c = read_starts

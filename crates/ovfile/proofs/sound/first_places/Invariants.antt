@@ -6,5 +6,3 @@ use Rattle.ovfile.proofs.sound.first_places.Given as goal
 abbrev pub invariant-loop-h : goal.invariant-loop-h
 invariant-loop-h l = Placing (column l.halves l.j) l.n l.initial.out l.out l.h
 
-abbrev pub decreases-loop-h : goal.decreases-loop-h
-decreases-loop-h l = l.h
