@@ -1,6 +1,6 @@
 // The digest of an overlay's tables, and of a mended file with its list, as the second program reckons it (second/README.md): FNV-1a of 64 bits.
 use limits::{EDGE_WIDTH, FACE_WIDTH, SOURCE_WIDTH, VERTEX_WIDTH};
-use ovfile::{i64_at, u16_at, u32_at};
+use ovfile::at_or;
 use std::io::{Print, Result};
 use tables::{Answer, Counts};
 
@@ -37,7 +37,7 @@ fn bits(x: i64) -> u64 {
 fn add_i64s(digest: u64, t: &[i64], count: usize) -> u64 {
     let mut sum = digest;
     for i in 0..count {
-        sum = add(sum, bits(i64_at(t, i)), 8);
+        sum = add(sum, bits(at_or(t, i, 0)), 8);
     }
     sum
 }
@@ -45,7 +45,7 @@ fn add_i64s(digest: u64, t: &[i64], count: usize) -> u64 {
 fn add_u16s(digest: u64, t: &[u16], count: usize) -> u64 {
     let mut sum = digest;
     for i in 0..count {
-        sum = add(sum, u16_at(t, i) as u64, 2);
+        sum = add(sum, at_or(t, i, 0) as u64, 2);
     }
     sum
 }
@@ -53,7 +53,7 @@ fn add_u16s(digest: u64, t: &[u16], count: usize) -> u64 {
 fn add_u32s(digest: u64, t: &[u32], count: usize) -> u64 {
     let mut sum = digest;
     for i in 0..count {
-        sum = add(sum, u32_at(t, i) as u64, 4);
+        sum = add(sum, at_or(t, i, 0) as u64, 4);
     }
     sum
 }

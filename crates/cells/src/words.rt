@@ -2,7 +2,7 @@
 use console::{say, say_number};
 use limits::PAIR_WIDTH;
 use map_file::Refusal;
-use ovfile::u16_at;
+use ovfile::at_or;
 use soundings::Counted;
 use std::io::{Print, Result};
 
@@ -16,9 +16,9 @@ fn count_at(counts: &[u32], r: usize) -> u32 {
 
 fn say_row(rt: &impl Print, labels: &[u16], counts: &[u32], r: u16) -> Result<()> {
     let at = PAIR_WIDTH * r as usize;
-    say_number(rt, u16_at(labels, at) as u64)?;
+    say_number(rt, at_or(labels, at, 0) as u64)?;
     say(rt, b" ")?;
-    say_number(rt, u16_at(labels, at + 1) as u64)?;
+    say_number(rt, at_or(labels, at + 1, 0) as u64)?;
     say(rt, b" ")?;
     say_number(rt, count_at(counts, r as usize) as u64)?;
     say(rt, b"\n")

@@ -15,7 +15,7 @@ use crate::merge::{from_now, to_now};
 use crate::steps::is_step;
 use limits::MAP_HEAD;
 use map_file::{map_length, vertex_place};
-use ovfile::{put, put_fields, twos, u16_at, vertex_cell};
+use ovfile::{at_or, put, put_fields, twos, vertex_cell};
 use seq::wipe_from;
 
 // "Mark `ZMP`"
@@ -72,10 +72,10 @@ fn put_edge(labels: &[u16], ends: &[u16], numbers: &[u16], k: u16, out: &mut [u8
 {
     let a = from_now(ends, k) as usize;
     let b = to_now(ends, k) as usize;
-    let from = u16_at(numbers, a) as u32;
-    let to = u16_at(numbers, b) as u32;
-    let left = u16_at(labels, 2 * k as usize) as u32;
-    let right = u16_at(labels, 2 * k as usize + 1) as u32;
+    let from = at_or(numbers, a, 0) as u32;
+    let to = at_or(numbers, b, 0) as u32;
+    let left = at_or(labels, 2 * k as usize, 0) as u32;
+    let right = at_or(labels, 2 * k as usize + 1, 0) as u32;
     let fields = [from, to, left, right];
     put_fields(out, at, &fields);
 }

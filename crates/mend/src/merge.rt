@@ -8,7 +8,7 @@ ghost use Rattle.mend.specs.Keys.{like_in};
 
 use crate::packed::{corner_keys, first_like, seen};
 use limits::{MAP_VERTICES, SMALL_VERTICES};
-use ovfile::u16_at;
+use ovfile::at_or;
 
 // The lowest vertex with the key of vertex v: itself, where none before it has the key.
 fn lowest(keys: &[u32], v: u16) -> u16
@@ -64,8 +64,8 @@ pub fn move_ends(into: &[u16], origins: &[u16], e: u16, ends: &mut [u16])
 {
     let m = 2 * e as usize;
     for h in 0..m {
-        let v = u16_at(origins, h) as usize;
-        ends[h] = u16_at(into, v);
+        let v = at_or(origins, h, 0) as usize;
+        ends[h] = at_or(into, v, 0);
     }
 }
 
@@ -73,11 +73,11 @@ pub fn move_ends(into: &[u16], origins: &[u16], e: u16, ends: &mut [u16])
 pub fn from_now(ends: &[u16], k: u16) -> u16
     ensures { result ≡ get_or ends.now (2 * k) 0 }
 {
-    u16_at(ends, 2 * k as usize)
+    at_or(ends, 2 * k as usize, 0)
 }
 
 pub fn to_now(ends: &[u16], k: u16) -> u16
     ensures { result ≡ get_or ends.now (2 * k + 1) 0 }
 {
-    u16_at(ends, 2 * k as usize + 1)
+    at_or(ends, 2 * k as usize + 1, 0)
 }

@@ -9,7 +9,7 @@ ghost use Rattle.mend.specs.Steps.{merged_in, shrunk_in, repeated_in, edge_step,
 use crate::merge::{from_now, to_now};
 use crate::packed::{edge_keys, seen};
 use limits::{MAP_EDGES, SMALL_EDGES};
-use ovfile::{store, u16_at};
+use ovfile::{at_or, store};
 
 // Vertex or edge i is dropped in this step.
 pub fn is_step(steps: &[u16], step: u16, i: u16) -> bool
@@ -83,7 +83,7 @@ pub fn edge_steps(ends: &[u16], e: u16, steps: &mut [u16])
 fn without_edge(into: &[u16], v: u16) -> u16
     ensures { result ≡ cond (merged_in into.now v) 1 4 }
 {
-    if u16_at(into, v as usize) < v { 1 } else { 4 }
+    if at_or(into, v as usize, 0) < v { 1 } else { 4 }
 }
 
 // That of each of n vertices.

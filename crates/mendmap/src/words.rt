@@ -1,7 +1,7 @@
 // What is printed: `STEP NUMBER` and words for people, the check's line, a refusal.
 use console::{say, say_number};
 use map_file::Refusal;
-use ovfile::u16_at;
+use ovfile::at_or;
 use std::io::{Print, Result};
 
 fn say_step(rt: &impl Print, step: u16) -> Result<()> {
@@ -15,8 +15,8 @@ fn say_step(rt: &impl Print, step: u16) -> Result<()> {
 
 // Entry i of the list.
 fn say_entry(rt: &impl Print, list: &[u16], i: u16) -> Result<()> {
-    let step = u16_at(list, 2 * i as usize);
-    let number = u16_at(list, 2 * i as usize + 1);
+    let step = at_or(list, 2 * i as usize, 0);
+    let number = at_or(list, 2 * i as usize + 1, 0);
     say_number(rt, step as u64)?;
     say(rt, b" ")?;
     say_number(rt, number as u64)?;

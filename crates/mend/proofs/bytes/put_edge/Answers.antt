@@ -8,7 +8,7 @@ use Rattle.mend.proofs.bytes.put_edge.Goals as goal
 pub returns : goal.returns
 returns c =
     let ns = c.args.numbers.now in
-    let a = c.u16_at-from.ensures ∙ ap (λ (j : ℕ). get_or ns j 0) c.from_now-a.ensures in
-    let b = c.u16_at-to.ensures ∙ ap (λ (j : ℕ). get_or ns j 0) c.to_now-b.ensures in
+    let a = c.at_or-from.ensures ∙ ap (λ (j : ℕ). get_or ns j 0) c.from_now-a.ensures in
+    let b = c.at_or-to.ensures ∙ ap (λ (j : ℕ). get_or ns j 0) c.to_now-b.ensures in
     c.put_fields.ensures
-    ∙ (λ i. sets c.args.out.now c.args.at (gather (le 2) (a i ∷ b i ∷ c.u16_at-left.ensures i ∷ c.u16_at-right.ensures i ∷ [])))
+    ∙ (λ i. sets c.args.out.now c.args.at (gather (le 2) (a i ∷ b i ∷ c.at_or-left.ensures i ∷ c.at_or-right.ensures i ∷ [])))

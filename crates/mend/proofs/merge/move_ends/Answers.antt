@@ -18,7 +18,7 @@ offset_bounds-ends-h c =
 
 pub loop-h-preserved : goal.loop-h-preserved
 loop-h-preserved c =
-    fill_turns c.loop-h.invariant (omega arith) (c.u16_at.ensures ∙ ap (λ (u : ℕ). get_or c.args.into.now u 0) c.u16_at-v.ensures)
+    fill_turns c.loop-h.invariant (omega arith) (c.at_or.ensures ∙ ap (λ (u : ℕ). get_or c.args.into.now u 0) c.at_or-v.ensures)
 
 pub loop-h-init : goal.loop-h-init
 loop-h-init c = fill_starts (search rules)
