@@ -8,8 +8,8 @@ ghost use Rattle.ovfile_write.specs.Answers.{answer_of as written_answer};
 ghost use Rattle.bonnetewe.specs.Told.{four, told, told_map, told_length, Short};
 
 use map_check::Checked;
+use map_file::Refusal;
 use mend::Mended;
-use ovfile_write::WriteAnswer;
 use tables::Answer;
 
 fn wide(x: u16) -> u64
@@ -34,13 +34,13 @@ pub fn of_answer(answer: Answer) -> u64
 }
 
 // A length of at most 32 bits stands above the first number.
-pub fn of_written(answer: WriteAnswer) -> u64
+pub fn of_written(answer: Result<usize, Refusal>) -> u64
     requires { Short (written_answer answer) }
     ensures { result ≡ told_length (written_answer answer) }
 {
     match answer {
-        WriteAnswer::Done(n) => 65536 * n as u64,
-        WriteAnswer::Refused(r) => join(r.number, r.map, r.place, r.other),
+        Ok(n) => 65536 * n as u64,
+        Err(r) => join(r.number, r.map, r.place, r.other),
     }
 }
 

@@ -1,5 +1,5 @@
 -- The overlay file of an outcome, and the laws by which the code keeps it. Assumes nothing.
-use Rattle.std.specs.Prelude.{◌≡◌}
+use Rattle.std.specs.Prelude.{◌≡◌, Result}
 use Rattle.std.proofs.Common.{sym, ◌∙◌, ap}
 use Rattle.seq.specs.Seq.{List, [], ℕ, padded}
 use Rattle.paper.specs.Refusal.{Answer, done, refused}
@@ -8,7 +8,7 @@ use Rattle.paper.specs.Lent.{Lengths, Outcome}
 use Rattle.paper.specs.Overlay.{overlay}
 use Rattle.paper.specs.Melt.{melt}
 use Rattle.paper.specs.Writer.{Written, write}
-use Rattle.ovfile_write.specs.declared.answer.WriteAnswer.{WriteAnswer}
+use Rattle.map_file.specs.declared.refusal.Refusal.{Refusal}
 use Rattle.ovfile_write.specs.Answers.{written_of}
 use Rattle.ovfile_write.specs.Unique.{answer-once}
 use Rattle.lists.specs.Listed.{Roomy}
@@ -37,7 +37,7 @@ pub filed_by_lem : (n : ℕ) (o : Outcome) {a b : Answer Counts} {t : Tables} {w
 filed_by_lem n o {a} {b} {t} {w} e g h = h ∙ ap (filed_by n t) (sym g) ∙ ap (filed n) e
 
 -- no second answer and buffer are what is filed
-pub filed-once : {w : Written} (a b : WriteAnswer) (x y : List ℕ) → written_of a x ≡ w → written_of b y ≡ w → (a ≡ b) × (x ≡ y)
+pub filed-once : {w : Written} (a b : Result ℕ Refusal) (x y : List ℕ) → written_of a x ≡ w → written_of b y ≡ w → (a ≡ b) × (x ≡ y)
 filed-once a b x y e g =
     let d = e ∙ sym g in
     (answer-once a b (ap (λ (v : Written). v.answer) d), ap (λ (v : Written). v.buffer) d)

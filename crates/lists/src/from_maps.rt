@@ -7,7 +7,7 @@ ghost use Rattle.lists.specs.Filed.{filed};
 
 use crate::answer::{Listed, put};
 use limits::{FACE_CELLS, HALF_CELLS, LISTING, SOURCE_CELLS, VERTEX_CELLS};
-use ovfile_write::WriteAnswer;
+use map_file::Refusal;
 
 // The listing of the overlay of three map files of any bytes, or the line of what is refused.
 pub fn list(zones: &[u8], blocks: &[u8], bed: &[u8], out: &mut [u8; LISTING]) -> Listed
@@ -31,7 +31,7 @@ pub fn list(zones: &[u8], blocks: &[u8], bed: &[u8], out: &mut [u8; LISTING]) ->
 }
 
 // The overlay file of the overlay of three map files of any bytes, into a buffer of any length: its length, or what is refused.
-pub fn file(zones: &[u8], blocks: &[u8], bed: &[u8], buffer: &mut [u8]) -> WriteAnswer
+pub fn file(zones: &[u8], blocks: &[u8], bed: &[u8], buffer: &mut [u8]) -> Result<usize, Refusal>
     ensures { written_of result buffer.new ≡ filed (length buffer.old) (overlay full_tables zones.now blocks.now bed.now) }
 {
     let mut vertices = [0i64; VERTEX_CELLS];
@@ -51,7 +51,7 @@ pub fn file(zones: &[u8], blocks: &[u8], bed: &[u8], buffer: &mut [u8]) -> Write
         Ok(c) => ovfile_write::write(c, &vertices, &halves, &sources, &faces, buffer),
         Err(r) => {
             buffer.fill(0);
-            WriteAnswer::Refused(r)
+            Err(r)
         }
     }
 }

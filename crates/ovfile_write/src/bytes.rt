@@ -9,9 +9,8 @@ ghost use Rattle.tables.specs.Values.{counts_of, tables_by};
 ghost use Rattle.ovfile.specs.Values.{edge_tables, layout};
 ghost use Rattle.ovfile_write.specs.Judged.{head_fields, VertexFits, VerticesFit};
 
-use crate::places::{edges_at, faces_at, vertex_place};
 use limits::{COORDINATE_BYTES, DENOMINATOR_BYTES, EDGE_SIZE, FACE_SIZE, VERSION};
-use ovfile::{face_cell, half_cell, put, put_fields, source_cell, twos, vertex_cell};
+use ovfile::{NEWEST, face_cell, half_cell, put, put_fields, source_cell, twos, vertex_cell};
 use tables::Counts;
 
 // "mark `ZOV`"
@@ -19,9 +18,7 @@ fn put_mark(buffer: &mut [u8])
     requires { 3 ≤ length buffer.old }
     ensures { buffer.new ≡ sets buffer.old 0 (ascii "ZOV") }
 {
-    buffer[0] = b'Z';
-    buffer[1] = b'O';
-    buffer[2] = b'V';
+    buffer[..3].copy_from_slice(b"ZOV");
 }
 
 // "mark `ZOV`, 16-bit version .., three counts": the newest
@@ -30,11 +27,12 @@ pub fn put_head(c: Counts, buffer: &mut [u8])
     ensures { buffer.new ≡ sets buffer.old 0 (ascii "ZOV" ++ gather (le 2) (head_fields (counts_of c))) }
 {
     put_mark(buffer);
-    let version = VERSION as u32;
-    let vertices = c.vertices as u32;
-    let edges = c.edges as u32;
-    let faces = c.faces as u32;
-    let fields = [version, vertices, edges, faces];
+    let fields = [
+        VERSION as u32,
+        c.vertices as u32,
+        c.edges as u32,
+        c.faces as u32,
+    ];
     put_fields(buffer, 3, &fields);
 }
 
@@ -56,7 +54,7 @@ pub fn put_vertices(n: u16, vertices: &[i64], buffer: &mut [u8])
     ensures { buffer.new ≡ sets buffer.old overlay_head (rows (vertex_bytes layout (tables_by vertices.now [] [] [])) n) }
 {
     for v in 0..n {
-        put_vertex(vertices, v, buffer, vertex_place(v));
+        put_vertex(vertices, v, buffer, NEWEST.vertex_place(v));
     }
 }
 
@@ -87,7 +85,7 @@ pub fn put_edges(c: Counts, halves: &[u16], sources: &[u32], buffer: &mut [u8])
     ensures { buffer.new ≡ sets buffer.old (edges_at layout (counts_of c)) (rows (λ k. gather (le 2) (edge_fields maps (edge_tables halves.now sources.now) k)) c.edges) }
 {
     let n = c.edges;
-    let start = edges_at(c);
+    let start = NEWEST.edges_at(c);
     for k in 0..n {
         put_edge(halves, sources, k, buffer, start + EDGE_SIZE * k as usize);
     }
@@ -112,7 +110,7 @@ pub fn put_faces(c: Counts, faces: &[u16], buffer: &mut [u8])
     ensures { buffer.new ≡ sets buffer.old (faces_at layout (counts_of c)) (rows (λ f. gather (le 2) (face_fields maps (tables_by [] [] [] faces.now) f)) c.faces) }
 {
     let n = c.faces;
-    let start = faces_at(c);
+    let start = NEWEST.faces_at(c);
     for f in 0..n {
         put_face(faces, f, buffer, start + FACE_SIZE * f as usize);
     }

@@ -23,15 +23,16 @@ fn bad_half(edges: u16, halves: &[u16], h: u32) -> bool
     let p = half_cell(halves, h, 3) as u32;
     let other = half_cell(halves, h, 1) as u32 == twin(h);
     let back = half_cell(halves, p, 2) as u32 == h;
-    !(other & ((p < 2 * edges as u32) & back))
+    !(other && p < 2 * edges as u32 && back)
 }
 
 // "an edge whose source is number 65,535"
 fn wide_source(sources: &[u32], k: u16) -> bool
     ensures { result ≡ wide_source maps (edge_tables [] sources.now) k }
 {
-    (TWO_BYTES <= source_cell(sources, k, 0))
-        | ((TWO_BYTES <= source_cell(sources, k, 1)) | (TWO_BYTES <= source_cell(sources, k, 2)))
+    TWO_BYTES <= source_cell(sources, k, 0)
+        || TWO_BYTES <= source_cell(sources, k, 1)
+        || TWO_BYTES <= source_cell(sources, k, 2)
 }
 
 // Whether edge k is refused, by a table of the first half-edges with each follower.
@@ -41,9 +42,10 @@ fn bad_edge(c: Counts, halves: &[u16], sources: &[u32], first: &[u16], k: u16) -
 {
     let a = 2 * k as u32;
     let b = a + 1;
-    let edges = c.edges;
-    let record = !sound_edge(c, halves, sources, first, k) | wide_source(sources, k);
-    record | (bad_half(edges, halves, a) | bad_half(edges, halves, b))
+    !sound_edge(c, halves, sources, first, k)
+        || wide_source(sources, k)
+        || bad_half(c.edges, halves, a)
+        || bad_half(c.edges, halves, b)
 }
 
 // The least edge that is refused, or the number of edges.

@@ -9,7 +9,7 @@ ghost use Rattle.ovfile.specs.Values.{layout};
 ghost use Rattle.ovfile_write.specs.Judged.{bad_vertex_by, LeastStarts};
 
 use limits::{ABSENT, COORDINATE_BYTES, DENOMINATOR_BYTES, VERTICES};
-use ovfile::{first_places, numbers_in, u16_at, vertex_cell};
+use ovfile::{at_or, first_places, numbers_in, vertex_cell};
 use tables::Counts;
 
 // A number fits w bytes, two's complement.
@@ -30,22 +30,18 @@ fn fits_unsigned(z: i64, width: usize) -> bool
     requires { width < 8 }
     ensures { result ≡ fits_unsigned width z }
 {
-    if z < 0 {
-        return false;
-    }
-    z.unsigned_abs() < numbers_in(width)
+    0 <= z && z.unsigned_abs() < numbers_in(width)
 }
 
 // Whether vertex v is refused, by a table of least outgoing half-edges.
 fn bad_vertex(vertices: &[i64], starts: &[u16], v: u16) -> bool
     ensures { result ≡ bad_vertex_by vertices.now starts.now v }
 {
-    let x = fits_signed(vertex_cell(vertices, v, 0), COORDINATE_BYTES);
-    let y = fits_signed(vertex_cell(vertices, v, 1), COORDINATE_BYTES);
-    let d = fits_unsigned(vertex_cell(vertices, v, 2), DENOMINATOR_BYTES);
-    let outgoing = vertex_cell(vertices, v, 3);
-    let least = i64::from(u16_at(starts, v as usize));
-    !(x & (y & (d & (outgoing == least))))
+    let least = i64::from(at_or(starts, v as usize, 0));
+    !fits_signed(vertex_cell(vertices, v, 0), COORDINATE_BYTES)
+        || !fits_signed(vertex_cell(vertices, v, 1), COORDINATE_BYTES)
+        || !fits_unsigned(vertex_cell(vertices, v, 2), DENOMINATOR_BYTES)
+        || vertex_cell(vertices, v, 3) != least
 }
 
 // The least vertex that is refused, or the number of vertices.

@@ -12,13 +12,11 @@ ghost use Rattle.ovfile.specs.Values.{edge_tables, layout};
 ghost use Rattle.ovfile_write.specs.Judged.{VerticesFit};
 ghost use Rattle.ovfile_write.specs.Answers.{written_of};
 
-use crate::answer::WriteAnswer;
 use crate::bytes::{put_edges, put_faces, put_head, put_vertices};
 use crate::edges::first_bad_edge;
-use crate::places::file_length;
 use crate::vertices::first_bad_vertex;
-use map_file::{Check, given};
-use ovfile::over;
+use map_file::{Check, Refusal, given};
+use ovfile::{NEWEST, over};
 use seq::wipe_from;
 use tables::{Counts, room_in};
 
@@ -31,7 +29,7 @@ fn body(c: Counts, vertices: &[i64], halves: &[u16], sources: &[u32], n: usize) 
     let k = first_bad_edge(c, halves, sources);
     given(5, v, v < c.vertices)?;
     given(21, k, k < c.edges)?;
-    given(11, 4, n < file_length(c))
+    given(11, 4, n < NEWEST.file_length(c))
 }
 
 // What the counts and tables are refused for: a face table of this length, and a buffer of n bytes.
@@ -46,11 +44,8 @@ fn judge(
     ensures { verdict result ≡ write_fault layout n (lengths_by (length vertices.now) (length halves.now) (length sources.now) faces) (counts_of c) (tables_by vertices.now halves.now sources.now []) }
 {
     let room = room_in(vertices.len(), halves.len(), sources.len(), faces);
-    let check = given(3, 0, over(room, c));
-    match check {
-        Err(_) => check,
-        Ok(()) => body(c, vertices, halves, sources, n),
-    }
+    given(3, 0, over(room, c))?;
+    body(c, vertices, halves, sources, n)
 }
 
 // The file in the buffer. "Past the file's length the buffer is zero"
@@ -69,10 +64,10 @@ fn put_file(
     put_vertices(c.vertices, vertices, buffer);
     put_edges(c, halves, sources, buffer);
     put_faces(c, faces, buffer);
-    wipe_from(buffer, file_length(c), 0);
+    wipe_from(buffer, NEWEST.file_length(c), 0);
 }
 
-// Writes the overlay file of counts and tables into the buffer.
+// Writes the overlay file of counts and tables into the buffer: the file's length, or "a refusal with number, map and place".
 pub fn write(
     c: Counts,
     vertices: &[i64],
@@ -80,18 +75,13 @@ pub fn write(
     sources: &[u32],
     faces: &[u16],
     buffer: &mut [u8],
-) -> WriteAnswer
+) -> Result<usize, Refusal>
     ensures { written_of result buffer.new ≡ write (length buffer.old) (counts_of c) (tables_by vertices.now halves.now sources.now faces.now) }
 {
-    let check = judge(c, vertices, halves, sources, faces.len(), buffer.len());
-    match check {
-        Err(r) => {
-            buffer.fill(0);
-            WriteAnswer::Refused(r)
-        }
-        Ok(()) => {
-            put_file(c, vertices, halves, sources, faces, buffer);
-            WriteAnswer::Done(file_length(c))
-        }
+    if let Err(r) = judge(c, vertices, halves, sources, faces.len(), buffer.len()) {
+        buffer.fill(0);
+        return Err(r);
     }
+    put_file(c, vertices, halves, sources, faces, buffer);
+    Ok(NEWEST.file_length(c))
 }

@@ -5,7 +5,6 @@ use console::{load_arg, say};
 use limits::LISTING;
 use map_file::Refusal;
 use overlay_maps::EMPTY;
-use ovfile_write::WriteAnswer;
 use std::io::{Eprint, Print, Result};
 use std::rt::{Env, Files};
 use tables::Answer;
@@ -121,7 +120,13 @@ fn list_melted(
 }
 
 // The overlay file of the one or of the other.
-fn file_of(melts: bool, zones: &[u8], blocks: &[u8], bed: &[u8], buffer: &mut [u8]) -> WriteAnswer {
+fn file_of(
+    melts: bool,
+    zones: &[u8],
+    blocks: &[u8],
+    bed: &[u8],
+    buffer: &mut [u8],
+) -> std::result::Result<usize, Refusal> {
     if melts {
         lists::melted::file(zones, blocks, bed, buffer)
     } else {
@@ -140,11 +145,11 @@ fn save_maps(
     let mut file = console::large_buffer();
     let answer = file_of(maps.melts, zones, blocks, bed, &mut file);
     match answer {
-        WriteAnswer::Done(length) => {
+        Ok(length) => {
             let k = console::within(length, &file);
             console::save_arg(rt, maps.out, &file[..k])
         }
-        WriteAnswer::Refused(_) => Ok(()),
+        Err(_) => Ok(()),
     }
 }
 

@@ -12,7 +12,7 @@ pub put_file-requires : goal.put_file-requires
 put_file-requires c =
     let a = c.args in
     let n = length a.buffer.now in
-    let e = sym c.judge-check.ensures ∙ ap verdict c.in-Ok.is in
+    let e = sym c.judge.ensures ∙ ap verdict c.in_default.is in
     (all_fit n (counts_of a.c) a.vertices.now a.halves.now a.sources.now a.faces.now e, room_enough n (counts_of a.c) a.vertices.now a.halves.now a.sources.now a.faces.now e)
 
 pub returns-in-Err : goal.returns-in-Err
@@ -20,12 +20,12 @@ returns-in-Err c =
     let a = c.args in
     let n = length a.buffer.now in
     (λ i. record { answer = refused (refusal_of c.in-Err.r); buffer = (c.fill.ensures.after (λ y e. e) ∙ sym (padded_none 0 n)) i })
-    ∙ write-refused n (counts_of a.c) a.vertices.now a.halves.now a.sources.now a.faces.now _ (sym c.judge-check.ensures ∙ ap verdict c.in-Err.is)
+    ∙ write-refused n (counts_of a.c) a.vertices.now a.halves.now a.sources.now a.faces.now _ (sym c.judge.ensures ∙ ap verdict c.in-Err.is)
 
-pub returns-in-Ok : goal.returns-in-Ok
-returns-in-Ok c =
+pub returns : goal.returns
+returns c =
     let a = c.args in
     let n = length a.buffer.now in
-    let e = sym c.judge-check.ensures ∙ ap verdict c.in-Ok.is in
+    let e = sym c.judge.ensures ∙ ap verdict c.in_default.is in
     (λ i. record { answer = done (c.file_length.ensures i); buffer = c.put_file.ensures i })
     ∙ write_done n (counts_of a.c) a.vertices.now a.halves.now a.sources.now a.faces.now e
