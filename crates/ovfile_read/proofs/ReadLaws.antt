@@ -1,6 +1,6 @@
 -- The reader's refusals as the code finds them: the form first, then the edges and the room, and what is known of a file that is not refused. Assumes nothing.
 use Rattle.std.specs.Prelude.{◌∷◌, ◌++◌}
-use mathlib.Core.Path.{◌≡◌, sym, ◌∙◌}
+use mathlib.Core.Path.{◌≡◌, sym, ap, ◌∙◌}
 use Prim.Native.Nat.{◌≤◌}
 use native.Mathlib.Omega.{arith}
 use borrow.Author.Tests.{ltb-false}
@@ -11,7 +11,7 @@ use Rattle.paper.specs.Refusal.{Refusal, first_at, first_of, done, refused}
 use Rattle.paper.specs.Lent.{Lengths, room_in, room_faults, padded_tables, zero_tables, outcome}
 use Rattle.paper.specs.Ovfile.{Layout, layouts, over, sound_edge, layout_of}
 use Rattle.paper.specs.Reader.{counts_in, tables_in, numbers, head_faults, read_fault, read}
-use Rattle.laws_refusals.specs.Refusals.{nothing, is_nothing, given_none}
+use Rattle.laws_refusals.specs.Refusals.{nothing, is_nothing, given_none, first_none}
 use Rattle.laws_refusals.specs.Room.{not_over}
 use Rattle.ovfile_read.specs.Filled.{Within, Roomy}
 
@@ -25,6 +25,12 @@ unsound_in l s k = not (sound_edge maps (counts_in s) (tables_in maps l s) k)
 -- 21 and 11
 abbrev pub body_in : Layout → List ℕ → Lengths → List (Option Refusal)
 body_in l s ls = first_at 21 (unsound_in l s) (counts_in s).edges ∷ room_faults (room_in maps ls) (counts_in s)
+
+-- what the rest of a file is refused for, where its form is right
+pub judged : (s t : List ℕ) (ls : Lengths) (l : Layout) {r : Option Refusal} → t ≡ s → l ≡ layout_in t → first_of (head_faults (length layouts) (layout_in s) s) ≡ none
+    → r ≡ first_of (body_in l t ls) → r ≡ read_fault maps (length layouts) (layout_in s) ls s (tables_in maps (layout_in s) s)
+judged s t ls l e q h g =
+    g ∙ (λ i. first_of (body_in ((q ∙ ap layout_in e) i) (e i) ls)) ∙ sym (first_none (head_faults (length layouts) (layout_in s) s) (body_in (layout_in s) s ls) h)
 
 module _ (s : List ℕ) where
   -- ── a file whose form is right ──
@@ -61,8 +67,10 @@ module _ (s : List ℕ) where
 
     -- ── what comes out ──
 
-    pub read_done : (l : Layout) → l ≡ layout_in s → fault ≡ none → record { answer = done (counts_in s); tables = padded_tables ls (tables_in maps l s) } ≡ read ls s
-    read_done l q e = (λ i. record { answer = done (counts_in s); tables = padded_tables ls (tables_in maps (q i) s) }) ∙ (λ i. outcome ls (counts_in s) (tables_in maps (layout_in s) s) (sym e i))
+    pub read_done : (t : List ℕ) (l : Layout) → t ≡ s → l ≡ layout_in t → fault ≡ none → record { answer = done (counts_in t); tables = padded_tables ls (tables_in maps l t) } ≡ read ls s
+    read_done t l e q n =
+        (λ i. record { answer = done (counts_in (e i)); tables = padded_tables ls (tables_in maps ((q ∙ ap layout_in e) i) (e i)) })
+        ∙ (λ i. outcome ls (counts_in s) (tables_in maps (layout_in s) s) (sym n i))
 
     pub read-refused : (r : Refusal) → fault ≡ some r → record { answer = refused r; tables = zero_tables ls } ≡ read ls s
     read-refused r e = λ i. outcome ls (counts_in s) (tables_in maps (layout_in s) s) (sym e i)

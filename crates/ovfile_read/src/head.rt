@@ -1,23 +1,27 @@
 // The form of an overlay file: "1 (under 11 bytes or wrong mark), 2 (version), 3 (a count over its number above), 4 (length)".
-ghost use Rattle.std.specs.Prelude.{◌≡◌, not, ◌||◌, ltb, eqb, length};
+ghost use Rattle.std.specs.Prelude.{◌≡◌, not, ◌||◌, ltb, eqb, length, IfOk};
 ghost use Rattle.paper.specs.Limits.{overlay_head};
 ghost use Rattle.paper.specs.Bytes.{ascii, marked, u16};
 ghost use Rattle.paper.specs.Refusal.{first_of};
-ghost use Rattle.paper.specs.Ovfile.{layouts, file_length, layout_of};
+ghost use Rattle.paper.specs.Ovfile.{layouts, layout_of};
 ghost use Rattle.paper.specs.Reader.{counts_in, head_faults};
 ghost use Rattle.map_file.specs.Verdict.{verdict};
+ghost use Rattle.tables.specs.Values.{counts_of};
 
-use crate::stored::{counts, layout_in};
+use crate::stored::Stored;
 use limits::{OVERLAY_HEAD, VERSION};
-use map_file::{Check, byte_at, given, u16_at};
-use ovfile::{file_length, numbers, over};
+use map_file::{Refusal, byte_at, given, u16_at};
+use ovfile::{Layout, numbers, over};
+use tables::Counts;
 
 // "under 11 bytes or wrong mark"
 fn bad_mark(file: &[u8]) -> bool
     ensures { result ≡ (ltb (length file.now) overlay_head || not (marked (ascii "ZOV") file.now 0)) }
 {
-    (file.len() < OVERLAY_HEAD)
-        | !((byte_at(file, 0) == b'Z') & ((byte_at(file, 1) == b'O') & (byte_at(file, 2) == b'V')))
+    file.len() < OVERLAY_HEAD
+        || byte_at(file, 0) != b'Z'
+        || byte_at(file, 1) != b'O'
+        || byte_at(file, 2) != b'V'
 }
 
 // a version that is not known
@@ -25,23 +29,35 @@ fn bad_version(file: &[u8]) -> bool
     ensures { result ≡ (eqb (u16 file.now 3) 0 || ltb (length layouts) (u16 file.now 3)) }
 {
     let version = u16_at(file, 3);
-    (version == 0) | (VERSION < version)
+    version == 0 || VERSION < version
 }
 
-// a length that is not the one of the counts, in the version's layout
-fn bad_length(file: &[u8]) -> bool
-    ensures { result ≡ not (eqb (length file.now) (file_length (layout_of layouts (u16 file.now 3)) (counts_in file.now))) }
+fn counts(file: &[u8]) -> Counts
+    ensures { counts_of result ≡ counts_in file.now }
 {
-    file.len() != file_length(layout_in(file), counts(file))
+    Counts {
+        vertices: u16_at(file, 5),
+        edges: u16_at(file, 7),
+        faces: u16_at(file, 9),
+    }
 }
 
-// The first of rules 1 to 4 that the file breaks.
-pub fn head(file: &[u8]) -> Check
-    ensures { verdict result ≡ first_of (head_faults (length layouts) (layout_of layouts (u16 file.now 3)) file.now) }
+// The file of right form, or the first of rules 1 to 4 that it breaks.
+pub fn head(file: &[u8]) -> Result<Stored<'_>, Refusal>
+    ensures told { verdict result ≡ first_of (head_faults (length layouts) (layout_of layouts (u16 file.now 3)) file.now) }
+    ensures same { IfOk result (λ s. s.file ≡ file.entry) }
 {
     given(1, 0, bad_mark(file))?;
     given(2, 0, bad_version(file))?;
-    let c = counts(file);
-    given(3, 0, over(numbers(), c))?;
-    given(4, 0, bad_length(file))
+    let counts = counts(file);
+    given(3, 0, over(numbers(), counts))?;
+    let layout = Layout::of(u16_at(file, 3));
+    given(4, 0, file.len() != layout.file_length(counts))?;
+    Ok(Stored {
+        file,
+        layout,
+        counts,
+        edges: layout.edges_at(counts),
+        faces: layout.faces_at(counts),
+    })
 }

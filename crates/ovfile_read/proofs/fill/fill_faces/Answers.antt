@@ -9,20 +9,16 @@ use Rattle.paper.specs.Reader.{counts_in, face_read, tables_in}
 use Rattle.ovfile.specs.Values.{layout_from}
 use Rattle.seq.specs.Loops.Storing.{laid-wiped}
 use Rattle.ovfile_read.proofs.fill.fill_faces.Goals as goal
-use Rattle.ovfile_read.proofs.fill.fill_faces.Goals.{After-counts-c}
-
-counted : (c : After-counts-c) → c.counts-c.result.faces ≡ (counts_in c.args.file.now).faces
-counted c = ap (λ (n : Counts). n.faces) c.counts-c.ensures
 
 pub wipe_from-requires : goal.wipe_from-requires
 wipe_from-requires c =
-    omega (arith, counted (goal.at.wipe_from-requires c).After-counts-c, c.requires.1)
+    omega (arith, c.args.stored.now.faces_counted, c.requires)
 
 pub returns : goal.returns
 unfolding tables_in
 returns c =
     let a = c.args in
-    let s = a.file.now in
-    let lo = layout_from a.layout in
-    laid-wiped 0 (face_width maps) (face_read maps lo a.file.now) (λ k. refl) (counts_in s).faces a.faces.now (omega (arith, c.requires.1))
-    c.lay_faces.ensures c.wipe_from.ensures (ap (λ (n : ℕ). face_width maps * n) (counted (goal.at.returns c).After-counts-c))
+    let s = a.stored.now.file.now in
+    let lo = layout_from a.stored.now.layout in
+    laid-wiped 0 (face_width maps) (face_read maps lo a.stored.now.file.now) (λ k. refl) (counts_in s).faces a.faces.now (omega (arith, c.requires))
+    c.lay_faces.ensures c.wipe_from.ensures (ap (λ (n : ℕ). face_width maps * n) c.args.stored.now.faces_counted)

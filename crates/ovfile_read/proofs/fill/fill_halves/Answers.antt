@@ -8,20 +8,16 @@ use Rattle.ovfile.specs.Values.{layout_from}
 use Rattle.ovfile_read.specs.Filled.{followers_in}
 use Rattle.seq.specs.Loops.Storing.{laid-wiped}
 use Rattle.ovfile_read.proofs.fill.fill_halves.Goals as goal
-use Rattle.ovfile_read.proofs.fill.fill_halves.Goals.{After-counts-c}
-
-counted : (c : After-counts-c) → c.counts-c.result.edges ≡ (counts_in c.args.file.now).edges
-counted c = ap (λ (n : Counts). n.edges) c.counts-c.ensures
 
 pub wipe_from-requires : goal.wipe_from-requires
 wipe_from-requires c =
-    omega (arith, counted (goal.at.wipe_from-requires c).After-counts-c, c.requires.2)
+    omega (arith, c.args.stored.now.edges_counted, c.requires)
 
 pub returns : goal.returns
 unfolding tables_in
 returns c =
-    let s = c.args.file.now in
-    let lo = layout_from c.args.layout in
-    let k : 10 * c.counts-c.result.edges ≡ 5 * (2 * (counts_in s).edges) = omega (arith, counted (goal.at.returns c).After-counts-c) in
-    laid-wiped 0 5 (half_read lo s (followers_in lo s)) (λ k. refl) (2 * (counts_in s).edges) c.args.halves.now c.requires.2
+    let s = c.args.stored.now.file.now in
+    let lo = layout_from c.args.stored.now.layout in
+    let k : 10 * c.args.stored.now.counts.edges ≡ 5 * (2 * (counts_in s).edges) = omega (arith, c.args.stored.now.edges_counted) in
+    laid-wiped 0 5 (half_read lo s (followers_in lo s)) (λ k. refl) (2 * (counts_in s).edges) c.args.halves.now c.requires
     c.lay_halves.ensures c.wipe_from.ensures k

@@ -9,20 +9,16 @@ use Rattle.paper.specs.Reader.{counts_in, stored_source, tables_in}
 use Rattle.ovfile.specs.Values.{layout_from}
 use Rattle.seq.specs.Loops.Storing.{laid-wiped}
 use Rattle.ovfile_read.proofs.fill.fill_sources.Goals as goal
-use Rattle.ovfile_read.proofs.fill.fill_sources.Goals.{After-counts-c}
-
-counted : (c : After-counts-c) → c.counts-c.result.edges ≡ (counts_in c.args.file.now).edges
-counted c = ap (λ (n : Counts). n.edges) c.counts-c.ensures
 
 pub wipe_from-requires : goal.wipe_from-requires
 wipe_from-requires c =
-    omega (arith, counted (goal.at.wipe_from-requires c).After-counts-c, c.requires.1)
+    omega (arith, c.args.stored.now.edges_counted, c.requires)
 
 pub returns : goal.returns
 unfolding tables_in
 returns c =
     let a = c.args in
-    let s = a.file.now in
-    let lo = layout_from a.layout in
-    laid-wiped 0 maps (λ k. table (stored_source lo a.file.now k) maps) (λ k. refl) (counts_in s).edges a.sources.now (omega (arith, c.requires.1))
-    c.lay_sources.ensures c.wipe_from.ensures (ap (λ (n : ℕ). maps * n) (counted (goal.at.returns c).After-counts-c))
+    let s = a.stored.now.file.now in
+    let lo = layout_from a.stored.now.layout in
+    laid-wiped 0 maps (λ k. table (stored_source lo a.stored.now.file.now k) maps) (λ k. refl) (counts_in s).edges a.sources.now (omega (arith, c.requires))
+    c.lay_sources.ensures c.wipe_from.ensures (ap (λ (n : ℕ). maps * n) c.args.stored.now.edges_counted)

@@ -10,20 +10,16 @@ use Rattle.ovfile_read.specs.Filled.{starts_in}
 use Rattle.seq.specs.Loops.Storing.{laid-wiped}
 use Rattle.ovfile_read.proofs.FillLaws.{vertices-are}
 use Rattle.ovfile_read.proofs.fill.fill_vertices.Goals as goal
-use Rattle.ovfile_read.proofs.fill.fill_vertices.Goals.{After-counts-c}
-
-counted : (c : After-counts-c) → c.counts-c.result.vertices ≡ (counts_in c.args.file.now).vertices
-counted c = ap (λ (n : Counts). n.vertices) c.counts-c.ensures
 
 pub wipe_from-requires : goal.wipe_from-requires
 wipe_from-requires c =
-    omega (arith, counted (goal.at.wipe_from-requires c).After-counts-c, c.requires.2)
+    omega (arith, c.args.stored.now.vertices_counted, c.requires)
 
 pub returns : goal.returns
 unfolding tables_in
 returns c =
-    let s = c.args.file.now in
-    let lo = layout_from c.args.layout in
-    laid-wiped (pos 0) 4 (vertex_read lo s (starts_in lo s)) (λ k. refl) (counts_in s).vertices c.args.vertices.now c.requires.2
+    let s = c.args.stored.now.file.now in
+    let lo = layout_from c.args.stored.now.layout in
+    laid-wiped (pos 0) 4 (vertex_read lo s (starts_in lo s)) (λ k. refl) (counts_in s).vertices c.args.vertices.now c.requires
     (c.lay_vertices.ensures ∙ ap (sets c.args.vertices.now 0) (vertices-are lo s c.least_starts-least.ensures))
-    c.wipe_from.ensures (ap (λ (n : ℕ). 4 * n) (counted (goal.at.returns c).After-counts-c))
+    c.wipe_from.ensures (ap (λ (n : ℕ). 4 * n) c.args.stored.now.vertices_counted)

@@ -5,7 +5,5 @@ use Rattle.seq.specs.Loops.Placing.{Placing}
 use Rattle.ovfile_read.proofs.fill.first_stored.Given as goal
 
 abbrev pub invariant-loop-h : goal.invariant-loop-h
-invariant-loop-h l = Placing (stored_field (layout_from l.layout) l.file l.j) l.n l.initial.out l.out l.h
+invariant-loop-h l = Placing (stored_field (layout_from l.stored.layout) l.stored.file.now l.j) l.n l.initial.out l.out l.h
 
-abbrev pub decreases-loop-h : goal.decreases-loop-h
-decreases-loop-h l = l.h

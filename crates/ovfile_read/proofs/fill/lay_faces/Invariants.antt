@@ -8,4 +8,4 @@ use Rattle.seq.specs.Loops.Storing.{Laying}
 use Rattle.ovfile_read.proofs.fill.lay_faces.Given as goal
 
 abbrev pub invariant-loop-f : goal.invariant-loop-f
-invariant-loop-f l = Laying (face_width maps) (face_read maps (layout_from l.layout) l.file) (counts_in l.file).faces l.initial.faces l.faces l.f
+invariant-loop-f l = Laying (face_width maps) (face_read maps (layout_from l.stored.layout) l.stored.file.now) (counts_in l.stored.file.now).faces l.initial.faces l.faces l.f

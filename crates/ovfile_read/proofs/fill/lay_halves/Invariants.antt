@@ -12,4 +12,4 @@ abbrev pub row : Layout → List ℕ → ℕ → List ℕ
 row l s = half_read l s (followers_in l s)
 
 abbrev pub invariant-loop-h : goal.invariant-loop-h
-invariant-loop-h l = Laying 5 (row (layout_from l.layout) l.file) (2 * (counts_in l.file).edges) l.initial.halves l.halves l.h
+invariant-loop-h l = Laying 5 (row (layout_from l.stored.layout) l.stored.file.now) (2 * (counts_in l.stored.file.now).edges) l.initial.halves l.halves l.h

@@ -8,23 +8,19 @@ use Rattle.paper.specs.Reader.{counts_in}
 use Rattle.seq.specs.Loops.Storing.{lay_starts, lay_turns, store_ends}
 use borrow.Author.Rules.{rules}
 use Rattle.ovfile_read.proofs.fill.lay_sources.Goals as goal
-use Rattle.ovfile_read.proofs.fill.lay_sources.Goals.{After-counts-n}
-
-counted : (c : After-counts-n) → c.counts-n.result.edges ≡ (counts_in c.args.file.now).edges
-counted c = ap (λ (n : Counts). n.edges) c.counts-n.ensures
 
 pub store-requires : goal.store-requires
 store-requires c =
-    omega (arith, c.loop-k.invariant.room, c.loop-k.invariant.kept, counted (goal.at.store-requires c).After-counts-n)
+    omega (arith, c.loop-k.invariant.room, c.loop-k.invariant.kept, c.args.stored.now.edges_counted)
 
 pub loop-k-preserved : goal.loop-k-preserved
 loop-k-preserved c =
-    lay_turns c.loop-k.invariant (λ k. refl) (omega (arith, counted (goal.at.loop-k-preserved c).After-counts-n)) c.store.ensures
+    lay_turns c.loop-k.invariant (λ k. refl) (omega (arith, c.args.stored.now.edges_counted)) c.store.ensures
     (λ i. c.source.ensures i ∷ c.source-in-loop-k.ensures i ∷ c.source-in-loop-k-2.ensures i ∷ [])
 
 pub returns : goal.returns
 returns c =
-    store_ends c.loop-k.invariant (omega (arith, counted (goal.at.returns c).After-counts-n))
+    store_ends c.loop-k.invariant (omega (arith, c.args.stored.now.edges_counted))
 
 pub loop-k-init : goal.loop-k-init
 loop-k-init c = lay_starts (search rules)

@@ -12,4 +12,4 @@ abbrev pub row : Layout → List ℕ → ℕ → List ℕ
 row l s k = table (stored_source l s k) maps
 
 abbrev pub invariant-loop-k : goal.invariant-loop-k
-invariant-loop-k l = Laying maps (row (layout_from l.layout) l.file) (counts_in l.file).edges l.initial.sources l.sources l.k
+invariant-loop-k l = Laying maps (row (layout_from l.stored.layout) l.stored.file.now) (counts_in l.stored.file.now).edges l.initial.sources l.sources l.k

@@ -9,48 +9,39 @@ use Rattle.paper.specs.Bytes.{signed_at, number}
 use Rattle.paper.specs.Tables.{Counts}
 use Rattle.paper.specs.Reader.{counts_in}
 use Rattle.laws_file.specs.Bytes.{number_below}
-use Rattle.ovfile.specs.Values.{layout_from}
+use Rattle.ovfile.specs.Values.{layout_from, known_of}
 use Rattle.ovfile.specs.Known.{vertices-near}
 use Rattle.seq.specs.Loops.Storing.{lay_starts, lay_turns, store_ends}
 use borrow.Author.Rules.{rules}
 use Rattle.ovfile_read.proofs.fill.lay_vertices.Goals as goal
-use Rattle.ovfile_read.proofs.fill.lay_vertices.Goals.{After-counts-n}
-
-counted : (c : After-counts-n) → c.counts-n.result.vertices ≡ (counts_in c.args.file.now).vertices
-counted c = ap (λ (n : Counts). n.vertices) c.counts-n.ensures
 
 -- a vertex's place, and the places behind it, are far below what 64 bits hold
 pub overflow_add-p : goal.overflow_add-p
 overflow_add-p c =
-    omega (arith, c.vertex_place-p.ensures, vertices-near (layout_from c.args.layout) c.requires.0 c.loop-v.v (omega arith), c.requires.0.coordinate)
+    omega (arith, c.vertex_place-p.ensures, vertices-near (layout_from c.args.stored.now.layout) (known_of c.args.stored.now.layout) c.loop-v.v (omega arith), c.args.stored.now.layout.few_bytes)
 
 pub overflow_add-p-in-loop-v : goal.overflow_add-p-in-loop-v
 overflow_add-p-in-loop-v c =
-    omega (arith, c.vertex_place-p.ensures, vertices-near (layout_from c.args.layout) c.requires.0 c.loop-v.v (omega arith), c.requires.0.coordinate)
-
-pub overflow_cast-d : goal.overflow_cast-d
-overflow_cast-d c =
-    record { sfits = omega (arith, c.number_at.ensures, number_below 4 c.args.file.now (c.vertex_place-p.result + 2 * c.args.layout.coordinate) (λ i. (c.shared_slice_known-1.given i).fits)) }
+    omega (arith, c.vertex_place-p.ensures, vertices-near (layout_from c.args.stored.now.layout) (known_of c.args.stored.now.layout) c.loop-v.v (omega arith), c.args.stored.now.layout.few_bytes)
 
 pub store-requires : goal.store-requires
 store-requires c =
-    omega (arith, c.loop-v-test.true, c.loop-v.invariant.room, c.loop-v.invariant.kept, counted (goal.at.store-requires c).After-counts-n)
+    omega (arith, c.loop-v-test.true, c.loop-v.invariant.room, c.loop-v.invariant.kept, c.args.stored.now.vertices_counted)
 
 pub loop-v-preserved : goal.loop-v-preserved
 loop-v-preserved c =
-    let s = c.args.file.now in
-    let w = c.args.layout.coordinate in
+    let s = c.args.stored.now.file.now in
+    let w = c.args.stored.now.layout.coordinate in
     let place = c.vertex_place-p.ensures in
     let x = to_z-of_z w64 _ (record { sfits = c.signed_at-x.type_inv }) ∙ c.signed_at-x.ensures ∙ ap (signed_at w s) place in
     let y = to_z-of_z w64 _ (record { sfits = c.signed_at-y.type_inv }) ∙ c.signed_at-y.ensures ∙ ap (λ (q : ℕ). signed_at w s (q + w)) place in
-    let fits = number_below 4 s (c.vertex_place-p.result + 2 * w) (λ i. (c.shared_slice_known-1.given i).fits) in
-    let denominator = to_z_pos w64 c.number_at.result (omega (arith, c.number_at.ensures, fits)) ∙ ap pos (c.number_at.ensures ∙ ap (λ (q : ℕ). number 4 s (q + 2 * w)) place) in
-    let out = to_z-of_z w64 _ (record { sfits = c.from.type_inv }) ∙ c.from.ensures ∙ ap pos c.u16_at.ensures in
-    lay_turns c.loop-v.invariant (λ k. refl) (omega (arith, counted (goal.at.loop-v-preserved c).After-counts-n)) c.store.ensures (λ i. x i ∷ y i ∷ denominator i ∷ out i ∷ [])
+    let denominator = to_z-of_z w64 _ (record { sfits = c.denominator-d.type_inv }) ∙ c.denominator-d.ensures ∙ ap (λ (q : ℕ). pos (number 4 s (q + 2 * w))) place in
+    let out = to_z-of_z w64 _ (record { sfits = c.from.type_inv }) ∙ c.from.ensures ∙ ap pos c.at_or.ensures in
+    lay_turns c.loop-v.invariant (λ k. refl) (omega (arith, c.args.stored.now.vertices_counted)) c.store.ensures (λ i. x i ∷ y i ∷ denominator i ∷ out i ∷ [])
 
 pub returns : goal.returns
 returns c =
-    store_ends c.loop-v.invariant (omega (arith, counted (goal.at.returns c).After-counts-n))
+    store_ends c.loop-v.invariant (omega (arith, c.args.stored.now.vertices_counted))
 
 pub loop-v-init : goal.loop-v-init
 loop-v-init c = lay_starts (search rules)

@@ -7,4 +7,4 @@ use Rattle.seq.specs.Loops.Storing.{Laying}
 use Rattle.ovfile_read.proofs.fill.lay_vertices.Given as goal
 
 abbrev pub invariant-loop-v : goal.invariant-loop-v
-invariant-loop-v l = Laying 4 (vertex_by (layout_from l.layout) l.file l.least) (counts_in l.file).vertices l.initial.vertices l.vertices l.v
+invariant-loop-v l = Laying 4 (vertex_by (layout_from l.stored.layout) l.stored.file.now l.least) (counts_in l.stored.file.now).vertices l.initial.vertices l.vertices l.v

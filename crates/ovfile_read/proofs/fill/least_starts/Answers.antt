@@ -10,17 +10,9 @@ use Rattle.paper.specs.Reader.{counts_in}
 use Rattle.ovfile.specs.Values.{layout_from}
 use Rattle.ovfile_read.proofs.FillLaws.{starts_by}
 use Rattle.ovfile_read.proofs.fill.least_starts.Goals as goal
-use Rattle.ovfile_read.proofs.fill.least_starts.Goals.{After-counts}
-
-counted : (c : After-counts) → c.counts.result.edges ≡ (counts_in c.args.file.now).edges
-counted c = ap (λ (n : Counts). n.edges) c.counts.ensures
-
-pub first_stored-requires : goal.first_stored-requires
-first_stored-requires c =
-    (c.edges_start-start.ensures, omega (arith, counted (goal.at.first_stored-requires c).After-counts, c.requires.1.edges))
 
 pub returns : goal.returns
 returns c =
-    let e = ap (λ (k : ℕ). 2 * k) (counted (goal.at.returns c).After-counts) in
-    starts_by (layout_from c.args.layout) c.args.file.now c.first_stored.ensures e (omega (arith, c.requires.1.vertices))
-    (λ v l. get_or-replicate 1000 v absent 0 (omega (arith, c.requires.1.vertices)))
+    let e = ap (λ (k : ℕ). 2 * k) c.args.stored.now.edges_counted in
+    starts_by (layout_from c.args.stored.now.layout) c.args.stored.now.file.now c.first_stored.ensures e (omega (arith, c.args.stored.now.few_vertices, c.args.stored.now.vertices_counted))
+    (λ v l. get_or-replicate 1000 v absent 0 (omega (arith, c.args.stored.now.few_vertices, c.args.stored.now.vertices_counted)))

@@ -1,36 +1,27 @@
 -- `ovfile_read::reader::judge` meets its contract. Assumes nothing.
 use mathlib.Core.Path.{◌≡◌, sym, ap, ◌∙◌}
-use Rattle.seq.specs.Seq.{none, length}
-use Rattle.paper.specs.Refusal.{first_of}
-use Rattle.paper.specs.Ovfile.{layouts, Layout}
-use Rattle.paper.specs.Reader.{head_faults}
+use borrow.Author.Rules.{rules}
 use Rattle.map_file.specs.Verdict.{verdict}
-use Rattle.laws_refusals.specs.Refusals.{first_none, first_some}
 use Rattle.tables.specs.Values.{lengths_by}
-use Rattle.ovfile_read.proofs.ReadLaws.{layout_in, body_in, right_counts}
+use Rattle.ovfile.specs.Values.{layout_from}
+use Rattle.ovfile_read.proofs.ReadLaws.{judged}
 use Rattle.ovfile_read.proofs.reader.judge.Goals as goal
-use Rattle.ovfile_read.proofs.reader.judge.Goals.{In-Fine}
 
-form-is-right : (c : In-Fine) → first_of (head_faults (length layouts) (layout_in c.args.file.now) c.args.file.now) ≡ none
-form-is-right c = sym c.head-c.ensures ∙ ap verdict c.in-Ok.is
 
-pub body-requires : goal.body-requires
-body-requires c =
-    (c.layout_in.ensures.1, right_counts c.args.file.now (form-is-right (goal.at.body-requires c).In-Fine))
 
-pub returns-in-Err : goal.returns-in-Err
-returns-in-Err c =
+pub returns-in_err-body-clause-told : goal.returns-in_err-body-clause-told
+returns-in_err-body-clause-told c =
     let a = c.args in
-    let s = a.file.now in
-    let told = ap verdict c.in-Err.is in
-    told ∙ sym (first_some (head_faults (length layouts) (layout_in s) s) (body_in (layout_in s) s (lengths_by a.vertices a.halves a.sources a.faces)) (sym c.head-c.ensures ∙ told))
+    let st = c.in_ok-stored.stored in
+    let h = c.in_ok-stored.ensures.same in
+    let r : verdict c.from_residual-in_err-body.result ≡ verdict c.body.result = search rules in
+    judged a.file.now st.file.now (lengths_by a.vertices a.halves a.sources a.faces) (layout_from st.layout) (λ i. (h i).now) (λ i. record { coordinate = st.bytes_named i; maps = st.maps_named i })
+      (sym c.head.ensures.told ∙ ap verdict c.in_ok-stored.was) (r ∙ c.body.ensures)
 
-pub returns-in-Ok : goal.returns-in-Ok
-returns-in-Ok c =
+pub returns-clause-told : goal.returns-clause-told
+returns-clause-told c =
     let a = c.args in
-    let s = a.file.now in
-    let ls = lengths_by a.vertices a.halves a.sources a.faces in
-    let h = form-is-right (goal.at.returns-in-Ok c).In-Fine in
-    c.body.ensures
-    ∙ ap (λ (l : Layout). first_of (body_in l s ls)) c.layout_in.ensures.0
-    ∙ sym (first_none (head_faults (length layouts) (layout_in s) s) (body_in (layout_in s) s ls) h)
+    let st = c.in_ok-stored.stored in
+    let h = c.in_ok-stored.ensures.same in
+    judged a.file.now st.file.now (lengths_by a.vertices a.halves a.sources a.faces) (layout_from st.layout) (λ i. (h i).now) (λ i. record { coordinate = st.bytes_named i; maps = st.maps_named i })
+      (sym c.head.ensures.told ∙ ap verdict c.in_ok-stored.was) (sym (ap verdict c.in_ok-body.was) ∙ c.body.ensures)

@@ -1,30 +1,31 @@
 -- `ovfile_read::reader::read` meets its contract. Assumes nothing.
-use mathlib.Core.Path.{sym, ap, ◌∙◌}
-use Rattle.seq.specs.Seq.{length}
-use Rattle.paper.specs.Refusal.{done, refused}
-use Rattle.map_file.specs.Verdict.{verdict, refusal_of}
-use Rattle.tables.specs.Values.{lengths_by}
-use Rattle.ovfile_read.proofs.ReadLaws.{right_counts, form_right, room_enough, read_done, read-refused}
+use mathlib.Core.Path.{◌≡◌, sym, ap, subst, ◌∙◌}
+use Rattle.seq.specs.Seq.{List, ℕ, length}
+use Rattle.paper.specs.Refusal.{done}
+use Rattle.paper.specs.Lent.{Lengths}
+use Rattle.paper.specs.Reader.{counts_in, tables_in}
+use Rattle.paper.specs.Limits.{maps}
+use Rattle.map_file.specs.Verdict.{verdict}
+use Rattle.tables.specs.Values.{lengths_by, counts_of}
+use Rattle.ovfile.specs.Values.{layout_from}
+use Rattle.ovfile_read.specs.Filled.{Roomy}
+use Rattle.ovfile_read.proofs.ReadLaws.{layout_in, room_enough, read_done}
 use Rattle.ovfile_read.proofs.reader.read.Goals as goal
 
 pub fill-requires : goal.fill-requires
 fill-requires c =
     let a = c.args in
-    let s = a.file.now in
-    let e = sym c.judge-check.ensures ∙ ap verdict c.in-Ok.is in
-    (c.layout_in.ensures.1, right_counts s (form_right s (lengths_by (length a.vertices.now) (length a.halves.now) (length a.sources.now) (length a.faces.now)) e), room_enough s _ e)
-
-pub returns-in-Err : goal.returns-in-Err
-returns-in-Err c =
-    let a = c.args in
-    let s = a.file.now in
-    (λ i. record { answer = refused (refusal_of c.in-Err.r); tables = c.wipe_all.ensures i })
-    ∙ read-refused s _ _ (sym c.judge-check.ensures ∙ ap verdict c.in-Err.is)
+    let h = c.in-Ok.ensures.same in
+    let ls = lengths_by (length a.vertices.now) (length a.halves.now) (length a.sources.now) (length a.faces.now) in
+    let e : c.in-Ok.stored.file.now ≡ a.file.now = λ i. (h i).now in
+    subst (λ (s : List ℕ). Roomy (counts_in s) ls) (sym e) (room_enough a.file.now ls (sym c.judge.ensures.told ∙ ap verdict c.in-Ok.is))
 
 pub returns-in-Ok : goal.returns-in-Ok
 returns-in-Ok c =
     let a = c.args in
-    let s = a.file.now in
-    let e = sym c.judge-check.ensures ∙ ap verdict c.in-Ok.is in
-    (λ i. record { answer = done (c.counts.ensures i); tables = c.fill.ensures i })
-    ∙ read_done s _ _ c.layout_in.ensures.0 e
+    let st = c.in-Ok.stored in
+    let h = c.in-Ok.ensures.same in
+    let ls = lengths_by (length a.vertices.now) (length a.halves.now) (length a.sources.now) (length a.faces.now) in
+    let counted : counts_of st.counts ≡ counts_in st.file.now = λ i. record { vertices = st.vertices_counted i; edges = st.edges_counted i; faces = st.faces_counted i } in
+    (λ i. record { answer = done (counted i); tables = c.fill.ensures i })
+    ∙ read_done a.file.now ls st.file.now (layout_from st.layout) (λ i. (h i).now) (λ i. record { coordinate = st.bytes_named i; maps = st.maps_named i }) (sym c.judge.ensures.told ∙ ap verdict c.in-Ok.is)

@@ -11,4 +11,4 @@ use Rattle.ovfile_read.proofs.sound.unsound_by.Given as goal
 
 abbrev pub invariant-loop-k : goal.invariant-loop-k
 invariant-loop-k l =
-    Searching (unsound_in (layout_from l.layout) l.file) (counts_in l.file).edges l.k × Taken (stored_follower (layout_from l.layout) l.file) (2 * (counts_in l.file).edges) (2 * l.k) l.taken × (length l.taken ≡ length l.initial.taken)
+    Searching (unsound_in (layout_from l.stored.layout) l.stored.file.now) (counts_in l.stored.file.now).edges l.k × Taken (stored_follower (layout_from l.stored.layout) l.stored.file.now) (2 * (counts_in l.stored.file.now).edges) (2 * l.k) l.taken × (length l.taken ≡ length l.initial.taken)
