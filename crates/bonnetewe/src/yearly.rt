@@ -6,15 +6,16 @@ ghost use Rattle.year.specs.Stated.{year_state, next};
 ghost use Rattle.bonnetewe.specs.ToldYear.{told_year, told_closed};
 
 use crate::answer::join;
-use year::{Closed, Year};
+use map_file::Refusal;
+use year::{Totals, Year};
 
 // The pairs and the gaps above a 0, or the refusal.
-fn of_closed(closed: Closed) -> u64
+fn of_closed(closed: Result<Totals, Refusal>) -> u64
     ensures { result ≡ told_closed closed }
 {
     match closed {
-        Closed::Done(t) => 65536 * (t.pairs as u64 + 65536 * t.gaps as u64),
-        Closed::Refused(r) => join(r.number, r.map, r.place, r.other),
+        Ok(t) => 65536 * (t.pairs as u64 + 65536 * t.gaps as u64),
+        Err(r) => join(r.number, r.map, r.place, r.other),
     }
 }
 

@@ -14,16 +14,15 @@ use Rattle.map_file.specs.Verdict.{verdict, refusal_of}
 use Rattle.laws_year.specs.Step.{bad_fault, the_row_is}
 use Rattle.laws_year.specs.Capped.{cap_fault, cap_answer}
 use Rattle.year.specs.declared.state.Sums.{Sums}
-use Rattle.year.specs.declared.answer.Closed.{Closed}
-use Rattle.year.specs.declared.answer.Closed.TheVariants.{Done, Refused}
+use Rattle.year.specs.declared.answer.Totals.{Totals}
 use Rattle.year.specs.TallyRows.{tallies_in}
 use Rattle.year.specs.Kept.{kept}
 use Rattle.year.specs.Stated.{minus_one, state_of}
 
 -- of a table t
-abbrev pub closed_of : List ℕ → Closed → refusal.Answer (List Row × ℕ)
-closed_of t (Done x) = refusal.done (map the_row_is (tallies_in t x.pairs), x.gaps)
-closed_of t (Refused r) = refusal.refused (refusal_of r)
+abbrev pub closed_of : List ℕ → Result Totals Refusal → refusal.Answer (List Row × ℕ)
+closed_of t (Ok x) = refusal.done (map the_row_is (tallies_in t x.pairs), x.gaps)
+closed_of t (Err r) = refusal.refused (refusal_of r)
 
 -- ── both lists ──
 
@@ -45,7 +44,7 @@ bad_some (suc k) q = let e : suc k - 1 ≡ k = omega arith in ap (λ (j : ℕ). 
 -- ── the answer ──
 
 module _ (t : List ℕ) (y : Sums) (zones blocks : List ℕ) where
-  pub refused_is : (c : Result (Unit {0}) Refusal) (r : Refusal) → c ≡ Err r → verdict c ≡ cap_fault (state_of [] y) zones blocks → closed_of t (Refused r) ≡ cap_answer (state_of t y) zones blocks
+  pub refused_is : (c : Result (Unit {0}) Refusal) (r : Refusal) → c ≡ Err r → verdict c ≡ cap_fault (state_of [] y) zones blocks → closed_of t (Err r) ≡ cap_answer (state_of t y) zones blocks
   refused_is c r e v = ap (answer (map the_row_is (kept t y.pairs).tallies, y.gaps)) (sym (ap verdict e) ∙ v)
 
   -- where nothing is refused there are at most 500 pairs
@@ -57,7 +56,7 @@ module _ (t : List ℕ) (y : Sums) (zones blocks : List ℕ) where
   pub done_few : (c : Result (Unit {0}) Refusal) → c ≡ Ok tt → verdict c ≡ cap_fault (state_of [] y) zones blocks → y.pairs ≤ year_pairs
   done_few c e v = few_pairs (sym (ap verdict e) ∙ v)
 
-  pub done_is : (c : Result (Unit {0}) Refusal) → c ≡ Ok tt → verdict c ≡ cap_fault (state_of [] y) zones blocks → closed_of t (Done (record { pairs = y.pairs; gaps = y.gaps })) ≡ cap_answer (state_of t y) zones blocks
+  pub done_is : (c : Result (Unit {0}) Refusal) → c ≡ Ok tt → verdict c ≡ cap_fault (state_of [] y) zones blocks → closed_of t (Ok (record { pairs = y.pairs; gaps = y.gaps })) ≡ cap_answer (state_of t y) zones blocks
   done_is c e v =
       let n : none ≡ cap_fault (state_of t y) zones blocks = sym (ap verdict e) ∙ v in
       let m : y.pairs ≡ min year_pairs y.pairs = omega (arith, few_pairs n) in

@@ -1,6 +1,6 @@
 -- `begin`, then `add` for one file after another, then `close`: what comes of it is the definition's answer, of the whole list of files (`run-answer`), and no second outcome meets what the
 -- three promise (`one_answer`). No state on the way is without room (`sound_room`). Assumes nothing.
-use Rattle.std.specs.Prelude.{◌≡◌, refl, ◌≤◌, ◌<◌, ◌&&◌, ◌||◌, ◌∷◌, ◌++◌, ◌+◌, ◌*◌}
+use Rattle.std.specs.Prelude.{◌≡◌, refl, ◌≤◌, ◌<◌, ◌&&◌, ◌||◌, ◌∷◌, ◌++◌, ◌+◌, ◌*◌, Result}
 use Rattle.std.proofs.Common.{sym, ◌∙◌, ap, subst, arith, lt-ltb, le-ltb, le-leb, eq-eqb}
 use Rattle.std.proofs.Math.Decide.{dec_lt}
 use Rattle.seq.specs.Seq.{true, false, not, List, [], map, none, some, ℕ, suc, min, ltb, eqb, length}
@@ -16,7 +16,8 @@ use Rattle.laws_year.specs.Capped.{cap_faces, CappedState, cap_start, cap_read, 
 use Rattle.laws_year.proofs.Capped.{capped-answer}
 use Rattle.laws_year.specs.Sheets.{sheet_few}
 use Rattle.year.specs.declared.state.Year.{Year}
-use Rattle.year.specs.declared.answer.Closed.{Closed}
+use Rattle.year.specs.declared.answer.Totals.{Totals}
+use Rattle.map_file.specs.declared.refusal.Refusal.{Refusal}
 use Rattle.year.specs.Kept.{Few, few_more, faces_few}
 use Rattle.year.specs.Faced.{others, roomy}
 use Rattle.year.specs.Stated.{state_by, year_state, top, is_full, has_room, next, next_is, top-unread, top_read}
@@ -125,11 +126,11 @@ pub add_after : (files : List (List ℕ)) (y z : Year) (s : List ℕ) → After 
 add_after files y z s a e = e ∙ ap (λ (st : CappedState). next st (sheet_of s)) a ∙ sym (ap (next_all cap_start) (map_snoc files s) ∙ all_snoc cap_start (map sheet_of files) (sheet_of s))
 
 -- and `close`: the definition's answer, of the list of files
-pub run-answer : (files : List (List ℕ)) (y : Year) (c : Closed) (zones blocks : List ℕ) → After files y → closed_of y.rows c ≡ cap_answer (year_state y) zones blocks
+pub run-answer : (files : List (List ℕ)) (y : Year) (c : Result Totals Refusal) (zones blocks : List ℕ) → After files y → closed_of y.rows c ≡ cap_answer (year_state y) zones blocks
     → closed_of y.rows c ≡ year_answer (map sheet_of files) zones blocks
 run-answer files y c zones blocks a e = e ∙ ap (λ (st : CappedState). cap_answer st zones blocks) a ∙ all_answer files zones blocks
 
 -- no second outcome
-pub one_answer : (files : List (List ℕ)) (y z : Year) (c d : Closed) (zones blocks : List ℕ) → After files y → After files z
+pub one_answer : (files : List (List ℕ)) (y z : Year) (c d : Result Totals Refusal) (zones blocks : List ℕ) → After files y → After files z
     → closed_of y.rows c ≡ cap_answer (year_state y) zones blocks → closed_of z.rows d ≡ cap_answer (year_state z) zones blocks → closed_of y.rows c ≡ closed_of z.rows d
 one_answer files y z c d zones blocks a b e f = run-answer files y c zones blocks a e ∙ sym (run-answer files z d zones blocks b f)

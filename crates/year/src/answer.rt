@@ -13,23 +13,17 @@ use map_file::{Check, Refusal, given};
 use names::whole;
 
 // The pairs, as so many rows of the year's table, and the gaps.
-#[derive(Clone, Copy)]
+#[derive(Clone, Copy, PartialEq, Eq, Debug)]
 pub struct Totals {
     pub pairs: u16,
     pub gaps: u32,
-}
-
-#[derive(Clone, Copy)]
-pub enum Closed {
-    Done(Totals),
-    Refused(Refusal),
 }
 
 // Whether one of two lists ends inside an entry.
 fn torn(zones: &[u8], blocks: &[u8]) -> bool
     ensures { result ≡ not (whole_names zones.now && whole_names blocks.now) }
 {
-    if whole(zones) { !whole(blocks) } else { true }
+    !whole(zones) || !whole(blocks)
 }
 
 // 17, by the number of the first bad file + 1, or 0.
@@ -53,15 +47,13 @@ fn fault(sums: Sums, zones: &[u8], blocks: &[u8]) -> Check
 }
 
 // What comes of the files that were added, with two lists of names.
-pub fn close(year: Year, zones: &[u8], blocks: &[u8]) -> Closed
+pub fn close(year: Year, zones: &[u8], blocks: &[u8]) -> Result<Totals, Refusal>
     ensures { closed_of year.rows result ≡ cap_answer (year_state year) zones.now blocks.now }
 {
     let sums = year.sums;
-    match fault(sums, zones, blocks) {
-        Err(r) => Closed::Refused(r),
-        Ok(()) => Closed::Done(Totals {
-            pairs: sums.pairs as u16,
-            gaps: sums.gaps,
-        }),
-    }
+    fault(sums, zones, blocks)?;
+    Ok(Totals {
+        pairs: sums.pairs as u16,
+        gaps: sums.gaps,
+    })
 }

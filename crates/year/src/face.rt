@@ -20,12 +20,7 @@ fn earlier(rows: &[u32], r: usize, zone: u32, block: u32) -> bool
     ensures { result ≡ pair_before (pair_at rows.now r) (zone, block) }
 {
     let at = TALLY_WIDTH * r;
-    let first = rows[at];
-    if first == zone {
-        rows[at + 1] < block
-    } else {
-        first < zone
-    }
+    rows[at] < zone || rows[at] == zone && rows[at + 1] < block
 }
 
 // Whether the pairs of the first n rows are in strict order, as after any files: each row is compared with the next.
@@ -33,16 +28,10 @@ pub fn in_order(rows: &[u32], n: usize) -> bool
     requires { tally_width * n ≤ length rows.now }
     ensures { result ≡ true → InOrder (tallies_in rows.now n) }
 {
-    if n == 0 {
-        return true;
-    }
-    let last = n - 1;
-    let mut k = 0;
-    while k < last {
-        let at = TALLY_WIDTH * k;
-        if earlier(rows, k, rows[at + TALLY_WIDTH], rows[at + TALLY_WIDTH + 1]) {
-            k += 1;
-        } else {
+    let last = n.saturating_sub(1);
+    for k in 0..last {
+        let next = TALLY_WIDTH * k + TALLY_WIDTH;
+        if !earlier(rows, k, rows[next], rows[next + 1]) {
             return false;
         }
     }
@@ -54,18 +43,16 @@ fn place_in_turn(rows: &[u32], n: usize, zone: u32, block: u32) -> usize
     requires { tally_width * n ≤ length rows.now }
     ensures { result ≡ place_by pair_before (zone, block) (pair_at rows.now) n }
 {
-    let mut k = 0;
-    while k < n {
-        if earlier(rows, k, zone, block) {
-            k += 1;
-        } else {
+    for k in 0..n {
+        if !earlier(rows, k, zone, block) {
             return k;
         }
     }
     n
 }
 
-// The same by halves, of rows in order.
+// The same by halves, of rows in order. By hand, since std's `partition_point` goes over the elements of a slice, and a row here is five of them (in soundings_count it is two, in a table
+// of labels alone).
 fn place_by_halves(rows: &[u32], n: usize, zone: u32, block: u32) -> usize
     requires fact_1 { tally_width * n ≤ length rows.now }
     requires fact_2 { InOrder (tallies_in rows.now n) }
@@ -84,16 +71,17 @@ fn place_by_halves(rows: &[u32], n: usize, zone: u32, block: u32) -> usize
     low
 }
 
-// By halves where the rows are known to be in order.
+// By halves where the rows are known to be in order. `ordered` stays a value: C lends the state, so that only a look at the rows tells.
 fn place(rows: &[u32], n: usize, zone: u32, block: u32, ordered: bool) -> usize
     requires fact_1 { tally_width * n ≤ length rows.now }
     requires fact_2 { (ordered ≡ true → InOrder (tallies_in rows.now n)) }
     ensures { result ≡ place_by pair_before (zone, block) (pair_at rows.now) n }
 {
     if ordered {
-        return place_by_halves(rows, n, zone, block);
+        place_by_halves(rows, n, zone, block)
+    } else {
+        place_in_turn(rows, n, zone, block)
     }
-    place_in_turn(rows, n, zone, block)
 }
 
 // Whether row r of n has this pair.
@@ -101,15 +89,7 @@ fn stands(rows: &[u32], n: usize, r: usize, zone: u32, block: u32) -> bool
     requires { tally_width * n ≤ length rows.now }
     ensures { result ≡ (ltb r n && same_pair (pair_at rows.now r) (zone, block)) }
 {
-    if n <= r {
-        return false;
-    }
-    let at = TALLY_WIDTH * r;
-    if rows[at] == zone {
-        rows[at + 1] == block
-    } else {
-        false
-    }
+    r < n && rows[TALLY_WIDTH * r] == zone && rows[TALLY_WIDTH * r + 1] == block
 }
 
 // The sheets of row r with one more face of this file: the file counts once.

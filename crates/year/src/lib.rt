@@ -7,6 +7,6 @@ mod state; // the year so far
 mod next; // one file more
 mod answer; // what comes of the whole run
 
-pub use answer::{Closed, Totals, close};
+pub use answer::{Totals, close};
 pub use next::add;
 pub use state::{Sums, Year, begin};

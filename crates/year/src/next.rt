@@ -6,7 +6,6 @@ ghost use Rattle.paper.specs.Year.{sheet_of};
 ghost use Rattle.laws_year.specs.Step.{or_first};
 ghost use Rattle.laws_year.specs.Capped.{cap_read};
 ghost use Rattle.ovfile.specs.Values.{layout_from};
-ghost use Rattle.ovfile.specs.Known.{Known};
 ghost use Rattle.year.specs.TallyRows.{tally_width};
 ghost use Rattle.year.specs.Faced.{pairs_from, others};
 ghost use Rattle.year.specs.Stated.{minus_one, state_of, year_state, next, Roomy};
@@ -15,8 +14,7 @@ use crate::face::in_order;
 use crate::faces::{add_faces, gaps};
 use crate::state::{Sums, Year, has_room, kept_pairs};
 use limits::{FACE_CELLS, HALF_CELLS, SOURCE_CELLS, VERTEX_CELLS, YEAR_FILES};
-use ovfile::Layout;
-use ovfile_read::{counts, faces_start, judge, layout_in};
+use ovfile_read::{Stored, judge};
 
 // The first bad file + 1, where the next one is bad.
 fn first_bad(bad: u16, files: u16) -> u16
@@ -30,36 +28,32 @@ fn first_bad(bad: u16, files: u16) -> u16
 fn others(faces: u16) -> usize
     ensures { result ≡ faces - 1 }
 {
-    if faces == 0 { 0 } else { (faces - 1) as usize }
+    faces.saturating_sub(1) as usize
 }
 
 // A file that is read, with n faces other than 0.
-fn add_sheet(layout: Layout, file: &[u8], n: usize, rows: &mut [u32], sums: Sums) -> Sums
-    requires fact_1 { Known (layout_from layout) }
-    requires fact_2 { n ≤ others }
-    requires fact_3 { Roomy rows.old sums }
-    requires fact_4 { sums.files < year_files }
-    ensures { state_of rows.new result ≡ cap_read (state_of rows.old sums) (some (pairs_from (layout_from layout) file.now n)) }
+fn add_sheet(stored: &Stored, n: usize, rows: &mut [u32], sums: Sums) -> Sums
+    requires fact_1 { n ≤ others }
+    requires fact_2 { Roomy rows.old sums }
+    requires fact_3 { sums.files < year_files }
+    ensures { state_of rows.new result ≡ cap_read (state_of rows.old sums) (some (pairs_from (layout_from stored.now.layout) stored.now.file.now n)) }
 {
     let number = sums.files + 1;
-    let start = faces_start(layout, file);
     let ordered = in_order(rows, kept_pairs(sums.pairs));
     let pairs = add_faces(
-        layout,
-        file,
-        start,
+        stored,
         n,
         number as u32,
         rows,
         sums.pairs,
         ordered,
     );
-    let gaps = sums.gaps + gaps(layout, file, start, n);
+    let gaps = sums.gaps + gaps(stored, n);
     Sums {
         pairs,
         gaps,
         files: number,
-        bad: sums.bad,
+        ..sums
     }
 }
 
@@ -69,21 +63,13 @@ fn add_read(rows: &mut [u32], sums: Sums, file: &[u8]) -> Sums
     requires fact_2 { sums.files < year_files }
     ensures { state_of rows.new result ≡ cap_read (state_of rows.old sums) (sheet_of file.now) }
 {
-    let check = judge(file, VERTEX_CELLS, HALF_CELLS, SOURCE_CELLS, FACE_CELLS);
-    match check {
+    match judge(file, VERTEX_CELLS, HALF_CELLS, SOURCE_CELLS, FACE_CELLS) {
         Err(_) => Sums {
-            pairs: sums.pairs,
-            gaps: sums.gaps,
             files: sums.files + 1,
             bad: first_bad(sums.bad, sums.files),
+            ..sums
         },
-        Ok(()) => add_sheet(
-            layout_in(file),
-            file,
-            others(counts(file).faces),
-            rows,
-            sums,
-        ),
+        Ok(stored) => add_sheet(&stored, others(stored.counts.faces), rows, sums),
     }
 }
 
@@ -97,10 +83,8 @@ fn add_file(rows: &mut [u32], sums: Sums, file: &[u8]) -> Sums
     }
     if YEAR_FILES <= sums.files {
         return Sums {
-            pairs: sums.pairs,
-            gaps: sums.gaps,
             files: YEAR_FILES + 1,
-            bad: sums.bad,
+            ..sums
         };
     }
     add_read(rows, sums, file)

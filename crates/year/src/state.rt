@@ -51,10 +51,7 @@ fn full(rows: &[u32], r: usize) -> bool
     ensures { result ≡ is_full (tally_at rows.now r) }
 {
     let at = TALLY_WIDTH * r;
-    if ROOMY < rows[at + 2] {
-        return true;
-    }
-    ROOMY < rows[at + 3]
+    ROOMY < rows[at + 2] || ROOMY < rows[at + 3]
 }
 
 // In how many of the first n rows one is.
@@ -75,11 +72,7 @@ fn full_rows(rows: &[u32], n: usize) -> usize
 pub fn kept_pairs(pairs: usize) -> usize
     ensures { result ≡ min year_pairs pairs }
 {
-    if pairs < YEAR_PAIRS {
-        pairs
-    } else {
-        YEAR_PAIRS
-    }
+    pairs.min(YEAR_PAIRS)
 }
 
 // Whether a file's faces can be added to every count. They can after any files; a state that no files give may have counts that leave no room.
@@ -87,8 +80,5 @@ pub fn has_room(rows: &[u32], sums: Sums) -> bool
     requires { tally_width * year_pairs ≤ length rows.now }
     ensures { result ≡ has_room (state_of rows.now sums) }
 {
-    if full_rows(rows, kept_pairs(sums.pairs)) != 0 {
-        return false;
-    }
-    sums.gaps <= ROOMY
+    full_rows(rows, kept_pairs(sums.pairs)) == 0 && sums.gaps <= ROOMY
 }

@@ -11,7 +11,7 @@ use names::name;
 use std::io;
 use std::io::{Eprint, Print};
 use std::rt::{Env, Files};
-use year::{Closed, Year, add, begin, close};
+use year::{Year, add, begin, close};
 
 // One byte more than the longest list of names that is taken.
 const NAMES: usize = 131073;
@@ -112,8 +112,8 @@ fn say_year<'a>(
 ) -> io::Result<()> {
     let rows = so_far.rows;
     match close(so_far, zones, blocks) {
-        Closed::Refused(r) => say_refused(rt, r.number, r.map, r.place),
-        Closed::Done(t) => {
+        Err(r) => say_refused(rt, r.number, r.map, r.place),
+        Ok(t) => {
             say_rows(rt, &rows, t.pairs as usize, zones, blocks)?;
             say(rt, b"gaps ")?;
             say_number(rt, t.gaps as u64)?;

@@ -8,14 +8,11 @@ use Rattle.year.specs.TallyRows.{pair_at}
 use Rattle.year.specs.Risen.{nexts-start, nexts-turn, next_read, next_ordered}
 use Rattle.year.proofs.face.in_order.Goals as goal
 
-pub returns-then-n-eq0 : goal.returns-then-n-eq0
-returns-then-n-eq0 c = λ e. next_ordered (nexts-start c.args.rows.now) c.args.n (omega arith)
-
 pub loop-k-preserved : goal.loop-k-preserved
 loop-k-preserved c =
     let t = c.args.rows.now in
     let k = c.loop-k.k in
-    let e = ap (λ (p : Pair). pair_before (pair_at t k) p) (sym (next_read t k)) ∙ sym c.earlier.ensures ∙ c.if-earlier.true in
+    let e = ap (λ (p : Pair). pair_before (pair_at t k) p) (sym (next_read t k)) ∙ sym c.earlier.ensures ∙ c.if-not-earlier.false in
     (omega arith, nexts-turn c.loop-k.invariant.1 e)
 
 pub returns : goal.returns
@@ -24,6 +21,3 @@ returns c =
 
 pub loop-k-init : goal.loop-k-init
 loop-k-init c = (omega arith, nexts-start _)
-
-pub returns-else-earlier : goal.returns-else-earlier
-returns-else-earlier c e = absurd (clash e refl)

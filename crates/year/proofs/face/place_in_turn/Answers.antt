@@ -7,10 +7,10 @@ use borrow.Author.Rules.{rules}
 use Rattle.year.proofs.face.place_in_turn.Goals as goal
 
 pub loop-k-preserved : goal.loop-k-preserved
-loop-k-preserved c = search_turns c.loop-k.invariant (search rules) (ap not (sym c.earlier.ensures ∙ c.if-earlier.true))
+loop-k-preserved c = search_turns c.loop-k.invariant (search rules) (ap not (sym c.earlier.ensures ∙ c.if-not-earlier.false))
 
-pub returns-else-earlier : goal.returns-else-earlier
-returns-else-earlier c = search_finds c.loop-k.invariant (search rules) (ap not (sym c.earlier.ensures ∙ c.if-earlier.false))
+pub returns-then-not-earlier : goal.returns-then-not-earlier
+returns-then-not-earlier c = search_finds c.loop-k.invariant (search rules) (ap not (sym c.earlier.ensures ∙ c.if-not-earlier.true))
 
 pub loop-k-init : goal.loop-k-init
 loop-k-init c = search_starts

@@ -8,6 +8,3 @@ use Rattle.year.proofs.face.place_in_turn.Given as goal
 
 abbrev pub invariant-loop-k : goal.invariant-loop-k
 invariant-loop-k l = Searching (λ i. not (pair_before (pair_at l.rows i) (l.zone, l.block))) l.n l.k
-
-abbrev pub decreases-loop-k : goal.decreases-loop-k
-decreases-loop-k l = l.n - l.k

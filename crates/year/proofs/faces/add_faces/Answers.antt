@@ -11,9 +11,9 @@ pub add_face-total-requires : goal.add_face-total-requires
 add_face-total-requires c =
     let l = c.loop-f in
     record {
-      fact_1 = omega (arith, c.requires.fact_3, l.invariant.long);
-      fact_2 = add_few l.invariant c.requires.fact_2 c.requires.fact_4;
-      fact_3 = λ e. add-ordered l.invariant (c.requires.fact_5 e);
+      fact_1 = omega (arith, c.requires.fact_2, l.invariant.long);
+      fact_2 = add_few l.invariant c.requires.fact_1 c.requires.fact_3;
+      fact_3 = λ e. add-ordered l.invariant (c.requires.fact_4 e);
     }
 
 pub loop-f-preserved : goal.loop-f-preserved

@@ -11,7 +11,7 @@ pub overflow_add-total : goal.overflow_add-total
 overflow_add-total c =
     let l = c.loop-f in
     let r = gap_turns l.invariant _ _ _ (search rules) c.gap-total.ensures c.label_of-zone.ensures c.label_of-block.ensures in
-    omega (arith, r.few, r.within, c.requires.fact_2)
+    omega (arith, r.few, r.within, c.requires)
 
 pub loop-f-preserved : goal.loop-f-preserved
 loop-f-preserved c = gap_turns c.loop-f.invariant _ _ _ (search rules) c.gap-total.ensures c.label_of-zone.ensures c.label_of-block.ensures
