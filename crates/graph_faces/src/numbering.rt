@@ -7,7 +7,7 @@ ghost use Rattle.graph_faces.specs.Sides.{Sighted};
 ghost use Rattle.graph_faces.specs.Kinds.{Kinded, Known, Faced, hole_of, outer_lead, hole_lead, known_with, known_by, face_from, holes_in};
 
 use super::looking::seen_from;
-use graph::fill;
+use graph::{FlatGraph, fill};
 use limits::ABSENT;
 
 // Whether h is of a hole walk: whether its walk "holds the half-edge of greatest angle out of its own smallest vertex".
@@ -30,11 +30,7 @@ pub fn leads_hole(lead: &[u16], top: &[u16], h: usize) -> bool
 // What is known of the walk that half-edge h is the least of, stored at h, with c outer walks before it: of a hole walk what it sees, of an outer walk its number. The
 // least half-edge of an outer walk is stored, and counted.
 fn tell_walk(
-    points: &[i64],
-    origins: &[u16],
-    carriers: &[i16],
-    n: usize,
-    e: usize,
+    g: FlatGraph,
     rising: bool,
     lead: &[u16],
     top: &[u16],
@@ -43,16 +39,16 @@ fn tell_walk(
     known: &mut [u16],
     leaders: &mut [u16],
 ) -> usize
-    requires fact_1 { Sighted points.now origins.now carriers.now n e rising }
-    requires fact_2 { Kinded lead.now top.now h × (get_or top.now h 0 < 2 * e) × (h < 2 * e) × (c ≤ h) }
+    requires fact_1 { Sighted g.points.now g.origins.now g.carriers.now g.vertices g.edges rising }
+    requires fact_2 { Kinded lead.now top.now h × (get_or top.now h 0 < 2 * g.edges) × (h < 2 * g.edges) × (c ≤ h) }
     requires fact_3 { (h < length known.old) × (c < length leaders.old) }
-    ensures known { known.new ≡ set known.old h (known_with points.now origins.now carriers.now n e lead.now top.now h (c + 1)) }
+    ensures known { known.new ≡ set known.old h (known_with g.entry.points.now g.entry.origins.now g.entry.carriers.now g.entry.vertices g.entry.edges lead.now top.now h (c + 1)) }
     ensures leaders { leaders.new ≡ cond (hole_of lead.now top.now h) leaders.old (set leaders.old c h) }
     ensures counted { result ≡ cond (hole_of lead.now top.now h) c (c + 1) }
 {
     if is_hole(lead, top, h) {
-        let v = origins[top[h] as usize] as usize;
-        known[h] = seen_from(points, origins, carriers, n, e, rising, v);
+        let v = g.origins[top[h] as usize] as usize;
+        known[h] = seen_from(g, rising, v);
         c
     } else {
         known[h] = (c + 1) as u16;
@@ -63,31 +59,25 @@ fn tell_walk(
 
 // What is known of each walk, at its least half-edge; the least half-edges of the outer walks, rising, and how many there are.
 pub fn tell(
-    points: &[i64],
-    origins: &[u16],
-    carriers: &[i16],
-    n: usize,
-    e: usize,
+    g: FlatGraph,
     rising: bool,
     lead: &[u16],
     top: &[u16],
     known: &mut [u16],
     leaders: &mut [u16],
 ) -> usize
-    requires fact_1 { Sighted points.now origins.now carriers.now n e rising }
-    requires fact_2 { Numbers lead.now (2 * e) (2 * e) × Numbers top.now (2 * e) (2 * e) }
-    requires fact_3 { (2 * e ≤ length known.old) × (2 * e ≤ length leaders.old) }
-    ensures known { Known (known_by points.now origins.now carriers.now n e lead.now top.now) lead.now known.new (2 * e) }
-    ensures leaders { leaders.new ≡ over (select (outer_lead lead.now top.now) (2 * e)) leaders.old }
-    ensures counted { result ≡ count (outer_lead lead.now top.now) (2 * e) }
+    requires fact_1 { Sighted g.points.now g.origins.now g.carriers.now g.vertices g.edges rising }
+    requires fact_2 { Numbers lead.now (2 * g.edges) (2 * g.edges) × Numbers top.now (2 * g.edges) (2 * g.edges) }
+    requires fact_3 { (2 * g.edges ≤ length known.old) × (2 * g.edges ≤ length leaders.old) }
+    ensures known { Known (known_by g.entry.points.now g.entry.origins.now g.entry.carriers.now g.entry.vertices g.entry.edges lead.now top.now) lead.now known.new (2 * g.entry.edges) }
+    ensures leaders { leaders.new ≡ over (select (outer_lead lead.now top.now) (2 * g.entry.edges)) leaders.old }
+    ensures counted { result ≡ count (outer_lead lead.now top.now) (2 * g.entry.edges) }
 {
-    let m = 2 * e;
+    let m = 2 * g.edges;
     let mut c = 0;
     for h in 0..m {
         if lead[h] as usize == h {
-            c = tell_walk(
-                points, origins, carriers, n, e, rising, lead, top, h, c, known, leaders,
-            );
+            c = tell_walk(g, rising, lead, top, h, c, known, leaders);
         }
     }
     c

@@ -24,19 +24,19 @@ use Rattle.graph_faces.proofs.linking.enclose_in.Goals.{Start}
 -- ── what is known ──
 module _ (s : Start) where
   abbrev ps : List ℤ
-  ps = s.args.points.now
+  ps = s.args.g.points.now
 
   abbrev os : List ℕ
-  os = s.args.origins.now
+  os = s.args.g.origins.now
 
   abbrev cs : List ℤ
-  cs = s.args.carriers.now
+  cs = s.args.g.carriers.now
 
   abbrev n : ℕ
-  n = s.args.n
+  n = s.args.g.vertices
 
   abbrev e : ℕ
-  e = s.args.e
+  e = s.args.g.edges
 
   abbrev lead : List ℕ
   lead = s.args.lead.now

@@ -21,19 +21,19 @@ use Rattle.graph_faces.proofs.links.link_in.Goals.{After-follow_stars, After-hea
 -- ── what is known ──
 module _ (s : Start) where
   abbrev ps : List ℤ
-  ps = s.args.points.now
+  ps = s.args.g.points.now
 
   abbrev os : List ℕ
-  os = s.args.origins.now
+  os = s.args.g.origins.now
 
   abbrev cs : List ℤ
-  cs = s.args.carriers.now
+  cs = s.args.g.carriers.now
 
   abbrev n : ℕ
-  n = s.args.n
+  n = s.args.g.vertices
 
   abbrev e : ℕ
-  e = s.args.e
+  e = s.args.g.edges
 
   abbrev ways₀ : List ℤ
   ways₀ = s.args.ways.now

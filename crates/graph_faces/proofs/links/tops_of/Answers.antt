@@ -22,19 +22,19 @@ use Rattle.graph_faces.proofs.links.tops_of.Goals.{Start}
 -- ── what is known ──
 module _ (s : Start) where
   abbrev ps : List ℤ
-  ps = s.args.points.now
+  ps = s.args.g.points.now
 
   abbrev os : List ℕ
-  os = s.args.origins.now
+  os = s.args.g.origins.now
 
   abbrev cs : List ℤ
-  cs = s.args.carriers.now
+  cs = s.args.g.carriers.now
 
   abbrev n : ℕ
-  n = s.args.n
+  n = s.args.g.vertices
 
   abbrev e : ℕ
-  e = s.args.e
+  e = s.args.g.edges
 
   abbrev lead : List ℕ
   lead = s.args.lead.now
@@ -42,28 +42,28 @@ module _ (s : Start) where
   abbrev greatest : List ℕ
   greatest = s.args.greatest.now
 
-  abbrev F : Flat s.args.points.now s.args.origins.now s.args.carriers.now s.args.n s.args.e
+  abbrev F : Flat s.args.g.points.now s.args.g.origins.now s.args.g.carriers.now s.args.g.vertices s.args.g.edges
   F = s.requires.fact_1
 
-  abbrev P : Plane (flat_graph s.args.points.now s.args.origins.now s.args.carriers.now s.args.n s.args.e)
+  abbrev P : Plane (flat_graph s.args.g.points.now s.args.g.origins.now s.args.g.carriers.now s.args.g.vertices s.args.g.edges)
   P = s.requires.fact_3
 
-  abbrev L : Holds (lead_at (walks_of (flat_graph s.args.points.now s.args.origins.now s.args.carriers.now s.args.n s.args.e))) s.args.lead.now (2 * s.args.e)
+  abbrev L : Holds (lead_at (walks_of (flat_graph s.args.g.points.now s.args.g.origins.now s.args.g.carriers.now s.args.g.vertices s.args.g.edges))) s.args.lead.now (2 * s.args.g.edges)
   L = s.requires.fact_5.0
 
-  abbrev G : Holds (λ v. Option·getD (greatest_out (flat_graph s.args.points.now s.args.origins.now s.args.carriers.now s.args.n s.args.e) v) absent) s.args.greatest.now s.args.n
+  abbrev G : Holds (λ v. Option·getD (greatest_out (flat_graph s.args.g.points.now s.args.g.origins.now s.args.g.carriers.now s.args.g.vertices s.args.g.edges) v) absent) s.args.greatest.now s.args.g.vertices
   G = s.requires.fact_5.1
 
-  big : 2 * s.args.e ≤ absent
+  big : 2 * s.args.g.edges ≤ absent
   big = omega (arith, s.requires.fact_2.0)
 
-  leaders : Numbers s.args.lead.now (2 * s.args.e) (2 * s.args.e)
+  leaders : Numbers s.args.lead.now (2 * s.args.g.edges) (2 * s.args.g.edges)
   leaders = lead-numbers ps os cs n e F P lead L
 
-  starts : Numbers s.args.origins.now (2 * s.args.e) (length s.args.greatest.now)
+  starts : Numbers s.args.g.origins.now (2 * s.args.g.edges) (length s.args.greatest.now)
   starts = record { long = F.origins.long; named = λ i l. omega (arith, F.origins.named i l, G.long) }
 
-  lows : (low : List ℕ) → low ≡ filled (2 * s.args.e) (low_at s.args.points.now s.args.origins.now s.args.lead.now (2 * s.args.e)) (replicate 4000 0) → Holds (low_at s.args.points.now s.args.origins.now s.args.lead.now (2 * s.args.e)) low (2 * s.args.e)
+  lows : (low : List ℕ) → low ≡ filled (2 * s.args.g.edges) (low_at s.args.g.points.now s.args.g.origins.now s.args.lead.now (2 * s.args.g.edges)) (replicate 4000 0) → Holds (low_at s.args.g.points.now s.args.g.origins.now s.args.lead.now (2 * s.args.g.edges)) low (2 * s.args.g.edges)
   lows low O = low_holds ps os cs n e F P lead 4000 (omega (arith, s.requires.fact_2.0)) low O
 
 -- ── the needs ──

@@ -15,8 +15,8 @@ use Rattle.graph_faces.proofs.looking.look_from.Goals as goal
 use Rattle.graph_faces.proofs.looking.look_from.Goals.{Start, else-strictly_west, then-strictly_west}
 
 -- the edges are carried, and p is a point
-carried : (s : Start) (k : ℕ) → k < s.args.e → Carried s.args.carriers.now k
-carried s = flat-carried s.args.points.now s.args.origins.now s.args.carriers.now s.args.n s.args.e s.requires.fact_1.flat
+carried : (s : Start) (k : ℕ) → k < s.args.g.edges → Carried s.args.g.carriers.now k
+carried s = flat-carried s.args.g.points.now s.args.g.origins.now s.args.g.carriers.now s.args.g.vertices s.args.g.edges s.requires.fact_1.flat
 
 near : (s : Start) → Near (pt_of s.args.p)
 near s = subst Near (sym s.requires.fact_2.1) (s.requires.fact_1.flat.points.near s.args.v s.requires.fact_2.0)
@@ -37,10 +37,10 @@ pub overflow_cast-result : goal.overflow_cast-result
 overflow_cast-result c =
     omega (arith, c.requires.fact_1.small, pick-most c.loop-k.invariant)
 
-pub returns-then-r-e : goal.returns-then-r-e
-returns-then-r-e c =
-    pick-lacks c.loop-k.invariant (search rules) c.if-r-e.true ∙ flat-best c.args.points.now c.args.origins.now c.args.carriers.now c.args.n c.args.e c.requires.fact_1.flat (pt_of c.args.p) (near (goal.at.returns-then-r-e c).Start) nowhere
+pub returns-then-r-g : goal.returns-then-r-g
+returns-then-r-g c =
+    pick-lacks c.loop-k.invariant (search rules) c.if-r-g.true ∙ flat-best c.args.g.points.now c.args.g.origins.now c.args.g.carriers.now c.args.g.vertices c.args.g.edges c.requires.fact_1.flat (pt_of c.args.p) (near (goal.at.returns-then-r-g c).Start) nowhere
 
-pub returns-else-r-e : goal.returns-else-r-e
-returns-else-r-e c =
-    pick_has c.loop-k.invariant (search rules) c.if-r-e.false ∙ flat-best c.args.points.now c.args.origins.now c.args.carriers.now c.args.n c.args.e c.requires.fact_1.flat (pt_of c.args.p) (near (goal.at.returns-else-r-e c).Start) nowhere
+pub returns-else-r-g : goal.returns-else-r-g
+returns-else-r-g c =
+    pick_has c.loop-k.invariant (search rules) c.if-r-g.false ∙ flat-best c.args.g.points.now c.args.g.origins.now c.args.g.carriers.now c.args.g.vertices c.args.g.edges c.requires.fact_1.flat (pt_of c.args.p) (near (goal.at.returns-else-r-g c).Start) nowhere

@@ -7,4 +7,4 @@ use Rattle.graph.specs.Look.{candidate_at, nearer_at}
 use Rattle.graph_faces.proofs.looking.look_from.Given as goal
 
 abbrev pub invariant-loop-k : goal.invariant-loop-k
-invariant-loop-k l = Picking (candidate_at l.points l.origins l.carriers (pt_of l.p) nowhere) (nearer_at l.carriers (pt_of l.p)) l.e l.r l.k
+invariant-loop-k l = Picking (candidate_at l.g.points.now l.g.origins.now l.g.carriers.now (pt_of l.p) nowhere) (nearer_at l.g.carriers.now (pt_of l.p)) l.g.edges l.r l.k

@@ -29,8 +29,8 @@ east_side-requires c =
     let p = pt_of c.point_at-p.result in
     let near = subst Near (sym c.point_at-p.ensures) (F.points.near a.v c.requires.fact_2) in
     let q = sym c.look_from-seen.ensures ∙ ap the_seen_of c.in-Some.is in
-    let l = seen_below a.points.now a.origins.now a.carriers.now a.n a.e F p near nowhere k q in
-    let ends = flat_ends a.points.now a.origins.now a.carriers.now a.n a.e F k l in
+    let l = seen_below a.g.points.now a.g.origins.now a.g.carriers.now a.g.vertices a.g.edges F p near nowhere k q in
+    let ends = flat_ends a.g.points.now a.g.origins.now a.g.carriers.now a.g.vertices a.g.edges F k l in
     (omega (arith, c.requires.fact_1.small), ends.0, ends.1)
 
 pub overflow_cast-result : goal.overflow_cast-result
@@ -41,27 +41,27 @@ overflow_cast-result c =
     let p = pt_of c.point_at-p.result in
     let near = subst Near (sym c.point_at-p.ensures) (F.points.near a.v c.requires.fact_2) in
     let q = sym c.look_from-seen.ensures ∙ ap the_seen_of c.in-Some.is in
-    omega (arith, c.requires.fact_1.small, seen_below a.points.now a.origins.now a.carriers.now a.n a.e F p near nowhere k q, c.east_side.ensures, east-le a.points.now a.origins.now k)
+    omega (arith, c.requires.fact_1.small, seen_below a.g.points.now a.g.origins.now a.g.carriers.now a.g.vertices a.g.edges F p near nowhere k q, c.east_side.ensures, east-le a.g.points.now a.g.origins.now k)
 
 pub returns-in-None : goal.returns-in-None
 returns-in-None c =
     let a = c.args in
     let F = c.requires.fact_1.flat in
-    let g = flat_graph a.points.now a.origins.now a.carriers.now a.n a.e in
+    let g = flat_graph a.g.points.now a.g.origins.now a.g.carriers.now a.g.vertices a.g.edges in
     let p = pt_of c.point_at-p.result in
     let near = subst Near (sym c.point_at-p.ensures) (F.points.near a.v c.requires.fact_2) in
     ap (λ (o : Option ℕ). Option·getD o absent)
-    (ap (Option·map (east_side g)) (sym (ap the_seen_of c.in-None.is) ∙ c.look_from-seen.ensures) ∙ flat-west a.points.now a.origins.now a.carriers.now a.n a.e F p near nowhere
+    (ap (Option·map (east_side g)) (sym (ap the_seen_of c.in-None.is) ∙ c.look_from-seen.ensures) ∙ flat-west a.g.points.now a.g.origins.now a.g.carriers.now a.g.vertices a.g.edges F p near nowhere
     ∙ ap (λ (q : Pt). west g q nowhere) c.point_at-p.ensures)
 
 pub returns-in-Some : goal.returns-in-Some
 returns-in-Some c =
     let a = c.args in
     let F = c.requires.fact_1.flat in
-    let g = flat_graph a.points.now a.origins.now a.carriers.now a.n a.e in
+    let g = flat_graph a.g.points.now a.g.origins.now a.g.carriers.now a.g.vertices a.g.edges in
     let k = c.in-Some.k in
     let p = pt_of c.point_at-p.result in
     let near = subst Near (sym c.point_at-p.ensures) (F.points.near a.v c.requires.fact_2) in
     let q = sym c.look_from-seen.ensures ∙ ap the_seen_of c.in-Some.is in
     ap (λ (o : Option ℕ). Option·getD o absent)
-    (ap some c.east_side.ensures ∙ seen-east a.points.now a.origins.now a.carriers.now a.n a.e F p near nowhere k q ∙ ap (λ (q : Pt). west g q nowhere) c.point_at-p.ensures)
+    (ap some c.east_side.ensures ∙ seen-east a.g.points.now a.g.origins.now a.g.carriers.now a.g.vertices a.g.edges F p near nowhere k q ∙ ap (λ (q : Pt). west g q nowhere) c.point_at-p.ensures)

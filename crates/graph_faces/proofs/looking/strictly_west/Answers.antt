@@ -13,5 +13,5 @@ pub returns-then-one_side : goal.returns-then-one_side
 returns-then-one_side c =
     let a = c.args in
     let S = c.requires.fact_1 in
-    sym (ap (λ (q : Pt). candidate_at a.points.now a.origins.now a.carriers.now q nowhere a.k) c.requires.fact_2.2
-    ∙ one_side_none a.points.now a.origins.now a.carriers.now a.n a.e S.flat S.plane (S.rises c.if-rising.true) a.k c.requires.fact_2.0 a.v c.requires.fact_2.1 (sym c.one_side.ensures ∙ c.if-one_side.true))
+    sym (ap (λ (q : Pt). candidate_at a.g.points.now a.g.origins.now a.g.carriers.now q nowhere a.k) c.requires.fact_2.2
+    ∙ one_side_none a.g.points.now a.g.origins.now a.g.carriers.now a.g.vertices a.g.edges S.flat S.plane (S.rises c.if-rising.true) a.k c.requires.fact_2.0 a.v c.requires.fact_2.1 (sym c.one_side.ensures ∙ c.if-one_side.true))

@@ -17,7 +17,7 @@ loop-h-init c =
     (tell_starts c.requires.fact_3.0, select_starts c.requires.fact_3.1)
 
 -- what is read of one of the half-edges is there
-kinded : (s : Start) (h : ℕ) → h < 2 * s.args.e → Kinded s.args.lead.now s.args.top.now h
+kinded : (s : Start) (h : ℕ) → h < 2 * s.args.g.edges → Kinded s.args.lead.now s.args.top.now h
 kinded s h b =
     let t = s.requires.fact_2.1 in
     let r = s.requires.fact_2.0 in
@@ -43,7 +43,7 @@ loop-h-preserved c =
     let r = c.loop-h.invariant.1 in
     elim c.if-lead-h.branch [
       | then-lead-h w ↦ (
-        rw (w.known-is ∙ w.tell_walk-c.ensures.known) (tell-takes t b (ap (λ (k : ℕ). known_with a.points.now a.origins.now a.carriers.now a.n a.e a.lead.now a.top.now c.loop-h.h k) (add-one c.loop-h.c ∙ ap suc r.counted.is))),
+        rw (w.known-is ∙ w.tell_walk-c.ensures.known) (tell-takes t b (ap (λ (k : ℕ). known_with a.g.points.now a.g.origins.now a.g.carriers.now a.g.vertices a.g.edges a.lead.now a.top.now c.loop-h.h k) (add-one c.loop-h.c ∙ ap suc r.counted.is))),
         outer_turns a.lead.now a.top.now r b w.if-lead-h.true (w.leaders-is ∙ w.tell_walk-c.ensures.leaders) (w.c-is ∙ w.tell_walk-c.ensures.counted),
       )
       | else-lead-h w ↦ (rw w.known-is (tell-skips t b w.if-lead-h.false), rw (w.leaders-is, w.c-is) (outer-skips a.lead.now a.top.now r b w.if-lead-h.false))
