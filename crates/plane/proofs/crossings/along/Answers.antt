@@ -43,12 +43,6 @@ returns c =
     let is : pt (back (back (back s.x *ℤ back d) +ℤ back (back n *ℤ back s.u))) (back (back (back s.y *ℤ back d) +ℤ back (back n *ℤ back s.v))) (back d) ≡ point_along (seg_of s) n d = λ i. pt (x i) (y i) (z i) in
     record { is = is; near = subst Near (sym is) (near st) }
 
-pub overflow_mul-result : goal.overflow_mul-result
-overflow_mul-result c = fits (search tr depth 20) tt
-
-pub overflow_mul-result-2 : goal.overflow_mul-result-2
-overflow_mul-result-2 c = fits (search tr depth 20) tt
-
 pub overflow_add-result : goal.overflow_add-result
 overflow_add-result c = fits (search tr depth 20) tt
 

@@ -1,8 +1,7 @@
 -- `plane::crossings::cross_at` meets its contract: what `along` gives, in lowest terms, is the point of the definition. Assumes nothing.
-use mathlib.Core.Path.{◌≡◌, refl, sym, ◌∙◌, ap, subst, subst₂}
+use mathlib.Core.Path.{◌≡◌, refl, sym, ◌∙◌, ap, subst}
 use mathlib.Core.Bool.{Bool, cond, ◌&&◌}
-use lib.IntN.{ℤ, pos}
-use lib.Signed.{◌<ℤ◌}
+use lib.IntN.{ℤ}
 use borrow.Author.Rules.{rules}
 use Rattle.seq.specs.Seq.{none, some}
 use Rattle.paper.specs.Plane.{Seg, within, cross_at}
@@ -21,20 +20,6 @@ by s n m d e f = λ i. cond (e i && f i) (some (lowest_of (point_along s n d))) 
 -- the test of a parameter, as the machine makes it
 told : (n d : ℤ) → Over n d → within (back n) (back d) ≡ within n d
 told n d o = λ i. within (number_back n o.n_is i) (number_back d o.d_is i)
-
-pub along-p-requires : goal.along-p-requires
-along-p-requires c =
-    let after-within : After-within = search rules in
-    let st : Start = search rules in
-    let a = st.args in
-    let o = st.requires.1 in
-    (st.requires.0, subst₂ Over (sym (number_back a.n o.n_is)) (sym (number_back a.d o.d_is)) o, sym after-within.within.ensures ∙ c.if-within.true)
-
-pub lowest-q-requires : goal.lowest-q-requires
-lowest-q-requires c =
-    let after-along : After-along-p = search rules in
-    let p = after-along.along-p in
-    subst (λ (z : ℤ). pos 0 <ℤ z) (sym (number_back p.result.d p.ensures.near.D-is)) p.ensures.near.positive
 
 pub returns-then-within-2 : goal.returns-then-within-2
 returns-then-within-2 c =

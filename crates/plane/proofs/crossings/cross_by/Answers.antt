@@ -26,13 +26,6 @@ cross_at-requires c =
     let d = sym (turned_back a.d p.3) in
     (p.0, subst₂ Over (sym (turned_back a.n p.1)) d (turned a.n a.d p.1 p.3 (negative c)), subst₂ Over (sym (turned_back a.m p.2)) d (turned a.m a.d p.2 p.3 (negative c)))
 
-pub cross_at-requires-in-Greater : goal.cross_at-requires-in-Greater
-cross_at-requires-in-Greater c =
-    let a = c.args in
-    let p = c.requires in
-    let d = sym (number_back a.d p.3) in
-    (p.0, subst₂ Over (sym (number_back a.n p.1)) d (record { positive = positive c; n_is = p.1; d_is = p.3 }), subst₂ Over (sym (number_back a.m p.2)) d (record { positive = positive c; n_is = p.2; d_is = p.3 }))
-
 pub returns-in-Less : goal.returns-in-Less
 returns-in-Less c =
     let a = c.args in

@@ -1,18 +1,12 @@
 -- `plane::crossings::crossing_over` meets its contract: the numbers of its calls are those of the definition. Assumes nothing.
 use mathlib.Core.Path.{◌≡◌, ◌∙◌}
-use borrow.Author.Rules.{rules}
-use Rattle.exact.specs.Mach.{tr, tru, plain, atmost}
+use Rattle.exact.specs.Mach.{tr, plain}
 use Rattle.paper.specs.Plane.{cross_by}
 use Rattle.plane.specs.Values.{seg_of}
 use Rattle.plane.specs.Parameters.{first_over, number_over}
 use Rattle.plane.proofs.Machine.{back, number_back}
 use Rattle.plane.proofs.crossings.crossing_over.Goals as goal
 use Rattle.plane.proofs.crossings.crossing_over.Goals.{Start}
-
-pub cross_by-requires : goal.cross_by-requires
-cross_by-requires c =
-    let start : Start = search rules in
-    (start.requires.0, atmost (search tru depth 20) tt, atmost (search tru depth 20) tt, atmost (search tru depth 20) tt)
 
 pub returns : goal.returns
 returns c =

@@ -1,15 +1,10 @@
 -- `plane::crossings::number_over` meets its contract. Assumes nothing.
 use mathlib.Core.Path.{◌≡◌, ◌∙◌}
 use lib.IntN.{◌-ℤ◌}
-use Rattle.exact.specs.Mach.{tr, tru, fits, plain, atmost}
+use Rattle.exact.specs.Mach.{tr, tru, plain, atmost}
 use Rattle.paper.specs.Plane.{vec, cross}
 use Rattle.plane.proofs.Machine.{back, vec_back}
 use Rattle.plane.proofs.crossings.number_over.Goals as goal
-
-pub cross_of-requires : goal.cross_of-requires
-cross_of-requires c =
-    let p = c.requires in
-    (record { x_is = atmost (search tru depth 20) tt; y_is = atmost (search tru depth 20) tt }, record { x_is = atmost (search tru depth 20) tt; y_is = atmost (search tru depth 20) tt })
 
 pub returns : goal.returns
 returns c =
@@ -24,9 +19,3 @@ returns c =
       is = plain (search tr depth 20) tt ∙ c.cross_of.ensures.is ∙ (λ i. cross (vec (x i) (y i)) (vec_back e.u e.v p.2.up_is i));
       bound = atmost (search tru depth 20) tt;
     }
-
-pub overflow_sub-t : goal.overflow_sub-t
-overflow_sub-t c = fits (search tr depth 20) tt
-
-pub overflow_sub-t-2 : goal.overflow_sub-t-2
-overflow_sub-t-2 c = fits (search tr depth 20) tt

@@ -4,7 +4,7 @@ use lib.IntN.{◌*ℤ◌}
 use Rattle.exact.specs.Exact.{sgn}
 use Rattle.exact.specs.Compare.{sign_of, cmp_sign}
 use Rattle.plane.proofs.Machine.{back}
-use Rattle.plane.proofs.Fractions.{Short, short_of, first_fits, second_fits, short, factors, long}
+use Rattle.plane.proofs.Fractions.{Short, short_of, first_fits, second_fits, short}
 use Rattle.plane.proofs.order.crosswise.Goals as goal
 use Rattle.plane.proofs.order.crosswise.Goals.{Then-short_way}
 
@@ -26,14 +26,8 @@ overflow_mul-m c =
     let a = c.args in
     second_fits a.n a.d a.m a.e c.requires.0 c.requires.1 (is-short (goal.at.overflow_mul-m c).Then-short_way)
 
-pub products-requires : goal.products-requires
-products-requires c = let s = c.before.before in let a = s.args in factors a.n a.d a.m a.e s.requires.0 s.requires.1
-
 pub returns-then-short_way : goal.returns-then-short_way
 returns-then-short_way c =
     let a = c.args in
     ap sign_of c.cmp.ensures ∙ cmp_sign (back (back a.n *ℤ back a.e)) (back (back a.m *ℤ back a.d))
     ∙ ap sgn (short a.n a.d a.m a.e c.requires.0 c.requires.1 (is-short (goal.at.returns-then-short_way c).Then-short_way))
-
-pub returns-else-short_way : goal.returns-else-short_way
-returns-else-short_way c = let s = c.before.before.before in let a = s.args in c.products.ensures ∙ ap sgn (long a.n a.d a.m a.e s.requires.0 s.requires.1)

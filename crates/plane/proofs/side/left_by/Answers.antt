@@ -5,9 +5,6 @@ use Rattle.plane.proofs.side.left_by.Goals as goal
 pub returns : goal.returns
 returns c = record { is = plain (search tr depth 20) tt; bound = atmost (search tru depth 20) tt }
 
-pub overflow_mul-result : goal.overflow_mul-result
-overflow_mul-result c = fits (search tr depth 20) tt
-
 pub overflow_sub-result : goal.overflow_sub-result
 overflow_sub-result c = fits (search tr depth 20) tt
 
