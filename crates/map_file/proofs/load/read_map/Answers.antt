@@ -1,14 +1,7 @@
 -- `map_file::load::read_map` meets its contract: what stands behind the header is the map's, at the counts that the header has. Assumes nothing.
-use mathlib.Core.Path.{ap}
-use Rattle.map_file.specs.declared.reader.Header.{Header}
 use Rattle.map_file.proofs.PlacesLaws.{points-read, origins-read, labels-read}
 use Rattle.map_file.proofs.load.read_map.Goals as goal
 use Rattle.map_file.proofs.load.read_map.Goals.{After-read_body, Start}
-
-pub read_body-requires : goal.read_body-requires
-read_body-requires c =
-    let is = c.requires.fact_1 in
-    rw (ap (λ (h : Header). h.vertices) is, ap (λ (h : Header). h.edges) is) c.requires.fact_2
 
 pub returns : goal.returns
 returns c =

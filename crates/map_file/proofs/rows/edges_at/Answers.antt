@@ -4,8 +4,7 @@ use Rattle.std.specs.Prelude.{◌+◌}
 use mathlib.Core.Path.{◌∙◌, ap}
 use native.Mathlib.Omega.{arith}
 use borrow.Author.Rules.{rules}
-use lib.ListN.{length-set}
-use Rattle.seq.specs.Loops.Filling.{fill_starts, fill_ends}
+use Rattle.seq.specs.Loops.Filling.{fill_starts}
 use Rattle.seq.specs.Seq.{ℕ}
 use Rattle.paper.specs.Bytes.{u16}
 use Rattle.map_file.proofs.PlacesLaws.{from_is, to_is, left_is, right_is, fill_two}
@@ -25,18 +24,3 @@ loop-k-preserved c =
 
 pub loop-k-init : goal.loop-k-init
 loop-k-init c = (fill_starts (search rules), fill_starts (search rules), search rules)
-
-pub bounds-origins-h-in-loop-k : goal.bounds-origins-h-in-loop-k
-bounds-origins-h-in-loop-k c = simp length-set (omega arith)
-
-pub bounds-labels-h-in-loop-k : goal.bounds-labels-h-in-loop-k
-bounds-labels-h-in-loop-k c = simp length-set (omega arith)
-
-pub shape_of-origins : goal.shape_of-origins
-shape_of-origins c = c.loop-k.invariant.0.kept
-
-pub shape_of-labels : goal.shape_of-labels
-shape_of-labels c = c.loop-k.invariant.1.kept
-
-pub returns : goal.returns
-returns c = (omega arith, fill_ends c.loop-k.invariant.0 (omega arith), fill_ends c.loop-k.invariant.1 (omega arith))

@@ -3,11 +3,10 @@
 use Rattle.std.specs.Prelude.{◌∷◌, ◌+◌}
 use mathlib.Core.Path.{refl, ◌∙◌, ap}
 use native.Mathlib.Omega.{arith}
-use borrow.Author.Rules.{rules}
 use mir.Syntax.{w64}
 use mir.ValLaws.{to_z-of_z}
 use Rattle.seq.specs.Seq.{[], ℕ, pos}
-use Rattle.seq.specs.Loops.Storing.{lay_starts, lay_turns, lay_ends}
+use Rattle.seq.specs.Loops.Storing.{lay_turns, lay_ends}
 use Rattle.paper.specs.Bytes.{signed_at}
 use Rattle.map_file.proofs.rows.points_at.Goals as goal
 use Rattle.map_file.proofs.rows.points_at.Goals.{After-i16_at-x, After-i16_at-y, At-loop-v, Start}
@@ -19,12 +18,6 @@ loop-v-preserved c =
     let x = to_z-of_z w64 _ (record { sfits = c.i16_at-x.type_inv }) ∙ c.i16_at-x.ensures ∙ ap (signed_at 2 s) here in
     let y = to_z-of_z w64 _ (record { sfits = c.i16_at-y.type_inv }) ∙ c.i16_at-y.ensures ∙ ap (λ (p : ℕ). signed_at 2 s (p + 2)) here in
     (lay_turns c.loop-v.invariant.0 (λ k. refl) (omega arith) c.store.ensures (λ i. x i ∷ y i ∷ pos 1 ∷ pos 0 ∷ []), omega arith)
-
-pub loop-v-init : goal.loop-v-init
-loop-v-init c = (lay_starts (search rules), search rules)
-
-pub shape_of-points : goal.shape_of-points
-shape_of-points c = c.loop-v.invariant.0.kept
 
 pub returns : goal.returns
 returns c = (omega arith, lay_ends c.loop-v.invariant.0 (λ k. refl) (omega arith))
