@@ -1,10 +1,10 @@
 -- The overlay edge record in tables with room for the edge, and without: from five stored numbers it is the definition's. Assumes nothing.
-use Rattle.std.specs.Prelude.{◌&&◌, ◌+◌, ◌*◌, ◌/◌}
+use Rattle.std.specs.Prelude.{◌&&◌, ◌+◌, ◌*◌}
 use mathlib.Core.Path.{◌≡◌, sym, ◌∙◌, ap}
-use Prim.Native.Nat.{◌≤◌, ◌<◌}
-use native.Mathlib.Nat.{min-le_left, min-le_right, add-zero}
+use Prim.Native.Nat.{◌<◌}
+use native.Mathlib.Nat.{add-zero}
 use native.Mathlib.Omega.{arith}
-use borrow.Author.Tests.{lt-ltb, le-ltb}
+use borrow.Author.Tests.{lt-ltb}
 use Rattle.seq.specs.Seq.{Bool, cond, List, [], Option, none, Option·map, ℕ, length, get_or, cell}
 use Rattle.paper.specs.Limits.{maps}
 use Rattle.paper.specs.Tables.{half_width}
@@ -14,13 +14,6 @@ use Rattle.tables.specs.Values.{tables_by, lengths_by}
 use Rattle.tables.specs.Found.{all_numbers, edge_with, record_by}
 
 module _ (hs ss : List ℕ) (k : ℕ) where
-  -- the rows of an edge for which there is room
-  pub room_halves : k < edge_room maps (lengths_by 0 (length hs) (length ss) 0) → half_width * (2 * k) + 2 * half_width ≤ length hs
-  room_halves h = omega (arith, min-le_left (length hs / half_width / 2) (length ss / maps))
-
-  pub room_sources : k < edge_room maps (lengths_by 0 (length hs) (length ss) 0) → maps * k + maps ≤ length ss
-  room_sources h = omega (arith, min-le_right (length hs / half_width / 2) (length ss / maps))
-
   -- the record, where the tables have room for the edge or not
   abbrev record_if : Bool → Option OverlayEdge
   record_if t = let a = cell 0 maps ss k 0 in let b = cell 0 maps ss k 1 in let c = cell 0 maps ss k 2 in
@@ -36,6 +29,3 @@ module _ (hs ss : List ℕ) (k : ℕ) where
       let b = sym (add-zero (maps * k)) in
       (λ i. record_by (get_or hs (a i) 0) (get_or hs (two i) 0) (get_or ss (b i) 0) (get_or ss (maps * k + 1) 0) (get_or ss (maps * k + 2) 0))
       ∙ ap record_if (sym (lt-ltb k (edge_room maps (lengths_by 0 (length hs) (length ss) 0)) h))
-
-  pub record_not : edge_room maps (lengths_by 0 (length hs) (length ss) 0) ≤ k → none ≡ edge_record (tables_by [] hs ss []) k
-  record_not h = ap record_if (sym (le-ltb k (edge_room maps (lengths_by 0 (length hs) (length ss) 0)) h))

@@ -6,14 +6,10 @@ use native.Mathlib.Nat.{add-zero}
 use lib.ListN.{get_or}
 use native.Mathlib.Omega.{arith}
 use Rattle.seq.specs.Seq.{cell}
-use Rattle.seq.specs.Loops.Storing.{lay_starts, lay_turns, lay_ends}
+use Rattle.seq.specs.Loops.Storing.{lay_turns, lay_ends}
 use Rattle.paper.specs.Limits.{maps}
 use Rattle.tables.proofs.face_rows.lay.Goals as goal
 use Rattle.tables.proofs.face_rows.lay.Goals.{At-loop-f, Start}
-
-pub loop-f-init : goal.loop-f-init
-loop-f-init c =
-    lay_starts c.requires.0
 
 pub loop-f-preserved : goal.loop-f-preserved
 loop-f-preserved c =

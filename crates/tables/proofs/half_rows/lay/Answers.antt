@@ -2,22 +2,10 @@
 use mathlib.Core.Path.{refl}
 use mathlib.Core.List.{[], ◌∷◌}
 use native.Mathlib.Omega.{arith}
-use Rattle.seq.specs.Loops.Storing.{lay_starts, lay_turns, lay_ends}
+use Rattle.seq.specs.Loops.Storing.{lay_turns, lay_ends}
 use Rattle.seq.specs.Seq.{get_or}
-use Rattle.tables.proofs.RowLaws.{twin-le}
 use Rattle.tables.proofs.half_rows.lay.Goals as goal
 use Rattle.tables.proofs.half_rows.lay.Goals.{After-twin-other, At-loop-h, Start}
-
-pub loop-h-init : goal.loop-h-init
-loop-h-init c =
-    lay_starts c.requires.1
-
-pub twin-other-requires : goal.twin-other-requires
-twin-other-requires c =
-    omega (arith, c.requires.0)
-
-pub overflow_cast-other : goal.overflow_cast-other
-overflow_cast-other c = omega (arith, twin-le c.loop-h.h, c.twin-other.ensures)
 
 pub loop-h-preserved : goal.loop-h-preserved
 loop-h-preserved c =

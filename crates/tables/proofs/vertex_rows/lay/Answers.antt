@@ -3,16 +3,12 @@ use mathlib.Core.Path.{refl, ◌∙◌}
 use mathlib.Core.List.{[], ◌∷◌}
 use Prim.Native.Nat.{◌+◌, ◌*◌}
 use native.Mathlib.Omega.{arith}
-use Rattle.seq.specs.Loops.Storing.{lay_starts, lay_turns, lay_ends}
+use Rattle.seq.specs.Loops.Storing.{lay_turns, lay_ends}
 use mir.Syntax.{w64}
 use mir.ValLaws.{to_z-of_z}
 use Rattle.graph.proofs.Rows.{read, read_first}
 use Rattle.tables.proofs.vertex_rows.lay.Goals as goal
 use Rattle.tables.proofs.vertex_rows.lay.Goals.{After-d-1, After-from-h, After-x-1, After-y-1, At-loop-v, Start}
-
-pub loop-v-init : goal.loop-v-init
-loop-v-init c =
-    lay_starts c.requires.0
 
 pub loop-v-preserved : goal.loop-v-preserved
 loop-v-preserved c =
