@@ -2,7 +2,8 @@
 ghost use Rattle.std.specs.Prelude.{◌≡◌, ◌*◌, ◌≤◌, ◌<◌, length};
 ghost use Rattle.seq.specs.Seq.{least};
 ghost use Rattle.paper.specs.Limits.{absent};
-ghost use Rattle.graph.specs.Flat.{origin_at, Starts, Flat};
+ghost use Rattle.graph.specs.Given.{Drawn};
+ghost use Rattle.graph.specs.Flat.{origin_at, Starts};
 ghost use Rattle.map_check.specs.Labels.{earlier_at, smallest_at, makes_hole_at, seen_west, disagrees_at, Walked, Linked};
 
 use graph::{FlatGraph, seen_label, start};
@@ -52,70 +53,36 @@ fn makes_hole(
 }
 
 // The label of the half-edge seen strictly west of where h starts, or 0 where the outside is seen.
-fn seen_west(
-    points: &[i64],
-    origins: &[u16],
-    carriers: &[i16],
-    labels: &[u16],
-    n: usize,
-    e: usize,
-    h: usize,
-) -> u16
-    requires fact_1 { Flat points.now origins.now carriers.now n e }
-    requires fact_2 { 2 * e ≤ absent }
-    requires fact_3 { 2 * e ≤ length labels.now }
-    requires fact_4 { h < 2 * e }
-    ensures { result ≡ seen_west points.now origins.now carriers.now labels.now n e h }
+fn seen_west(g: FlatGraph, labels: &[u16], h: usize) -> u16
+    requires fact_1 { Drawn g }
+    requires fact_2 { 2 * g.edges ≤ absent }
+    requires fact_3 { 2 * g.edges ≤ length labels.now }
+    requires fact_4 { h < 2 * g.edges }
+    ensures { result ≡ seen_west g.entry.points.now g.entry.origins.now g.entry.carriers.now labels.now g.entry.vertices g.entry.edges h }
 {
-    let p = start(points, origins, h);
-    let g = FlatGraph {
-        points,
-        origins,
-        carriers,
-        vertices: n,
-        edges: e,
-    };
+    let p = start(g.points, g.origins, h);
     seen_label(g, labels, p, Vector { x: 0, y: 0 })
 }
 
 // Whether labels disagree at half-edge h.
-fn disagrees(
-    points: &[i64],
-    origins: &[u16],
-    carriers: &[i16],
-    labels: &[u16],
-    heads: &[u16],
-    next: &[u16],
-    n: usize,
-    e: usize,
-    h: usize,
-) -> bool
-    requires { Linked points.now origins.now carriers.now labels.now heads.now next.now n e × (h < 2 * e) }
-    ensures { result ≡ disagrees_at points.now origins.now carriers.now labels.now heads.now next.now n e h }
+fn disagrees(g: FlatGraph, labels: &[u16], heads: &[u16], next: &[u16], h: usize) -> bool
+    requires { Linked g.points.now g.origins.now g.carriers.now labels.now heads.now next.now g.vertices g.edges × (h < 2 * g.edges) }
+    ensures { result ≡ disagrees_at g.entry.points.now g.entry.origins.now g.entry.carriers.now labels.now heads.now next.now g.entry.vertices g.entry.edges h }
 {
     let f = next[h] as usize;
     let label = labels[h];
     label != labels[f]
-        || (makes_hole(points, origins, heads, next, 2 * e, h)
-            && label != seen_west(points, origins, carriers, labels, n, e, h))
+        || (makes_hole(g.points, g.origins, heads, next, 2 * g.edges, h)
+            && label != seen_west(g, labels, h))
 }
 
 // The least half-edge at which labels disagree, or the number of half-edges.
-pub fn first_disagreeing(
-    points: &[i64],
-    origins: &[u16],
-    carriers: &[i16],
-    labels: &[u16],
-    heads: &[u16],
-    next: &[u16],
-    n: usize,
-    e: usize,
-) -> usize
-    requires { Linked points.now origins.now carriers.now labels.now heads.now next.now n e }
-    ensures { result ≡ least (disagrees_at points.now origins.now carriers.now labels.now heads.now next.now n e) (2 * e) }
+pub fn first_disagreeing(g: FlatGraph, labels: &[u16], heads: &[u16], next: &[u16]) -> usize
+    requires { Linked g.points.now g.origins.now g.carriers.now labels.now heads.now next.now g.vertices g.edges }
+    ensures { result ≡ least (disagrees_at g.entry.points.now g.entry.origins.now g.entry.carriers.now labels.now heads.now next.now g.entry.vertices g.entry.edges) (2 * g.entry.edges) }
 {
-    let m = 2 * e;
+    let m = 2 * g.edges;
     (0..m)
-        .position(|h| disagrees(points, origins, carriers, labels, heads, next, n, e, h))
+        .position(|h| disagrees(g, labels, heads, next, h))
         .unwrap_or(m)
 }

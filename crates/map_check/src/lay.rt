@@ -14,6 +14,7 @@ ghost use Rattle.map_check.specs.Held.{MapRoom, stored, MapRead, MapLaid};
 use super::answer::{Checked, Counts};
 use super::parts::{lay_carriers, part_fault};
 use super::rules::net_fault;
+use graph::FlatGraph;
 use map_file::{Check, Header, form_fault, read_header, read_map};
 
 // Rules 5 to 10 of a file with this header that passes rules 1 to 4 and whose map is read. The carriers are laid where rules 5 to 7 find nothing.
@@ -35,7 +36,14 @@ fn read_fault(
     let e = h.edges as usize;
     part_fault(points, origins, n, e)?;
     lay_carriers(points, origins, n, e, carriers);
-    net_fault(points, origins, carriers, labels, n, e)
+    let g = FlatGraph {
+        points,
+        origins,
+        carriers,
+        vertices: n,
+        edges: e,
+    };
+    net_fault(g, labels)
 }
 
 // The check of a file of any bytes, and where it passes its map in the tables, over what stood there.

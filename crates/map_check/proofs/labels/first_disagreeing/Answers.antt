@@ -11,7 +11,7 @@ use Rattle.map_check.proofs.labels.first_disagreeing.Goals as goal
 
 pub returns : goal.returns
 returns c =
-    let n = 2 * c.args.e in
-    let p = disagrees_at c.args.points.now c.args.origins.now c.args.carriers.now c.args.labels.now c.args.heads.now c.args.next.now c.args.n c.args.e in
+    let n = 2 * c.args.g.edges in
+    let p = disagrees_at c.args.g.points.now c.args.g.origins.now c.args.g.carriers.now c.args.labels.now c.args.heads.now c.args.next.now c.args.g.vertices c.args.g.edges in
     c.unwrap_or.ensures
     ∙ position-least p n c.position.result (position_from_yields_List p _ _ _ c.position.ensures.ran (YieldsList-from_range 0 n n refl (omega arith)) (λ x b q k. search (rules, tests)))

@@ -21,29 +21,29 @@ from_start ls m = let q : m - 0 ≡ m = omega arith in ap (λ (k : ℕ). take k 
 pub first_by_followers-h-requires : goal.first_by_followers-h-requires
 first_by_followers-h-requires c =
     let p = c.requires in
-    let long = length-take-le (2 * c.args.e - 0) c.args.labels.now (omega (arith, p.fact_4)) in
+    let long = length-take-le (2 * c.args.g.edges - 0) c.args.labels.now (omega (arith, p.fact_4)) in
     record { fact_1 = p.fact_1; fact_2 = p.fact_2; fact_3 = p.fact_3; fact_4 = omega (arith, long); fact_5 = p.fact_5 }
 
 pub overflow_cast-h : goal.overflow_cast-h
 overflow_cast-h c =
     let a = c.args in
-    let g = flat_graph a.points.now a.origins.now a.carriers.now a.n a.e in
-    omega (arith, c.requires.fact_3, c.first_by_followers-h.ensures, least-le (disagrees (flat_map a.points.now a.origins.now a.carriers.now (take (2 * a.e - 0) a.labels.now) a.n a.e) (followers g)) (2 * a.e))
+    let g = flat_graph a.g.points.now a.g.origins.now a.g.carriers.now a.g.vertices a.g.edges in
+    omega (arith, c.requires.fact_3, c.first_by_followers-h.ensures, least-le (disagrees (flat_map a.g.points.now a.g.origins.now a.g.carriers.now (take (2 * a.g.edges - 0) a.labels.now) a.g.vertices a.g.edges) (followers g)) (2 * a.g.edges))
 
 -- without a half-edge
-pub returns-then-e-eq0 : goal.returns-then-e-eq0
-returns-then-e-eq0 c =
+pub returns-then-g-eq0 : goal.returns-then-g-eq0
+returns-then-g-eq0 c =
     let a = c.args in
-    let g = flat_graph a.points.now a.origins.now a.carriers.now a.n a.e in
-    let none = c.if-e-eq0.true in
-    let m = ap (λ (e : ℕ). 2 * e) (sym none) ∙ sym (flat-halves a.points.now a.origins.now a.carriers.now a.n a.e) in
-    λ i. first_at 10 (disagrees (flat_map a.points.now a.origins.now a.carriers.now (take (2 * a.e) a.labels.now) a.n a.e) (followers g)) (m i)
+    let g = flat_graph a.g.points.now a.g.origins.now a.g.carriers.now a.g.vertices a.g.edges in
+    let none = c.if-g-eq0.true in
+    let m = ap (λ (e : ℕ). 2 * e) (sym none) ∙ sym (flat-halves a.g.points.now a.g.origins.now a.g.carriers.now a.g.vertices a.g.edges) in
+    λ i. first_at 10 (disagrees (flat_map a.g.points.now a.g.origins.now a.g.carriers.now (take (2 * a.g.edges) a.labels.now) a.g.vertices a.g.edges) (followers g)) (m i)
 
 pub returns : goal.returns
 returns c =
     let a = c.args in
-    let g = flat_graph a.points.now a.origins.now a.carriers.now a.n a.e in
-    let m = sym (flat-halves a.points.now a.origins.now a.carriers.now a.n a.e) in
-    let at = from_start a.labels.now (2 * a.e) in
-    at_least 10 (disagrees (flat_map a.points.now a.origins.now a.carriers.now (take (2 * a.e) a.labels.now) a.n a.e) (followers g)) (the_half_count g) _ _ _ c.given.ensures
-    (c.first_by_followers-h.ensures ∙ (λ i. least (disagrees (flat_map a.points.now a.origins.now a.carriers.now (at i) a.n a.e) (followers g)) (m i))) m
+    let g = flat_graph a.g.points.now a.g.origins.now a.g.carriers.now a.g.vertices a.g.edges in
+    let m = sym (flat-halves a.g.points.now a.g.origins.now a.g.carriers.now a.g.vertices a.g.edges) in
+    let at = from_start a.labels.now (2 * a.g.edges) in
+    at_least 10 (disagrees (flat_map a.g.points.now a.g.origins.now a.g.carriers.now (take (2 * a.g.edges) a.labels.now) a.g.vertices a.g.edges) (followers g)) (the_half_count g) _ _ _ c.given.ensures
+    (c.first_by_followers-h.ensures ∙ (λ i. least (disagrees (flat_map a.g.points.now a.g.origins.now a.g.carriers.now (at i) a.g.vertices a.g.edges) (followers g)) (m i))) m

@@ -12,33 +12,33 @@ use Rattle.map_check.proofs.rules.net_fault.Goals as goal
 pub edges_clash-requires : goal.edges_clash-requires
 edges_clash-requires c =
     let a = c.args in
-    (c.requires.fact_1.carriers, c.requires.fact_3, laid-upright a.points.now a.origins.now a.carriers.now a.n a.e c.requires.fact_5)
+    (c.requires.fact_1.carriers, c.requires.fact_3, laid-upright a.g.points.now a.g.origins.now a.g.carriers.now a.g.vertices a.g.edges c.requires.fact_5)
 
 pub overflow_cast-lonely : goal.overflow_cast-lonely
 overflow_cast-lonely c =
-    omega (arith, c.requires.fact_2, c.first_lonely-lonely.ensures, least-le (lonely_at c.args.origins.now (2 * c.args.e)) c.args.n)
+    omega (arith, c.requires.fact_2, c.first_lonely-lonely.ensures, least-le (lonely_at c.args.g.origins.now (2 * c.args.g.edges)) c.args.g.vertices)
 
 pub labels_disagree-requires : goal.labels_disagree-requires
 labels_disagree-requires c =
     let a = c.args in
     let p = c.requires in
-    let none = neither a.points.now a.origins.now a.carriers.now a.n a.e c.in_ok-edges_clash.ensures c.in_ok-given.ensures c.first_lonely-lonely.ensures in
-    record { fact_1 = p.fact_1; fact_2 = p.fact_2; fact_3 = p.fact_3; fact_4 = p.fact_4; fact_5 = clear-plane a.points.now a.origins.now a.carriers.now a.n a.e p.fact_5 none }
+    let none = neither a.g.points.now a.g.origins.now a.g.carriers.now a.g.vertices a.g.edges c.in_ok-edges_clash.ensures c.in_ok-given.ensures c.first_lonely-lonely.ensures in
+    record { fact_1 = p.fact_1; fact_2 = p.fact_2; fact_3 = p.fact_3; fact_4 = p.fact_4; fact_5 = clear-plane a.g.points.now a.g.origins.now a.g.carriers.now a.g.vertices a.g.edges p.fact_5 none }
 
 pub returns-in_err-edges_clash : goal.returns-in_err-edges_clash
 returns-in_err-edges_clash c =
     let a = c.args in
     let p = err_from_is_err_and c.from_residual.result c.from_residual.ensures.1 in
-    rw (p.1, p.2) (eight-some a.points.now a.origins.now a.carriers.now a.n a.e (take (2 * a.e) a.labels.now) c.in_err-edges_clash.ensures)
+    rw (p.1, p.2) (eight-some a.g.points.now a.g.origins.now a.g.carriers.now a.g.vertices a.g.edges (take (2 * a.g.edges) a.labels.now) c.in_err-edges_clash.ensures)
 
 pub returns-in_err-given : goal.returns-in_err-given
 returns-in_err-given c =
     let a = c.args in
     let p = err_from_is_err_and c.from_residual-in_err-given.result c.from_residual-in_err-given.ensures.1 in
-    rw (p.1, p.2) (nine-some a.points.now a.origins.now a.carriers.now a.n a.e (take (2 * a.e) a.labels.now) c.in_ok-edges_clash.ensures c.in_err-given.ensures c.first_lonely-lonely.ensures)
+    rw (p.1, p.2) (nine-some a.g.points.now a.g.origins.now a.g.carriers.now a.g.vertices a.g.edges (take (2 * a.g.edges) a.labels.now) c.in_ok-edges_clash.ensures c.in_err-given.ensures c.first_lonely-lonely.ensures)
 
 pub returns : goal.returns
 returns c =
     let a = c.args in
-    let none = neither a.points.now a.origins.now a.carriers.now a.n a.e c.in_ok-edges_clash.ensures c.in_ok-given.ensures c.first_lonely-lonely.ensures in
-    c.labels_disagree.ensures ∙ sym (net_none a.points.now a.origins.now a.carriers.now a.n a.e (take (2 * a.e) a.labels.now) none)
+    let none = neither a.g.points.now a.g.origins.now a.g.carriers.now a.g.vertices a.g.edges c.in_ok-edges_clash.ensures c.in_ok-given.ensures c.first_lonely-lonely.ensures in
+    c.labels_disagree.ensures ∙ sym (net_none a.g.points.now a.g.origins.now a.g.carriers.now a.g.vertices a.g.edges (take (2 * a.g.edges) a.labels.now) none)
