@@ -5,14 +5,13 @@ ghost use Rattle.paper.specs.Limits.{maps};
 ghost use Rattle.paper.specs.Plane.{before};
 ghost use Rattle.plane.specs.Bounds.{Near, Edge};
 ghost use Rattle.plane.specs.Values.{pt_of, seg_of};
-ghost use Rattle.graph.specs.Flat.{Numbers};
 ghost use Rattle.laws_sweep.specs.Sweep.{ahead};
 ghost use Rattle.overlay_sweep.specs.Ahead.{the_map_at, strand_at, Queued, Room, cross_ahead};
 ghost use Rattle.overlay_sweep.specs.Neighbours.{joint_at};
 
 use crate::earlier::earlier;
 use crate::queue::crossing_in;
-use crate::sheet::Sheet;
+use crate::sheet::Cut;
 use graph::carrier_at;
 use limits::MAPS;
 use plane::{Point, Seg, crossing_over, over};
@@ -65,28 +64,20 @@ fn guess_of(j: usize) -> i64 {
 }
 
 // The same of the edges in the cells j and j + 1 of c in the status, if they are of different maps.
-fn tested(
-    sheet: Sheet,
-    status: &[u16],
-    c: usize,
-    j: usize,
-    p: Point,
-    points: &mut [i64],
-    n: usize,
-) -> usize
-    requires fact_1 { Numbers status.now c sheet.e × (j + 1 < c) }
+fn tested(cut: Cut, j: usize, p: Point, points: &mut [i64], n: usize) -> usize
+    requires fact_1 { j + 1 < cut.c }
     requires fact_2 { Near (pt_of p) }
     requires fact_3 { Room points.old n }
-    ensures { Queued (ahead (pt_of p) (strand_at sheet.entry.carriers.now sheet.entry.starts.now (get_or status.now j 0)) (strand_at sheet.entry.carriers.now sheet.entry.starts.now (get_or status.now (j + 1) 0))) points.old n points.new result }
+    ensures { Queued (ahead (pt_of p) (strand_at cut.entry.sheet.carriers.now cut.entry.sheet.starts.now (get_or cut.entry.status.now j 0)) (strand_at cut.entry.sheet.carriers.now cut.entry.sheet.starts.now (get_or cut.entry.status.now (j + 1) 0))) points.old n points.new result }
 {
-    let k = status[j] as usize;
-    let l = status[j + 1] as usize;
-    if one_map(sheet.starts, k, l) {
+    let k = cut.status[j] as usize;
+    let l = cut.status[j + 1] as usize;
+    if one_map(cut.sheet.starts, k, l) {
         return n;
     }
     cross_in(
-        carrier_at(sheet.carriers, k),
-        carrier_at(sheet.carriers, l),
+        carrier_at(cut.sheet.carriers, k),
+        carrier_at(cut.sheet.carriers, l),
         p,
         points,
         n,
@@ -95,23 +86,13 @@ fn tested(
 }
 
 // Tests the edges in the cells j - 1 and j of c in the status, if cell j - 1 is not before `from` and there is a cell j.
-pub fn joined(
-    sheet: Sheet,
-    status: &[u16],
-    c: usize,
-    from: usize,
-    j: usize,
-    p: Point,
-    points: &mut [i64],
-    n: usize,
-) -> usize
-    requires fact_1 { Numbers status.now c sheet.e }
-    requires fact_2 { Near (pt_of p) }
-    requires fact_3 { Room points.old n }
-    ensures { Queued (joint_at sheet.entry.carriers.now sheet.entry.starts.now (pt_of p) status.now from j c) points.old n points.new result }
+pub fn joined(cut: Cut, from: usize, j: usize, p: Point, points: &mut [i64], n: usize) -> usize
+    requires fact_1 { Near (pt_of p) }
+    requires fact_2 { Room points.old n }
+    ensures { Queued (joint_at cut.entry.sheet.carriers.now cut.entry.sheet.starts.now (pt_of p) cut.entry.status.now from j cut.entry.c) points.old n points.new result }
 {
-    if from < j && j < c {
-        tested(sheet, status, c, j - 1, p, points, n)
+    if from < j && j < cut.c {
+        tested(cut, j - 1, p, points, n)
     } else {
         n
     }

@@ -11,7 +11,7 @@ ghost use Rattle.overlay_sweep.specs.Threading.{at_stop, Wound};
 
 use crate::fans::start_to;
 use crate::search::{through_to, west_of};
-use crate::sheet::Sheet;
+use crate::sheet::Cut;
 use overlay_cut::remember_all;
 use plane::Point;
 
@@ -24,24 +24,15 @@ pub struct Through {
 }
 
 // The edges through the next stop p, for which `guess` edges of the status may be in the west. The line cuts c edges, and w have started.
-pub fn edges_through(
-    sheet: Sheet,
-    waits: &[u16],
-    status: &[u16],
-    c: usize,
-    w: usize,
-    p: Point,
-    guess: usize,
-) -> Through
-    requires fact_1 { Numbers status.now c sheet.e }
-    requires fact_2 { Numbers waits.now sheet.e sheet.e × (w ≤ sheet.e) }
-    requires fact_3 { Near (pt_of p) }
-    requires fact_4 { Steady (right_at sheet.carriers.now status.now (pt_of p)) c }
-    ensures { Meets sheet.entry.carriers.now sheet.entry.e waits.now status.now (pt_of p) c w result.from result.to result.started }
+pub fn edges_through(cut: Cut, waits: &[u16], w: usize, p: Point, guess: usize) -> Through
+    requires fact_1 { Numbers waits.now cut.sheet.e cut.sheet.e × (w ≤ cut.sheet.e) }
+    requires fact_2 { Near (pt_of p) }
+    requires fact_3 { Steady (right_at cut.sheet.carriers.now cut.status.now (pt_of p)) cut.c }
+    ensures { Meets cut.entry.sheet.carriers.now cut.entry.sheet.e waits.now cut.entry.status.now (pt_of p) cut.entry.c w result.from result.to result.started }
 {
-    let from = west_of(sheet, status, c, p, guess);
-    let to = through_to(sheet, status, c, from, p);
-    let started = start_to(sheet, waits, w, p);
+    let from = west_of(cut, p, guess);
+    let to = through_to(cut, from, p);
+    let started = start_to(cut.sheet, waits, w, p);
     Through { from, to, started }
 }
 

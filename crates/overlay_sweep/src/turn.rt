@@ -11,7 +11,7 @@ ghost use Rattle.overlay_sweep.specs.Threading.{Wound, Threading};
 
 use crate::ahead::joined;
 use crate::fans::{going_on, starting};
-use crate::sheet::Sheet;
+use crate::sheet::{Cut, Sheet};
 use crate::splice::splice;
 use crate::through::{Through, edges_through, thread};
 use plane::Point;
@@ -50,11 +50,12 @@ fn exchange(
     let g = going_on(sheet, status, a, b, p, fan);
     starting(sheet, waits, w, s, fan, g);
     let m = g + (s - w);
-    let cut = splice(status, line.cut, a, b, fan, m);
-    let east = joined(sheet, status, cut, a, a + m, p, points, line.known);
-    let known = joined(sheet, status, cut, 0, a, p, points, east);
+    let c = splice(status, line.cut, a, b, fan, m);
+    let cut = Cut { sheet, status, c };
+    let east = joined(cut, a, a + m, p, points, line.known);
+    let known = joined(cut, 0, a, p, points, east);
     Line {
-        cut,
+        cut: c,
         started: s,
         known,
         ..line
@@ -84,7 +85,12 @@ pub fn turn(
     ensures turned { Turned sheet.entry.carriers.now sheet.entry.e sheet.entry.starts.now (pt_of p) waits.now status.old line.cut line.started points.old line.known status.new result.cut result.started points.new result.known }
     ensures threads { Threading sheet.entry.carriers.now sheet.entry.e room v waits.now status.old (pt_of p) line.cut line.started result.started last.old nodes.old line.nodes last.new nodes.new result.nodes }
 {
-    let at = edges_through(sheet, waits, status, line.cut, line.started, p, guess);
+    let cut = Cut {
+        sheet,
+        status,
+        c: line.cut,
+    };
+    let at = edges_through(cut, waits, line.started, p, guess);
     let u = thread(
         waits,
         status,

@@ -11,13 +11,13 @@ use Rattle.overlay_sweep.proofs.ahead.joined.Goals as goal
 use Rattle.overlay_sweep.proofs.ahead.joined.Goals.{Start}
 
 pub tested-requires : goal.tested-requires
-tested-requires c = record { fact_1 = (c.requires.fact_1, omega arith); fact_2 = c.requires.fact_2; fact_3 = c.requires.fact_3 }
+tested-requires c = record { fact_1 = omega arith; fact_2 = c.requires.fact_1; fact_3 = c.requires.fact_2 }
 
-pub returns-then-j-c : goal.returns-then-j-c
-returns-then-j-c c =
+pub returns-then-j-cut : goal.returns-then-j-cut
+returns-then-j-cut c =
     let a = c.args in
     let e : a.j - 1 + 1 ≡ a.j = omega (arith, c.if-from-j.true) in
     requeued
-    (ap (λ (k : ℕ). ahead (pt_of a.p) (strand_at a.sheet.carriers.now a.sheet.starts.now (get_or a.status.now (a.j - 1) 0)) (strand_at a.sheet.carriers.now a.sheet.starts.now (get_or a.status.now k 0))) e
-    ∙ sym (joint_both a.sheet.carriers.now a.sheet.starts.now (pt_of a.p) a.status.now a.from a.j a.c c.if-from-j.true c.if-j-c.true))
+    (ap (λ (k : ℕ). ahead (pt_of a.p) (strand_at a.cut.sheet.carriers.now a.cut.sheet.starts.now (get_or a.cut.status.now (a.j - 1) 0)) (strand_at a.cut.sheet.carriers.now a.cut.sheet.starts.now (get_or a.cut.status.now k 0))) e
+    ∙ sym (joint_both a.cut.sheet.carriers.now a.cut.sheet.starts.now (pt_of a.p) a.cut.status.now a.from a.j a.cut.c c.if-from-j.true c.if-j-cut.true))
     c.tested.ensures

@@ -12,21 +12,18 @@ use Rattle.graph.specs.Flat.{carrier_at}
 use Rattle.plane.specs.Values.{pt_of}
 use Rattle.overlay_sweep.proofs.search.is_on.Goals as goal
 
-pub overflow_cast-k : goal.overflow_cast-k
-overflow_cast-k c = omega (arith, c.shared_slice_known-2-1.given c.args.i)
-
 pub carrier_at-s-requires : goal.carrier_at-s-requires
 carrier_at-s-requires c =
-    let k = c.requires.fact_1.named c.args.i c.requires.fact_2 in
-    record { row = omega (arith, k, c.args.sheet.carried.long); near = c.args.sheet.carried.near (get_or c.args.status.now c.args.i 0) k }
+    let k = c.args.cut.named.named c.args.i c.requires.fact_1 in
+    record { row = omega (arith, k, c.args.cut.sheet.carried.long); near = c.args.cut.sheet.carried.near (get_or c.args.cut.status.now c.args.i 0) k }
 
 pub left_by-requires : goal.left_by-requires
-left_by-requires c = (c.carrier_at-s.ensures.near, c.requires.fact_3)
+left_by-requires c = (c.carrier_at-s.ensures.near, c.requires.fact_2)
 
 pub returns : goal.returns
 returns c =
     let a = c.args in
-    let z : ℤ = the_left_by (carrier_at a.sheet.carriers.now (get_or a.status.now a.i 0)) (pt_of a.p) in
+    let z : ℤ = the_left_by (carrier_at a.cut.sheet.carriers.now (get_or a.cut.status.now a.i 0)) (pt_of a.p) in
     test (search trbits depth 20) tt
     ∙ ap (λ (y : ℤ). eq_z y (pos 0)) (c.left_by.ensures.is ∙ ap (λ (t : Seg). the_left_by t (pt_of a.p)) c.carrier_at-s.ensures.is)
     ∙ eq-sign z (pos 0) ∙ ap (λ (y : ℤ). is_zer (sgn y)) (+ℤ_idr z)

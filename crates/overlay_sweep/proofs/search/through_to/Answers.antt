@@ -9,7 +9,7 @@ pub loop-i-init : goal.loop-i-init
 loop-i-init c = scan_starts _ _ _ (search rules)
 
 pub is_on-requires : goal.is_on-requires
-is_on-requires c = record { fact_1 = c.requires.fact_1; fact_2 = search rules; fact_3 = c.requires.fact_3 }
+is_on-requires c = record { fact_1 = search rules; fact_2 = c.requires.fact_2 }
 
 pub loop-i-preserved : goal.loop-i-preserved
 loop-i-preserved c = scan_turns _ _ _ c.loop-i.invariant (search rules) (sym c.is_on.ensures ∙ c.if-not-is_on.false)

@@ -5,4 +5,4 @@ use Rattle.overlay_sweep.specs.Sides.{on_at}
 use Rattle.overlay_sweep.proofs.search.through_to.Given as goal
 
 abbrev pub invariant-loop-i : goal.invariant-loop-i
-invariant-loop-i l = Scan (on_at l.sheet.carriers.now l.status (pt_of l.p)) l.n l.a l.i
+invariant-loop-i l = Scan (on_at l.cut.sheet.carriers.now l.cut.status.now (pt_of l.p)) l.cut.c l.a l.i

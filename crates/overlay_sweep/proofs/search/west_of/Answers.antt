@@ -19,11 +19,11 @@ loop-a-init c = halve_starts _ _
 
 pub is_right-requires : goal.is_right-requires
 is_right-requires c =
-    record { fact_1 = c.requires.fact_1; fact_2 = omega (arith, c.loop-a.invariant.within); fact_3 = c.requires.fact_2 }
+    record { fact_1 = omega (arith, c.loop-a.invariant.within); fact_2 = c.requires.fact_1 }
 
 pub loop-a-preserved-then-is_right : goal.loop-a-preserved-then-is_right
 loop-a-preserved-then-is_right c =
-    halve_up _ c.loop-a.invariant _ (omega arith) (omega arith) (steady-lasts _ _ c.requires.fact_3) (ap not (sym c.is_right.ensures ∙ c.if-is_right.true))
+    halve_up _ c.loop-a.invariant _ (omega arith) (omega arith) (steady-lasts _ _ c.requires.fact_2) (ap not (sym c.is_right.ensures ∙ c.if-is_right.true))
 
 pub loop-a-preserved : goal.loop-a-preserved
 loop-a-preserved c =

@@ -7,7 +7,7 @@ use Rattle.overlay_sweep.specs.Sides.{right_at}
 use Rattle.overlay_sweep.proofs.search.west_of.Given as goal
 
 abbrev pub invariant-loop-a : goal.invariant-loop-a
-invariant-loop-a l = Halving (λ i. not (right_at l.sheet.carriers.now l.status (pt_of l.p) i)) l.n l.a l.b
+invariant-loop-a l = Halving (λ i. not (right_at l.cut.sheet.carriers.now l.cut.status.now (pt_of l.p) i)) l.cut.c l.a l.b
 
 abbrev pub decreases-loop-a : goal.decreases-loop-a
 decreases-loop-a l = l.b - l.a

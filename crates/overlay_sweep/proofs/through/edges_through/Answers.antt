@@ -5,17 +5,17 @@ use Rattle.overlay_sweep.proofs.through.edges_through.Goals.{After-start_to-star
 pub west_of-from-requires : goal.west_of-from-requires
 west_of-from-requires c =
     let r = c.requires in
-    record { fact_1 = r.fact_1; fact_2 = r.fact_3; fact_3 = r.fact_4 }
+    record { fact_1 = r.fact_2; fact_2 = r.fact_3 }
 
 pub through_to-to-requires : goal.through_to-to-requires
 through_to-to-requires c =
     let r = c.requires in
-    record { fact_1 = r.fact_1; fact_2 = c.west_of-from.ensures.within; fact_3 = r.fact_3 }
+    record { fact_1 = c.west_of-from.ensures.within; fact_2 = r.fact_2 }
 
 pub start_to-started-requires : goal.start_to-started-requires
 start_to-started-requires c =
     let r = c.requires in
-    record { fact_1 = r.fact_2.0; fact_2 = r.fact_2.1; fact_3 = r.fact_3 }
+    record { fact_1 = r.fact_1.0; fact_2 = r.fact_1.1; fact_3 = r.fact_2 }
 
 pub returns : goal.returns
 returns c =

@@ -10,7 +10,7 @@ use Rattle.overlay_sweep.proofs.turn.turn.Goals.{After-edges_through-at, After-e
 pub edges_through-at-requires : goal.edges_through-at-requires
 edges_through-at-requires c =
     let r = c.requires.fact_1 in
-    record { fact_1 = r.named; fact_2 = (r.waits, r.started); fact_3 = c.requires.fact_3; fact_4 = c.requires.fact_4 }
+    record { fact_1 = (r.waits, r.started); fact_2 = c.requires.fact_3; fact_3 = c.requires.fact_4 }
 
 pub thread-u-requires : goal.thread-u-requires
 thread-u-requires c =
