@@ -30,6 +30,7 @@ fn cut_thread(
 {
     let mut total = count;
     let mut next = n;
+    // No `for`: the links say where the thread goes on.
     let mut at = x;
     while 0 < at {
         let v = nodes[2 * (at - 1)] as usize;

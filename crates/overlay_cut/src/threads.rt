@@ -11,6 +11,7 @@ fn is_of(nodes: &[u16], x: usize, v: u16) -> bool
     0 < x && nodes[2 * (x - 1)] == v
 }
 
+// No record of last, nodes and t: `Chains` fails between the writes of a node and of the link to it, and a record that holds `&mut` keeps its facts at each write.
 // Remembers that v is on edge k of e, where that is not remembered yet, with room for so many nodes. Answers how many there are, or `room` where they are no longer kept.
 fn remember(
     last: &mut [u16],

@@ -43,6 +43,7 @@ fn place_near(points: &[i64], n: usize, p: Point) -> usize
     requires fact_3 { Lasts (the_before_at points.now (pt_of p)) n }
     ensures { Place points.now (pt_of p) n result }
 {
+    // No `for`: the steps double.
     let mut b = n;
     let mut s = 1;
     while s <= b {

@@ -17,6 +17,7 @@ use seq::store;
 const EDGES: usize = MAPS * MAP_EDGES as usize;
 
 // How many stops there are, or VERTEX_ROWS where there are more than the overlay may have; and how many nodes the threads have, or as many as there may be where they are not kept.
+// No Option: SweptTo and ThreadedIf state both by number, up to what there is room for.
 #[derive(Clone, Copy)]
 pub struct Swept {
     pub stops: usize,
@@ -55,6 +56,7 @@ fn all_turns(
         known,
         nodes: 0,
     };
+    // No `for`: at a stop more points become known.
     let mut i = 0;
     while 0 < line.known {
         if VERTEX_ROWS <= line.known + i {
