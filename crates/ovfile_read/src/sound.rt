@@ -15,12 +15,7 @@ use ovfile::{at_or, store};
 
 // "each follower is a half-edge of the file, starts where its half-edge ends, and follows no half-edge of lower number": of half-edge h of n, which ends at a vertex and is then among those of
 // lower number.
-fn sound_follower(
-    stored: &Stored,
-    h: u32,
-    end: u16,
-    taken: &mut [u16],
-) -> bool
+fn sound_follower(stored: &Stored, h: u32, end: u16, taken: &mut [u16]) -> bool
     requires { (h < 2 * (counts_in stored.now.file.now).edges) × (end ≡ stored_origin (layout_from stored.now.layout) stored.now.file.now (twin h)) × Taken (stored_follower (layout_from stored.now.layout) stored.now.file.now) (2 * (counts_in stored.now.file.now).edges) h taken.old }
     ensures { (result ≡ sound_follower (counts_in stored.now.file.now) (tables_in maps (layout_from stored.now.layout) stored.now.file.now) h) × Taken (stored_follower (layout_from stored.now.layout) stored.now.file.now) (2 * (counts_in stored.now.file.now).edges) (h + 1) taken.new }
 {
@@ -42,11 +37,7 @@ fn has_source(stored: &Stored, k: u32) -> bool
 }
 
 // Whether record k is sound, where those before it are passed.
-fn sound_edge(
-    stored: &Stored,
-    k: u32,
-    taken: &mut [u16],
-) -> bool
+fn sound_edge(stored: &Stored, k: u32, taken: &mut [u16]) -> bool
     requires { (k < (counts_in stored.now.file.now).edges) × Taken (stored_follower (layout_from stored.now.layout) stored.now.file.now) (2 * (counts_in stored.now.file.now).edges) (2 * k) taken.old }
     ensures { (result ≡ sound_edge maps (counts_in stored.now.file.now) (tables_in maps (layout_from stored.now.layout) stored.now.file.now) k) × Taken (stored_follower (layout_from stored.now.layout) stored.now.file.now) (2 * (counts_in stored.now.file.now).edges) (2 * k + 1 + 1) taken.new }
 {

@@ -40,14 +40,7 @@ fn add_sheet(stored: &Stored, n: usize, rows: &mut [u32], sums: Sums) -> Sums
 {
     let number = sums.files + 1;
     let ordered = in_order(rows, kept_pairs(sums.pairs));
-    let pairs = add_faces(
-        stored,
-        n,
-        number as u32,
-        rows,
-        sums.pairs,
-        ordered,
-    );
+    let pairs = add_faces(stored, n, number as u32, rows, sums.pairs, ordered);
     let gaps = sums.gaps + gaps(stored, n);
     Sums {
         pairs,

@@ -4,4 +4,3 @@ use Rattle.ovfile.proofs.bytes.number_by.Given as goal
 
 abbrev pub invariant-loop-i : goal.invariant-loop-i
 invariant-loop-i l = Reading l.width l.file l.at l.i l.n
-

@@ -1,5 +1,4 @@
 -- `ovfile::bytes::put` meets its contract: what is left of the number is still to be stored. Assumes nothing.
-use Rattle.std.specs.Prelude.{◌-◌}
 use Rattle.ovfile.proofs.BytesLaws.{Writing}
 use Rattle.ovfile.proofs.bytes.put.Given as goal
 

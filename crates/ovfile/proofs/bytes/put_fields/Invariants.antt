@@ -1,5 +1,4 @@
 -- `ovfile::bytes::put_fields` meets its contract: the fields are rows of two bytes. Assumes nothing.
-use Rattle.std.specs.Prelude.{◌-◌}
 use Rattle.seq.specs.Seq.{List, ℕ, length, get_or}
 use Rattle.paper.specs.Bytes.{le}
 use Rattle.seq.specs.Loops.Storing.{Storing}

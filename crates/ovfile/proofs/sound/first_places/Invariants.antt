@@ -5,4 +5,3 @@ use Rattle.ovfile.proofs.sound.first_places.Given as goal
 
 abbrev pub invariant-loop-h : goal.invariant-loop-h
 invariant-loop-h l = Placing (column l.halves l.j) l.n l.initial.out l.out l.h
-

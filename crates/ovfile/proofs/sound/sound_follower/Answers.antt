@@ -22,7 +22,7 @@ returns-then-half_cell c =
           let starts = w.half_cell.ensures ∙ ap (λ (f : ℕ). column hs 0 f) follower in
           let ends = w.half_cell-then-f-edges.ensures ∙ ap (column hs 0) w.twin.ensures in
           last_decides (ltb c.half_cell-f.result n) (eqb w.half_cell.result w.half_cell-then-f-edges.result) (eqb c.at_or.result a.h)
-              (lt-ltb c.half_cell-f.result n w.if-f-edges.true) (sym w.value-is ∙ c.if-half_cell.true)
+          (lt-ltb c.half_cell-f.result n w.if-f-edges.true) (sym w.value-is ∙ c.if-half_cell.true)
           ∙ (λ i. ltb (follower i) n && (eqb (starts i) (ends i) && eqb (first i) a.h))
           ∙ follower-test hs a.first.now n a.h (eqb (column hs 0 (column hs 2 a.h)) (column hs 0 (twin a.h))) c.requires.0 c.requires.1
       | else-f-edges w ↦ absurd (false≢true (sym (le-ltb c.half_cell-f.result n w.if-f-edges.false) ∙ sym w.value-is ∙ c.if-half_cell.true))

@@ -1,10 +1,10 @@
 -- `ovfile_read::fill::fill_faces` meets its contract. Assumes nothing.
 use Rattle.std.specs.Prelude.{◌*◌}
-use mathlib.Core.Path.{◌≡◌, refl, ap}
+use mathlib.Core.Path.{refl, ap}
 use native.Mathlib.Omega.{arith}
 use Rattle.seq.specs.Seq.{ℕ}
 use Rattle.paper.specs.Limits.{maps}
-use Rattle.paper.specs.Tables.{face_width, Counts}
+use Rattle.paper.specs.Tables.{face_width}
 use Rattle.paper.specs.Reader.{counts_in, face_read, tables_in}
 use Rattle.ovfile.specs.Values.{layout_from}
 use Rattle.seq.specs.Loops.Storing.{laid-wiped}

@@ -1,8 +1,7 @@
 -- `ovfile_read::fill::fill_halves` meets its contract. Assumes nothing.
 use Rattle.std.specs.Prelude.{◌*◌}
-use mathlib.Core.Path.{◌≡◌, refl, ap}
+use mathlib.Core.Path.{◌≡◌, refl}
 use native.Mathlib.Omega.{arith}
-use Rattle.paper.specs.Tables.{Counts}
 use Rattle.paper.specs.Reader.{counts_in, half_read, tables_in}
 use Rattle.ovfile.specs.Values.{layout_from}
 use Rattle.ovfile_read.specs.Filled.{followers_in}

@@ -1,10 +1,9 @@
 -- `ovfile_read::fill::fill_sources` meets its contract. Assumes nothing.
 use Rattle.std.specs.Prelude.{◌*◌}
-use mathlib.Core.Path.{◌≡◌, refl, ap}
+use mathlib.Core.Path.{refl, ap}
 use native.Mathlib.Omega.{arith}
 use Rattle.seq.specs.Seq.{ℕ, table}
 use Rattle.paper.specs.Limits.{maps}
-use Rattle.paper.specs.Tables.{Counts}
 use Rattle.paper.specs.Reader.{counts_in, stored_source, tables_in}
 use Rattle.ovfile.specs.Values.{layout_from}
 use Rattle.seq.specs.Loops.Storing.{laid-wiped}

@@ -1,9 +1,8 @@
 -- `ovfile_read::fill::fill_vertices` meets its contract. Assumes nothing.
 use Rattle.std.specs.Prelude.{◌*◌}
-use mathlib.Core.Path.{◌≡◌, refl, ap, ◌∙◌}
+use mathlib.Core.Path.{refl, ap, ◌∙◌}
 use native.Mathlib.Omega.{arith}
 use Rattle.seq.specs.Seq.{ℕ, pos, sets}
-use Rattle.paper.specs.Tables.{Counts}
 use Rattle.paper.specs.Reader.{counts_in, vertex_read, tables_in}
 use Rattle.ovfile.specs.Values.{layout_from}
 use Rattle.ovfile_read.specs.Filled.{starts_in}

@@ -6,4 +6,3 @@ use Rattle.ovfile_read.proofs.fill.first_stored.Given as goal
 
 abbrev pub invariant-loop-h : goal.invariant-loop-h
 invariant-loop-h l = Placing (stored_field (layout_from l.stored.layout) l.stored.file.now l.j) l.n l.initial.out l.out l.h
-

@@ -1,10 +1,8 @@
 -- `ovfile_read::fill::lay_faces` meets its contract. Assumes nothing.
 use Rattle.std.specs.Prelude.{◌∷◌}
-use mathlib.Core.Path.{◌≡◌, refl, ap}
+use mathlib.Core.Path.{refl}
 use native.Mathlib.Omega.{arith}
 use Rattle.seq.specs.Seq.{[]}
-use Rattle.paper.specs.Tables.{Counts}
-use Rattle.paper.specs.Reader.{counts_in}
 use Rattle.seq.specs.Loops.Storing.{lay_starts, lay_turns, store_ends}
 use borrow.Author.Rules.{rules}
 use Rattle.ovfile_read.proofs.fill.lay_faces.Goals as goal

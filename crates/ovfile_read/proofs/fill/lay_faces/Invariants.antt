@@ -1,5 +1,4 @@
 -- `ovfile_read::fill::lay_faces` meets its contract. Assumes nothing.
-use Rattle.std.specs.Prelude.{◌-◌}
 use Rattle.paper.specs.Limits.{maps}
 use Rattle.paper.specs.Tables.{face_width}
 use Rattle.paper.specs.Reader.{counts_in, face_read}

@@ -1,11 +1,10 @@
 -- `ovfile_read::fill::lay_halves` meets its contract. Assumes nothing.
 use Rattle.std.specs.Prelude.{◌∷◌, ◌*◌}
-use mathlib.Core.Path.{◌≡◌, refl, sym, ap, ◌∙◌}
+use mathlib.Core.Path.{refl, sym, ◌∙◌}
 use Prim.Native.Nat.{◌<◌}
 use native.Mathlib.Omega.{arith}
 use Rattle.seq.specs.Seq.{[]}
 use Rattle.seq.specs.Table.{table_at}
-use Rattle.paper.specs.Tables.{Counts}
 use Rattle.paper.specs.Reader.{counts_in, stored_follower}
 use Rattle.ovfile.specs.Values.{layout_from}
 use Rattle.seq.specs.Loops.Storing.{lay_starts, lay_turns, store_ends}

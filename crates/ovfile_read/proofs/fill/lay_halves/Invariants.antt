@@ -1,5 +1,5 @@
 -- `ovfile_read::fill::lay_halves` meets its contract. Assumes nothing.
-use Rattle.std.specs.Prelude.{◌*◌, ◌-◌}
+use Rattle.std.specs.Prelude.{◌*◌}
 use Rattle.seq.specs.Seq.{List, ℕ}
 use Rattle.paper.specs.Reader.{counts_in, half_read}
 use Rattle.paper.specs.Ovfile.{Layout}

@@ -1,5 +1,4 @@
 -- `ovfile_read::fill::lay_sources` meets its contract. Assumes nothing.
-use Rattle.std.specs.Prelude.{◌-◌}
 use Rattle.seq.specs.Seq.{List, ℕ, table}
 use Rattle.paper.specs.Limits.{maps}
 use Rattle.paper.specs.Reader.{counts_in, stored_source}

@@ -1,14 +1,11 @@
 -- `ovfile_read::fill::lay_vertices` meets its contract. Assumes nothing.
 use Rattle.std.specs.Prelude.{◌∷◌, ◌+◌, ◌*◌}
-use mathlib.Core.Path.{◌≡◌, refl, ap, ◌∙◌}
+use mathlib.Core.Path.{refl, ap, ◌∙◌}
 use native.Mathlib.Omega.{arith}
 use mir.Syntax.{w64}
-use mir.ValLaws.{to_z-of_z, to_z_pos}
+use mir.ValLaws.{to_z-of_z}
 use Rattle.seq.specs.Seq.{[], ℕ, pos}
 use Rattle.paper.specs.Bytes.{signed_at, number}
-use Rattle.paper.specs.Tables.{Counts}
-use Rattle.paper.specs.Reader.{counts_in}
-use Rattle.laws_file.specs.Bytes.{number_below}
 use Rattle.ovfile.specs.Values.{layout_from, known_of}
 use Rattle.ovfile.specs.Known.{vertices-near}
 use Rattle.seq.specs.Loops.Storing.{lay_starts, lay_turns, store_ends}

@@ -1,5 +1,4 @@
 -- `ovfile_read::fill::lay_vertices` meets its contract. Assumes nothing.
-use Rattle.std.specs.Prelude.{◌-◌}
 use Rattle.paper.specs.Reader.{counts_in}
 use Rattle.ovfile.specs.Values.{layout_from}
 use Rattle.ovfile_read.specs.Filled.{vertex_by}

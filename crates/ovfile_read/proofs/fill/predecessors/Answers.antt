@@ -1,11 +1,9 @@
 -- `ovfile_read::fill::predecessors` meets its contract. Assumes nothing.
 use Rattle.std.specs.Prelude.{◌*◌}
-use mathlib.Core.Path.{◌≡◌, ap}
+use mathlib.Core.Path.{ap}
 use native.Mathlib.Omega.{arith}
 use lib.ListN.{get_or-replicate}
 use Rattle.seq.specs.Seq.{ℕ}
-use Rattle.paper.specs.Tables.{Counts}
-use Rattle.paper.specs.Reader.{counts_in}
 use Rattle.ovfile.specs.Values.{layout_from}
 use Rattle.ovfile_read.proofs.FillLaws.{predecessors_by}
 use Rattle.ovfile_read.proofs.fill.predecessors.Goals as goal

@@ -2,14 +2,12 @@
 use mathlib.Core.Path.{◌≡◌, sym, ap, subst, ◌∙◌}
 use Rattle.seq.specs.Seq.{List, ℕ, length}
 use Rattle.paper.specs.Refusal.{done}
-use Rattle.paper.specs.Lent.{Lengths}
-use Rattle.paper.specs.Reader.{counts_in, tables_in}
-use Rattle.paper.specs.Limits.{maps}
+use Rattle.paper.specs.Reader.{counts_in}
 use Rattle.map_file.specs.Verdict.{verdict}
 use Rattle.tables.specs.Values.{lengths_by, counts_of}
 use Rattle.ovfile.specs.Values.{layout_from}
 use Rattle.ovfile_read.specs.Filled.{Roomy}
-use Rattle.ovfile_read.proofs.ReadLaws.{layout_in, room_enough, read_done}
+use Rattle.ovfile_read.proofs.ReadLaws.{room_enough, read_done}
 use Rattle.ovfile_read.proofs.reader.read.Goals as goal
 
 pub fill-requires : goal.fill-requires

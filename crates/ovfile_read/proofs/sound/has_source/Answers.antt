@@ -1,5 +1,5 @@
 -- `ovfile_read::sound::has_source` meets its contract. Assumes nothing.
-use Rattle.std.proofs.Common.{refl, ◌∙◌, sym, ap, ◌-◌, ◌≡◌, arith, rules}
+use Rattle.std.proofs.Common.{refl, ◌∙◌, sym, ap, arith, rules}
 use Rattle.std.proofs.lemmas.Iterator.{YieldsList-from_range}
 use Rattle.std.proofs.lemmas.Iterator.Search.{any_from_yields_List}
 use borrow.Author.Tests.{tests}

@@ -1,6 +1,6 @@
 -- `ovfile_read::sound::sound_edge` meets its contract. Assumes nothing.
 use Rattle.std.specs.Prelude.{◌&&◌, ◌+◌, ◌*◌}
-use mathlib.Core.Path.{◌≡◌, ap, ◌∙◌}
+use mathlib.Core.Path.{ap, ◌∙◌}
 use Prim.Native.Nat.{◌<◌}
 use native.Mathlib.Omega.{arith}
 use Rattle.seq.specs.Seq.{ltb}

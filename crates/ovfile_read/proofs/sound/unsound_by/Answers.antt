@@ -3,8 +3,6 @@ use Rattle.std.specs.Prelude.{◌+◌, ◌*◌}
 use mathlib.Core.Path.{◌≡◌, refl, sym, ap, ◌∙◌}
 use native.Mathlib.Omega.{arith}
 use Rattle.seq.specs.Seq.{not}
-use Rattle.paper.specs.Tables.{Counts}
-use Rattle.paper.specs.Reader.{counts_in}
 use Rattle.seq.specs.Loops.Searching.{search_starts}
 use Rattle.seq.proofs.Loops.Searching.{search_turns, search_finds, search_ends}
 use Rattle.ovfile_read.proofs.SoundLaws.{taken_same}

@@ -1,5 +1,5 @@
 -- `ovfile_read::sound::unsound_by` meets its contract. Assumes nothing.
-use Rattle.std.specs.Prelude.{◌*◌, ◌-◌}
+use Rattle.std.specs.Prelude.{◌*◌}
 use mathlib.Core.Path.{◌≡◌}
 use Rattle.seq.specs.Seq.{length}
 use Rattle.paper.specs.Reader.{counts_in, stored_follower}

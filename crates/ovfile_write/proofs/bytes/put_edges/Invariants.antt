@@ -1,5 +1,4 @@
 -- `ovfile_write::bytes::put_edges` meets its contract. Assumes nothing.
-use Rattle.std.specs.Prelude.{◌-◌}
 use Rattle.paper.specs.Ovfile.{edge_size}
 use Rattle.ovfile.specs.Values.{edge_tables, layout}
 use Rattle.seq.specs.Loops.Storing.{Storing}

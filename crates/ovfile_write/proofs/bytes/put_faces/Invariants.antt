@@ -1,5 +1,4 @@
 -- `ovfile_write::bytes::put_faces` meets its contract. Assumes nothing.
-use Rattle.std.specs.Prelude.{◌-◌}
 use Rattle.seq.specs.Seq.{[]}
 use Rattle.paper.specs.Ovfile.{face_size}
 use Rattle.tables.specs.Values.{tables_by}

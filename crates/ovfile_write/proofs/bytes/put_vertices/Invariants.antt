@@ -1,5 +1,4 @@
 -- `ovfile_write::bytes::put_vertices` meets its contract. Assumes nothing.
-use Rattle.std.specs.Prelude.{◌-◌}
 use Rattle.seq.specs.Seq.{[], List, ℕ, ℤ}
 use Rattle.paper.specs.Limits.{overlay_head}
 use Rattle.paper.specs.Ovfile.{vertex_size, vertex_bytes}

@@ -1,5 +1,4 @@
 -- `ovfile_write::edges::first_bad_edge_by` meets its contract: nothing below the counter has been found. Assumes nothing.
-use Rattle.std.specs.Prelude.{◌-◌}
 use Rattle.seq.specs.Seq.{Bool, List, ℕ}
 use Rattle.paper.specs.Limits.{maps}
 use Rattle.paper.specs.Writer.{bad_edge}

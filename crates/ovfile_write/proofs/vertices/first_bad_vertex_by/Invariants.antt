@@ -1,5 +1,4 @@
 -- `ovfile_write::vertices::first_bad_vertex_by` meets its contract: nothing below the counter has been found. Assumes nothing.
-use Rattle.std.specs.Prelude.{◌-◌}
 use Rattle.seq.specs.Loops.Searching.{Searching}
 use Rattle.ovfile_write.specs.Judged.{bad_vertex_by}
 use Rattle.ovfile_write.proofs.vertices.first_bad_vertex_by.Given as goal

@@ -1,7 +1,6 @@
 -- `year::face::in_order` meets its contract: every row that the loop has passed comes before the next. Assumes nothing.
-use mathlib.Core.Path.{refl, sym, ◌∙◌, ap}
+use mathlib.Core.Path.{sym, ◌∙◌, ap}
 use native.Mathlib.Omega.{arith}
-use Rattle.seq.specs.Tests.{clash}
 use Rattle.seq.specs.PairOrder.{pair_before}
 use Rattle.paper.specs.Year.{Pair}
 use Rattle.year.specs.TallyRows.{pair_at}

@@ -1,5 +1,4 @@
 -- `year::face::place_in_turn` meets its contract: every row that the loop has passed is earlier. Assumes nothing.
-use Prim.Native.Nat.{◌-◌}
 use Rattle.seq.specs.Seq.{not}
 use Rattle.seq.specs.PairOrder.{pair_before}
 use Rattle.seq.specs.Loops.Searching.{Searching}

@@ -1,5 +1,4 @@
 -- `year::faces::add_faces` meets its contract. Assumes nothing.
-use Prim.Native.Nat.{◌-◌}
 use Rattle.year.specs.Faced.{Adding}
 use Rattle.ovfile.specs.Values.{layout_from}
 use Rattle.year.proofs.faces.add_faces.Given as goal

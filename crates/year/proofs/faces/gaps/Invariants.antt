@@ -1,5 +1,4 @@
 -- `year::faces::gaps` meets its contract. Assumes nothing.
-use Prim.Native.Nat.{◌-◌}
 use Rattle.year.specs.Faced.{Gapping}
 use Rattle.ovfile.specs.Values.{layout_from}
 use Rattle.year.proofs.faces.gaps.Given as goal

@@ -1,8 +1,7 @@
 -- `year::next::add_read` meets its contract. Assumes nothing.
 use Rattle.std.specs.Prelude.{◌-◌}
 use mathlib.Core.Path.{◌≡◌, sym, ap, ◌∙◌}
-use Rattle.seq.specs.Seq.{List, ℕ, some}
-use Rattle.paper.specs.Ovfile.{Layout}
+use Rattle.seq.specs.Seq.{ℕ, some}
 use Rattle.paper.specs.Reader.{counts_in}
 use Rattle.map_file.specs.Verdict.{verdict}
 use Rattle.laws_year.specs.Capped.{cap_read}

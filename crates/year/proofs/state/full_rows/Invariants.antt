@@ -1,5 +1,4 @@
 -- `year::state::full_rows` meets its contract. Assumes nothing.
-use Prim.Native.Nat.{◌-◌}
 use Rattle.year.specs.Stated.{Fulls}
 use Rattle.year.proofs.state.full_rows.Given as goal
 
