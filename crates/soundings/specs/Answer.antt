@@ -1,6 +1,6 @@
 -- What is answered, in the definition's terms, and the lent tables where it is done: the rows of the pairs, zeros past them. Assumes nothing.
 use Rattle.std.proofs.Common.{append_assoc, sym, ◌∙◌, ap, add-zero, arith, take-suc}
-use Rattle.std.specs.Prelude.{◌≡◌, refl, ◌≤◌, ◌∷◌, ◌++◌, ◌+◌, ◌*◌}
+use Rattle.std.specs.Prelude.{◌≡◌, refl, ◌≤◌, ◌∷◌, ◌++◌, ◌+◌, ◌*◌, Result, Ok, Err}
 use Rattle.seq.specs.Seq.{List, [], none, ℕ, zero, suc, length, get_or, take, padded, wiped}
 use Rattle.paper.specs.Refusal.{Refusal, done, refused}
 use Rattle.paper.specs.Soundings as paper
@@ -9,15 +9,14 @@ use Rattle.map_file.specs.Verdict.{refusal_of}
 use Rattle.laws_soundings.specs.Run.{cells_by}
 use Rattle.soundings_count.specs.Entries.{pair_width, entry_at, entries_in}
 use Rattle.soundings.specs.declared.answer.Cells.{Cells}
-use Rattle.soundings.specs.declared.answer.Counted.{Counted}
-use Rattle.soundings.specs.declared.answer.Counted.TheVariants.{Done, Refused}
+use Rattle.map_file.specs.declared.refusal.Refusal as code
 
 abbrev pub room_by : ℕ → ℕ → CountRoom
 room_by l c = record { labels = l; counts = c }
 
-abbrev pub counted_of : Counted → List ℕ → List ℕ → paper.Counted
-counted_of (Done c) ls cs = record { answer = done (cells_by c.entries c.soundings c.read); labels = ls; counts = cs }
-counted_of (Refused r) ls cs = record { answer = refused (refusal_of r); labels = ls; counts = cs }
+abbrev pub counted_of : Result Cells code.Refusal → List ℕ → List ℕ → paper.Counted
+counted_of (Ok c) ls cs = record { answer = done (cells_by c.entries c.soundings c.read); labels = ls; counts = cs }
+counted_of (Err r) ls cs = record { answer = refused (refusal_of r); labels = ls; counts = cs }
 
 -- "Refused: all lent tables are zero"
 abbrev pub refused_with : CountRoom → Refusal → paper.Counted

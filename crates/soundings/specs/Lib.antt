@@ -8,3 +8,5 @@ pub mod Step
 pub mod Answer
 pub mod Closing
 pub mod Unique
+pub mod Looks
+pub mod Tally

@@ -177,8 +177,8 @@ module _ (k : Look) (bs ls cs : List ℕ) (p : Progress) (b : ℕ) where
           ∙ sym (ap (λ (c : Bool). cond c (going_by k p.soundings p.far t₂ more) (with_sounding k p.soundings p.far t₂ more)) (lt-ltb (length more) 4 (omega (arith, more_long))))
           ∙ ap (λ (x : Run). with_byte x b) (sym is_going)
 
-      pub byte_sounding : (ls' cs' : List ℕ) (r : Progress) → 4 ≤ p.rest + 1 → run_by k (set bs p.rest b) ls' cs' r ≡ with_sounding k p.soundings p.far t₂ (set bs p.rest b) → run_by k (set bs p.rest b) ls' cs' r ≡ with_byte (run_by k bs ls cs p) b
-      byte_sounding ls' cs' r l e =
+      pub byte_sounding : (bs' ls' cs' : List ℕ) (r : Progress) → 4 ≤ p.rest + 1 → run_by k bs' ls' cs' r ≡ with_sounding k p.soundings p.far t₂ (set bs p.rest b) → run_by k bs' ls' cs' r ≡ with_byte (run_by k bs ls cs p) b
+      byte_sounding bs' ls' cs' r l e =
           let w : set bs p.rest b ≡ more = sym (take_all (p.rest + 1) (set bs p.rest b) (omega (arith, length-set bs p.rest b))) ∙ more_is in
           e ∙ ap (with_sounding k p.soundings p.far t₂) w
           ∙ sym (ap (λ (c : Bool). cond c (going_by k p.soundings p.far t₂ more) (with_sounding k p.soundings p.far t₂ more)) (le-ltb (length more) 4 (omega (arith, more_long))))
@@ -189,29 +189,20 @@ module _ (k : Look) (bs ls cs : List ℕ) (p : Progress) (b : ℕ) where
 -- before turn i the first i bytes are added
 pub record Adding (k : Look) (s bs₀ ls₀ cs₀ : List ℕ) (p₀ : Progress) (bs ls cs : List ℕ) (p : Progress) (i : ℕ) : Type 0 where
   pub within : i ≤ length s
-  pub bytes-kept : length bs ≡ length bs₀
-  pub labels-kept : length ls ≡ length ls₀
-  pub counts-kept : length cs ≡ length cs₀
   pub is : run_by k bs ls cs p ≡ next (run_by k bs₀ ls₀ cs₀ p₀) (take i s)
 
 module _ {k : Look} {s bs₀ ls₀ cs₀ : List ℕ} {p₀ : Progress} where
   pub adding_starts : Adding k s bs₀ ls₀ cs₀ p₀ bs₀ ls₀ cs₀ p₀ 0
-  adding_starts = record { within = omega arith; bytes-kept = refl; labels-kept = refl; counts-kept = refl; is = refl }
+  adding_starts = record { within = omega arith; is = refl }
 
   module _ {bs ls cs : List ℕ} {p : Progress} {i : ℕ} (A : Adding k s bs₀ ls₀ cs₀ p₀ bs ls cs p i) where
     pub adding_fit : FitRun most_read (run_by k bs₀ ls₀ cs₀ p₀) → FitRun most_read (run_by k bs ls cs p)
     adding_fit F = subst (FitRun most_read) (sym A.is) (fit_next most_read (run_by k bs₀ ls₀ cs₀ p₀) (take i s) F)
 
-    pub adding_room : TableRoom ls₀ cs₀ → TableRoom ls cs
-    adding_room R = record { labels = omega (arith, R.labels, A.labels-kept); counts = omega (arith, R.counts, A.counts-kept) }
-
-    pub adding_turns : (bs' ls' cs' : List ℕ) (q : Progress) → i < length s → length bs' ≡ length bs → length ls' ≡ length ls → length cs' ≡ length cs → run_by k bs' ls' cs' q ≡ with_byte (run_by k bs ls cs p) (get_or s i 0)
+    pub adding_turns : (bs' ls' cs' : List ℕ) (q : Progress) → i < length s → run_by k bs' ls' cs' q ≡ with_byte (run_by k bs ls cs p) (get_or s i 0)
         → Adding k s bs₀ ls₀ cs₀ p₀ bs' ls' cs' q (i + 1)
-    adding_turns bs' ls' cs' q l x y z e = record {
+    adding_turns bs' ls' cs' q l e = record {
       within = omega arith;
-      bytes-kept = x ∙ A.bytes-kept;
-      labels-kept = y ∙ A.labels-kept;
-      counts-kept = z ∙ A.counts-kept;
       is = e ∙ ap (λ (r : Run). with_byte r (get_or s i 0)) A.is
           ∙ sym (ap (next (run_by k bs₀ ls₀ cs₀ p₀)) (ap (λ (j : ℕ). take j s) (add-one i) ∙ take-suc s i 0 l) ∙ next_more (run_by k bs₀ ls₀ cs₀ p₀) (take i s) (get_or s i 0));
     }

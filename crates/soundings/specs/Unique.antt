@@ -1,6 +1,6 @@
 -- All that comes out is determined by its promise: two answers with two sets of lent tables that keep it are one. In batches: `begin`, then `add` for one batch after the other, of any bytes, then `close`: what comes of it is the
 -- definition's answer, of the whole list (`run-answer`), and no second outcome meets what the three promise, whatever the cuts (`one_answer`). The same of a list that is read from a file (`read_answer`). Assumes nothing.
-use Rattle.std.specs.Prelude.{◌≡◌, refl, ◌∷◌, ◌++◌}
+use Rattle.std.specs.Prelude.{◌≡◌, refl, ◌∷◌, ◌++◌, Result, Ok, Err}
 use Rattle.std.proofs.Common.{sym, ◌∙◌, ap, append-nil, arith}
 use Rattle.seq.specs.Seq.{List, [], ℕ}
 use Rattle.seq.specs.Unique.{determined}
@@ -15,8 +15,8 @@ use Rattle.soundings_count.specs.Entries.{pair_width}
 use Rattle.soundings.specs.Answer.{counted_of}
 use Rattle.soundings.specs.State.{run_of}
 use Rattle.soundings.specs.declared.state.Count.{Count}
-use Rattle.soundings.specs.declared.answer.Counted.{Counted}
-use Rattle.soundings.specs.declared.answer.Counted.TheVariants.{Done, Refused}
+use Rattle.soundings.specs.declared.answer.Cells.{Cells}
+use Rattle.map_file.specs.declared.refusal.Refusal as code
 
 -- ── the parts of an answer ──
 
@@ -32,36 +32,36 @@ abbrev refusal_or : Refusal → Answer paper.Cells → Refusal
 refusal_or d (done n) = d
 refusal_or d (refused r) = r
 
-abbrev answer_of : Counted → Answer paper.Cells
-answer_of (Done c) = done (cells_by c.entries c.soundings c.read)
-answer_of (Refused r) = refused (refusal_of r)
+abbrev answer_of : Result Cells code.Refusal → Answer paper.Cells
+answer_of (Ok c) = done (cells_by c.entries c.soundings c.read)
+answer_of (Err r) = refused (refusal_of r)
 
 differ : (a b : Answer paper.Cells) → a ≡ b → (kind a ≡ kind b → ⊥) → ⊥
 differ a b e f = f (ap kind e)
 
-answer-once : (a b : Counted) → answer_of a ≡ answer_of b → a ≡ b
-answer-once (Done a) (Done b) e =
+answer-once : (a b : Result Cells code.Refusal) → answer_of a ≡ answer_of b → a ≡ b
+answer-once (Ok a) (Ok b) e =
     let d : cells_by a.entries a.soundings a.read ≡ cells_by b.entries b.soundings b.read = ap (cells_or (cells_by a.entries a.soundings a.read)) e in
-    λ i. Done (record { entries = (d i).entries; soundings = (d i).soundings; read = (d i).read })
-answer-once (Done a) (Refused b) e = absurd (differ (answer_of (Done a)) (answer_of (Refused b)) e (λ z. omega arith))
-answer-once (Refused a) (Done b) e = absurd (differ (answer_of (Refused a)) (answer_of (Done b)) e (λ z. omega arith))
-answer-once (Refused a) (Refused b) e =
+    λ i. Ok (record { entries = (d i).entries; soundings = (d i).soundings; read = (d i).read })
+answer-once (Ok a) (Err b) e = absurd (differ (answer_of (Ok a)) (answer_of (Err b)) e (λ z. omega arith))
+answer-once (Err a) (Ok b) e = absurd (differ (answer_of (Err a)) (answer_of (Ok b)) e (λ z. omega arith))
+answer-once (Err a) (Err b) e =
     let d : refusal_of a ≡ refusal_of b = ap (refusal_or (refusal_of a)) e in
-    λ i. Refused (record { number = (d i).number; map = (d i).map; place = (d i).place; other = (d i).other })
+    λ i. Err (record { number = (d i).number; map = (d i).map; place = (d i).place; other = (d i).other })
 
-answer_in : (a : Counted) (ls cs : List ℕ) → (counted_of a ls cs).answer ≡ answer_of a
-answer_in (Done c) ls cs = refl
-answer_in (Refused r) ls cs = refl
+answer_in : (a : Result Cells code.Refusal) (ls cs : List ℕ) → (counted_of a ls cs).answer ≡ answer_of a
+answer_in (Ok c) ls cs = refl
+answer_in (Err r) ls cs = refl
 
-labels_in : (a : Counted) (ls cs : List ℕ) → (counted_of a ls cs).labels ≡ ls
-labels_in (Done c) ls cs = refl
-labels_in (Refused r) ls cs = refl
+labels_in : (a : Result Cells code.Refusal) (ls cs : List ℕ) → (counted_of a ls cs).labels ≡ ls
+labels_in (Ok c) ls cs = refl
+labels_in (Err r) ls cs = refl
 
-counts_in_lem : (a : Counted) (ls cs : List ℕ) → (counted_of a ls cs).counts ≡ cs
-counts_in_lem (Done c) ls cs = refl
-counts_in_lem (Refused r) ls cs = refl
+counts_in_lem : (a : Result Cells code.Refusal) (ls cs : List ℕ) → (counted_of a ls cs).counts ≡ cs
+counts_in_lem (Ok c) ls cs = refl
+counts_in_lem (Err r) ls cs = refl
 
-pub soundings-unique : (l : CountRoom) (files : List (List ℕ)) (s : List ℕ) (a b : Counted) (ls cs us vs : List ℕ) → counted_of a ls cs ≡ soundings l files s → counted_of b us vs ≡ soundings l files s → (a ≡ b) × (ls ≡ us) × (cs ≡ vs)
+pub soundings-unique : (l : CountRoom) (files : List (List ℕ)) (s : List ℕ) (a b : Result Cells code.Refusal) (ls cs us vs : List ℕ) → counted_of a ls cs ≡ soundings l files s → counted_of b us vs ≡ soundings l files s → (a ≡ b) × (ls ≡ us) × (cs ≡ vs)
 soundings-unique l files s a b ls cs us vs e g =
     let d = determined (soundings l files) s (counted_of a ls cs) (counted_of b us vs) e g in (
       answer-once a b (sym (answer_in a ls cs) ∙ ap (λ (o : paper.Counted). o.answer) d ∙ answer_in b us vs),
@@ -86,12 +86,12 @@ pub add_after : (files : List (List ℕ)) (bs : List (List ℕ)) (c d : Count) (
 add_after files bs c d b h e = e ∙ ap (λ (r : Run). next r b) h ∙ sym (all_snoc (started files) bs b)
 
 -- and `close`: the definition's answer, with the lent tables, of the batches end to end
-pub run-answer : (l : CountRoom) (x y : List ℕ) (bs : List (List ℕ)) (c : Count) (a : Counted) (ls cs : List ℕ) → After (x ∷ y ∷ []) bs c → counted_of a ls cs ≡ closed pair_width l (run_of c)
+pub run-answer : (l : CountRoom) (x y : List ℕ) (bs : List (List ℕ)) (c : Count) (a : Result Cells code.Refusal) (ls cs : List ℕ) → After (x ∷ y ∷ []) bs c → counted_of a ls cs ≡ closed pair_width l (run_of c)
     → counted_of a ls cs ≡ soundings l (x ∷ y ∷ []) (the_end_to_end bs)
 run-answer l x y bs c a ls cs h e = e ∙ ap (closed pair_width l) h ∙ all_answer l (x ∷ y ∷ []) bs
 
 -- no second outcome, whatever the cuts of the list
-pub one_answer : (l : CountRoom) (x y : List ℕ) (bs ds : List (List ℕ)) (c d : Count) (a b : Counted) (ls cs us vs : List ℕ) → the_end_to_end bs ≡ the_end_to_end ds → After (x ∷ y ∷ []) bs c → After (x ∷ y ∷ []) ds d
+pub one_answer : (l : CountRoom) (x y : List ℕ) (bs ds : List (List ℕ)) (c d : Count) (a b : Result Cells code.Refusal) (ls cs us vs : List ℕ) → the_end_to_end bs ≡ the_end_to_end ds → After (x ∷ y ∷ []) bs c → After (x ∷ y ∷ []) ds d
     → counted_of a ls cs ≡ closed pair_width l (run_of c) → counted_of b us vs ≡ closed pair_width l (run_of d) → (a ≡ b) × (ls ≡ us) × (cs ≡ vs)
 one_answer l x y bs ds c d a b ls cs us vs q h k e f =
     soundings-unique l (x ∷ y ∷ []) (the_end_to_end bs) a b ls cs us vs (run-answer l x y bs c a ls cs h e) (run-answer l x y ds d b us vs k f ∙ ap (soundings l (x ∷ y ∷ [])) (sym q))

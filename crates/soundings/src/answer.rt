@@ -20,33 +20,20 @@ pub struct Cells {
     pub read: u32,
 }
 
-#[derive(Clone, Copy)]
-pub enum Counted {
-    Done(Cells),
-    Refused(Refusal),
-}
-
-// The smaller of two numbers.
-fn smaller(a: usize, b: usize) -> usize
-    ensures { result ≡ min a b }
-{
-    if b < a { b } else { a }
-}
-
 // The pairs for which both lent tables have rows, at most 1,334.
 pub fn entry_room(labels: usize, counts: usize) -> usize
     ensures { result ≡ entry_room pair_width (room_by labels counts) }
 {
-    smaller(FACES, smaller(labels / PAIR_WIDTH, counts))
+    FACES.min((labels / PAIR_WIDTH).min(counts))
 }
 
 // "Refused: all lent tables are zero."
-pub fn refuse(r: Refusal, labels: &mut [u16], counts: &mut [u32]) -> Counted
+pub fn refuse(r: Refusal, labels: &mut [u16], counts: &mut [u32]) -> Result<Cells, Refusal>
     ensures { counted_of result labels.new counts.new ≡ refused_with (room_by (length labels.old) (length counts.old)) (refusal_of r) }
 {
     labels.fill(0);
     counts.fill(0);
-    Counted::Refused(r)
+    Err(r)
 }
 
 // "Done: places past the counts are zero."
@@ -56,7 +43,7 @@ pub fn finish(
     n: usize,
     soundings: usize,
     read: u32,
-) -> Counted
+) -> Result<Cells, Refusal>
     requires fact_1 { pair_width * n ≤ length labels.old }
     requires fact_2 { n ≤ length counts.old }
     requires fact_3 { n ≤ overlay_faces }
@@ -65,7 +52,7 @@ pub fn finish(
 {
     wipe_from(labels, PAIR_WIDTH * n, 0);
     wipe_from(counts, n, 0);
-    Counted::Done(Cells {
+    Ok(Cells {
         entries: n as u16,
         soundings: soundings as u16,
         read,

@@ -1,17 +1,20 @@
 // Bytes of the list added to a count, one after the other: at each fourth a sounding is counted.
-ghost use Rattle.std.specs.Prelude.{◌≡◌, length};
+ghost use Rattle.std.specs.Prelude.{◌≡◌};
 ghost use Rattle.plane.specs.Values.{vec_of};
 ghost use Rattle.plane.specs.Bounds.{Corner};
 ghost use Rattle.laws_soundings.specs.Run.{with_sounding, with_byte, next};
 ghost use Rattle.laws_soundings.specs.RunFit.{FitRun};
-ghost use Rattle.soundings.specs.Rows.{Rows, look_by, most_read};
-ghost use Rattle.soundings.specs.State.{tallied_by, run_by};
-ghost use Rattle.soundings.specs.Sound.{TableRoom};
+ghost use Rattle.soundings.specs.Rows.{most_read};
+ghost use Rattle.soundings.specs.Looks.{look_of};
+ghost use Rattle.soundings.specs.State.{tallied_by};
+ghost use Rattle.soundings.specs.Tally.{run_at};
 ghost use Rattle.soundings.specs.Step.{Roomy, Stepped, Countable};
 
+use crate::maps::Maps;
 use crate::sounding::{cell, sounding_in, too_far};
-use crate::state::{Progress, going, halted};
-use limits::{FACES, LIST_SOUNDINGS, SOUNDING_SIZE};
+use crate::state::{going, halted};
+use crate::tally::Tally;
+use limits::{FACES, LIST_SOUNDINGS, PAIR_CELLS, SOUNDING_SIZE};
 use map_file::Refusal;
 use plane::Vector;
 use soundings_count::put_cell;
@@ -23,24 +26,17 @@ pub struct Step {
     pub read: u32,
 }
 
-// Counts a sounding, unless there are more pairs than room already.
-fn count_one(
-    rails: &[i16],
-    easts: &[u16],
-    e: usize,
-    rails2: &[i16],
-    easts2: &[u16],
-    f: usize,
+// Counts a sounding at c into the table of m pairs, unless there are more than room already.
+fn count_one<'a>(
+    maps: Maps<'a>,
     c: Vector,
-    labels: &mut [u16],
-    counts: &mut [u32],
+    labels: &mut [u16; PAIR_CELLS],
+    counts: &mut [u32; FACES],
     m: usize,
 ) -> Step
-    requires fact_1 { Rows rails.now easts.now e }
-    requires fact_2 { Rows rails2.now easts2.now f }
-    requires fact_3 { Corner (vec_of c) }
-    requires fact_4 { Roomy labels.old counts.old m }
-    ensures { Stepped (look_by rails.now easts.now e rails2.now easts2.now f) (vec_of c) labels.old counts.old m labels.new counts.new result }
+    requires fact_1 { Corner (vec_of c) }
+    requires fact_2 { Roomy labels.old counts.old m }
+    ensures { Stepped (look_of maps.entry) (vec_of c) labels.old counts.old m labels.new counts.new result }
 {
     if FACES < m {
         return Step {
@@ -48,7 +44,7 @@ fn count_one(
             read: 0,
         };
     }
-    let p = cell(rails, easts, e, rails2, easts2, f, c);
+    let p = cell(maps, c);
     let entries = put_cell(labels, counts, FACES, m, p.first, p.second);
     Step {
         entries,
@@ -57,108 +53,54 @@ fn count_one(
 }
 
 // One sounding more, of four bytes.
-fn add_sounding(
-    rails: &[i16],
-    easts: &[u16],
-    e: usize,
-    rails2: &[i16],
-    easts2: &[u16],
-    f: usize,
-    bytes: &[u8],
-    labels: &mut [u16],
-    counts: &mut [u32],
-    p: Progress,
-) -> Progress
-    requires fact_1 { Rows rails.now easts.now e }
-    requires fact_2 { Rows rails2.now easts2.now f }
-    requires fact_3 { Countable labels.old counts.old p }
-    ensures { run_by (look_by rails.now easts.now e rails2.now easts2.now f) bytes.now labels.new counts.new result ≡ with_sounding (look_by rails.now easts.now e rails2.now easts2.now f) p.soundings p.far (tallied_by labels.old counts.old p.entries p.read) bytes.now }
+fn add_sounding<'a>(maps: Maps<'a>, t: &mut Tally)
+    requires { Countable t.old.labels t.old.counts t.old.progress }
+    ensures { run_at (look_of maps.entry) t.new ≡ with_sounding (look_of maps.entry) t.old.progress.soundings t.old.progress.far (tallied_by t.old.labels t.old.counts t.old.progress.entries t.old.progress.read) t.old.bytes }
 {
+    let p = t.progress;
     if LIST_SOUNDINGS <= p.soundings {
-        return halted(Refusal {
+        t.progress = halted(Refusal {
             number: 12,
             map: 0,
             place: 0,
             other: 0,
         });
+        return;
     }
-    if p.far < p.soundings {
-        return going(p.soundings + 1, p.far, p.entries, 0, p.read);
+    let all = p.soundings + 1;
+    if p.far < p.soundings || too_far(&t.bytes) {
+        t.progress = going(all, p.far, p.entries, 0, p.read);
+        return;
     }
-    if too_far(bytes) {
-        return going(p.soundings + 1, p.far, p.entries, 0, p.read);
-    }
-    let c = sounding_in(bytes);
-    let step = count_one(
-        rails, easts, e, rails2, easts2, f, c, labels, counts, p.entries,
-    );
-    going(
-        p.soundings + 1,
-        p.far + 1,
-        step.entries,
-        0,
-        p.read + step.read,
-    )
+    let c = sounding_in(&t.bytes);
+    let step = count_one(maps, c, &mut t.labels, &mut t.counts, p.entries);
+    t.progress = going(all, p.far + 1, step.entries, 0, p.read + step.read);
 }
 
 // One byte more. What is refused stays so.
-fn add_byte(
-    rails: &[i16],
-    easts: &[u16],
-    e: usize,
-    rails2: &[i16],
-    easts2: &[u16],
-    f: usize,
-    b: u8,
-    bytes: &mut [u8],
-    labels: &mut [u16],
-    counts: &mut [u32],
-    p: Progress,
-) -> Progress
-    requires fact_1 { Rows rails.now easts.now e }
-    requires fact_2 { Rows rails2.now easts2.now f }
-    requires fact_3 { length bytes.old ≡ 4 }
-    requires fact_4 { TableRoom labels.old counts.old }
-    requires fact_5 { FitRun most_read (run_by (look_by rails.now easts.now e rails2.now easts2.now f) bytes.old labels.old counts.old p) }
-    ensures { run_by (look_by rails.now easts.now e rails2.now easts2.now f) bytes.new labels.new counts.new result ≡ with_byte (run_by (look_by rails.now easts.now e rails2.now easts2.now f) bytes.old labels.old counts.old p) b }
+fn add_byte<'a>(maps: Maps<'a>, b: u8, t: &mut Tally)
+    requires { FitRun most_read (run_at (look_of maps) t.old) }
+    ensures { run_at (look_of maps.entry) t.new ≡ with_byte (run_at (look_of maps.entry) t.old) b }
 {
+    let p = t.progress;
     if p.bad != 0 {
-        return p;
+        return;
     }
     let at = p.rest;
-    bytes[at] = b;
+    t.bytes[at] = b;
     if at + 1 < SOUNDING_SIZE {
-        return going(p.soundings, p.far, p.entries, at + 1, p.read);
+        t.progress = going(p.soundings, p.far, p.entries, at + 1, p.read);
+    } else {
+        add_sounding(maps, t);
     }
-    add_sounding(rails, easts, e, rails2, easts2, f, bytes, labels, counts, p)
 }
 
 // The bytes of a batch.
-pub fn add_bytes(
-    rails: &[i16],
-    easts: &[u16],
-    e: usize,
-    rails2: &[i16],
-    easts2: &[u16],
-    f: usize,
-    batch: &[u8],
-    bytes: &mut [u8],
-    labels: &mut [u16],
-    counts: &mut [u32],
-    p: Progress,
-) -> Progress
-    requires fact_1 { Rows rails.now easts.now e }
-    requires fact_2 { Rows rails2.now easts2.now f }
-    requires fact_3 { length bytes.old ≡ 4 }
-    requires fact_4 { TableRoom labels.old counts.old }
-    requires fact_5 { FitRun most_read (run_by (look_by rails.now easts.now e rails2.now easts2.now f) bytes.old labels.old counts.old p) }
-    ensures { run_by (look_by rails.now easts.now e rails2.now easts2.now f) bytes.new labels.new counts.new result ≡ next (run_by (look_by rails.now easts.now e rails2.now easts2.now f) bytes.old labels.old counts.old p) batch.now }
+pub fn add_bytes<'a>(maps: Maps<'a>, batch: &[u8], t: &mut Tally)
+    requires { FitRun most_read (run_at (look_of maps) t.old) }
+    ensures { run_at (look_of maps.entry) t.new ≡ next (run_at (look_of maps.entry) t.old) batch.now }
 {
-    let mut q = p;
-    for i in 0..batch.len() {
-        q = add_byte(
-            rails, easts, e, rails2, easts2, f, batch[i], bytes, labels, counts, q,
-        );
+    for &b in batch {
+        add_byte(maps, b, t);
     }
-    q
 }

@@ -2,10 +2,12 @@
 // them for looks, once; then `add` for each batch, of any bytes; then `close`. None of them asks for anything, and whatever the cut, the answer is that of the whole list (specs/Unique.antt).
 #![tactic(auto)]
 
+mod maps; // the edges of both maps, laid for looks
 mod sounding; // a sounding, and its labels in the maps
 mod lay; // the two maps checked and laid for looks
 mod state; // where a count stands, and its start
 mod sound; // whether a count that was handed in can go on
+mod tally; // what a batch changes of a count
 mod bytes; // bytes added to a count
 mod batch; // a batch added
 mod answer; // what is answered, and the lent tables afterwards
@@ -15,9 +17,10 @@ ghost use Rattle.std.specs.Prelude.{◌≡◌, [], ◌∷◌, length};
 ghost use Rattle.paper.specs.Soundings.{soundings};
 ghost use Rattle.soundings.specs.Answer.{room_by, counted_of};
 
-pub use answer::{Cells, Counted};
+pub use answer::Cells;
 pub use batch::add;
 pub use closing::close;
+use map_file::Refusal;
 pub use state::{Count, Progress, begin};
 
 // The soundings of a list by cell, of two map files and a list of any bytes: each pair of labels that occurs, sorted, in rows of the labels, and how often in the counts; zeros past
@@ -28,7 +31,7 @@ pub fn soundings(
     list: &[u8],
     labels: &mut [u16],
     counts: &mut [u32],
-) -> Counted
+) -> Result<Cells, Refusal>
     ensures { counted_of result labels.new counts.new ≡ soundings (room_by (length labels.old) (length counts.old)) (zones.now ∷ blocks.now ∷ []) list.now }
 {
     let start = begin(zones, blocks);

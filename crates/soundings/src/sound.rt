@@ -1,10 +1,12 @@
 // Whether a count that was handed in can go on: no list of soundings leads to one that cannot.
-ghost use Rattle.std.specs.Prelude.{◌≡◌, ◌*◌, ◌≤◌, length};
-ghost use Rattle.paper.specs.Limits.{map_edges, overlay_faces, list_soundings};
-ghost use Rattle.soundings.specs.Sound.{numbers_sound, rows_sound, table_sound, sound, TableRoom};
+ghost use Rattle.std.specs.Prelude.{◌≡◌, ◌≤◌};
+ghost use Rattle.paper.specs.Limits.{overlay_faces, list_soundings};
+ghost use Rattle.soundings.specs.Sound.{numbers_sound, rows_sound, table_sound, sound};
 
-use crate::state::Progress;
-use limits::{FACES, LIST_SOUNDINGS, MAP_EDGES, PAIR_WIDTH, SOUNDING_SIZE};
+use crate::state::{Count, Progress};
+use limits::{
+    FACES, LIST_SOUNDINGS, MAP_CARRIER_CELLS, MAP_EDGES, PAIR_CELLS, PAIR_WIDTH, SOUNDING_SIZE,
+};
 use looks::strays;
 use soundings_count::{falls, sum};
 
@@ -15,70 +17,34 @@ const MOST_READ: u64 = PAIR_WIDTH as u64 * MAP_EDGES as u64;
 fn numbers_sound(p: Progress) -> bool
     ensures { result ≡ numbers_sound p }
 {
-    if LIST_SOUNDINGS < p.soundings {
-        return false;
-    }
-    if p.soundings < p.far {
-        return false;
-    }
-    p.rest < SOUNDING_SIZE
+    p.soundings <= LIST_SOUNDINGS && (p.far <= p.soundings && p.rest < SOUNDING_SIZE)
 }
 
 // Whether the e rows of a map are edges between corners.
-fn rows_sound(rails: &[i16], e: usize) -> bool
-    requires { 4 * map_edges ≤ length rails.now }
+fn rows_sound(rails: &[i16; MAP_CARRIER_CELLS], e: usize) -> bool
     ensures { result ≡ rows_sound rails.now e }
 {
-    if (MAP_EDGES as usize) < e {
-        return false;
-    }
-    !strays(rails, e)
+    e <= MAP_EDGES as usize && !strays(rails, e)
 }
 
 // Whether the pairs stand in strict order, their counts add up to no more than the soundings, and no more edges were read than there are for so many.
-fn table_sound(labels: &[u16], counts: &[u32], p: Progress) -> bool
-    requires fact_1 { TableRoom labels.now counts.now }
-    requires fact_2 { p.entries ≤ overlay_faces }
-    requires fact_3 { p.soundings ≤ list_soundings }
+fn table_sound(labels: &[u16; PAIR_CELLS], counts: &[u32; FACES], p: Progress) -> bool
+    requires fact_1 { p.entries ≤ overlay_faces }
+    requires fact_2 { p.soundings ≤ list_soundings }
     ensures { result ≡ table_sound labels.now counts.now p }
 {
     let n = p.entries;
-    if falls(labels, n) {
-        return false;
-    }
     let soundings = p.soundings as u64;
-    if soundings < sum(counts, n) {
-        return false;
-    }
-    p.read as u64 <= MOST_READ * soundings
+    !falls(labels, n) && (sum(counts, n) <= soundings && p.read as u64 <= MOST_READ * soundings)
 }
 
-// Whether all of it is.
-pub fn sound(
-    rails: &[i16],
-    e: usize,
-    rails2: &[i16],
-    f: usize,
-    labels: &[u16],
-    counts: &[u32],
-    p: Progress,
-) -> bool
-    requires fact_1 { 4 * map_edges ≤ length rails.now }
-    requires fact_2 { 4 * map_edges ≤ length rails2.now }
-    requires fact_3 { TableRoom labels.now counts.now }
-    ensures { result ≡ sound rails.now e rails2.now f labels.now counts.now p }
+// Whether all of it is. Of more pairs than room only the number is kept.
+pub fn sound(count: &Count) -> bool
+    ensures { result ≡ sound count.now.rails count.now.edges count.now.rails2 count.now.edges2 count.now.labels count.now.counts count.now.progress }
 {
-    if !numbers_sound(p) {
-        return false;
-    }
-    if !rows_sound(rails, e) {
-        return false;
-    }
-    if !rows_sound(rails2, f) {
-        return false;
-    }
-    if FACES < p.entries {
-        return true;
-    }
-    table_sound(labels, counts, p)
+    let p = count.progress;
+    numbers_sound(p)
+        && (rows_sound(&count.rails, count.edges)
+            && (rows_sound(&count.rails2, count.edges2)
+                && (FACES < p.entries || table_sound(&count.labels, &count.counts, p))))
 }

@@ -3,9 +3,10 @@ ghost use Rattle.std.specs.Prelude.{◌≡◌};
 ghost use Rattle.paper.specs.Soundings.{sounding_at, far};
 ghost use Rattle.plane.specs.Values.{vec_of};
 ghost use Rattle.plane.specs.Bounds.{Corner};
-ghost use Rattle.soundings.specs.Rows.{Rows, look_by};
 ghost use Rattle.soundings.specs.Labels.{labels_of};
+ghost use Rattle.soundings.specs.Looks.{look_of};
 
+use crate::maps::Maps;
 use limits::REACH;
 use looks::label_read;
 use map_file::i16_at;
@@ -33,30 +34,19 @@ pub fn sounding_in(bytes: &[u8]) -> Vector
 pub fn too_far(bytes: &[u8]) -> bool
     ensures { result ≡ far bytes.now 0 }
 {
-    if REACH < i16_at(bytes, 0).unsigned_abs() {
-        return true;
-    }
-    REACH < i16_at(bytes, 2).unsigned_abs()
+    REACH < i16_at(bytes, 0).unsigned_abs() || REACH < i16_at(bytes, 2).unsigned_abs()
 }
 
-// The labels of a sounding at c in both maps, of e and f edges, "look west with edges through p counted as west", and how many edges are read for them.
-pub fn cell(
-    rails: &[i16],
-    easts: &[u16],
-    e: usize,
-    rails2: &[i16],
-    easts2: &[u16],
-    f: usize,
-    c: Vector,
-) -> Labels
-    requires fact_1 { Rows rails.now easts.now e }
-    requires fact_2 { Rows rails2.now easts2.now f }
-    requires fact_3 { Corner (vec_of c) }
-    ensures labels { labels_of result ≡ (look_by rails.now easts.now e rails2.now easts2.now f).cell (vec_of c) }
-    ensures read { result.read ≡ (look_by rails.now easts.now e rails2.now easts2.now f).read (vec_of c) }
+// The labels of a sounding at c in both maps, "look west with edges through p counted as west", and how many edges are read for them.
+pub fn cell<'a>(maps: Maps<'a>, c: Vector) -> Labels
+    requires { Corner (vec_of c) }
+    ensures labels { labels_of result ≡ (look_of maps.entry).cell (vec_of c) }
+    ensures read { result.read ≡ (look_of maps.entry).read (vec_of c) }
 {
-    let a = label_read(rails, easts, e, c);
-    let b = label_read(rails2, easts2, f, c);
+    let zones = maps.zones;
+    let blocks = maps.blocks;
+    let a = label_read(zones.rails, zones.easts, zones.count, c);
+    let b = label_read(blocks.rails, blocks.easts, blocks.count, c);
     Labels {
         first: a.label,
         second: b.label,

@@ -1,37 +1,26 @@
 -- `soundings::closing::lay_pairs` meets its contract. Assumes nothing.
 use mathlib.Core.Path.{◌∙◌}
 use native.Mathlib.Omega.{arith}
+use Rattle.std.proofs.Common.{◌++◌, ◌*◌, List, ℕ, ap, drop, length, get_or}
 use Rattle.seq.specs.Seq.{none}
+use Rattle.seq.proofs.Ranges.{copied}
+use Rattle.seq.specs.Filled.{length-filled}
 use Rattle.paper.specs.Soundings.{counted}
 use Rattle.laws_soundings.specs.Run.{cells_by}
 use Rattle.soundings.specs.Answer.{room_by}
 use Rattle.soundings.specs.Closing.{laid-entries}
 use Rattle.soundings.proofs.closing.lay_pairs.Goals as goal
 
-pub overflow_mul-n : goal.overflow_mul-n
-overflow_mul-n c = omega (arith, c.requires.fact_4)
-
-pub lay_labels-requires : goal.lay_labels-requires
-lay_labels-requires c = let p = c.requires in record { fact_1 = omega (arith, p.fact_1.labels, p.fact_4); fact_2 = p.fact_2 }
-
-pub lay_counts-requires : goal.lay_counts-requires
-lay_counts-requires c = let p = c.requires in record { fact_1 = omega (arith, p.fact_1.counts, p.fact_4); fact_2 = p.fact_3 }
-
-pub finish-requires : goal.finish-requires
-finish-requires c =
-    let p = c.requires in
-    record { fact_1 = omega (arith, p.fact_2, c.lay_labels.auto.to); fact_2 = omega (arith, p.fact_3, c.lay_counts.auto.to); fact_3 = p.fact_4; fact_4 = p.fact_5 }
-
 pub returns : goal.returns
 returns c =
     let a = c.args in
-    let x = c.lay_labels in
-    let y = c.lay_counts in
+    let p = a.p in
+    let x = c.copy_from_slice in
+    let y = c.copy_from_slice-2 in
+    let n = 2 * p.entries in
+    let e = ap (λ (xs : List ℕ). xs ++ drop n a.labels.now) x.ensures.after ∙ copied 0 n a.own.now a.labels.now (omega arith) in
+    let f = ap (λ (xs : List ℕ). xs ++ drop p.entries a.counts.now) y.ensures.after ∙ copied 0 p.entries a.times.now a.counts.now (omega arith) in
+    let u = ap length e ∙ length-filled (λ i. get_or a.own.now i 0) n a.labels.now (omega arith) in
+    let v = ap length f ∙ length-filled (λ i. get_or a.times.now i 0) p.entries a.counts.now (omega arith) in
     c.finish.ensures
-    ∙ (λ i. counted (room_by (x.auto.to i) (y.auto.to i)) (cells_by a.p.entries a.p.soundings a.p.read) (laid-entries a.own.now a.times.now a.labels.now a.counts.now _ _ a.p.entries x.ensures y.ensures i) none)
-
-pub shape_of-labels : goal.shape_of-labels
-shape_of-labels c = c.finish.auto.labels ∙ c.lay_labels.auto.to
-
-pub shape_of-counts : goal.shape_of-counts
-shape_of-counts c = c.finish.auto.counts ∙ c.lay_counts.auto.to
+    ∙ (λ i. counted (room_by (u i) (v i)) (cells_by p.entries p.soundings p.read) (laid-entries a.own.now a.times.now a.labels.now a.counts.now _ _ p.entries e f i) none)

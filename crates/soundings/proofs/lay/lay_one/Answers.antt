@@ -14,15 +14,6 @@ lay_map-c-requires c = any_room _ (cleared_room map_vertices map_edges)
 pub put_in_order-requires : goal.put_in_order-requires
 put_in_order-requires c =
     let a = c.args in
-    let is = c.of_map-d.ensures ∙ ap (the_of_map a.map) (ap refused_in c.lay_map-c.ensures.0 ∙ refused_with_lem _ (fault a.file.now)) in record {
-      fact_1 = (λ q.
-          let p = of_none a.map (fault a.file.now) (sym is ∙ q) in
-          is_laid a.file.now p _ _ _ _ _ _ _ _ (cleared_room map_vertices map_edges) (c.lay_map-c.ensures.1 p));
-      fact_2 = c.requires;
-    }
-
-pub returns : goal.returns
-returns c =
-    let a = c.args in
-    let is = c.of_map-d.ensures ∙ ap (the_of_map a.map) (ap refused_in c.lay_map-c.ensures.0 ∙ refused_with_lem _ (fault a.file.now)) in
-    (is, λ q. c.put_in_order.ensures (is ∙ ap (the_of_map a.map) q))
+    let is = ap (the_of_map a.map) (ap refused_in c.lay_map-c.ensures.0 ∙ refused_with_lem _ (fault a.file.now)) in
+    let p = of_none a.map (fault a.file.now) (sym (c.in_ok-of_map.ensures ∙ is)) in
+    is_laid a.file.now p _ _ _ _ _ _ _ _ (cleared_room map_vertices map_edges) (c.lay_map-c.ensures.1 p)
