@@ -4,10 +4,10 @@ use Prim.Native.Nat.{◌<◌}
 use native.Mathlib.Omega.{arith}
 use borrow.Author.Rules.{rules}
 use Rattle.seq.specs.Seq.{ℕ}
-use Rattle.seq.specs.Loops.Picking.{pick_starts, pick-most, pick_takes, pick-skips, pick-lacks, pick_has}
+use Rattle.seq.specs.Loops.Picking.{pick-most, pick_takes, pick-skips, pick-lacks, pick_has}
 use Rattle.plane.specs.Values.{pt_of, vec_of}
 use Rattle.graph.specs.Flat.{Carried}
-use Rattle.graph.specs.Heading.{flat_ends, flat-carried}
+use Rattle.graph.specs.Heading.{flat-carried}
 use Rattle.graph.specs.Look.{flat-best}
 use Rattle.graph.proofs.look.look.Goals as goal
 use Rattle.graph.proofs.look.look.Goals.{Start, then-candidate, else-candidate}
@@ -15,13 +15,6 @@ use Rattle.graph.proofs.look.look.Goals.{Start, then-candidate, else-candidate}
 -- the edges are carried
 carried : (s : Start) (k : ℕ) → k < s.args.g.edges → Carried s.args.g.carriers.now k
 carried s = flat-carried s.args.g.points.now s.args.g.origins.now s.args.g.carriers.now s.args.g.vertices s.args.g.edges s.requires.fact_1
-
-pub candidate-requires : goal.candidate-requires
-candidate-requires c =
-    let k = c.loop-k.k in
-    let l = c.loop-k-test.true in
-    let ends = flat_ends c.args.g.points.now c.args.g.origins.now c.args.g.carriers.now c.args.g.vertices c.args.g.edges c.requires.fact_1 k l in
-    (omega (arith, c.requires.fact_2), ends.0, ends.1, carried (goal.at.candidate-requires c).Start k l, c.requires.fact_3, c.requires.fact_4)
 
 pub nearest-r-requires : goal.nearest-r-requires
 nearest-r-requires c =
@@ -46,6 +39,3 @@ returns-then-r-e c =
 pub returns-else-r-e : goal.returns-else-r-e
 returns-else-r-e c =
     pick_has c.loop-k.invariant (search rules) c.if-r-e.false ∙ flat-best c.args.g.points.now c.args.g.origins.now c.args.g.carriers.now c.args.g.vertices c.args.g.edges c.requires.fact_1 (pt_of c.args.p) c.requires.fact_3 (vec_of c.args.d)
-
-pub loop-k-init : goal.loop-k-init
-loop-k-init c = pick_starts

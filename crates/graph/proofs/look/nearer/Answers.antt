@@ -3,19 +3,13 @@ use mathlib.Core.Path.{◌≡◌, ◌∙◌, ap}
 use lib.IntN.{◌-ℤ◌, ◌*ℤ◌}
 use borrow.Author.Rules.{rules}
 use Rattle.exact.specs.Compare.{sign_of, cmp_0, gt_plus, then_with_pick}
-use Rattle.exact.specs.Mach.{tr, tru, plain, atmost, under}
+use Rattle.exact.specs.Mach.{tr, plain}
 use Rattle.exact.specs.Sign.{sgn, pick, is_plus}
 use Rattle.paper.specs.Plane.{vec, cross, the_left_by}
 use Rattle.plane.proofs.Machine.{back, vec_back}
 use Rattle.plane.specs.Values.{seg_of, pt_of}
 use Rattle.graph.proofs.look.nearer.Goals as goal
 use Rattle.graph.proofs.look.nearer.Goals.{After-products}
-
-pub products-requires : goal.products-requires
-products-requires c =
-    let sv = c.requires.0.up_is.y_is in
-    let tv = c.requires.1.up_is.y_is in
-    record { a_is = atmost (search tru depth 20) tt; b_is = under (search tru depth 20) tt; c_is = atmost (search tru depth 20) tt; d_is = under (search tru depth 20) tt }
 
 -- what `products` told
 told : (c : After-products) → let a = c.args in

@@ -1,7 +1,7 @@
 -- `graph::look::westward` meets its contract. Assumes nothing.
 use mathlib.Core.Path.{◌≡◌, ◌∙◌, ap}
 use lib.IntN.{pos, neg_ℤ, ◌-ℤ◌}
-use Rattle.exact.specs.Mach.{tr, fits, plain}
+use Rattle.exact.specs.Mach.{tr, plain}
 use Rattle.paper.specs.Plane.{vec, cross, rises}
 use Rattle.plane.proofs.Machine.{back, vec_back}
 use Rattle.plane.specs.Values.{vec_of, seg_of}
@@ -20,6 +20,3 @@ returns c =
     let turn : cross (vec (back a.d.x) (back a.d.y)) (vec (back s.u) (back s.v)) ≡ cross (vec_of a.d) (seg_of s).up =
     λ i. cross (vec_back a.d.x a.d.y pre.2 i) (vec_back s.u s.v pre.0.up_is i) in
     c.rises.ensures ∙ (λ i. rises (vec ((x ∙ q.ensures.is ∙ turn) i) ((y ∙ minus l.result ∙ ap neg_ℤ l.ensures.is) i)))
-
-pub overflow_sub-left : goal.overflow_sub-left
-overflow_sub-left c = fits (search tr depth 20) tt
