@@ -13,7 +13,8 @@ pub fn fill(out: &mut [u16], n: usize, value: u16)
     out[..n].fill(value);
 }
 
-// Where each number below n first stands in the first m cells of xs; `none` where it does not. From the last place down, so that the first is stored last.
+// Where each number below n first stands in the first m cells of xs; `none` where it does not. From the last place down, so that the first is stored last. The overlay file's crates have it of a column
+// of a table and of a field of a file, where a number may name no cell and is passed by: here each is below n, and nothing is tested.
 pub fn first_places(xs: &[u16], m: usize, none: u16, out: &mut [u16], n: usize)
     requires fact_1 { Numbers xs.now m n }
     requires fact_2 { m ≤ absent }
