@@ -3,15 +3,30 @@
 #![tactic(auto)]
 
 mod digest; // the digest of what is lent
-mod sheets; // three maps laid over each other, or melted
+mod lent; // the tables that are lent
 mod mends; // files mended
 mod pack; // the numbers and files of a pack
-mod ways; // both ways to collect the vertices
+mod sheets; // three maps laid over each other, or melted
 
+use lent::Tables;
+use sheets::Maps;
 use std::io;
 
 fn main(rt: HostRuntime) -> io::Result<()> {
-    sheets::all(&rt, "pairs", false)?;
-    mends::all(&rt)?;
-    sheets::all(&rt, "melts", true)
+    pack::each(&rt, "pairs", |pack| {
+        let (maps, rows) = sheets::next(pack);
+        if !sheets::ways_agree(rt.alloc(), maps, rows)? {
+            rt.print("the ways differ: ")?;
+        }
+        let mut tables = Tables::new(rt.alloc(), rows, 0, 0)?;
+        let answer = maps.lay(&mut tables);
+        sheets::say_answer(&rt, answer, &tables)
+    })?;
+    pack::each(&rt, "mends", |pack| mends::next(&rt, pack))?;
+    pack::each(&rt, "melts", |pack| {
+        let (maps, rows) = sheets::next(pack);
+        let mut tables = Tables::new(rt.alloc(), rows, 0, 0)?;
+        let answer = maps.melt(&mut tables);
+        sheets::say_answer(&rt, answer, &tables)
+    })
 }

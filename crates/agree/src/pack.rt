@@ -1,51 +1,59 @@
 // The numbers and files of a pack, one behind the other. Past its end all numbers are 0.
-ghost use Rattle.std.specs.Prelude.{◌≤◌};
-ghost use Rattle.io.specs.Counts.{IsPrefixLen};
+use std::fs;
+use std::io::{Eprint, ErrorKind, Print, Read, Result};
+use std::rt::Files;
 
-use map_file::u16_at;
-use std::io::Read;
-
-// How many rows of each table are lent.
-#[derive(Clone, Copy)]
-pub struct Rows {
-    pub vertices: u16,
-    pub halves: u16,
-    pub sources: u16,
-    pub faces: u16,
+// What is left of it.
+#[derive(Drop)]
+pub struct Pack<'a> {
+    rest: &'a [u8],
 }
 
-// A number of 16 bits, low byte first.
-pub fn number<F: Read>(from: &mut F) -> u16 {
-    let mut bytes = [0u8; 2];
-    console::read_full(from, &mut bytes);
-    u16_at(&bytes, 0)
-}
+impl<'a> Pack<'a> {
+    // The next n bytes, or as many as there are.
+    pub fn bytes(&mut self, n: u16) -> &'a [u8] {
+        let rest = self.rest;
+        let (bytes, behind) = rest.split_at(rest.len().min(n as usize));
+        self.rest = behind;
+        bytes
+    }
 
-pub fn lent<F: Read>(from: &mut F) -> Rows {
-    Rows {
-        vertices: number(from),
-        halves: number(from),
-        sources: number(from),
-        faces: number(from),
+    // A number of 16 bits, low byte first.
+    pub fn number(&mut self) -> u16 {
+        match self.bytes(2) {
+            [low, high] => u16::from_le_bytes([*low, *high]),
+            [low] => u16::from(*low),
+            _ => 0,
+        }
     }
 }
 
-// Puts the next n bytes at the start of a buffer, and answers how many there are.
-pub fn fetch<F: Read>(from: &mut F, n: u16, buf: &mut [u8]) -> usize
-    ensures { IsPrefixLen result buf.new }
+// A line for each entry of the pack of a name, which the entry's number begins.
+pub fn each<R: Files + AllocGlobal + Print + Eprint, F: FnMut(&mut Pack<'_>) -> Result<()>>(
+    rt: &R,
+    name: &str,
+    mut entry: F,
+) -> Result<()>
+    requires { F.IsAlwaysCallable entry }
 {
-    let k = console::within(n as usize, buf);
-    let got = console::read_full(from, &mut buf[0..k]);
-    console::within(got, buf)
+    let mut file = match fs::open(rt, name) {
+        Ok(file) => file,
+        Err(why) => return console::fail(rt, name.as_bytes(), why),
+    };
+    let bytes = read(rt, &mut file)?;
+    let mut pack = Pack { rest: &bytes };
+    for i in 0..pack.number() {
+        print!(rt; "{i} ")?;
+        entry(&mut pack)?;
+    }
+    Ok(())
 }
 
-// So many rows, at most `most`.
-pub fn least(rows: u16, most: u16) -> usize
-    ensures { result ≤ most }
-{
-    if rows < most {
-        rows as usize
-    } else {
-        most as usize
+// All that a file holds. One that cannot be read ends there.
+fn read<R: AllocGlobal, F: Read>(rt: &R, file: &mut F) -> Result<Vec<u8>> {
+    let mut bytes = Vec::new(rt.alloc());
+    match file.read_to_end(&mut bytes) {
+        Err(e) if e.kind() == ErrorKind::OutOfMemory => Err(e),
+        _ => Ok(bytes),
     }
 }

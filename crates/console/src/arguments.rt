@@ -1,34 +1,34 @@
-// The program's arguments, by number: 0 is the program's own name.
-ghost use Rattle.io.specs.Counts.{IsPrefixLen};
-
+// The program's arguments, its own name left out. They are bytes: a name need not be text.
 use std::env::FillError;
+use std::io::Result;
 use std::rt::Env;
 
-// Puts an argument's bytes at the start of a buffer and answers how many there are: none where there is no such argument, or the buffer is too short for it.
-pub fn arg(rt: &impl Env, i: usize, buf: &mut [u8]) -> usize
-    ensures { IsPrefixLen result buf.new }
-{
-    match rt.arg(i, buf) {
+// All of them. One longer than any path counts as empty.
+pub fn args(rt: &(impl Env + AllocGlobal)) -> Result<Vec<Vec<u8>>> {
+    let mut all = Vec::new(rt.alloc());
+    for i in 1..usize::MAX {
+        let Some(arg) = arg(rt, i)? else {
+            break;
+        };
+        all.push(arg)?;
+    }
+    Ok(all)
+}
+
+fn arg(rt: &(impl Env + AllocGlobal), i: usize) -> Result<Option<Vec<u8>>> {
+    let mut buf = io::buffer();
+    let n = match rt.arg(i, &mut buf) {
         Ok(n) => n,
-        Err(_) => 0,
-    }
+        Err(FillError::TooLong) => 0,
+        Err(FillError::NotPresent) => return Ok(None),
+    };
+    Ok(Some(buf[..n].to_vec(rt.alloc())?))
 }
 
-// How many there are, the program's own name among them.
-pub fn arg_count(rt: &impl Env) -> usize {
-    for i in 0..usize::MAX {
-        if is_absent(rt, i) {
-            return i;
-        }
-    }
-    usize::MAX
-}
-
-fn is_absent(rt: &impl Env, i: usize) -> bool {
-    let mut word = io::buffer();
-    match rt.arg(i, &mut word) {
-        Ok(_) => false,
-        Err(FillError::NotPresent) => true,
-        Err(FillError::TooLong) => false,
+// One of them, which counts as empty where it is not there.
+pub fn word(args: &[Vec<u8>], i: usize) -> &[u8] {
+    match args.get(i) {
+        Some(arg) => arg,
+        None => &[],
     }
 }

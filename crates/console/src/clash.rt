@@ -1,116 +1,82 @@
 // Refusal 8 in a sentence, for people: which two edges, how they meet, and where.
-ghost use Rattle.std.specs.Prelude.{◌≤◌};
-
-use crate::lines::{say, say_number};
-use limits::{MAP_EDGE_SIZE, MAP_HEAD, MAP_VERTEX_SIZE};
-use map_file::{Refusal, u16_at, vertex_count};
+use limits::MAP_EDGE_SIZE;
+use map_file::{Refusal, u16_at, vertex_count, vertex_place};
 use plane::{Meeting, Point};
-use std::io::{Print, Result};
+use std::fmt;
+use std::fmt::Display;
 
-// Where vertex v stands in a map file.
-pub fn vertex_at(v: u16) -> usize
-    ensures { result ≤ 262149 }
-{
-    MAP_HEAD + MAP_VERTEX_SIZE * v as usize
+// Two edges of a map file, and how they meet.
+#[derive(Clone, Copy)]
+pub struct Clash {
+    edge: u16,
+    other: u16,
+    how: Result<Meeting, Refusal>,
 }
 
-// Where the vertex stands that the number at a place names.
-fn named_at(file: &[u8], at: usize) -> usize
-    ensures { result ≤ 262149 }
-{
-    vertex_at(u16_at(file, at))
-}
-
-// The coordinate at a place.
-fn coordinate(file: &[u8], at: usize) -> i16 {
-    let n = u16_at(file, at);
-    if n < 32768 {
-        n as i16
-    } else {
-        !((65535 - n) as i16)
-    }
-}
-
-// How edges k and j of a map file meet.
-fn meeting_of(file: &[u8], k: u16, j: u16) -> std::result::Result<Meeting, Refusal> {
-    let edges = vertex_at(vertex_count(file));
-    let first = edges + MAP_EDGE_SIZE * k as usize;
-    let second = edges + MAP_EDGE_SIZE * j as usize;
-    let a = named_at(file, first);
-    let b = named_at(file, first + 2);
-    let c = named_at(file, second);
-    let d = named_at(file, second + 2);
-    meet::meet(
-        coordinate(file, a),
-        coordinate(file, a + 2),
-        coordinate(file, b),
-        coordinate(file, b + 2),
-        coordinate(file, c),
-        coordinate(file, c + 2),
-        coordinate(file, d),
-        coordinate(file, d + 2),
-    )
-}
-
-// The first coordinate of a point in lowest terms: `7/3`, or `2`.
-fn say_first(rt: &impl Print, q: Point) -> Result<()> {
-    if q.x < 0 {
-        say(rt, b"-")?;
-    }
-    say_number(rt, q.x.unsigned_abs())?;
-    if q.d != 1 {
-        say(rt, b"/")?;
-        say_number(rt, q.d.unsigned_abs())?;
-    }
-    Ok(())
-}
-
-// x/d in its own lowest terms.
-fn say_fraction(rt: &impl Print, x: i64, d: i64) -> Result<()> {
-    if 0 < d {
-        say_first(rt, exact::lowest(x, 0, d))?;
-    }
-    Ok(())
-}
-
-fn say_edges(rt: &impl Print, k: u16, how: &[u8], j: u16) -> Result<()> {
-    say(rt, b"edge ")?;
-    say_number(rt, k as u64)?;
-    say(rt, how)?;
-    say(rt, b" edge ")?;
-    say_number(rt, j as u64)
-}
-
-fn say_at(rt: &impl Print, p: Point) -> Result<()> {
-    say(rt, b" at ")?;
-    say_fraction(rt, p.x, p.d)?;
-    say(rt, b" ")?;
-    say_fraction(rt, p.y, p.d)
-}
-
-// Two edges that clash are not apart.
-fn say_meeting(rt: &impl Print, k: u16, j: u16, m: Meeting) -> Result<()> {
-    match m {
-        Meeting::Touching(p) => {
-            say_edges(rt, k, b" touches", j)?;
-            say_at(rt, p)
+impl Clash {
+    // Of a map file that is refused with 8: its place and the other edge. Such a file has passed rules 5 to 7, so that `meet` does not refuse its edges.
+    pub fn new(file: &[u8], r: Refusal) -> Self {
+        let [ax, ay, bx, by] = ends(file, r.place);
+        let [cx, cy, dx, dy] = ends(file, r.other);
+        Clash {
+            edge: r.place,
+            other: r.other,
+            how: meet::meet(ax, ay, bx, by, cx, cy, dx, dy),
         }
-        Meeting::Crossing(p) => {
-            say_edges(rt, k, b" crosses", j)?;
-            say_at(rt, p)
-        }
-        Meeting::Sharing => say_edges(rt, k, b" shares a stretch with", j),
-        Meeting::Apart => say_edges(rt, k, b" is apart from", j),
     }
 }
 
-// "edge 17 crosses edge 23 at 7/3 2": of a map file that is refused with 8 its place and the other edge. Such a file has passed rules 5 to 7, so that `meet` does
-// not refuse its edges.
-pub fn say_clash(rt: &impl Print, file: &[u8], k: u16, j: u16) -> Result<()> {
-    let met = meeting_of(file, k, j);
-    match met {
-        Ok(m) => say_meeting(rt, k, j, m)?,
-        Err(_) => say_edges(rt, k, b" clashes with", j)?,
+// The coordinates of both ends of edge k of a map file.
+fn ends(file: &[u8], k: u16) -> [i16; 4] {
+    let edge = vertex_place(vertex_count(file)) + MAP_EDGE_SIZE * k as usize;
+    let a = vertex_place(u16_at(file, edge));
+    let b = vertex_place(u16_at(file, edge + 2));
+    [a, a + 2, b, b + 2].map(|at| u16_at(file, at).cast_signed())
+}
+
+// "edge 17 crosses edge 23 at 7/3 2". Two edges that clash are not apart.
+impl Display for Clash {
+    fn fmt<W: fmt::Write>(&self, f: &mut fmt::Formatter<W>) -> fmt::Result {
+        let Clash { edge, other, how } = self;
+        match how {
+            Ok(Meeting::Touching(p)) => {
+                write!(f, "edge {edge} touches edge {other} at {}", Fractions(*p))
+            }
+            Ok(Meeting::Crossing(p)) => {
+                write!(f, "edge {edge} crosses edge {other} at {}", Fractions(*p))
+            }
+            Ok(Meeting::Sharing) => { write!(f, "edge {edge} shares a stretch with edge {other}") }
+            Ok(Meeting::Apart) => write!(f, "edge {edge} is apart from edge {other}"),
+            Err(_) => write!(f, "edge {edge} clashes with edge {other}"),
+        }
     }
-    say(rt, b"\n")
+}
+
+// A point, each coordinate in its own lowest terms: `7/3 2`.
+#[derive(Clone, Copy)]
+struct Fractions(Point);
+
+impl Display for Fractions {
+    fn fmt<W: fmt::Write>(&self, f: &mut fmt::Formatter<W>) -> fmt::Result {
+        let Point { x, y, d } = self.0;
+        write!(f, "{} {}", Fraction { x, d }, Fraction { x: y, d })
+    }
+}
+
+#[derive(Clone, Copy)]
+struct Fraction {
+    x: i64,
+    d: i64,
+}
+
+impl Display for Fraction {
+    fn fmt<W: fmt::Write>(&self, f: &mut fmt::Formatter<W>) -> fmt::Result {
+        if self.d <= 0 {
+            return Ok(());
+        }
+        match exact::lowest(self.x, 0, self.d) {
+            Point { x, d: 1, .. } => write!(f, "{x}"),
+            Point { x, d, .. } => write!(f, "{x}/{d}"),
+        }
+    }
 }

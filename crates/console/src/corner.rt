@@ -1,72 +1,76 @@
 // Refusals 5, 6 and 9 in a sentence, for people: which vertex, what is wrong with it, and where it lies.
-use crate::clash::vertex_at;
-use crate::lines::{say, say_number};
-use map_file::u16_at;
-use std::io::{Print, Result};
+use map_file::{i16_at, u16_at, vertex_place};
+use std::fmt;
+use std::fmt::Display;
 
-// The coordinate at a place, which stands in two's complement.
-fn say_coordinate(rt: &impl Print, file: &[u8], at: usize) -> Result<()> {
-    let n = u16_at(file, at);
-    if n < 32768 {
-        say_number(rt, n as u64)
-    } else {
-        say(rt, b"-")?;
-        say_number(rt, 65536 - n as u64)
+// What is wrong with a vertex.
+#[derive(Clone, Copy)]
+pub enum Fault {
+    Beyond,
+    // on the first vertex on its place
+    On(u16),
+    Lonely,
+}
+
+impl Display for Fault {
+    fn fmt<W: fmt::Write>(&self, f: &mut fmt::Formatter<W>) -> fmt::Result {
+        match self {
+            Fault::Beyond => f.write_str("lies beyond 16000"),
+            Fault::On(u) => write!(f, "lies on vertex {u}"),
+            Fault::Lonely => f.write_str("has no edge"),
+        }
     }
 }
 
-// ", at 10 20"
-fn say_place(rt: &impl Print, file: &[u8], v: u16) -> Result<()> {
-    let at = vertex_at(v);
-    say(rt, b", at ")?;
-    say_coordinate(rt, file, at)?;
-    say(rt, b" ")?;
-    say_coordinate(rt, file, at + 2)
+// "vertex 5 lies on vertex 2, at 10 20"
+#[derive(Clone, Copy)]
+pub struct Corner {
+    vertex: u16,
+    fault: Fault,
+    x: i64,
+    y: i64,
+}
+
+impl Display for Corner {
+    fn fmt<W: fmt::Write>(&self, f: &mut fmt::Formatter<W>) -> fmt::Result {
+        let Corner {
+            vertex,
+            fault,
+            x,
+            y,
+        } = self;
+        write!(f, "vertex {vertex} {fault}, at {x} {y}")
+    }
+}
+
+impl Corner {
+    // Vertex v of a map file.
+    fn new(file: &[u8], v: u16, fault: Fault) -> Self {
+        let at = vertex_place(v);
+        Corner {
+            vertex: v,
+            fault,
+            x: i16_at(file, at),
+            y: i16_at(file, at + 2),
+        }
+    }
+
+    pub fn beyond(file: &[u8], v: u16) -> Self {
+        Corner::new(file, v, Fault::Beyond)
+    }
+
+    pub fn doubled(file: &[u8], v: u16) -> Self {
+        let first = (0..v).find(|u| same_place(file, *u, v)).unwrap_or(v);
+        Corner::new(file, v, Fault::On(first))
+    }
+
+    pub fn lonely(file: &[u8], v: u16) -> Self {
+        Corner::new(file, v, Fault::Lonely)
+    }
 }
 
 fn same_place(file: &[u8], u: u16, v: u16) -> bool {
-    let a = vertex_at(u);
-    let b = vertex_at(v);
-    if u16_at(file, a) != u16_at(file, b) {
-        return false;
-    }
-    u16_at(file, a + 2) == u16_at(file, b + 2)
-}
-
-// The first vertex on the place of vertex v.
-fn first_there(file: &[u8], v: u16) -> u16 {
-    for i in 0..v {
-        if same_place(file, i, v) {
-            return i;
-        }
-    }
-    v
-}
-
-fn say_fault(rt: &impl Print, file: &[u8], number: u16, v: u16) -> Result<()> {
-    match number {
-        5 => say(rt, b" lies beyond 16000"),
-        6 => {
-            say(rt, b" lies on vertex ")?;
-            say_number(rt, first_there(file, v) as u64)
-        }
-        _ => say(rt, b" has no edge"),
-    }
-}
-
-// Whether a refusal names a vertex.
-pub fn names_vertex(number: u16) -> bool {
-    match number {
-        5 | 6 | 9 => true,
-        _ => false,
-    }
-}
-
-// "vertex 5 lies on vertex 2, at 10 20": of a map file that is refused with 5, 6 or 9 its place.
-pub fn say_corner(rt: &impl Print, file: &[u8], number: u16, v: u16) -> Result<()> {
-    say(rt, b"vertex ")?;
-    say_number(rt, v as u64)?;
-    say_fault(rt, file, number, v)?;
-    say_place(rt, file, v)?;
-    say(rt, b"\n")
+    let a = vertex_place(u);
+    let b = vertex_place(v);
+    u16_at(file, a) == u16_at(file, b) && u16_at(file, a + 2) == u16_at(file, b + 2)
 }

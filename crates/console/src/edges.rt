@@ -1,26 +1,22 @@
 // The edges of an overlay file, a line each.
-use crate::lines::{say, say_refused};
+use crate::lines::say_refused;
 use limits::{FACE_CELLS, HALF_CELLS, LINE, SOURCE_CELLS, VERTEX_CELLS};
 use std::io::{Print, Result};
 use tables::{Answer, OverlayEdge};
 
-// The line of edge k, if there is one.
-fn say_edge(rt: &impl Print, k: u16, found: Option<OverlayEdge>) -> Result<()> {
-    match found {
-        Some(e) => {
-            let mut line = [0u8; LINE];
-            let n = text::edge_line(k, e, &mut line);
-            say(rt, &line[..n])
-        }
-        None => Ok(()),
-    }
+// The line of edge k: the proved text.
+fn say_edge(rt: &impl Print, k: u16, edge: OverlayEdge) -> Result<()> {
+    let mut line = [0u8; LINE];
+    let n = text::edge_line(k, edge, &mut line);
+    rt.write_all(&line[..n])
 }
 
 // The first edges of the tables, in order.
 fn say_first(rt: &impl Print, count: u16, halves: &[u16], sources: &[u32]) -> Result<()> {
     for k in 0..count {
-        let found = tables::edge(halves, sources, k as usize);
-        say_edge(rt, k, found)?;
+        if let Some(edge) = tables::edge(halves, sources, k as usize) {
+            say_edge(rt, k, edge)?;
+        }
     }
     Ok(())
 }
@@ -34,7 +30,7 @@ pub fn say_edges(rt: &impl Print, file: &[u8]) -> Result<Answer> {
     let answer = ovfile_read::read(file, &mut vertices, &mut halves, &mut sources, &mut faces);
     match answer {
         Ok(c) => say_first(rt, c.edges, &halves, &sources)?,
-        Err(r) => say_refused(rt, r.number, r.map, r.place)?,
+        Err(r) => say_refused(rt, r)?,
     }
     Ok(answer)
 }

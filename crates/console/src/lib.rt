@@ -1,5 +1,5 @@
-// What the programs share: their arguments, files by name, lines on standard output, and the edges of an overlay file. No contract can say what is read or written; the texts and
-// answers come from proved functions on slices.
+// What the programs share: their arguments, files by name, refusals and edges as text. No contract can say what is read or written; the answers, and the lines of the listing and of an edge,
+// come from proved functions on slices.
 #![tactic(auto)]
 
 mod arguments; // the program's arguments
@@ -7,16 +7,16 @@ mod clash; // refusal 8 in a sentence
 mod corner; // refusals 5, 6 and 9 in a sentence
 mod edges; // the edges of an overlay file
 mod files; // files by name
-mod lines; // printing
+mod lines; // the lines of answers
+mod place; // where a map file is refused
+mod records; // files of records
 mod sentence; // a refusal in a sentence
-mod words; // the program's arguments, compared
 
-pub use arguments::{arg, arg_count};
-pub use clash::say_clash;
-pub use corner::{names_vertex, say_corner};
+pub use arguments::{args, word};
+pub use clash::Clash;
 pub use edges::say_edges;
-pub use files::{fail, load, load_arg, open_arg, read_full, save_arg, say_missing, within};
-pub use io::{buffer, large_buffer};
-pub use lines::{say, say_number, say_refused};
-pub use sentence::{say_mend_sentence, say_sentence};
-pub use words::{is_arg, same_args};
+pub use files::{Input, each_input, fail, open, read_full, save};
+pub use lines::{Refused, say_check, say_refused};
+pub use place::Place;
+pub use records::each_record;
+pub use sentence::{MendSentence, Sentence};

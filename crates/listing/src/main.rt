@@ -2,19 +2,16 @@
 // what is refused. "The listing still reads its two files, with the third map empty" (02, Ask 13).
 #![tactic(auto)]
 
-use console::{load, say};
+use console::Input;
 use limits::LISTING;
 use overlay_maps::EMPTY;
 use std::io;
 
 fn main(rt: HostRuntime) -> io::Result<()> {
-    let mut zones = console::buffer();
-    let n = load(&rt, b"zones.zmp", &mut zones);
-    let mut blocks = console::buffer();
-    let m = load(&rt, b"blocks.zmp", &mut blocks);
-    let bed = EMPTY;
+    let zones = Input::load(&rt, b"zones.zmp")?;
+    let blocks = Input::load(&rt, b"blocks.zmp")?;
     let mut out = [0u8; LISTING];
-    let listed = lists::from_maps::list(&zones[..n], &blocks[..m], &bed, &mut out);
+    let listed = lists::from_maps::list(&zones.bytes, &blocks.bytes, &EMPTY, &mut out);
     let length = listed.length;
-    say(&rt, &out[..length])
+    rt.write_all(&out[..length])
 }

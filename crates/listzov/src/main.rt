@@ -1,26 +1,17 @@
 // Lists overlay files: for each file named as an argument its listing, or the line of what it is refused for.
 #![tactic(auto)]
 
-use console::{load_arg, say};
 use limits::LISTING;
 use std::io;
 use std::io::Print;
-use std::rt::{Env, Files};
 
-// The overlay file that an argument names.
-fn list_arg(rt: &(impl Files + Env + Print), i: usize) -> io::Result<()> {
-    let mut file = console::large_buffer();
-    let n = load_arg(rt, i, &mut file);
+fn list(rt: &impl Print, file: &[u8]) -> io::Result<()> {
     let mut out = [0u8; LISTING];
-    let listed = lists::from_file::list(&file[..n], &mut out);
+    let listed = lists::from_file::list(file, &mut out);
     let length = listed.length;
-    say(rt, &out[..length])
+    rt.write_all(&out[..length])
 }
 
 fn main(rt: HostRuntime) -> io::Result<()> {
-    let n = console::arg_count(&rt);
-    for i in 1..n {
-        list_arg(&rt, i)?;
-    }
-    Ok(())
+    console::each_input(&rt, |file| list(&rt, file))
 }

@@ -2,48 +2,50 @@
 // is not written then, and it may not be IN.
 #![tactic(auto)]
 
-mod words; // what is printed
+mod step; // what was done
 
-use mend::{MEND_FILE, MEND_LIST, Mended};
+use console::{Input, MendSentence};
+use mend::{MEND_FILE, MEND_LIST, Mended, Mending};
 use std::io;
 use std::io::{Eprint, Print};
-use std::rt::{Env, Files};
+use std::rt::Files;
+use step::say_list;
 
-// Mends a file's bytes, and writes the mended file to the second argument.
-fn mend_bytes(rt: &(impl Files + Env + Print + Eprint), file: &[u8]) -> io::Result<()> {
-    let mut out = [0u8; MEND_FILE];
+// What was done, and the mended file.
+fn say_mended(
+    rt: &(impl Files + Print + Eprint),
+    done: Mending,
+    file: &[u8],
+    list: &[u16],
+    out: &[u8],
+) -> io::Result<()> {
+    say_list(rt, list, done.entries)?;
+    let file = file.get(..done.length as usize).unwrap_or(file);
+    console::say_check(rt, file)?;
+    console::save(rt, out, file)
+}
+
+// Mends a file's bytes, and writes the mended file to OUT.
+fn mend(rt: &(impl Files + Print + Eprint), file: &[u8], out: &[u8]) -> io::Result<()> {
+    let mut mended = [0u8; MEND_FILE];
     let mut list = [0u16; MEND_LIST];
-    let r = mend::mend(file, &mut out, &mut list);
-    match r {
-        Mended::Refused(f) => words::say_refused(rt, f),
-        Mended::Done(m) => {
-            words::say_list(rt, &list, m.entries)?;
-            let n = console::within(m.length as usize, &out);
-            words::say_check(rt, &out[..n])?;
-            console::save_arg(rt, 2, &out[..n])
+    match mend::mend(file, &mut mended, &mut list) {
+        Mended::Done(m) => say_mended(rt, m, &mended, &list, out),
+        Mended::Refused(r) => {
+            console::say_refused(rt, r)?;
+            rt.println(MendSentence(r))
         }
     }
 }
 
-// The buffer is longer than the longest map, so that a longer file is refused as the whole of it would be.
-fn mend_arg(rt: &(impl Files + Env + Print + Eprint)) -> io::Result<()> {
-    let mut file = console::buffer();
-    let n = console::load_arg(rt, 1, &mut file);
-    mend_bytes(rt, &file[..n])
-}
-
 fn main(rt: HostRuntime) -> io::Result<()> {
-    if console::arg_count(&rt) != 3 {
-        return console::say(
-            &rt,
-            b"mendmap IN.zmp OUT.zmp   mend a map file, and list what was done\n",
-        );
+    let args = console::args(&rt)?;
+    let [from, to] = args.as_slice() else {
+        return rt.println("mendmap IN.zmp OUT.zmp   mend a map file, and list what was done");
+    };
+    if from == to {
+        return rt.println("the mended file would overwrite the map; nothing is read or written");
     }
-    if console::same_args(&rt, 1, 2) {
-        return console::say(
-            &rt,
-            b"the mended file would overwrite the map; nothing is read or written\n",
-        );
-    }
-    mend_arg(&rt)
+    let file = Input::load(&rt, from)?;
+    mend(&rt, &file.bytes, to)
 }

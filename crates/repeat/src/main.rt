@@ -7,27 +7,21 @@ mod words; // the number of runs
 
 ghost use Rattle.std.specs.Prelude.{◌≤◌};
 
-use console::{load_arg, say, say_number};
+use console::{Input, word};
 use limits::{FACE_CELLS, HALF_CELLS, SOURCE_CELLS, VERTEX_CELLS};
 use overlay_graph::Way;
 use overlay_maps::EMPTY;
 use std::io;
 use std::io::Print;
-use std::rt::{CpuClock, Env, Files};
+use std::time::CpuClock;
 use tables::Answer;
+use time::Seconds;
+use words::count_of;
 
 fn say_answer(rt: &impl Print, answer: Answer) -> io::Result<()> {
     match answer {
-        Ok(c) => {
-            say(rt, b"done ")?;
-            say_number(rt, c.vertices as u64)?;
-            say(rt, b" ")?;
-            say_number(rt, c.edges as u64)?;
-            say(rt, b" ")?;
-            say_number(rt, c.faces as u64)?;
-            say(rt, b"\n")
-        }
-        Err(r) => console::say_refused(rt, r.number, r.map, r.place),
+        Ok(c) => println!(rt; "done {} {} {}", c.vertices, c.edges, c.faces),
+        Err(r) => console::say_refused(rt, r),
     }
 }
 
@@ -53,7 +47,7 @@ fn run(way: Way, zones: &[u8], blocks: &[u8]) -> Answer {
 // So many runs, and the answer of one more.
 fn runs(way: Way, zones: &[u8], blocks: &[u8], n: u32) -> Answer {
     for _ in 0..n {
-        run(way, zones, blocks);
+        let _ = run(way, zones, blocks);
     }
     run(way, zones, blocks)
 }
@@ -61,7 +55,7 @@ fn runs(way: Way, zones: &[u8], blocks: &[u8], n: u32) -> Answer {
 // By one way, under its name.
 fn measure(
     rt: &(impl CpuClock + Print),
-    name: &[u8],
+    name: &str,
     way: Way,
     zones: &[u8],
     blocks: &[u8],
@@ -72,29 +66,21 @@ fn measure(
     let start = rt.process_cpu_time()?;
     let answer = runs(way, zones, blocks, n);
     let end = rt.process_cpu_time()?;
-    say(rt, name)?;
-    time::say_seconds(rt, start, end, n + 1)?;
+    let time = Seconds::of_one(start, end, n + 1);
+    println!(rt; "{name} {time}")?;
     say_answer(rt, answer)
 }
 
-fn measure_both(rt: &(impl Files + Env + CpuClock + Print), n: u32) -> io::Result<()>
-    requires { n ≤ 1000000 }
-{
-    let mut zones = console::buffer();
-    let z = load_arg(rt, 1, &mut zones);
-    let mut blocks = console::buffer();
-    let b = load_arg(rt, 2, &mut blocks);
-    measure(rt, b"plain ", Way::Plain, &zones[..z], &blocks[..b], n)?;
-    measure(rt, b"swept ", Way::Swept, &zones[..z], &blocks[..b], n)
-}
-
 fn main(rt: HostRuntime) -> io::Result<()> {
-    let n = words::count_arg(&rt, 3);
+    let args = console::args(&rt)?;
+    let n = count_of(word(&args, 2));
     if n == 0 {
-        return say(
-            &rt,
-            b"repeat ZONES BLOCKS N   the seconds of one overlay of two map files, the plain way and by the sweep, by N runs of each\n",
+        return rt.println(
+            "repeat ZONES BLOCKS N   the seconds of one overlay of two map files, the plain way and by the sweep, by N runs of each",
         );
     }
-    measure_both(&rt, n - 1)
+    let zones = Input::load(&rt, word(&args, 0))?;
+    let blocks = Input::load(&rt, word(&args, 1))?;
+    measure(&rt, "plain", Way::Plain, &zones.bytes, &blocks.bytes, n - 1)?;
+    measure(&rt, "swept", Way::Swept, &zones.bytes, &blocks.bytes, n - 1)
 }

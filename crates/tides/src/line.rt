@@ -1,49 +1,40 @@
-// The line of an answer.
-use console::{say, say_number, say_refused};
-use std::io::{Print, Result};
-use tide::{Height, TideAnswer, TideRule, to_bits};
+// The line of a height.
+use std::fmt;
+use std::fmt::Display;
+use tide::{Height, TideRule, to_bits};
 
-fn say_bits(rt: &impl Print, x: f64) -> Result<()> {
-    let bits = to_bits(x);
-    print!(rt; " {bits:016x}")
-}
+#[derive(Clone, Copy)]
+pub struct Line(pub Height);
 
-fn say_signed(rt: &impl Print, n: i32) -> Result<()> {
-    if n < 0 {
-        say(rt, b" -")?;
-    } else {
-        say(rt, b" ")?;
+impl Display for Line {
+    fn fmt<W: fmt::Write>(&self, f: &mut fmt::Formatter<W>) -> fmt::Result {
+        let h = self.0;
+        let height = Bits(h.height);
+        let rule = Rule(h.rule);
+        write!(f, "height {height} {} {rule}", h.millimetres)
     }
-    say_number(rt, (n as i64).unsigned_abs())
 }
 
-fn say_rule(rt: &impl Print, rule: TideRule) -> Result<()> {
-    match rule {
-        TideRule::Unset => say(rt, b" none"),
-        TideRule::Ratio(k) => {
-            say(rt, b" ratio")?;
-            say_bits(rt, k)
-        }
-        TideRule::Weights(a, b) => {
-            say(rt, b" weights")?;
-            say_bits(rt, a)?;
-            say_bits(rt, b)
+#[derive(Clone, Copy)]
+struct Rule(TideRule);
+
+impl Display for Rule {
+    fn fmt<W: fmt::Write>(&self, f: &mut fmt::Formatter<W>) -> fmt::Result {
+        match self.0 {
+            TideRule::Unset => f.write_str("none"),
+            TideRule::Ratio(k) => write!(f, "ratio {}", Bits(k)),
+            TideRule::Weights(a, b) => write!(f, "weights {} {}", Bits(a), Bits(b)),
         }
     }
 }
 
-fn say_height(rt: &impl Print, h: Height) -> Result<()> {
-    let rule = h.rule;
-    say(rt, b"height")?;
-    say_bits(rt, h.height)?;
-    say_signed(rt, h.millimetres)?;
-    say_rule(rt, rule)?;
-    say(rt, b"\n")
-}
+// A float by its bits.
+#[derive(Clone, Copy)]
+struct Bits(f64);
 
-pub fn say_answer(rt: &impl Print, answer: TideAnswer) -> Result<()> {
-    match answer {
-        TideAnswer::Done(h) => say_height(rt, h),
-        TideAnswer::Refused(r) => say_refused(rt, r.number, r.map, r.place),
+impl Display for Bits {
+    fn fmt<W: fmt::Write>(&self, f: &mut fmt::Formatter<W>) -> fmt::Result {
+        let bits = to_bits(self.0);
+        write!(f, "{bits:016x}")
     }
 }

@@ -5,40 +5,24 @@
 mod record; // a record's rule and readings
 mod line; // the line of an answer
 
-use crate::line::say_answer;
-use crate::record::{reading, rule};
+use crate::line::Line;
+use crate::record::{RECORD, reading, rule};
 use std::io;
-use std::io::{Print, Read};
+use std::io::Print;
 
 fn report(rt: &impl Print, record: &[u8]) -> io::Result<()> {
-    let answer = tide::height(rule(record), reading(record, 0), reading(record, 1));
-    say_answer(rt, answer)
-}
-
-// Reads a record and reports; false at the end of the file.
-fn report_next<R: Print, F: Read>(rt: &R, file: &mut F) -> io::Result<bool> {
-    let mut record = [0u8; 32];
-    let n = console::read_full(file, &mut record);
-    if n < 32 {
-        return Ok(false);
+    match tide::height(rule(record), reading(record, 0), reading(record, 1)) {
+        Ok(h) => rt.println(Line(h)),
+        Err(r) => console::say_refused(rt, r),
     }
-    report(rt, &record)?;
-    Ok(true)
-}
-
-fn report_all<R: Print, F: Read>(rt: &R, file: &mut F) -> io::Result<()> {
-    for _ in 0..u64::MAX {
-        if !report_next(rt, file)? {
-            return Ok(());
-        }
-    }
-    Ok(())
 }
 
 // Of a file that cannot be opened nothing is said.
 fn main(rt: HostRuntime) -> io::Result<()> {
-    match console::open_arg(&rt, 1) {
-        Ok(mut file) => report_all(&rt, &mut file),
-        Err(_) => Ok(()),
+    let args = console::args(&rt)?;
+    if let Ok(mut file) = console::open(&rt, console::word(&args, 0)) {
+        let mut record = [0u8; RECORD];
+        console::each_record(&mut file, &mut record, |record| report(&rt, record))?;
     }
+    Ok(())
 }

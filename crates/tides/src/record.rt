@@ -1,54 +1,40 @@
 // A record of 32 bytes, all numbers low byte first: what the rule is (0 none, 1 a ratio, otherwise weights); whether the first and the second reading are there;
 // a spare byte; the two readings in four bytes each, two's complement; four spare bytes; the two floats by their bits, eight bytes each.
-ghost use Rattle.std.specs.Prelude.{◌<◌};
+ghost use Rattle.std.specs.Prelude.{◌≤◌, ◌<◌, ◌+◌};
 
-use map_file::{byte_at, u16_at};
-use tide::{Reading, TideRule, of_bits};
+use map_file::byte_at;
+use std::array;
+use tide::{TideRule, of_bits};
 
-fn wide(x: u16) -> u64 {
-    x as u64
-}
+pub const RECORD: usize = 32;
 
-// Eight bytes as a number.
-fn word(s: &[u8], at: usize) -> u64
-    requires { at < 100 }
+// N bytes from a place on.
+fn bytes<const N: usize>(record: &[u8], at: usize) -> [u8; N]
+    requires { at + N ≤ 32 }
 {
-    wide(u16_at(s, at + 6)) << 48
-        | wide(u16_at(s, at + 4)) << 32
-        | wide(u16_at(s, at + 2)) << 16
-        | wide(u16_at(s, at))
+    array::from_fn(|i| byte_at(record, at + i))
 }
 
-pub fn rule(s: &[u8]) -> TideRule {
-    let kind = byte_at(s, 0);
-    if kind == 0 {
-        return TideRule::Unset;
-    }
-    let a = of_bits(word(s, 16));
-    let b = of_bits(word(s, 24));
-    if kind == 1 {
-        return TideRule::Ratio(a);
-    }
-    TideRule::Weights(a, b)
-}
-
-// Two's complement in 32 bits.
-fn signed(n: u64) -> i32
-    requires { n < 4294967296 }
+fn float(record: &[u8], at: usize) -> f64
+    requires { at ≤ 24 }
 {
-    if n < 2147483648 {
-        return n as i32;
+    of_bits(u64::from_le_bytes(bytes(record, at)))
+}
+
+pub fn rule(record: &[u8]) -> TideRule {
+    match byte_at(record, 0) {
+        0 => TideRule::Unset,
+        1 => TideRule::Ratio(float(record, 16)),
+        _ => TideRule::Weights(float(record, 16), float(record, 24)),
     }
-    -1 - ((4294967295 - n) as i32)
 }
 
 // Reading i: the first is 0, the second 1.
-pub fn reading(s: &[u8], i: usize) -> Reading
+pub fn reading(record: &[u8], i: usize) -> Option<i32>
     requires { i < 2 }
 {
-    if byte_at(s, 1 + i) == 0 {
-        return Reading::Missing;
+    if byte_at(record, 1 + i) == 0 {
+        return None;
     }
-    let n = word(s, 4 + 4 * i) % 4294967296;
-    Reading::At(signed(n))
+    Some(i32::from_le_bytes(bytes(record, 4 + 4 * i)))
 }

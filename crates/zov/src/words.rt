@@ -1,170 +1,98 @@
 // What the program's arguments ask for.
-ghost use Rattle.std.specs.Prelude.{◌≤◌};
+use std::fmt;
+use std::fmt::Display;
 
-use console::{is_arg, same_args};
-use std::rt::Env;
+// How to use it.
+pub const USAGE: &str =
+    "zov ZONES BLOCKS [OUT.zov]   list the overlay of two map files; write its overlay file
+zov --bed BED ZONES BLOCKS [OUT.zov]   the same with a third map
+zov --melt [--bed BED] ZONES BLOCKS [OUT.zov]   the same without the lines that separate nothing
+zov --list FILE.zov          list an overlay file
+zov --edges FILE.zov         list its edges: number, lower and upper vertex, sources
+zov --check FILE...          check map files, a line for each
+zov --help, zov --version    this; the version
+";
 
-// Whether the overlay is to be melted, and the words that name the maps and OUT; `bed` is 0 where there is no third map, and `out` where nothing is to be written.
+// An overlay that is asked for: whether it is to be melted, the names of the maps, and where it is to be written.
 #[derive(Clone, Copy)]
-pub struct Maps {
+pub struct Order<'a> {
     pub melts: bool,
-    pub zones: usize,
-    pub blocks: usize,
-    pub bed: usize,
-    pub out: usize,
+    pub zones: &'a [u8],
+    pub blocks: &'a [u8],
+    pub bed: Option<&'a [u8]>,
+    pub out: Option<&'a [u8]>,
 }
 
 #[derive(Clone, Copy)]
-pub enum Task {
-    Usage,
+pub enum Task<'a> {
     Help,
     Version,
+    List(&'a [u8]),
+    Edges(&'a [u8]),
+    Check(&'a [&'a [u8]]),
+    Overlay(Order<'a>),
+}
+
+// Why words ask for nothing.
+#[derive(Clone, Copy)]
+pub enum Misuse {
+    Unknown,
     OneFile,
     SameName,
-    List,
-    Edges,
-    Check,
-    Overlay(Maps),
 }
 
-// Whether an argument begins like an option. A file of such a name is given as `./--name`.
-fn is_option(rt: &impl Env, i: usize) -> bool {
-    let mut word = console::buffer();
-    console::arg(rt, i, &mut word);
-    if word[0] != b'-' {
-        return false;
+impl Display for Misuse {
+    fn fmt<W: fmt::Write>(&self, f: &mut fmt::Formatter<W>) -> fmt::Result {
+        f.write_str(match self {
+            Misuse::Unknown => USAGE,
+            Misuse::OneFile => "--list and --edges take one overlay file; nothing is read\n",
+            Misuse::SameName => {
+                "the overlay file would overwrite one of the maps; nothing is read or written\n"
+            }
+        })
     }
-    word[1] == b'-'
 }
 
-// Whether one of the three words from `first` on is an option; one that is not there is none.
-fn any_option(rt: &impl Env, first: usize) -> bool
-    requires { first ≤ 4 }
-{
-    if is_option(rt, first) {
-        return true;
+// The task of the words behind the program's name.
+pub fn asked<'a>(words: &'a [&'a [u8]]) -> Result<Task<'a>, Misuse> {
+    match words {
+        [b"--help"] => Ok(Task::Help),
+        [b"--version"] => Ok(Task::Version),
+        [b"--list", name] => Ok(Task::List(name)),
+        [b"--edges", name] => Ok(Task::Edges(name)),
+        [b"--list" | b"--edges", _, ..] => Err(Misuse::OneFile),
+        [b"--check", names @ ..] if !names.is_empty() => Ok(Task::Check(names)),
+        [b"--melt", b"--bed", bed, maps @ ..] => overlay(true, Some(bed), maps),
+        [b"--melt", maps @ ..] => overlay(true, None, maps),
+        [b"--bed", bed, maps @ ..] => overlay(false, Some(bed), maps),
+        maps => overlay(false, None, maps),
     }
-    if is_option(rt, first + 1) {
-        return true;
-    }
-    is_option(rt, first + 2)
 }
 
-// Whether OUT is one of the maps by name.
-fn same_name(rt: &impl Env, maps: Maps) -> bool {
-    if same_args(rt, maps.zones, maps.out) {
-        return true;
+// The overlay of maps: zones and blocks, and where to write it.
+fn overlay<'a>(melts: bool, bed: Option<&'a [u8]>, maps: &[&'a [u8]]) -> Result<Task<'a>, Misuse> {
+    let (zones, blocks, out) = match maps {
+        [zones, blocks] => (*zones, *blocks, None),
+        [zones, blocks, out] => (*zones, *blocks, Some(*out)),
+        _ => return Err(Misuse::Unknown),
+    };
+    let names = [Some(zones), Some(blocks), bed];
+    if is_option(out) || names.into_iter().any(is_option) {
+        return Err(Misuse::Unknown);
     }
-    if same_args(rt, maps.blocks, maps.out) {
-        return true;
+    if out.is_some() && names.contains(&out) {
+        return Err(Misuse::SameName);
     }
-    if maps.bed == 0 {
-        return false;
-    }
-    same_args(rt, maps.bed, maps.out)
+    Ok(Task::Overlay(Order {
+        melts,
+        zones,
+        blocks,
+        bed,
+        out,
+    }))
 }
 
-// The overlay written, unless its file is one of the maps.
-fn write_task(rt: &impl Env, maps: Maps) -> Task {
-    if same_name(rt, maps) {
-        return Task::SameName;
-    }
-    Task::Overlay(maps)
-}
-
-// One file, of an option.
-fn one_file(n: usize, task: Task) -> Task {
-    if n == 3 { task } else { Task::OneFile }
-}
-
-// Of n words: zones and blocks from word `first` on, and where to write their overlay.
-fn overlay_task(rt: &impl Env, melts: bool, n: usize, first: usize, bed: usize) -> Task
-    requires { first ≤ 4 }
-{
-    let blocks = first + 1;
-    if any_option(rt, first) {
-        return Task::Usage;
-    }
-    if n == first + 2 {
-        return Task::Overlay(Maps {
-            melts,
-            zones: first,
-            blocks,
-            bed,
-            out: 0,
-        });
-    }
-    if n == first + 3 {
-        return write_task(
-            rt,
-            Maps {
-                melts,
-                zones: first,
-                blocks,
-                bed,
-                out: first + 2,
-            },
-        );
-    }
-    Task::Usage
-}
-
-// What the option that is the first argument asks for.
-fn option_task(rt: &impl Env, n: usize) -> Task {
-    if is_arg(rt, 1, b"--check") {
-        return Task::Check;
-    }
-    if is_arg(rt, 1, b"--list") {
-        return one_file(n, Task::List);
-    }
-    if is_arg(rt, 1, b"--edges") {
-        return one_file(n, Task::Edges);
-    }
-    if is_arg(rt, 1, b"--bed") {
-        return bed_task(rt, false, n, 2);
-    }
-    if is_arg(rt, 1, b"--melt") {
-        return melt_task(rt, n);
-    }
-    Task::Usage
-}
-
-// Three map files, the third first, which word `bed` names.
-fn bed_task(rt: &impl Env, melts: bool, n: usize, bed: usize) -> Task
-    requires { bed ≤ 3 }
-{
-    if is_option(rt, bed) {
-        return Task::Usage;
-    }
-    overlay_task(rt, melts, n, bed + 1, bed)
-}
-
-// Cells melted together, of two or three map files.
-fn melt_task(rt: &impl Env, n: usize) -> Task {
-    if is_arg(rt, 2, b"--bed") {
-        return bed_task(rt, true, n, 3);
-    }
-    overlay_task(rt, true, n, 2, 0)
-}
-
-// The task of the program's name and one word.
-fn word_task(rt: &impl Env) -> Task {
-    if is_arg(rt, 1, b"--help") {
-        return Task::Help;
-    }
-    if is_arg(rt, 1, b"--version") {
-        return Task::Version;
-    }
-    Task::Usage
-}
-
-// The task of n words, the program's own name among them.
-pub fn asked(rt: &impl Env, n: usize) -> Task {
-    if n < 3 {
-        return word_task(rt);
-    }
-    if is_option(rt, 1) {
-        return option_task(rt, n);
-    }
-    overlay_task(rt, false, n, 1, 0)
+// Whether a word begins like an option. A file of such a name is given as `./--name`.
+fn is_option(word: Option<&[u8]>) -> bool {
+    word.is_some_and(|word| word.starts_with(b"--"))
 }
