@@ -4,6 +4,7 @@ pub mod Later
 pub mod Pairs
 pub mod Pass
 pub mod Near
+pub mod Ordered
 pub mod Labels
 pub mod Held
 pub mod Answer

@@ -5,6 +5,7 @@ mod parts; // rules 5 to 7, and the carriers
 mod edges; // rules 8 and 9
 mod pairs; // two edges that do not clash
 mod few; // rule 8 of few edges
+mod ordered; // edges in order as one value
 mod near; // edges near each other
 mod pass; // rule 8 by a pass from below
 mod labels; // rule 10

@@ -12,17 +12,17 @@ use Rattle.map_check.proofs.near.all_above.Goals as goal
 pub clear_above-requires : goal.clear_above-requires
 clear_above-requires c =
     let p = c.requires.fact_1 in
-    record { fact_1 = (p.0, p.1, p.2, p.3, c.loop-i-test.true); fact_2 = c.requires.fact_2; fact_3 = omega (arith, c.requires.fact_3, c.loop-i.invariant.0) }
+    record { fact_1 = (p, c.loop-i-test.true); fact_2 = c.requires.fact_2; fact_3 = omega (arith, c.requires.fact_3, c.loop-i.invariant.0) }
 
 pub loop-i-preserved : goal.loop-i-preserved
 loop-i-preserved c =
-    (search rules, below_more (ClearAbove c.args.carriers.now c.args.cells.now c.args.e) _ c.loop-i.invariant.1 (c.clear_above.ensures (was-true _ c.if-not-clear_above.false-raw)))
+    (search rules, below_more (ClearAbove c.args.o.carriers.now c.args.o.cells.now c.args.o.count) _ c.loop-i.invariant.1 (c.clear_above.ensures (was-true _ c.if-not-clear_above.false-raw)))
 
 pub returns : goal.returns
 returns c =
     let a = c.args in
     let p = c.requires.fact_1 in
-    λ r. turn-least a.carriers.now a.cells.now a.e (omega (arith, p.3)) p.2 p.0 p.1 (λ k l. c.loop-i.invariant.1 k (omega (arith, c.loop-i-test.false, l)))
+    λ r. turn-least a.o.carriers.now a.o.cells.now a.o.count (omega (arith, p.3)) p.2 p.0 p.1 (λ k l. c.loop-i.invariant.1 k (omega (arith, c.loop-i-test.false, l)))
 
 pub loop-i-init : goal.loop-i-init
 loop-i-init c = (refl, λ k l. absurd (omega arith))

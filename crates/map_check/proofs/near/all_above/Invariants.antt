@@ -7,4 +7,4 @@ use Rattle.map_check.specs.Pass.{ClearAbove}
 use Rattle.map_check.proofs.near.all_above.Given as goal
 
 abbrev pub invariant-loop-i : goal.invariant-loop-i
-invariant-loop-i l = (length l.near ≡ length l.initial.near) × ((k : ℕ) → k < l.i → ClearAbove l.carriers l.cells l.e k)
+invariant-loop-i l = (length l.near ≡ length l.initial.near) × ((k : ℕ) → k < l.i → ClearAbove l.o.carriers.now l.o.cells.now l.o.count k)

@@ -5,7 +5,7 @@ use Rattle.map_check.proofs.near.clear_above.Goals as goal
 pub clear_of-requires : goal.clear_of-requires
 clear_of-requires c =
     let p = c.requires.fact_1 in
-    record { fact_1 = (p.0, p.1, p.2, p.4, p.3); fact_2 = (omega (arith, c.near_above-c.ensures.few, c.requires.fact_3), c.near_above-c.ensures) }
+    record { fact_1 = p; fact_2 = (omega (arith, c.near_above-c.ensures.few, c.requires.fact_3), c.near_above-c.ensures) }
 
 pub returns : goal.returns
 returns c = c.clear_of.ensures

@@ -15,34 +15,34 @@ use Rattle.map_check.proofs.near.clear_of.Goals as goal
 pub carrier_in-s-requires : goal.carrier_in-s-requires
 carrier_in-s-requires c =
     let p = c.requires.fact_1 in
-    (p.0, p.2, p.3)
+    ((p.0.0, p.0.2), p.1)
 
 pub overflow_cast-j : goal.overflow_cast-j
 overflow_cast-j c =
-    omega (arith, c.requires.fact_2.1.named c.loop-q.q c.loop-q-test.true, c.requires.fact_1.4)
+    omega (arith, c.requires.fact_2.1.named c.loop-q.q c.loop-q-test.true, c.requires.fact_1.0.3)
 
 pub carrier_in-t-requires : goal.carrier_in-t-requires
 carrier_in-t-requires c =
     let p = c.requires.fact_1 in
-    (p.0, p.2, c.requires.fact_2.1.named c.loop-q.q c.loop-q-test.true)
+    ((p.0.0, p.0.2), c.requires.fact_2.1.named c.loop-q.q c.loop-q-test.true)
 
 pub clear-requires : goal.clear-requires
 clear-requires c =
     let p = c.requires.fact_1 in
     let j = get_or c.args.near.now c.loop-q.q 0 in
-    let up = p.1.up in
-    let named = p.2.each in (
+    let up = p.0.1.up in
+    let named = p.0.2.each in (
       c.carrier_in-s.ensures.near,
       c.carrier_in-t.ensures.near,
-      subst (λ (s : Seg). UpV s.up) (sym c.carrier_in-s.ensures.is) (up (the_edge_in c.args.cells.now c.args.i) (named c.args.i p.3).named),
-      subst (λ (s : Seg). UpV s.up) (sym c.carrier_in-t.ensures.is) (up (the_edge_in c.args.cells.now j) (named j (c.requires.fact_2.1.named c.loop-q.q c.loop-q-test.true)).named),
+      subst (λ (s : Seg). UpV s.up) (sym c.carrier_in-s.ensures.is) (up (the_edge_in c.args.o.cells.now c.args.i) (named c.args.i p.1).named),
+      subst (λ (s : Seg). UpV s.up) (sym c.carrier_in-t.ensures.is) (up (the_edge_in c.args.o.cells.now j) (named j (c.requires.fact_2.1.named c.loop-q.q c.loop-q-test.true)).named),
     )
 
 pub loop-q-preserved : goal.loop-q-preserved
 loop-q-preserved c =
     let a = c.args in
-    let cs = a.carriers.now in
-    let ds = a.cells.now in
+    let cs = a.o.carriers.now in
+    let ds = a.o.cells.now in
     below_more (λ p. clash (carrier_in cs ds a.i) (carrier_in cs ds (get_or a.near.now p 0)) ≡ false) _ c.loop-q.invariant
     ((λ i. clash (sym c.carrier_in-s.ensures.is i) (sym c.carrier_in-t.ensures.is i)) ∙ c.clear.ensures (was-true _ c.if-not-clear.false-raw))
 

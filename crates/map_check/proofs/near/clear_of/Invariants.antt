@@ -7,4 +7,4 @@ use Rattle.map_check.specs.Near.{carrier_in}
 use Rattle.map_check.proofs.near.clear_of.Given as goal
 
 abbrev pub invariant-loop-q : goal.invariant-loop-q
-invariant-loop-q l = (p : ℕ) → p < l.q → clash (carrier_in l.carriers l.cells l.i) (carrier_in l.carriers l.cells (get_or l.near p 0)) ≡ false
+invariant-loop-q l = (p : ℕ) → p < l.q → clash (carrier_in l.o.carriers.now l.o.cells.now l.i) (carrier_in l.o.carriers.now l.o.cells.now (get_or l.near p 0)) ≡ false

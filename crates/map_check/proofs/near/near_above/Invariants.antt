@@ -6,4 +6,4 @@ use Rattle.map_check.specs.Near.{Picked}
 use Rattle.map_check.proofs.near.near_above.Given as goal
 
 abbrev pub invariant-loop-j : goal.invariant-loop-j
-invariant-loop-j l = (length l.near ≡ length l.initial.near) × (l.j ≤ l.e) × Picked l.carriers l.cells l.e l.i l.j l.near l.c
+invariant-loop-j l = (length l.near ≡ length l.initial.near) × (l.j ≤ l.o.count) × Picked l.o.carriers.now l.o.cells.now l.o.count l.i l.j l.near l.c
