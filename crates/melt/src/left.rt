@@ -1,15 +1,15 @@
 // What is left of an overlay within the room, laid out: its half-edges, walks, faces and labels first, then the edges that separate nothing dropped, and the tables of the rest.
-ghost use Rattle.std.specs.Prelude.{◌≡◌, ℕ, ◌+◌, ◌*◌, ◌≤◌, length};
+ghost use Rattle.std.specs.Prelude.{◌≡◌, ℕ, ◌+◌, ◌*◌, ◌^◌, ◌<◌, ◌≤◌};
 ghost use Rattle.paper.specs.Limits.{maps, overlay_faces};
 ghost use Rattle.paper.specs.Lent.{lengths_of, room_in};
 ghost use Rattle.paper.specs.Tables.{counts_of, tables_of};
 ghost use Rattle.paper.specs.Melt.{melted_of};
 ghost use Rattle.tables.specs.Values.{tables_by, outcome_of};
 ghost use Rattle.overlay_cut.specs.PieceRows.{piece_width};
-ghost use Rattle.overlay_maps.specs.Layers.{layers_by};
 ghost use Rattle.overlay_maps.specs.Held.{Held, held_maps};
-ghost use Rattle.overlay_graph.specs.Cut.{cut_by, CutOf, DrawableCut};
-ghost use Rattle.overlay_graph.specs.Traced.{Blank};
+ghost use Rattle.overlay_maps.specs.Given.{the_layers};
+ghost use Rattle.overlay_graph.specs.Cut.{CutOf, DrawableCut};
+ghost use Rattle.overlay_graph.specs.Given.{the_cut};
 ghost use Rattle.overlay_pairs.specs.Pairs.{Outlined};
 ghost use Rattle.overlay_fill.specs.Judged.{done_with, Within};
 ghost use Rattle.melt.specs.Melted.{melted_in, FacesIn};
@@ -20,7 +20,8 @@ use limits::{
 };
 use map_file::Refusal;
 use overlay_fill::{from_cut, refuse};
-use overlay_graph::{lay_net, walk_net};
+use overlay_graph::{Cut, Net, lay_net, walk_net};
+use overlay_maps::Layers;
 use overlay_pairs::lay_labels;
 use tables::{Answer, room_in};
 use thin::thin;
@@ -33,112 +34,70 @@ const SMALL_ROWS: usize = SMALL_HALVES + 1;
 const SMALL_LABELS: usize = MAPS * SMALL_ROWS;
 
 // "Every edge with the same pair on both sides is dropped, then vertices left without an edge, and vertices, edges, followers and faces are numbered afresh by 01's
-// rules": of an overlay within the room, with its half-edges, the follower and the face of each, and the outer walks. The tables are lent.
-fn melt_faces(
-    vstarts: &[usize],
-    estarts: &[usize],
-    corners: &[i64],
-    origins: &[u16],
-    carriers: &[i16],
-    labels: &[u16],
-    n: usize,
-    points: &[i64],
-    e: usize,
-    pieces: &[u16],
-    ends: &[u16],
-    lines: &[i16],
-    next: &[u16],
-    face: &[u16],
-    outers: &[u16],
-    count: usize,
-    triples: &mut [u16],
-    newpoints: &mut [i64],
-    newpieces: &mut [u16],
+// rules": of an overlay within the room, with its half-edges, walks and faces. What is left is made in tables of L labels, P cells of points and R cells of pieces.
+fn melt_faces<const L: usize, const P: usize, const R: usize>(
+    layers: Layers,
+    cut: Cut,
+    net: Net,
     vertices: &mut [i64],
     halves: &mut [u16],
     sources: &mut [u32],
     faces: &mut [u16],
 ) -> Answer
-    requires fact_1 { CutOf (held_maps (layers_by vstarts.now estarts.now corners.now origins.now carriers.now labels.now)) (cut_by n points.now e pieces.now) }
-    requires fact_2 { Outlined (layers_by vstarts.now estarts.now corners.now origins.now carriers.now labels.now) (cut_by n points.now e pieces.now) ends.now lines.now next.now outers.now count }
-    requires fact_3 { FacesIn (held_maps (layers_by vstarts.now estarts.now corners.now origins.now carriers.now labels.now)) (cut_by n points.now e pieces.now) face.now }
-    requires fact_4 { Within (cut_by n points.now e pieces.now) (lengths_of (tables_by vertices.old halves.old sources.old faces.old)) }
-    requires fact_5 { (count + 1 ≤ (room_in maps (lengths_of (tables_by vertices.old halves.old sources.old faces.old))).faces) × (maps * (count + 1) ≤ length triples.old) × (4 * n ≤ length newpoints.old) × (piece_width * e ≤ length newpieces.old) }
-    ensures { outcome_of result (tables_by vertices.new halves.new sources.new faces.new) ≡ done_with (lengths_of (tables_by vertices.old halves.old sources.old faces.old)) (counts_of (melted_of (held_maps (layers_by vstarts.now estarts.now corners.now origins.now carriers.now labels.now)))) (tables_of (held_maps (layers_by vstarts.now estarts.now corners.now origins.now carriers.now labels.now)) (melted_of (held_maps (layers_by vstarts.now estarts.now corners.now origins.now carriers.now labels.now)))) }
+    requires fact_1 { CutOf (held_maps (the_layers layers)) (the_cut cut) }
+    requires fact_2 { Outlined (the_layers layers) (the_cut cut) net.ends.now net.lines.now net.next.now net.outers.now net.count }
+    requires fact_3 { FacesIn (held_maps (the_layers layers)) (the_cut cut) net.face.now }
+    requires fact_4 { Within (the_cut cut) (lengths_of (tables_by vertices.old halves.old sources.old faces.old)) }
+    requires fact_5 { (net.count + 1 ≤ (room_in maps (lengths_of (tables_by vertices.old halves.old sources.old faces.old))).faces) × (maps * (net.count + 1) ≤ L) × (4 * cut.vertices ≤ P) × (piece_width * cut.edges ≤ R) × (L + P + R < 2 ^ 32) }
+    ensures { let ms = held_maps (the_layers layers.entry) in outcome_of result (tables_by vertices.new halves.new sources.new faces.new) ≡ done_with (lengths_of (tables_by vertices.old halves.old sources.old faces.old)) (counts_of (melted_of ms)) (tables_of ms (melted_of ms)) }
 {
-    lay_labels(
-        vstarts,
-        estarts,
-        corners,
-        origins,
-        carriers,
-        labels,
-        points,
-        ends,
-        lines,
-        pieces,
-        next,
-        outers,
-        count + 1,
-        triples,
-    );
-    let kept = thin(n, points, e, pieces, face, triples, newpoints, newpieces);
-    from_cut(
-        vstarts,
-        estarts,
-        corners,
-        origins,
-        carriers,
-        labels,
-        kept.vertices,
-        newpoints,
-        kept.edges,
-        newpieces,
-        vertices,
-        halves,
-        sources,
-        faces,
-    )
+    let mut triples = [0u16; L];
+    let mut points = [0i64; P];
+    let mut pieces = [0u16; R];
+    lay_labels(layers, cut, net, net.count + 1, &mut triples);
+    let kept = thin(cut, net.face, &triples, &mut points, &mut pieces);
+    let left = Cut {
+        vertices: kept.vertices,
+        points: &points,
+        edges: kept.edges,
+        pieces: &pieces,
+    };
+    from_cut(layers, left, vertices, halves, sources, faces)
 }
 
-// Half-edges, walks and faces of the overlay, of vertices and edges within the room; then what is left of it. The tables are lent, and those of followers, faces and
-// walks are zero.
-fn melt_cut_with(
-    vstarts: &[usize],
-    estarts: &[usize],
-    corners: &[i64],
-    origins: &[u16],
-    carriers: &[i16],
-    labels: &[u16],
-    n: usize,
-    points: &[i64],
-    e: usize,
-    pieces: &[u16],
-    ends: &mut [u16],
-    lines: &mut [i16],
-    next: &mut [u16],
-    face: &mut [u16],
-    outers: &mut [u16],
-    holes: &mut [u16],
-    triples: &mut [u16],
-    newpoints: &mut [i64],
-    newpieces: &mut [u16],
+// Half-edges, walks and faces of the overlay, of vertices and edges within the room; then what is left of it. They are made in tables of H half-edges, C cells of carriers and F faces.
+fn melt_cut_in<
+    const H: usize,
+    const C: usize,
+    const F: usize,
+    const L: usize,
+    const P: usize,
+    const R: usize,
+>(
+    layers: Layers,
+    cut: Cut,
     vertices: &mut [i64],
     halves: &mut [u16],
     sources: &mut [u32],
     faces: &mut [u16],
 ) -> Answer
-    requires fact_1 { Held (layers_by vstarts.now estarts.now corners.now origins.now carriers.now labels.now) }
-    requires fact_2 { CutOf (held_maps (layers_by vstarts.now estarts.now corners.now origins.now carriers.now labels.now)) (cut_by n points.now e pieces.now) }
-    requires fact_3 { DrawableCut (held_maps (layers_by vstarts.now estarts.now corners.now origins.now carriers.now labels.now)) (cut_by n points.now e pieces.now) }
-    requires fact_4 { Within (cut_by n points.now e pieces.now) (lengths_of (tables_by vertices.old halves.old sources.old faces.old)) }
-    requires fact_5 { (2 * e ≤ length ends.old) × (4 * e ≤ length lines.old) × Blank (2 * e) next.old × Blank (2 * e) face.old × Blank (2 * e) outers.old × Blank (2 * e + 1) holes.old × ((count : ℕ) → count ≤ length outers.old → count + 1 ≤ overlay_faces → maps * (count + 1) ≤ length triples.old) × (4 * n ≤ length newpoints.old) × (piece_width * e ≤ length newpieces.old) }
-    ensures { outcome_of result (tables_by vertices.new halves.new sources.new faces.new) ≡ melted_in (held_maps (layers_by vstarts.now estarts.now corners.now origins.now carriers.now labels.now)) (lengths_of (tables_by vertices.old halves.old sources.old faces.old)) }
+    requires fact_1 { Held (the_layers layers) }
+    requires fact_2 { CutOf (held_maps (the_layers layers)) (the_cut cut) }
+    requires fact_3 { DrawableCut (held_maps (the_layers layers)) (the_cut cut) }
+    requires fact_4 { Within (the_cut cut) (lengths_of (tables_by vertices.old halves.old sources.old faces.old)) }
+    requires fact_5 { (2 * cut.edges ≤ H) × (4 * cut.edges ≤ C) × (2 * cut.edges < F) × ((count : ℕ) → count ≤ H → count + 1 ≤ overlay_faces → maps * (count + 1) ≤ L) × (4 * cut.vertices ≤ P) × (piece_width * cut.edges ≤ R) × (H + C + F + L + P + R < 2 ^ 32) }
+    ensures { outcome_of result (tables_by vertices.new halves.new sources.new faces.new) ≡ melted_in (held_maps (the_layers layers.entry)) (lengths_of (tables_by vertices.old halves.old sources.old faces.old)) }
 {
-    lay_net(
-        vstarts, estarts, corners, origins, carriers, labels, n, points, e, pieces, ends, lines,
+    let mut ends = [0u16; H];
+    let mut lines = [0i16; C];
+    let mut next = [0u16; H];
+    let mut face = [0u16; H];
+    let mut outers = [0u16; H];
+    let mut holes = [0u16; F];
+    lay_net(layers, cut, &mut ends, &mut lines);
+    let count = walk_net(
+        cut, &ends, &lines, &mut next, &mut face, &mut outers, &mut holes,
     );
-    let count = walk_net(n, points, e, ends, lines, next, face, outers, holes);
     let room = room_in(vertices.len(), halves.len(), sources.len(), faces.len());
     if room.faces as usize <= count {
         let over = Refusal {
@@ -147,108 +106,47 @@ fn melt_cut_with(
             place: 3,
             other: 0,
         };
-        refuse(over, vertices, halves, sources, faces)
-    } else {
-        melt_faces(
-            vstarts, estarts, corners, origins, carriers, labels, n, points, e, pieces, ends,
-            lines, next, face, outers, count, triples, newpoints, newpieces, vertices, halves,
-            sources, faces,
-        )
+        return refuse(over, vertices, halves, sources, faces);
     }
+    let net = Net {
+        ends: &ends,
+        lines: &lines,
+        next: &next,
+        face: &face,
+        outers: &outers,
+        holes: &holes,
+        count,
+    };
+    melt_faces::<L, P, R>(layers, cut, net, vertices, halves, sources, faces)
 }
 
-// The same in tables of its own, as large as any overlay may need them, or small ones where these are enough.
+// The same in tables as large as any overlay may need them, or small ones where these are enough.
 pub fn melt_cut(
-    vstarts: &[usize],
-    estarts: &[usize],
-    corners: &[i64],
-    origins: &[u16],
-    carriers: &[i16],
-    labels: &[u16],
-    n: usize,
-    points: &[i64],
-    e: usize,
-    pieces: &[u16],
+    layers: Layers,
+    cut: Cut,
     vertices: &mut [i64],
     halves: &mut [u16],
     sources: &mut [u32],
     faces: &mut [u16],
 ) -> Answer
-    requires fact_1 { Held (layers_by vstarts.now estarts.now corners.now origins.now carriers.now labels.now) }
-    requires fact_2 { CutOf (held_maps (layers_by vstarts.now estarts.now corners.now origins.now carriers.now labels.now)) (cut_by n points.now e pieces.now) }
-    requires fact_3 { DrawableCut (held_maps (layers_by vstarts.now estarts.now corners.now origins.now carriers.now labels.now)) (cut_by n points.now e pieces.now) }
-    requires fact_4 { Within (cut_by n points.now e pieces.now) (lengths_of (tables_by vertices.old halves.old sources.old faces.old)) }
-    ensures { outcome_of result (tables_by vertices.new halves.new sources.new faces.new) ≡ melted_in (held_maps (layers_by vstarts.now estarts.now corners.now origins.now carriers.now labels.now)) (lengths_of (tables_by vertices.old halves.old sources.old faces.old)) }
+    requires fact_1 { Held (the_layers layers) }
+    requires fact_2 { CutOf (held_maps (the_layers layers)) (the_cut cut) }
+    requires fact_3 { DrawableCut (held_maps (the_layers layers)) (the_cut cut) }
+    requires fact_4 { Within (the_cut cut) (lengths_of (tables_by vertices.old halves.old sources.old faces.old)) }
+    ensures { outcome_of result (tables_by vertices.new halves.new sources.new faces.new) ≡ melted_in (held_maps (the_layers layers.entry)) (lengths_of (tables_by vertices.old halves.old sources.old faces.old)) }
 {
-    if n <= SMALL_VERTICES && e <= SMALL_EDGES {
-        let mut ends = [0u16; SMALL_HALVES];
-        let mut lines = [0i16; SMALL_CARRIER_CELLS];
-        let mut next = [0u16; SMALL_HALVES];
-        let mut face = [0u16; SMALL_HALVES];
-        let mut outers = [0u16; SMALL_HALVES];
-        let mut holes = [0u16; SMALL_ROWS];
-        let mut triples = [0u16; SMALL_LABELS];
-        let mut newpoints = [0i64; SMALL_POINT_CELLS];
-        let mut newpieces = [0u16; SMALL_PIECE_CELLS];
-        melt_cut_with(
-            vstarts,
-            estarts,
-            corners,
-            origins,
-            carriers,
-            labels,
-            n,
-            points,
-            e,
-            pieces,
-            &mut ends,
-            &mut lines,
-            &mut next,
-            &mut face,
-            &mut outers,
-            &mut holes,
-            &mut triples,
-            &mut newpoints,
-            &mut newpieces,
-            vertices,
-            halves,
-            sources,
-            faces,
-        )
+    if cut.vertices <= SMALL_VERTICES && cut.edges <= SMALL_EDGES {
+        melt_cut_in::<
+            SMALL_HALVES,
+            SMALL_CARRIER_CELLS,
+            SMALL_ROWS,
+            SMALL_LABELS,
+            SMALL_POINT_CELLS,
+            SMALL_PIECE_CELLS,
+        >(layers, cut, vertices, halves, sources, faces)
     } else {
-        let mut ends = [0u16; HALVES];
-        let mut lines = [0i16; CARRIER_CELLS];
-        let mut next = [0u16; HALVES];
-        let mut face = [0u16; HALVES];
-        let mut outers = [0u16; HALVES];
-        let mut holes = [0u16; FACE_ROWS];
-        let mut triples = [0u16; LABEL_CELLS];
-        let mut newpoints = [0i64; POINT_CELLS];
-        let mut newpieces = [0u16; PIECE_CELLS];
-        melt_cut_with(
-            vstarts,
-            estarts,
-            corners,
-            origins,
-            carriers,
-            labels,
-            n,
-            points,
-            e,
-            pieces,
-            &mut ends,
-            &mut lines,
-            &mut next,
-            &mut face,
-            &mut outers,
-            &mut holes,
-            &mut triples,
-            &mut newpoints,
-            &mut newpieces,
-            vertices,
-            halves,
-            sources,
-            faces,
+        melt_cut_in::<HALVES, CARRIER_CELLS, FACE_ROWS, LABEL_CELLS, POINT_CELLS, PIECE_CELLS>(
+            layers, cut, vertices, halves, sources, faces,
         )
     }
 }

@@ -2,18 +2,40 @@
 #![tactic(auto)]
 
 mod left; // what is left of an overlay, laid out
-mod stages; // from layers to the melted tables
 
 ghost use Rattle.std.specs.Prelude.{[], ◌∷◌};
 ghost use Rattle.paper.specs.Lent.{lengths_of};
 ghost use Rattle.tables.specs.Values.{tables_by};
 ghost use Rattle.tables.specs.Promise.{PromisedMelted};
+ghost use Rattle.melt.specs.Melted.{melted_in};
+ghost use Rattle.melt.specs.Laws.Judged.{room_refused};
 
-use crate::stages::melt_layers;
+use crate::left::melt_cut;
 use limits::{LAYER_CARRIER_CELLS, LAYER_HALVES, LAYER_POINT_CELLS, LAYER_STARTS};
-use overlay_fill::refuse;
-use overlay_maps::lay_maps;
+use overlay_fill::{Layout, from_layers, refuse};
+use overlay_graph::{Cut, Way};
+use overlay_maps::{Layers, lay_maps};
 use tables::Answer;
+
+// The overlay without the edges that separate nothing.
+struct Melted;
+
+impl Layout for Melted {
+    ghost laid = { melted_in };
+
+    fn lay(
+        layers: Layers,
+        cut: Cut,
+        vertices: &mut [i64],
+        halves: &mut [u16],
+        sources: &mut [u32],
+        faces: &mut [u16],
+    ) -> Answer {
+        melt_cut(layers, cut, vertices, halves, sources, faces)
+    }
+
+    ghost refuses = { room_refused };
+}
 
 // The melted tables of three files of any bytes in the lent tables: the three counts, or a refusal. "Refusals: the overlay's, 11 included, which is judged on the
 // overlay before melting"; "Ask 12 compares triples" (02, Ask 13).
@@ -48,13 +70,18 @@ pub fn melt(
     match c {
         Err(r) => refuse(r, vertices, halves, sources, faces),
         Ok(()) => {
-            melt_layers(
-                &vertex_starts,
-                &edge_starts,
-                &corners,
-                &origins,
-                &carriers,
-                &labels,
+            let layers = Layers {
+                vertices: &vertex_starts,
+                edges: &edge_starts,
+                corners: &corners,
+                origins: &origins,
+                carriers: &carriers,
+                labels: &labels,
+            };
+            from_layers::<Melted>(
+                Way::Swept,
+                true,
+                layers,
                 vertices,
                 halves,
                 sources,

@@ -1,8 +1,7 @@
 // The overlay of three map files: "Two map files go in", and "Bed type comes as a third map" (02, Ask 13). "Out come three tables (vertices, half-edges, faces)".
 #![tactic(auto)]
 
-mod stages; // from layers to tables
-mod layers; // from files to layers
+mod layers; // from files to layers, and from there
 
 ghost use Rattle.std.specs.Prelude.{[], ◌∷◌};
 ghost use Rattle.paper.specs.Lent.{lengths_of};

@@ -1,6 +1,7 @@
 -- What comes out of maps that pass: "room comes last". Assumes nothing.
-use Rattle.std.specs.Prelude.{◌≤◌, ◌*◌}
-use Rattle.seq.specs.Seq.{List, length}
+use Rattle.std.specs.Prelude.{◌≡◌, ◌≤◌, ◌*◌}
+use Rattle.std.proofs.Common.{sym, ap}
+use Rattle.seq.specs.Seq.{List, some, length}
 use Rattle.paper.specs.Limits.{maps, overlay_vertices, overlay_edges}
 use Rattle.paper.specs.Refusal.{Refusal, first_of, done, refused}
 use Rattle.paper.specs.Map.{Map}
@@ -24,6 +25,13 @@ done_with l c t = record { answer = done c; tables = padded_tables l t }
 
 abbrev pub refused_with : Lengths → Refusal → Outcome
 refused_with l r = record { answer = refused r; tables = zero_tables l }
+
+-- what is laid, by the maps and the lengths of the tables, is a refusal where the overlay has not room
+abbrev pub RefusesOver : (List Map → Lengths → Outcome) → Type 0
+RefusesOver laid = (ms : List Map) (l : Lengths) (r : Refusal) → first_of (room_faults (room_in maps l) (counts_of (overlay_of ms))) ≡ some r → refused_with l r ≡ laid ms l
+
+pub overlaid-refuses : RefusesOver overlaid
+overlaid-refuses ms l r e = let o = overlay_of ms in sym (ap (outcome l (counts_of o) (tables_of ms o)) e)
 
 -- the vertices and edges in c are within the room
 pub record Within (c : Cut) (l : Lengths) : Type 0 where

@@ -1,20 +1,21 @@
 // The lent tables filled from what the stages hold, zeros past the counts.
-ghost use Rattle.std.specs.Prelude.{◌≡◌, true, ◌+◌, ◌*◌, ◌≤◌, length};
+ghost use Rattle.std.specs.Prelude.{◌≡◌, ◌+◌, ◌*◌, ◌^◌, ◌≤◌, ◌<◌};
 ghost use Rattle.paper.specs.Limits.{maps};
 ghost use Rattle.paper.specs.Tables.{counts_of, tables_of};
 ghost use Rattle.paper.specs.Lent.{lengths_of, room_in};
 ghost use Rattle.tables.specs.Values.{tables_by, outcome_of};
-ghost use Rattle.overlay_maps.specs.Layers.{layers_by};
 ghost use Rattle.overlay_maps.specs.Held.{Held, held_maps};
-ghost use Rattle.overlay_graph.specs.Cut.{cut_by, overlay_in, DrawableCut};
-ghost use Rattle.overlay_graph.specs.Traced.{NetBy, FacesBy};
+ghost use Rattle.overlay_maps.specs.Given.{the_layers};
+ghost use Rattle.overlay_graph.specs.Cut.{overlay_in, DrawableCut};
+ghost use Rattle.overlay_graph.specs.Given.{the_cut, NetOf};
 ghost use Rattle.overlay_fill.specs.Judged.{done_with, Within};
-ghost use Rattle.overlay_fill.specs.Small.{Small};
 
 use graph::first_places;
 use limits::{
     ABSENT, FACES, HALVES, MAPS, SMALL_EDGES, SMALL_FACES, SMALL_HALVES, SMALL_VERTICES, VERTICES,
 };
+use overlay_graph::{Cut, Net};
+use overlay_maps::Layers;
 use overlay_pairs::rows_in;
 use tables::{Answer, Counts, store_faces, store_halves, store_sources, store_vertices};
 
@@ -24,73 +25,39 @@ const LABEL_CELLS: usize = MAPS * FACES;
 // of a small sheet
 const SMALL_LABELS: usize = MAPS * SMALL_FACES;
 
-// Whether this is a small sheet: of so many vertices, edges and outer walks.
-fn few(nv: usize, ne: usize, count: usize) -> bool
-    ensures { result ≡ true → Small nv ne count }
-{
-    if SMALL_VERTICES < nv {
-        return false;
-    }
-    if SMALL_EDGES < ne {
-        return false;
-    }
-    if SMALL_FACES <= count {
-        return false;
-    }
-    true
-}
-
-// What is within the room is stored: "Done: places past the counts are zero". Of the maps the tables that the layers hold; of the overlay the vertices and edges,
-// where its half-edges start and what they lie along, followers and faces, the outer walks and how many, and the hole walks of each face. Predecessors, least
-// outgoing half-edges and the labels and columns of the faces are made here, in tables that are lent for them.
-fn fill_with(
-    vstarts: &[usize],
-    estarts: &[usize],
-    corners: &[i64],
-    origins: &[u16],
-    carriers: &[i16],
-    labels: &[u16],
-    nv: usize,
-    points: &[i64],
-    ne: usize,
-    pieces: &[u16],
-    ends: &[u16],
-    lines: &[i16],
-    next: &[u16],
-    face: &[u16],
-    outers: &[u16],
-    holes: &[u16],
-    count: usize,
-    prev: &mut [u16],
-    least: &mut [u16],
-    triples: &mut [u16],
-    outer: &mut [u16],
-    counts: &mut [u16],
+// What is within the room is stored: "Done: places past the counts are zero". Predecessors, least outgoing half-edges and the labels and columns of the faces are made here, in tables of H half-edges, V
+// vertices, L labels and F faces.
+fn fill_in<const H: usize, const V: usize, const L: usize, const F: usize>(
+    layers: Layers,
+    cut: Cut,
+    net: Net,
     vertices: &mut [i64],
     halves: &mut [u16],
     sources: &mut [u32],
     faces: &mut [u16],
 ) -> Answer
-    requires fact_1 { Held (layers_by vstarts.now estarts.now corners.now origins.now carriers.now labels.now) }
-    requires fact_2 { DrawableCut (held_maps (layers_by vstarts.now estarts.now corners.now origins.now carriers.now labels.now)) (cut_by nv points.now ne pieces.now) }
-    requires fact_3 { Within (cut_by nv points.now ne pieces.now) (lengths_of (tables_by vertices.old halves.old sources.old faces.old)) }
-    requires fact_4 { NetBy (overlay_in (held_maps (layers_by vstarts.now estarts.now corners.now origins.now carriers.now labels.now)) (cut_by nv points.now ne pieces.now)) (cut_by nv points.now ne pieces.now) ends.now lines.now × FacesBy (overlay_in (held_maps (layers_by vstarts.now estarts.now corners.now origins.now carriers.now labels.now)) (cut_by nv points.now ne pieces.now)) next.now face.now outers.now holes.now count }
-    requires fact_5 { (count + 1 ≤ (room_in maps (lengths_of (tables_by vertices.old halves.old sources.old faces.old))).faces) × (2 * ne ≤ length prev.old) × (nv ≤ length least.old) × (maps * (count + 1) ≤ length triples.old) × (count + 1 ≤ length outer.old) × (count + 1 ≤ length counts.old) }
-    ensures { outcome_of result (tables_by vertices.new halves.new sources.new faces.new) ≡ done_with (lengths_of (tables_by vertices.old halves.old sources.old faces.old)) (counts_of (overlay_in (held_maps (layers_by vstarts.now estarts.now corners.now origins.now carriers.now labels.now)) (cut_by nv points.now ne pieces.now))) (tables_of (held_maps (layers_by vstarts.now estarts.now corners.now origins.now carriers.now labels.now)) (overlay_in (held_maps (layers_by vstarts.now estarts.now corners.now origins.now carriers.now labels.now)) (cut_by nv points.now ne pieces.now))) }
+    requires fact_1 { Held (the_layers layers) }
+    requires fact_2 { DrawableCut (held_maps (the_layers layers)) (the_cut cut) }
+    requires fact_3 { Within (the_cut cut) (lengths_of (tables_by vertices.old halves.old sources.old faces.old)) }
+    requires fact_4 { NetOf (overlay_in (held_maps (the_layers layers)) (the_cut cut)) (the_cut cut) net }
+    requires fact_5 { (net.count + 1 ≤ (room_in maps (lengths_of (tables_by vertices.old halves.old sources.old faces.old))).faces) × (2 * cut.edges ≤ H) × (cut.vertices ≤ V) × (maps * (net.count + 1) ≤ L) × (net.count + 1 ≤ F) × (H + V + L + F < 2 ^ 32) }
+    ensures { let ms = held_maps (the_layers layers.entry) in let o = overlay_in ms (the_cut cut.entry) in outcome_of result (tables_by vertices.new halves.new sources.new faces.new) ≡ done_with (lengths_of (tables_by vertices.old halves.old sources.old faces.old)) (counts_of o) (tables_of ms o) }
 {
-    first_places(next, 2 * ne, ABSENT, prev, 2 * ne);
-    first_places(ends, 2 * ne, ABSENT, least, nv);
-    rows_in(
-        vstarts, estarts, corners, origins, carriers, labels, nv, points, ne, pieces, ends, lines,
-        next, outers, holes, count, triples, outer, counts,
-    );
-    let v = nv as u16;
-    let e = ne as u16;
-    let f = (count + 1) as u16;
-    store_vertices(vertices, v, points, least);
-    store_halves(halves, e, ends, next, prev, face);
-    store_sources(sources, e, pieces);
-    store_faces(faces, f, triples, outer, counts);
+    let mut prev = [0u16; H];
+    let mut least = [0u16; V];
+    let mut triples = [0u16; L];
+    let mut outer = [0u16; F];
+    let mut counts = [0u16; F];
+    first_places(net.next, 2 * cut.edges, ABSENT, &mut prev, 2 * cut.edges);
+    first_places(net.ends, 2 * cut.edges, ABSENT, &mut least, cut.vertices);
+    rows_in(layers, cut, net, &mut triples, &mut outer, &mut counts);
+    let v = cut.vertices as u16;
+    let e = cut.edges as u16;
+    let f = (net.count + 1) as u16;
+    store_vertices(vertices, v, cut.points, &least);
+    store_halves(halves, e, net.ends, net.next, &prev, net.face);
+    store_sources(sources, e, cut.pieces);
+    store_faces(faces, f, &triples, &outer, &counts);
     Ok(Counts {
         vertices: v,
         edges: e,
@@ -98,104 +65,30 @@ fn fill_with(
     })
 }
 
-// The same in tables of its own, as large as the overlay may need them, or small ones where these are enough.
+// The same in tables as large as the overlay may need them, or small ones where these are enough.
 pub fn fill(
-    vstarts: &[usize],
-    estarts: &[usize],
-    corners: &[i64],
-    origins: &[u16],
-    carriers: &[i16],
-    labels: &[u16],
-    nv: usize,
-    points: &[i64],
-    ne: usize,
-    pieces: &[u16],
-    ends: &[u16],
-    lines: &[i16],
-    next: &[u16],
-    face: &[u16],
-    outers: &[u16],
-    holes: &[u16],
-    count: usize,
+    layers: Layers,
+    cut: Cut,
+    net: Net,
     vertices: &mut [i64],
     halves: &mut [u16],
     sources: &mut [u32],
     faces: &mut [u16],
 ) -> Answer
-    requires fact_1 { Held (layers_by vstarts.now estarts.now corners.now origins.now carriers.now labels.now) }
-    requires fact_2 { DrawableCut (held_maps (layers_by vstarts.now estarts.now corners.now origins.now carriers.now labels.now)) (cut_by nv points.now ne pieces.now) }
-    requires fact_3 { Within (cut_by nv points.now ne pieces.now) (lengths_of (tables_by vertices.old halves.old sources.old faces.old)) }
-    requires fact_4 { NetBy (overlay_in (held_maps (layers_by vstarts.now estarts.now corners.now origins.now carriers.now labels.now)) (cut_by nv points.now ne pieces.now)) (cut_by nv points.now ne pieces.now) ends.now lines.now × FacesBy (overlay_in (held_maps (layers_by vstarts.now estarts.now corners.now origins.now carriers.now labels.now)) (cut_by nv points.now ne pieces.now)) next.now face.now outers.now holes.now count }
-    requires fact_5 { count + 1 ≤ (room_in maps (lengths_of (tables_by vertices.old halves.old sources.old faces.old))).faces }
-    ensures { outcome_of result (tables_by vertices.new halves.new sources.new faces.new) ≡ done_with (lengths_of (tables_by vertices.old halves.old sources.old faces.old)) (counts_of (overlay_in (held_maps (layers_by vstarts.now estarts.now corners.now origins.now carriers.now labels.now)) (cut_by nv points.now ne pieces.now))) (tables_of (held_maps (layers_by vstarts.now estarts.now corners.now origins.now carriers.now labels.now)) (overlay_in (held_maps (layers_by vstarts.now estarts.now corners.now origins.now carriers.now labels.now)) (cut_by nv points.now ne pieces.now))) }
+    requires fact_1 { Held (the_layers layers) }
+    requires fact_2 { DrawableCut (held_maps (the_layers layers)) (the_cut cut) }
+    requires fact_3 { Within (the_cut cut) (lengths_of (tables_by vertices.old halves.old sources.old faces.old)) }
+    requires fact_4 { NetOf (overlay_in (held_maps (the_layers layers)) (the_cut cut)) (the_cut cut) net }
+    requires fact_5 { net.count + 1 ≤ (room_in maps (lengths_of (tables_by vertices.old halves.old sources.old faces.old))).faces }
+    ensures { let ms = held_maps (the_layers layers.entry) in let o = overlay_in ms (the_cut cut.entry) in outcome_of result (tables_by vertices.new halves.new sources.new faces.new) ≡ done_with (lengths_of (tables_by vertices.old halves.old sources.old faces.old)) (counts_of o) (tables_of ms o) }
 {
-    if few(nv, ne, count) {
-        let mut prev = [0u16; SMALL_HALVES];
-        let mut least = [0u16; SMALL_VERTICES];
-        let mut triples = [0u16; SMALL_LABELS];
-        let mut outer = [0u16; SMALL_FACES];
-        let mut counts = [0u16; SMALL_FACES];
-        fill_with(
-            vstarts,
-            estarts,
-            corners,
-            origins,
-            carriers,
-            labels,
-            nv,
-            points,
-            ne,
-            pieces,
-            ends,
-            lines,
-            next,
-            face,
-            outers,
-            holes,
-            count,
-            &mut prev,
-            &mut least,
-            &mut triples,
-            &mut outer,
-            &mut counts,
-            vertices,
-            halves,
-            sources,
-            faces,
+    if cut.vertices <= SMALL_VERTICES && cut.edges <= SMALL_EDGES && net.count < SMALL_FACES {
+        fill_in::<SMALL_HALVES, SMALL_VERTICES, SMALL_LABELS, SMALL_FACES>(
+            layers, cut, net, vertices, halves, sources, faces,
         )
     } else {
-        let mut prev = [0u16; HALVES];
-        let mut least = [0u16; VERTICES];
-        let mut triples = [0u16; LABEL_CELLS];
-        let mut outer = [0u16; FACES];
-        let mut counts = [0u16; FACES];
-        fill_with(
-            vstarts,
-            estarts,
-            corners,
-            origins,
-            carriers,
-            labels,
-            nv,
-            points,
-            ne,
-            pieces,
-            ends,
-            lines,
-            next,
-            face,
-            outers,
-            holes,
-            count,
-            &mut prev,
-            &mut least,
-            &mut triples,
-            &mut outer,
-            &mut counts,
-            vertices,
-            halves,
-            sources,
-            faces,
+        fill_in::<HALVES, VERTICES, LABEL_CELLS, FACES>(
+            layers, cut, net, vertices, halves, sources, faces,
         )
     }
 }

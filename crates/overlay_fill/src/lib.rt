@@ -4,6 +4,7 @@
 mod judge; // counts over the room
 mod fill; // the lent tables filled
 mod laying; // from points and pieces to tables
+mod stages; // from layers to tables
 
-pub use judge::over_room;
 pub use laying::{from_cut, refuse};
+pub use stages::{Layout, from_layers};

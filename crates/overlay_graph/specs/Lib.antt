@@ -1,4 +1,5 @@
 pub mod Collected
 pub mod Cut
 pub mod Traced
+pub mod Given
 pub mod Laws

@@ -5,12 +5,13 @@ ghost use Rattle.graph.specs.Flat.{point_width};
 ghost use Rattle.overlay_cut.specs.Cuts.{start_of};
 ghost use Rattle.overlay_cut.specs.Rooms.{vertex_rows};
 ghost use Rattle.overlay_sweep.specs.Threading.{Unthreaded};
-ghost use Rattle.overlay_maps.specs.Layers.{layers_by};
 ghost use Rattle.overlay_maps.specs.Held.{held_maps, Held};
+ghost use Rattle.overlay_maps.specs.Given.{the_layers};
 ghost use Rattle.overlay_graph.specs.Collected.{CollectedOf, ThreadedOf};
 
 use limits::{MAPS, VERTEX_ROWS};
 use overlay_cut::{collect, order};
+use overlay_maps::Layers;
 use overlay_sweep::{Swept, sweep};
 
 // The plain way tests each edge with all edges of the maps before its own, and puts the points in order at the end. The other is "a line that passes over the plane
@@ -23,21 +24,16 @@ pub enum Way {
 
 // The vertices of the overlay of the maps in these tables, the plain way, in a table with room for so many rows: how many there are, or `room` where there are as many or more.
 pub fn collect_maps(
-    vertices: &[usize],
-    edges: &[usize],
-    corners: &[i64],
-    origins: &[u16],
-    carriers: &[i16],
-    labels: &[u16],
+    layers: Layers,
     points: &mut [i64],
     room: usize,
 ) -> usize
-    requires fact_1 { Held (layers_by vertices.now edges.now corners.now origins.now carriers.now labels.now) }
+    requires fact_1 { Held (the_layers layers) }
     requires fact_2 { point_width * room ≤ length points.old }
-    ensures { CollectedOf (held_maps (layers_by vertices.now edges.now corners.now origins.now carriers.now labels.now)) room points.new result }
+    ensures { CollectedOf (held_maps (the_layers layers.entry)) room points.new result }
 {
-    let c = vertices[MAPS];
-    let n = collect(corners, c, carriers, edges, points, room);
+    let c = layers.vertices[MAPS];
+    let n = collect(layers.corners, c, layers.carriers, layers.edges, points, room);
     if room <= n {
         return n;
     }
@@ -47,54 +43,39 @@ pub fn collect_maps(
 
 // The same by the line, which meets them in order, and remembers which are on each edge, while there are fewer nodes than `room`.
 fn sweep_maps(
-    vertices: &[usize],
-    edges: &[usize],
-    corners: &[i64],
-    origins: &[u16],
-    carriers: &[i16],
-    labels: &[u16],
+    layers: Layers,
     points: &mut [i64],
     last: &mut [u16],
     nodes: &mut [u16],
     room: usize,
 ) -> Swept
-    requires fact_1 { Held (layers_by vertices.now edges.now corners.now origins.now carriers.now labels.now) }
+    requires fact_1 { Held (the_layers layers) }
     requires fact_2 { point_width * vertex_rows ≤ length points.old }
-    requires fact_3 { Unthreaded (start_of edges.now maps) room last.old nodes.old }
-    ensures { ThreadedOf (layers_by vertices.now edges.now corners.now origins.now carriers.now labels.now) room points.new result.stops last.new nodes.new result.nodes }
+    requires fact_3 { Unthreaded (start_of layers.edges.now maps) room last.old nodes.old }
+    ensures { ThreadedOf (the_layers layers.entry) room points.new result.stops last.new nodes.new result.nodes }
 {
-    let c = vertices[MAPS];
-    sweep(corners, c, carriers, edges, points, last, nodes, room)
+    let c = layers.vertices[MAPS];
+    sweep(layers.corners, c, layers.carriers, layers.edges, points, last, nodes, room)
 }
 
 // The same by the way that is asked for. The plain way remembers nothing.
 pub fn vertices_by(
     way: Way,
-    vertices: &[usize],
-    edges: &[usize],
-    corners: &[i64],
-    origins: &[u16],
-    carriers: &[i16],
-    labels: &[u16],
+    layers: Layers,
     points: &mut [i64],
     last: &mut [u16],
     nodes: &mut [u16],
     room: usize,
 ) -> Swept
-    requires fact_1 { Held (layers_by vertices.now edges.now corners.now origins.now carriers.now labels.now) }
+    requires fact_1 { Held (the_layers layers) }
     requires fact_2 { point_width * vertex_rows ≤ length points.old }
-    requires fact_3 { Unthreaded (start_of edges.now maps) room last.old nodes.old }
-    ensures { ThreadedOf (layers_by vertices.now edges.now corners.now origins.now carriers.now labels.now) room points.new result.stops last.new nodes.new result.nodes }
+    requires fact_3 { Unthreaded (start_of layers.edges.now maps) room last.old nodes.old }
+    ensures { ThreadedOf (the_layers layers.entry) room points.new result.stops last.new nodes.new result.nodes }
 {
     match way {
         Way::Plain => {
             let n = collect_maps(
-                vertices,
-                edges,
-                corners,
-                origins,
-                carriers,
-                labels,
+                layers,
                 points,
                 VERTEX_ROWS,
             );
@@ -104,7 +85,7 @@ pub fn vertices_by(
             }
         }
         Way::Swept => sweep_maps(
-            vertices, edges, corners, origins, carriers, labels, points, last, nodes, room,
+            layers, points, last, nodes, room,
         ),
     }
 }

@@ -6,5 +6,5 @@ mod cutting; // vertices and edges
 mod tracing; // half-edges, walks, faces
 
 pub use collecting::Way;
-pub use cutting::{CutCounts, cut_few, cut_maps};
-pub use tracing::{lay_net, walk_net};
+pub use cutting::{Cut, CutCounts, cut_few, cut_maps};
+pub use tracing::{Net, lay_net, walk_net};

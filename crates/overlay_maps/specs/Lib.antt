@@ -5,3 +5,4 @@ pub mod Standing
 pub mod Refused
 pub mod Layers
 pub mod Held
+pub mod Given

@@ -10,7 +10,9 @@ ghost use Rattle.graph.specs.Flat.{flat_graph, Flat, Starts, Carried, carrier_at
 ghost use Rattle.graph.specs.Look.{the_seen_of, candidate_at, nearer_at, seen_label};
 ghost use Rattle.graph.specs.Pick.{better};
 ghost use Rattle.overlay_maps.specs.Ended.{Ended, height_of};
+ghost use Rattle.overlay_maps.specs.Given.{the_tables, Legible};
 
+use crate::tables::FlatMap;
 use graph::{candidate, carrier_at, east_side, nearest};
 use plane::{Point, Seg, Vector};
 
@@ -26,77 +28,42 @@ fn at_height(s: Seg, p: Point) -> bool
     }
 }
 
-// With r the nearest candidate so far, `none` where there is none yet: edge k too, if it is a candidate.
-fn take(
-    points: &[i64],
-    origins: &[u16],
-    carriers: &[i16],
-    none: usize,
-    k: usize,
-    r: usize,
-    p: Point,
-    d: Vector,
-) -> usize
-    requires fact_1 { (2 * k ≤ absent) × Starts points.now origins.now (2 * k) × Starts points.now origins.now (2 * k + 1) × Carried carriers.now k × (r < none → Carried carriers.now r) × (r ≤ none) × Near (pt_of p) × Direction (vec_of d) }
-    requires fact_2 { (height_of (carrier_at carriers.now k) (pt_of p) ≡ false → candidate_at points.now origins.now carriers.now (pt_of p) (vec_of d) k ≡ false) }
-    ensures { result ≡ cond (candidate_at points.now origins.now carriers.now (pt_of p) (vec_of d) k) (better (nearer_at carriers.now (pt_of p)) none k r) r }
+// With r the nearest candidate so far, the number of edges where there is none yet: edge k too, if it is a candidate.
+fn take(m: FlatMap, k: usize, r: usize, p: Point, d: Vector) -> usize
+    requires fact_1 { (2 * k ≤ absent) × Starts m.points.now m.origins.now (2 * k) × Starts m.points.now m.origins.now (2 * k + 1) × Carried m.carriers.now k × (r < m.edges → Carried m.carriers.now r) × (r ≤ m.edges) × Near (pt_of p) × Direction (vec_of d) }
+    requires fact_2 { (height_of (carrier_at m.carriers.now k) (pt_of p) ≡ false → candidate_at m.points.now m.origins.now m.carriers.now (pt_of p) (vec_of d) k ≡ false) }
+    ensures { result ≡ cond (candidate_at m.entry.points.now m.entry.origins.now m.entry.carriers.now (pt_of p) (vec_of d) k) (better (nearer_at m.entry.carriers.now (pt_of p)) m.entry.edges k r) r }
 {
-    if at_height(carrier_at(carriers, k), p) {
-        if candidate(points, origins, carriers, k, p, d) {
-            nearest(carriers, none, k, r, p)
-        } else {
-            r
-        }
+    if at_height(carrier_at(m.carriers, k), p) && candidate(m.points, m.origins, m.carriers, k, p, d) {
+        nearest(m.carriers, m.edges, k, r, p)
     } else {
         r
     }
 }
 
 // The nearest candidate, from p along d.
-fn look(
-    points: &[i64],
-    origins: &[u16],
-    carriers: &[i16],
-    n: usize,
-    e: usize,
-    p: Point,
-    d: Vector,
-) -> Option<u16>
-    requires fact_1 { Flat points.now origins.now carriers.now n e }
-    requires fact_2 { 2 * e ≤ absent }
-    requires fact_3 { Ended (flat_graph points.now origins.now carriers.now n e) }
-    requires fact_4 { Near (pt_of p) }
-    requires fact_5 { Direction (vec_of d) }
-    ensures { the_seen_of result ≡ best (candidate (flat_graph points.now origins.now carriers.now n e) (pt_of p) (vec_of d)) (nearer (flat_graph points.now origins.now carriers.now n e) (pt_of p)) e }
+fn look(m: FlatMap, p: Point, d: Vector) -> Option<u16>
+    requires fact_1 { Legible (the_tables m) }
+    requires fact_2 { Near (pt_of p) }
+    requires fact_3 { Direction (vec_of d) }
+    ensures { the_seen_of result ≡ best (candidate (flat_graph m.entry.points.now m.entry.origins.now m.entry.carriers.now m.entry.vertices m.entry.edges) (pt_of p) (vec_of d)) (nearer (flat_graph m.entry.points.now m.entry.origins.now m.entry.carriers.now m.entry.vertices m.entry.edges) (pt_of p)) m.entry.edges }
 {
-    let mut r = e;
-    for k in 0..e {
-        r = take(points, origins, carriers, e, k, r, p, d);
+    let mut r = m.edges;
+    for k in 0..m.edges {
+        r = take(m, k, r, p, d);
     }
-    if r == e { None } else { Some(r as u16) }
+    if r == m.edges { None } else { Some(r as u16) }
 }
 
 // The label of what is seen from p along d, of labels by half-edge; 0 where the outside is seen.
-pub fn seen_label(
-    points: &[i64],
-    origins: &[u16],
-    carriers: &[i16],
-    labels: &[u16],
-    n: usize,
-    e: usize,
-    p: Point,
-    d: Vector,
-) -> u16
-    requires fact_1 { Flat points.now origins.now carriers.now n e × Ended (flat_graph points.now origins.now carriers.now n e) }
-    requires fact_2 { 2 * e ≤ absent }
-    requires fact_3 { 2 * e ≤ length labels.now }
-    requires fact_4 { Near (pt_of p) }
-    requires fact_5 { Direction (vec_of d) }
-    ensures { result ≡ seen_label (flat_graph points.now origins.now carriers.now n e) labels.now (pt_of p) (vec_of d) }
+pub fn seen_label(m: FlatMap, p: Point, d: Vector) -> u16
+    requires fact_1 { Legible (the_tables m) }
+    requires fact_2 { Near (pt_of p) }
+    requires fact_3 { Direction (vec_of d) }
+    ensures { result ≡ seen_label (flat_graph m.entry.points.now m.entry.origins.now m.entry.carriers.now m.entry.vertices m.entry.edges) m.entry.labels.now (pt_of p) (vec_of d) }
 {
-    let seen = look(points, origins, carriers, n, e, p, d);
-    match seen {
+    match look(m, p, d) {
         None => 0,
-        Some(k) => labels[east_side(points, origins, k as usize)],
+        Some(k) => m.labels[east_side(m.points, m.origins, k as usize)],
     }
 }

@@ -4,13 +4,15 @@ ghost use Rattle.std.specs.Prelude.{◌≡◌, ◌+◌, ◌*◌, ◌≤◌, leng
 ghost use Rattle.seq.specs.Seq.{rows, filled};
 ghost use Rattle.paper.specs.Limits.{maps};
 ghost use Rattle.tables.specs.Rows.{face_by};
-ghost use Rattle.overlay_maps.specs.Layers.{layers_by};
-ghost use Rattle.overlay_graph.specs.Cut.{cut_by};
+ghost use Rattle.overlay_maps.specs.Given.{the_layers};
+ghost use Rattle.overlay_graph.specs.Given.{the_cut};
 ghost use Rattle.overlay_pairs.specs.Labels.{outer_of};
 ghost use Rattle.overlay_pairs.specs.Pairs.{Whole, face_rows};
 
 use crate::label::{lay_labels, outer_of};
 use limits::ABSENT;
+use overlay_graph::{Cut, Net};
+use overlay_maps::Layers;
 
 // The least outer half-edge of face f; ABSENT of face 0.
 fn face_outer(outers: &[u16], f: usize) -> u16
@@ -47,35 +49,19 @@ fn lay_holes(holes: &[u16], n: usize, out: &mut [u16])
 
 // The row of every face of the overlay of the maps that the layers hold: its labels, a cell for each map, and two columns.
 pub fn rows_in(
-    vstarts: &[usize],
-    estarts: &[usize],
-    corners: &[i64],
-    origins: &[u16],
-    carriers: &[i16],
-    labels: &[u16],
-    nv: usize,
-    points: &[i64],
-    ne: usize,
-    pieces: &[u16],
-    ends: &[u16],
-    lines: &[i16],
-    next: &[u16],
-    outers: &[u16],
-    holes: &[u16],
-    count: usize,
+    layers: Layers,
+    cut: Cut,
+    net: Net,
     triples: &mut [u16],
     outer: &mut [u16],
     counts: &mut [u16],
 )
-    requires fact_1 { Whole (layers_by vstarts.now estarts.now corners.now origins.now carriers.now labels.now) (cut_by nv points.now ne pieces.now) ends.now lines.now next.now outers.now holes.now count }
-    requires fact_2 { (maps * (count + 1) ≤ length triples.old) × (count + 1 ≤ length outer.old) × (count + 1 ≤ length counts.old) }
-    ensures { rows (face_by triples.new outer.new counts.new) (count + 1) ≡ face_rows (layers_by vstarts.now estarts.now corners.now origins.now carriers.now labels.now) (cut_by nv points.now ne pieces.now) (count + 1) }
+    requires fact_1 { Whole (the_layers layers) (the_cut cut) net.ends.now net.lines.now net.next.now net.outers.now net.holes.now net.count }
+    requires fact_2 { (maps * (net.count + 1) ≤ length triples.old) × (net.count + 1 ≤ length outer.old) × (net.count + 1 ≤ length counts.old) }
+    ensures { rows (face_by triples.new outer.new counts.new) (net.entry.count + 1) ≡ face_rows (the_layers layers.entry) (the_cut cut.entry) (net.entry.count + 1) }
 {
-    let n = count + 1;
-    lay_labels(
-        vstarts, estarts, corners, origins, carriers, labels, points, ends, lines, pieces, next,
-        outers, n, triples,
-    );
-    lay_outers(outers, n, outer);
-    lay_holes(holes, n, counts);
+    let n = net.count + 1;
+    lay_labels(layers, cut, net, n, triples);
+    lay_outers(net.outers, n, outer);
+    lay_holes(net.holes, n, counts);
 }

@@ -8,6 +8,7 @@ ghost use Rattle.overlay_cut.specs.PieceRows.{piece_at};
 ghost use Rattle.thin.specs.Thinned.{differ_in, separates_in, kept_in, flag, marked, Sides, Ends, EdgesIn};
 
 use limits::{MAPS, PIECE_WIDTH};
+use overlay_graph::Cut;
 
 // Whether some label of the faces f and g differs: "Ask 12 compares triples" (02, Ask 13).
 fn differ(triples: &[u16], f: usize, g: usize) -> bool
@@ -47,22 +48,15 @@ fn mark(pieces: &[u16], k: usize, marks: &mut [u16])
     marks[upper] = 1;
 }
 
-// Marks the ends of the edges that stay, of n vertices.
-pub fn mark_ends(
-    n: usize,
-    e: usize,
-    pieces: &[u16],
-    face: &[u16],
-    triples: &[u16],
-    marks: &mut [u16],
-)
-    requires fact_1 { EdgesIn pieces.now face.now triples.now n e }
-    requires fact_2 { Holds (λ v. 0) marks.old n }
-    ensures { Holds (λ v. flag (is_end (kept_in pieces.now face.now triples.now e) v)) marks.new n }
+// Marks the ends of the edges that stay.
+pub fn mark_ends(cut: Cut, face: &[u16], triples: &[u16], marks: &mut [u16])
+    requires fact_1 { EdgesIn cut.pieces.now face.now triples.now cut.vertices cut.edges }
+    requires fact_2 { Holds (λ v. 0) marks.old cut.vertices }
+    ensures { Holds (λ v. flag (is_end (kept_in cut.entry.pieces.now face.now triples.now cut.entry.edges) v)) marks.new cut.entry.vertices }
 {
-    for k in 0..e {
+    for k in 0..cut.edges {
         if stays(face, triples, k) {
-            mark(pieces, k, marks);
+            mark(cut.pieces, k, marks);
         }
     }
 }

@@ -9,6 +9,7 @@ ghost use Rattle.thin.specs.Thinned.{separates_in, marked, moved_row, moved_piec
 use crate::keeping::stays;
 use limits::{PIECE_WIDTH, POINT_WIDTH};
 use overlay_cut::source_in;
+use overlay_graph::Cut;
 use seq::store;
 
 // Stores the point in row v as row c.
@@ -57,24 +58,23 @@ fn move_piece(pieces: &[u16], k: usize, numbers: &[u16], out: &mut [u16], c: usi
     store(out, c, [lower, upper, first, second, third]);
 }
 
-// The pieces of the edges that stay, of e. Answers how many there are.
+// The pieces of the edges that stay. Answers how many there are.
 pub fn move_pieces(
-    e: usize,
-    pieces: &[u16],
+    cut: Cut,
     face: &[u16],
     triples: &[u16],
     numbers: &[u16],
     out: &mut [u16],
 ) -> usize
-    requires fact_1 { EdgesIn pieces.now face.now triples.now (length numbers.now) e }
-    requires fact_2 { piece_width * e ≤ length out.old }
-    ensures is { result ≡ count (separates_in face.now triples.now) e }
-    ensures rows { pieces_in out.new result ≡ map (moved_piece pieces.now numbers.now) (select (separates_in face.now triples.now) e) }
+    requires fact_1 { EdgesIn cut.pieces.now face.now triples.now (length numbers.now) cut.edges }
+    requires fact_2 { piece_width * cut.edges ≤ length out.old }
+    ensures is { result ≡ count (separates_in face.now triples.now) cut.entry.edges }
+    ensures rows { pieces_in out.new result ≡ map (moved_piece cut.entry.pieces.now numbers.now) (select (separates_in face.now triples.now) cut.entry.edges) }
 {
     let mut c = 0;
-    for k in 0..e {
+    for k in 0..cut.edges {
         if stays(face, triples, k) {
-            move_piece(pieces, k, numbers, out, c);
+            move_piece(cut.pieces, k, numbers, out, c);
             c += 1;
         }
     }

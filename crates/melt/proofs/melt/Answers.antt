@@ -22,8 +22,8 @@ room files every = layer_room files (cleared_full files every)
 pub lay_maps-c-requires : goal.lay_maps-c-requires
 lay_maps-c-requires c = room (c.args.zones.now ∷ c.args.blocks.now ∷ c.args.bed.now ∷ []) refl
 
-pub melt_layers-requires : goal.melt_layers-requires
-melt_layers-requires c =
+pub from_layers-requires : goal.from_layers-requires
+from_layers-requires c =
     let a = c.args in
     let laid = c.lay_maps-c.ensures in
     let none = sym laid.0 ∙ ap verdict c.in-Ok.is in
@@ -43,6 +43,6 @@ returns-in-Ok c =
     let none = sym laid.0 ∙ ap verdict c.in-Ok.is in
     let files = a.zones.now ∷ a.blocks.now ∷ a.bed.now ∷ [] in
     let lengths = lengths_of (tables_by a.vertices.now a.halves.now a.sources.now a.faces.now) in
-    c.melt_layers.ensures
+    c.from_layers.ensures
     ∙ ap (λ (ms : List Map). melted_in ms lengths) (held-maps files _ _ (laid.1 none) refl)
     ∙ files-pass files lengths refl none

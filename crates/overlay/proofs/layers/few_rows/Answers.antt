@@ -1,6 +1,9 @@
 -- `overlay::layers::few_rows` meets its contract. Assumes nothing.
 use Rattle.std.specs.Prelude.{◌∷◌, ◌+◌}
+use mathlib.Core.Path.{◌∙◌}
 use native.Mathlib.Omega.{arith}
+use borrow.Author.Tests.{lt-leb}
+use Rattle.graph.specs.Small.{small_vertices}
 use Rattle.seq.specs.Seq.{[]}
 use Rattle.overlay.proofs.LayersLaws.{few_rows_lem, many-rows}
 use Rattle.overlay.proofs.layers.few_rows.Goals as goal
@@ -18,7 +21,6 @@ returns-then-v-le-SMALL_VERTICES c =
 pub returns-else-v-le-SMALL_VERTICES : goal.returns-else-v-le-SMALL_VERTICES
 returns-else-v-le-SMALL_VERTICES c =
     let a = c.args in
-    many-rows (a.zones.now ∷ a.blocks.now ∷ a.bed.now ∷ [])
-    (c.vertex_count.result + c.vertex_count-2.result + c.vertex_count-3.result)
-    (omega (arith, c.vertex_count.ensures, c.vertex_count-2.ensures, c.vertex_count-3.ensures))
-    c.if-v-le-SMALL_VERTICES.false
+    let v = c.vertex_count.result + c.vertex_count-2.result + c.vertex_count-3.result in
+    lt-leb v small_vertices c.if-v-le-SMALL_VERTICES.false
+    ∙ many-rows (a.zones.now ∷ a.blocks.now ∷ a.bed.now ∷ []) v (omega (arith, c.vertex_count.ensures, c.vertex_count-2.ensures, c.vertex_count-3.ensures)) c.if-v-le-SMALL_VERTICES.false

@@ -14,26 +14,26 @@ use Rattle.overlay_fill.proofs.JudgeLaws.{maps-refused, maps-pass}
 use Rattle.overlay.proofs.layers.overlay_in.Goals as goal
 
 pub lay_maps-c-requires : goal.lay_maps-c-requires
-lay_maps-c-requires c =
+lay_maps-c-requires g c =
     let files = c.args.zones.now ∷ c.args.blocks.now ∷ c.args.bed.now ∷ [] in
-    layer_room files c.requires
+    layer_room files c.requires.fact_1
 
 pub from_layers-requires : goal.from_layers-requires
-from_layers-requires c =
+from_layers-requires g c =
     let a = c.args in
     let laid = c.lay_maps-c.ensures in
     let none = sym laid.0 ∙ ap verdict c.in-Ok.is in
     let files = a.zones.now ∷ a.blocks.now ∷ a.bed.now ∷ [] in
-    layers-held files _ _ (laid.1 none) refl (layer_room files c.requires) (all_pass files none)
+    layers-held files _ _ (laid.1 none) refl (layer_room files c.requires.fact_1) (all_pass files none)
 
 pub returns-in-Err : goal.returns-in-Err
-returns-in-Err c =
+returns-in-Err g c =
     let a = c.args in
     c.refuse.ensures
     ∙ maps-refused (a.zones.now ∷ a.blocks.now ∷ a.bed.now ∷ []) (lengths_of (tables_by a.vertices.now a.halves.now a.sources.now a.faces.now)) _ (sym c.lay_maps-c.ensures.0 ∙ ap verdict c.in-Err.is)
 
 pub returns-in-Ok : goal.returns-in-Ok
-returns-in-Ok c =
+returns-in-Ok g c =
     let a = c.args in
     let laid = c.lay_maps-c.ensures in
     let none = sym laid.0 ∙ ap verdict c.in-Ok.is in

@@ -1,6 +1,7 @@
 -- `overlay_graph::collecting::collect_maps` meets its contract. Assumes nothing.
 use native.Mathlib.Omega.{arith}
-use Rattle.overlay_maps.specs.Layers.{Layers, layers_by}
+use Rattle.overlay_maps.specs.Layers.{Layers}
+use Rattle.overlay_maps.specs.Given.{the_layers}
 use Rattle.overlay_graph.specs.Laws.Standing.{corners-near, starts, upright}
 use Rattle.overlay_graph.specs.Laws.CutLaws.{collected-once, collected-near, ordered_is, collected_over}
 use Rattle.overlay_graph.proofs.collecting.collect_maps.Goals as goal
@@ -8,7 +9,7 @@ use Rattle.overlay_graph.proofs.collecting.collect_maps.Goals.{Start}
 
 -- the maps that are lent
 abbrev l : Start → Layers
-l s = layers_by s.args.vertices.now s.args.edges.now s.args.corners.now s.args.origins.now s.args.carriers.now s.args.labels.now
+l s = the_layers s.args.layers
 
 pub collect-n-requires : goal.collect-n-requires
 collect-n-requires c =

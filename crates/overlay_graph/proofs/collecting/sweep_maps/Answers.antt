@@ -1,12 +1,13 @@
 -- `overlay_graph::collecting::sweep_maps` meets its contract. Assumes nothing.
-use Rattle.overlay_maps.specs.Layers.{Layers, layers_by}
+use Rattle.overlay_maps.specs.Layers.{Layers}
+use Rattle.overlay_maps.specs.Given.{the_layers}
 use Rattle.overlay_graph.specs.Laws.Sweeping.{layers-given, layers-swept}
 use Rattle.overlay_graph.proofs.collecting.sweep_maps.Goals as goal
 use Rattle.overlay_graph.proofs.collecting.sweep_maps.Goals.{Start}
 
 -- the maps that are lent
 abbrev l : Start → Layers
-l s = layers_by s.args.vertices.now s.args.edges.now s.args.corners.now s.args.origins.now s.args.carriers.now s.args.labels.now
+l s = the_layers s.args.layers
 
 pub sweep-requires : goal.sweep-requires
 sweep-requires c =

@@ -3,7 +3,8 @@ use Prim.Native.Nat.{ℕ, ◌+◌, ◌-◌}
 use native.Mathlib.Omega.{arith}
 use Rattle.paper.specs.Limits.{maps}
 use Rattle.graph.specs.Small.{small_vertices, small_edges}
-use Rattle.overlay_maps.specs.Layers.{Layers, layers_by}
+use Rattle.overlay_maps.specs.Layers.{Layers}
+use Rattle.overlay_maps.specs.Given.{the_layers}
 use Rattle.overlay_graph.specs.Laws.Standing.{starts}
 use Rattle.overlay_graph.specs.Laws.CutLaws.{ordered-near, ordered-rise, ordered-ended, cut_is}
 use Rattle.overlay_graph.proofs.cutting.cut_few.Goals as goal
@@ -11,7 +12,7 @@ use Rattle.overlay_graph.proofs.cutting.cut_few.Goals.{Start}
 
 -- the maps that are lent
 abbrev l : Start → Layers
-l s = layers_by s.args.vertices.now s.args.edges.now s.args.corners.now s.args.origins.now s.args.carriers.now s.args.labels.now
+l s = the_layers s.args.layers
 
 -- the rows of the table of points
 abbrev room : ℕ

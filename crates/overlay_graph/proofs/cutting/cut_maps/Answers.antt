@@ -3,7 +3,8 @@ use native.Mathlib.Omega.{arith}
 use Prim.Native.Nat.{ℕ}
 use lib.ListN.{length-replicate, get_or-replicate}
 use Rattle.overlay_cut.specs.Rooms.{vertex_rows, edge_rows}
-use Rattle.overlay_maps.specs.Layers.{Layers, layers_by}
+use Rattle.overlay_maps.specs.Layers.{Layers}
+use Rattle.overlay_maps.specs.Given.{the_layers}
 use Rattle.overlay_graph.specs.Laws.Standing.{starts}
 use Rattle.overlay_graph.specs.Laws.CutLaws.{ordered-near, ordered-rise, ordered-ended, cut_is, cut_over}
 use Rattle.overlay_graph.proofs.cutting.cut_maps.Goals as goal
@@ -11,7 +12,7 @@ use Rattle.overlay_graph.proofs.cutting.cut_maps.Goals.{Start}
 
 -- the maps that are lent
 abbrev l : Start → Layers
-l s = layers_by s.args.vertices.now s.args.edges.now s.args.corners.now s.args.origins.now s.args.carriers.now s.args.labels.now
+l s = the_layers s.args.layers
 
 pub vertices_by-swept-requires : goal.vertices_by-swept-requires
 vertices_by-swept-requires c =

@@ -1,6 +1,7 @@
 -- `overlay_graph::tracing::lay_net` meets its contract. Assumes nothing.
-use Rattle.overlay_maps.specs.Layers.{Layers, layers_by}
-use Rattle.overlay_graph.specs.Cut.{cut_by}
+use Rattle.overlay_maps.specs.Layers.{Layers}
+use Rattle.overlay_maps.specs.Given.{the_layers}
+use Rattle.overlay_graph.specs.Given.{the_cut}
 use Rattle.overlay_graph.specs.Laws.Standing.{starts}
 use Rattle.overlay_graph.specs.Laws.Tracing.{net_by}
 use Rattle.overlay_graph.proofs.tracing.lay_net.Goals as goal
@@ -8,7 +9,7 @@ use Rattle.overlay_graph.proofs.tracing.lay_net.Goals.{Start}
 
 -- the maps that are lent
 abbrev l : Start → Layers
-l s = layers_by s.args.vertices.now s.args.edges.now s.args.corners.now s.args.origins.now s.args.carriers.now s.args.labels.now
+l s = the_layers s.args.layers
 
 pub carriers-requires : goal.carriers-requires
 carriers-requires c =
@@ -20,5 +21,5 @@ returns c =
     let p = c.requires in
     let o = c.origins in
     let b = c.carriers in
-    net_by (l (goal.at.returns c).Start) p.fact_1 (cut_by a.n a.points.now a.e a.pieces.now) p.fact_2 a.ends.now a.lines.now p.fact_3.0 p.fact_3.1
+    net_by (l (goal.at.returns c).Start) p.fact_1 (the_cut a.cut) p.fact_2 a.ends.now a.lines.now p.fact_3.0 p.fact_3.1
     o.new.out b.new.out o.ensures b.ensures

@@ -19,4 +19,4 @@ returns-else-p-s c =
     let s = c.args.s in
     let p = c.args.p in
     let e : eq_z p.x s.x ≡ false = not-true (eq_z p.x s.x) (λ q. eq_no w64 c.if-p-s.false (search trbits depth 20) (search trbits depth 20) tt (eq_t p.x s.x q)) in
-    λ i. cond (sym e i) (eq_z p.y s.y) false
+    eqb_is w64 {n = of_z w64 p.x} {m = of_z w64 s.x} (search trbits depth 20) (search trbits depth 20) tt ∙ e ∙ (λ i. cond (sym e i) (eq_z p.y s.y) false)

@@ -13,21 +13,21 @@ use Rattle.overlay_maps.proofs.label.own_label.Goals as goal
 pub carrier_at-s-requires : goal.carrier_at-s-requires
 carrier_at-s-requires c =
     let a = c.args in
-    flat-carried a.points.now a.origins.now a.carriers.now a.n a.e c.requires.fact_1.0 a.k c.requires.fact_4
+    flat-carried a.m.points.now a.m.origins.now a.m.carriers.now a.m.vertices a.m.edges c.requires.fact_1.flat a.k c.requires.fact_2
 
 pub start-p-requires : goal.start-p-requires
 start-p-requires c =
     let a = c.args in
-    flat_starts a.points.now a.origins.now a.carriers.now a.n a.e c.requires.fact_1.0 (2 * a.k + 1) (omega (arith, c.requires.fact_4))
+    flat_starts a.m.points.now a.m.origins.now a.m.carriers.now a.m.vertices a.m.edges c.requires.fact_1.flat (2 * a.k + 1) (omega (arith, c.requires.fact_2))
 
 pub returns-then-is_foot : goal.returns-then-is_foot
 returns-then-is_foot c =
     let a = c.args in
-    let up = foot_up a.points.now a.origins.now a.carriers.now a.n a.e c.requires.fact_1.0 c.requires.fact_1.1 a.k c.requires.fact_4 (pt_of c.start-p.result) c.start-p.ensures.is (seg_of c.carrier_at-s.result) c.carrier_at-s.ensures.is in
-    own-falling (flat_map a.points.now a.origins.now a.carriers.now a.labels.now a.n a.e) a.h a.k _ (up ∙ ap not (sym c.is_foot.ensures ∙ c.if-is_foot.true)) refl
+    let up = foot_up a.m.points.now a.m.origins.now a.m.carriers.now a.m.vertices a.m.edges c.requires.fact_1.flat c.requires.fact_1.ended a.k c.requires.fact_2 (pt_of c.start-p.result) c.start-p.ensures.is (seg_of c.carrier_at-s.result) c.carrier_at-s.ensures.is in
+    own-falling (flat_map a.m.points.now a.m.origins.now a.m.carriers.now a.m.labels.now a.m.vertices a.m.edges) a.h a.k _ (up ∙ ap not (sym c.is_foot.ensures ∙ c.if-is_foot.true)) refl
 
 pub returns-else-is_foot : goal.returns-else-is_foot
 returns-else-is_foot c =
     let a = c.args in
-    let up = foot_up a.points.now a.origins.now a.carriers.now a.n a.e c.requires.fact_1.0 c.requires.fact_1.1 a.k c.requires.fact_4 (pt_of c.start-p.result) c.start-p.ensures.is (seg_of c.carrier_at-s.result) c.carrier_at-s.ensures.is in
-    own-rising (flat_map a.points.now a.origins.now a.carriers.now a.labels.now a.n a.e) a.h a.k _ (up ∙ ap not (sym c.is_foot.ensures ∙ c.if-is_foot.false)) refl
+    let up = foot_up a.m.points.now a.m.origins.now a.m.carriers.now a.m.vertices a.m.edges c.requires.fact_1.flat c.requires.fact_1.ended a.k c.requires.fact_2 (pt_of c.start-p.result) c.start-p.ensures.is (seg_of c.carrier_at-s.result) c.carrier_at-s.ensures.is in
+    own-rising (flat_map a.m.points.now a.m.origins.now a.m.carriers.now a.m.labels.now a.m.vertices a.m.edges) a.h a.k _ (up ∙ ap not (sym c.is_foot.ensures ∙ c.if-is_foot.false)) refl

@@ -6,4 +6,4 @@ use Rattle.graph.specs.Look.{candidate_at, nearer_at}
 use Rattle.overlay_maps.proofs.west.look.Given as goal
 
 abbrev pub invariant-loop-k : goal.invariant-loop-k
-invariant-loop-k l = Picking (candidate_at l.points l.origins l.carriers (pt_of l.p) (vec_of l.d)) (nearer_at l.carriers (pt_of l.p)) l.e l.r l.k
+invariant-loop-k l = Picking (candidate_at l.m.points.now l.m.origins.now l.m.carriers.now (pt_of l.p) (vec_of l.d)) (nearer_at l.m.carriers.now (pt_of l.p)) l.m.edges l.r l.k

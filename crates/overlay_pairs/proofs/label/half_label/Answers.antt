@@ -5,14 +5,15 @@ use native.Mathlib.Omega.{arith}
 use Rattle.paper.specs.Map.{Map}
 use Rattle.overlay_maps.specs.Label.{own_label}
 use Rattle.overlay_maps.specs.Place.{label_at}
-use Rattle.overlay_maps.specs.Layers.{Layers, layers_by}
+use Rattle.overlay_maps.specs.Layers.{Layers}
+use Rattle.overlay_maps.specs.Given.{the_layers}
 use Rattle.overlay_maps.specs.Held.{held_map}
 use Rattle.overlay_pairs.specs.Labels.{placed-label, part-stands, part-map, part-edges, own-half}
 use Rattle.overlay_pairs.proofs.label.half_label.Goals as goal
 use Rattle.overlay_pairs.proofs.label.half_label.Goals.{Start}
 
 abbrev L : Start → Layers
-L s = let a = s.args in layers_by a.vstarts.now a.estarts.now a.corners.now a.origins.now a.carriers.now a.labels.now
+L s = the_layers s.args.layers
 
 pub part_of-part-requires : goal.part_of-part-requires
 part_of-part-requires c =
@@ -40,7 +41,7 @@ pub returns-then-source-eq0 : goal.returns-then-source-eq0
 returns-then-source-eq0 c =
     let a = c.args in
     c.label_at.ensures ∙ ap (λ (y : Map). label_at y c.place_of-at.result) (part-map (L (goal.at.returns-then-source-eq0 c).Start) c.requires.fact_1 a.m c.requires.fact_2.placed.of_maps _ c.part_of-part.ensures)
-    ∙ placed-label a.points.now a.ends.now a.lines.now a.pieces.now a.m _ (held_map (L (goal.at.returns-then-source-eq0 c).Start) a.m) a.x c.place_of-at.ensures
+    ∙ placed-label a.cut.points.now a.net.ends.now a.net.lines.now a.cut.pieces.now a.m _ (held_map (L (goal.at.returns-then-source-eq0 c).Start) a.m) a.x c.place_of-at.ensures
 
 pub own_at-requires : goal.own_at-requires
 own_at-requires c =
@@ -54,4 +55,4 @@ pub returns : goal.returns
 returns c =
     let a = c.args in
     c.own_at.ensures ∙ ap (λ (y : Map). own_label y a.x (c.source_in-source.result - 1)) (part-map (L (goal.at.returns c).Start) c.requires.fact_1 a.m c.requires.fact_2.placed.of_maps _ c.part_of-part.ensures)
-    ∙ own-half (held_map (L (goal.at.returns c).Start) a.m) a.points.now a.ends.now a.lines.now a.pieces.now a.m a.x (c.source_in-source.result - 1) (omega (arith, c.if-source-eq0.false, c.source_in-source.ensures))
+    ∙ own-half (held_map (L (goal.at.returns c).Start) a.m) a.cut.points.now a.net.ends.now a.net.lines.now a.cut.pieces.now a.m a.x (c.source_in-source.result - 1) (omega (arith, c.if-source-eq0.false, c.source_in-source.ensures))

@@ -19,9 +19,6 @@ face_label-requires c =
 pub offset_bounds-out-j : goal.offset_bounds-out-j
 offset_bounds-out-j c = omega (arith, c.loop-j-test.true, c.requires.fact_3)
 
-pub overflow_add-j : goal.overflow_add-j
-overflow_add-j c = omega (arith, c.loop-j-test.true, c.requires.fact_3)
-
 pub loop-j-init : goal.loop-j-init
 loop-j-init c = fill_starts c.requires.fact_3
 

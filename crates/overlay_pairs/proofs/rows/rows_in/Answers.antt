@@ -1,17 +1,19 @@
 -- `overlay_pairs::rows::rows_in` meets its contract. Assumes nothing.
 use native.Mathlib.Omega.{arith}
-use Rattle.overlay_maps.specs.Layers.{Layers, layers_by}
-use Rattle.overlay_graph.specs.Cut.{Cut, cut_by}
+use Rattle.overlay_maps.specs.Layers.{Layers}
+use Rattle.overlay_maps.specs.Given.{the_layers}
+use Rattle.overlay_graph.specs.Cut.{Cut}
+use Rattle.overlay_graph.specs.Given.{the_cut}
 use Rattle.overlay_pairs.specs.Pairs.{outers_long, holes_long, readable, rows_are}
 use Rattle.overlay_pairs.proofs.rows.rows_in.Goals as goal
 use Rattle.overlay_pairs.proofs.rows.rows_in.Goals.{Start}
 
 -- the records of the lent tables
 abbrev L : Start → Layers
-L s = let a = s.args in layers_by a.vstarts.now a.estarts.now a.corners.now a.origins.now a.carriers.now a.labels.now
+L s = the_layers s.args.layers
 
 abbrev C : Start → Cut
-C s = let a = s.args in cut_by a.nv a.points.now a.ne a.pieces.now
+C s = the_cut s.args.cut
 
 pub overflow_add-n : goal.overflow_add-n
 overflow_add-n c = omega (arith, c.requires.fact_2.1)
@@ -22,7 +24,7 @@ lay_labels-requires c =
     let O = c.requires.fact_1.outlined in
     record {
       fact_1 = O.held;
-      fact_2 = readable (L (goal.at.lay_labels-requires c).Start) (C (goal.at.lay_labels-requires c).Start) a.ends.now a.lines.now a.next.now a.outers.now a.count O;
+      fact_2 = readable (L (goal.at.lay_labels-requires c).Start) (C (goal.at.lay_labels-requires c).Start) a.net.ends.now a.net.lines.now a.net.next.now a.net.outers.now a.net.count O;
       fact_3 = c.requires.fact_2.0;
     }
 
@@ -30,7 +32,7 @@ pub lay_outers-requires : goal.lay_outers-requires
 lay_outers-requires c =
     let a = c.args in
     record {
-      fact_1 = omega (arith, outers_long (L (goal.at.lay_outers-requires c).Start) (C (goal.at.lay_outers-requires c).Start) a.ends.now a.lines.now a.next.now a.outers.now a.count c.requires.fact_1.outlined);
+      fact_1 = omega (arith, outers_long (L (goal.at.lay_outers-requires c).Start) (C (goal.at.lay_outers-requires c).Start) a.net.ends.now a.net.lines.now a.net.next.now a.net.outers.now a.net.count c.requires.fact_1.outlined);
       fact_2 = c.requires.fact_2.1;
     }
 
@@ -38,14 +40,14 @@ pub lay_holes-requires : goal.lay_holes-requires
 lay_holes-requires c =
     let a = c.args in
     record {
-      fact_1 = holes_long (L (goal.at.lay_holes-requires c).Start) (C (goal.at.lay_holes-requires c).Start) a.ends.now a.lines.now a.next.now a.outers.now a.holes.now a.count c.requires.fact_1;
+      fact_1 = holes_long (L (goal.at.lay_holes-requires c).Start) (C (goal.at.lay_holes-requires c).Start) a.net.ends.now a.net.lines.now a.net.next.now a.net.outers.now a.net.holes.now a.net.count c.requires.fact_1;
       fact_2 = c.requires.fact_2.2;
     }
 
 pub returns : goal.returns
 returns c =
     let a = c.args in
-    rows_are (L (goal.at.returns c).Start) (C (goal.at.returns c).Start) a.ends.now a.lines.now a.next.now a.outers.now a.holes.now a.count c.requires.fact_1 _ _ _ a.triples.now a.outer.now a.counts.now
+    rows_are (L (goal.at.returns c).Start) (C (goal.at.returns c).Start) a.net.ends.now a.net.lines.now a.net.next.now a.net.outers.now a.net.holes.now a.net.count c.requires.fact_1 _ _ _ a.triples.now a.outer.now a.counts.now
     c.lay_labels.ensures
     c.lay_outers.ensures
     c.lay_holes.ensures

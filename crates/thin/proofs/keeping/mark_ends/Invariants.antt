@@ -6,4 +6,4 @@ use Rattle.thin.specs.Laws.Marking.{Marking}
 use Rattle.thin.proofs.keeping.mark_ends.Given as goal
 
 abbrev pub invariant-loop-k : goal.invariant-loop-k
-invariant-loop-k l = Marking (separates_in l.face l.triples) (piece_at l.pieces) l.n l.e l.initial.marks l.marks l.k
+invariant-loop-k l = Marking (separates_in l.face l.triples) (piece_at l.cut.pieces.now) l.cut.vertices l.cut.edges l.initial.marks l.marks l.k

@@ -26,7 +26,7 @@ pub loop-k-preserved : goal.loop-k-preserved
 loop-k-preserved c =
     let r = c.loop-k.invariant in
     let q = sym c.stays.ensures in
-    let pieces = c.args.pieces.now in
+    let pieces = c.args.cut.pieces.now in
     let numbers = c.args.numbers.now in
     elim c.if-stays.branch [
       | then-stays w ↦ rw (w.out-is, w.c-is) (

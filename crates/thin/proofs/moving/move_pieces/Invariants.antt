@@ -8,4 +8,4 @@ use Rattle.thin.specs.Laws.Moving.{Moving}
 use Rattle.thin.proofs.moving.move_pieces.Given as goal
 
 abbrev pub invariant-loop-k : goal.invariant-loop-k
-invariant-loop-k l = (length l.out ≡ length l.initial.out) × Moving (separates_in l.face l.triples) (moved_piece l.pieces l.numbers) l.e (piece_at l.out) l.c l.k
+invariant-loop-k l = (length l.out ≡ length l.initial.out) × Moving (separates_in l.face l.triples) (moved_piece l.cut.pieces.now l.numbers) l.cut.edges (piece_at l.out) l.c l.k

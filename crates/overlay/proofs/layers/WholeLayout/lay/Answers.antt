@@ -1,0 +1,26 @@
+-- `lay` of `overlay::layers::Whole` meets its contract. Assumes nothing.
+use mathlib.Core.Path.{◌∙◌, ap}
+use native.Mathlib.Omega.{arith}
+use Rattle.paper.specs.Faces.{Overlay}
+use Rattle.paper.specs.Lent.{lengths_of}
+use Rattle.tables.specs.Values.{tables_by}
+use Rattle.overlay_maps.specs.Held.{held_maps}
+use Rattle.overlay_maps.specs.Given.{the_layers}
+use Rattle.overlay_graph.specs.Given.{the_cut}
+use Rattle.overlay_graph.specs.Laws.Drawing.{overlay_in_lem}
+use Rattle.overlay_fill.specs.Judged.{laid_out}
+use Rattle.overlay.proofs.layers.WholeLayout.lay.Goals as goal
+
+pub from_cut-requires : goal.from_cut-requires
+from_cut-requires c =
+    let p = c.requires in
+    record { fact_1 = p.fact_1; fact_2 = p.fact_3; fact_3 = p.fact_4 }
+
+pub returns : goal.returns
+returns c =
+    let a = c.args in
+    let p = c.requires in
+    let ms = held_maps (the_layers a.layers) in
+    c.from_cut.ensures
+    ∙ ap (λ (o : Overlay). laid_out ms o (lengths_of (tables_by a.vertices.now a.halves.now a.sources.now a.faces.now)))
+        (overlay_in_lem ms (the_cut a.cut) p.fact_2 p.fact_3.few_vertices p.fact_3.few_edges)
