@@ -78,15 +78,7 @@ pub fn melt(
                 carriers: &carriers,
                 labels: &labels,
             };
-            from_layers::<Melted>(
-                Way::Swept,
-                true,
-                layers,
-                vertices,
-                halves,
-                sources,
-                faces,
-            )
+            from_layers::<Melted>(Way::Swept, true, layers, vertices, halves, sources, faces)
         }
     }
 }

@@ -57,7 +57,13 @@ fn from_cut_in<const H: usize, const C: usize, const F: usize>(
     let mut holes = [0u16; F];
     lay_net(layers, cut, &mut ends, &mut lines);
     let count = walk_net(
-        cut, &ends, &lines, &mut next, &mut face, &mut outers, &mut holes,
+        cut,
+        &ends,
+        &lines,
+        &mut next,
+        &mut face,
+        &mut outers,
+        &mut holes,
     );
     let room = room_in(vertices.len(), halves.len(), sources.len(), faces.len());
     if room.faces as usize <= count {

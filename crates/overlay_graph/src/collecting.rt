@@ -23,17 +23,20 @@ pub enum Way {
 }
 
 // The vertices of the overlay of the maps in these tables, the plain way, in a table with room for so many rows: how many there are, or `room` where there are as many or more.
-pub fn collect_maps(
-    layers: Layers,
-    points: &mut [i64],
-    room: usize,
-) -> usize
+pub fn collect_maps(layers: Layers, points: &mut [i64], room: usize) -> usize
     requires fact_1 { Held (the_layers layers) }
     requires fact_2 { point_width * room ≤ length points.old }
     ensures { CollectedOf (held_maps (the_layers layers.entry)) room points.new result }
 {
-    let c = layers.vertices[MAPS];
-    let n = collect(layers.corners, c, layers.carriers, layers.edges, points, room);
+    let Layers {
+        vertices,
+        edges,
+        corners,
+        carriers,
+        ..
+    } = layers;
+    let c = vertices[MAPS];
+    let n = collect(corners, c, carriers, edges, points, room);
     if room <= n {
         return n;
     }
@@ -54,8 +57,15 @@ fn sweep_maps(
     requires fact_3 { Unthreaded (start_of layers.edges.now maps) room last.old nodes.old }
     ensures { ThreadedOf (the_layers layers.entry) room points.new result.stops last.new nodes.new result.nodes }
 {
-    let c = layers.vertices[MAPS];
-    sweep(layers.corners, c, layers.carriers, layers.edges, points, last, nodes, room)
+    let Layers {
+        vertices,
+        edges,
+        corners,
+        carriers,
+        ..
+    } = layers;
+    let c = vertices[MAPS];
+    sweep(corners, c, carriers, edges, points, last, nodes, room)
 }
 
 // The same by the way that is asked for. The plain way remembers nothing.
@@ -74,18 +84,12 @@ pub fn vertices_by(
 {
     match way {
         Way::Plain => {
-            let n = collect_maps(
-                layers,
-                points,
-                VERTEX_ROWS,
-            );
+            let n = collect_maps(layers, points, VERTEX_ROWS);
             Swept {
                 stops: n,
                 nodes: room,
             }
         }
-        Way::Swept => sweep_maps(
-            layers, points, last, nodes, room,
-        ),
+        Way::Swept => sweep_maps(layers, points, last, nodes, room),
     }
 }

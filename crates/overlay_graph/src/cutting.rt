@@ -38,20 +38,13 @@ pub struct CutCounts {
 
 // The vertices and edges of the overlay of the maps in these tables, in tables with one row more than the overlay may have, so that a count says whether there are
 // more; where there are too many vertices, no edges. By either way they are the same.
-pub fn cut_maps(
-    way: Way,
-    layers: Layers,
-    points: &mut [i64],
-    rows: &mut [u16],
-) -> CutCounts
+pub fn cut_maps(way: Way, layers: Layers, points: &mut [i64], rows: &mut [u16]) -> CutCounts
     requires fact_1 { Held (the_layers layers) }
     requires fact_2 { (point_width * vertex_rows ≤ length points.old) × (piece_width * edge_rows ≤ length rows.old) }
     ensures { CutOf (held_maps (the_layers layers.entry)) (cut_by result.vertices points.new result.edges rows.new) }
 {
     let mut last = [0u16; LAYER_EDGES];
-    let swept = vertices_by(
-        way, layers, points, &mut last, rows, NODES,
-    );
+    let swept = vertices_by(way, layers, points, &mut last, rows, NODES);
     let n = swept.stops;
     if VERTEX_ROWS <= n {
         return CutCounts {
@@ -77,20 +70,12 @@ pub fn cut_maps(
 }
 
 // The same in small tables, the plain way: where there are no more vertices and edges than these have room for, they are those of the overlay. (More: nothing is said, and the caller cuts in full tables.)
-pub fn cut_few(
-    layers: Layers,
-    points: &mut [i64],
-    rows: &mut [u16],
-) -> CutCounts
+pub fn cut_few(layers: Layers, points: &mut [i64], rows: &mut [u16]) -> CutCounts
     requires fact_1 { Held (the_layers layers) }
     requires fact_2 { (point_width * (small_vertices + 1) ≤ length points.old) × (piece_width * (small_edges + 1) ≤ length rows.old) }
     ensures { result.vertices ≤ small_vertices → result.edges ≤ small_edges → CutOf (held_maps (the_layers layers.entry)) (cut_by result.vertices points.new result.edges rows.new) }
 {
-    let n = collect_maps(
-        layers,
-        points,
-        SMALL_VERTEX_ROWS,
-    );
+    let n = collect_maps(layers, points, SMALL_VERTEX_ROWS);
     if SMALL_VERTEX_ROWS <= n {
         return CutCounts {
             vertices: n,

@@ -31,12 +31,7 @@ pub struct Net<'a> {
 
 // The half-edges of the overlay of the points and pieces in these tables: where each starts, "Half-edge 2k goes from lower to upper, 2k+1 back", and the input edge that each edge
 // lies along.
-pub fn lay_net(
-    layers: Layers,
-    cut: Cut,
-    ends: &mut [u16],
-    lines: &mut [i16],
-)
+pub fn lay_net(layers: Layers, cut: Cut, ends: &mut [u16], lines: &mut [i16])
     requires fact_1 { Held (the_layers layers) }
     requires fact_2 { DrawableCut (held_maps (the_layers layers)) (the_cut cut) }
     requires fact_3 { (2 * cut.edges ≤ length ends.old) × (4 * cut.edges ≤ length lines.old) }
@@ -65,8 +60,18 @@ fn walk_in<const N: usize>(
 {
     let mut lead = [0u16; N];
     let mut top = [0u16; N];
-    link(cut.points, ends, lines, cut.vertices, cut.edges, next, &mut lead, &mut top);
-    enclose(cut.points, ends, lines, cut.vertices, cut.edges, &lead, &top, face, outers, holes)
+    let Cut {
+        vertices,
+        points,
+        edges,
+        ..
+    } = cut;
+    link(
+        points, ends, lines, vertices, edges, next, &mut lead, &mut top,
+    );
+    enclose(
+        points, ends, lines, vertices, edges, &lead, &top, face, outers, holes,
+    )
 }
 
 // The followers, and the faces: of each half-edge, the least half-edges of the outer walks and how many there are, and the hole walks of each face. A small sheet is walked in small tables: less to clear.

@@ -34,7 +34,9 @@ fn take(m: FlatMap, k: usize, r: usize, p: Point, d: Vector) -> usize
     requires fact_2 { (height_of (carrier_at m.carriers.now k) (pt_of p) ≡ false → candidate_at m.points.now m.origins.now m.carriers.now (pt_of p) (vec_of d) k ≡ false) }
     ensures { result ≡ cond (candidate_at m.entry.points.now m.entry.origins.now m.entry.carriers.now (pt_of p) (vec_of d) k) (better (nearer_at m.entry.carriers.now (pt_of p)) m.entry.edges k r) r }
 {
-    if at_height(carrier_at(m.carriers, k), p) && candidate(m.points, m.origins, m.carriers, k, p, d) {
+    if at_height(carrier_at(m.carriers, k), p)
+        && candidate(m.points, m.origins, m.carriers, k, p, d)
+    {
         nearest(m.carriers, m.edges, k, r, p)
     } else {
         r

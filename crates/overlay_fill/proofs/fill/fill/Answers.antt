@@ -7,7 +7,7 @@ fill_in-requires c =
     let p = c.requires in
     record { fact_1 = p.fact_1; fact_2 = p.fact_2; fact_3 = p.fact_3; fact_4 = p.fact_4; fact_5 = (p.fact_5, omega arith, omega arith, omega arith, omega arith, omega arith) }
 
-pub fill_in-requires-else-cut-le-SMALL_VERTICES : goal.fill_in-requires-else-net-lt-SMALL_FACES
+pub fill_in-requires-else-cut-le-SMALL_VERTICES : goal.fill_in-requires-else-cut-le-SMALL_VERTICES
 fill_in-requires-else-cut-le-SMALL_VERTICES c =
     let p = c.requires in
     let D = p.fact_2 in

@@ -57,4 +57,4 @@ returns-in-Err g c =
     let s = (goal.at.returns-in-Err g c).Start in
     c.refuse.ensures
     ∙ g.met.L.Layout.refuses (ms g s) (lent g s) _
-        (cut_over (ms g s) (k g s) c.requires.fact_2 (lent g s) _ (sym (c.over_room-check.ensures ∙ ap (judging g s) c.room_in-room.ensures) ∙ ap verdict c.in-Err.is))
+    (cut_over (ms g s) (k g s) c.requires.fact_2 (lent g s) _ (sym (c.over_room-check.ensures ∙ ap (judging g s) c.room_in-room.ensures) ∙ ap verdict c.in-Err.is))

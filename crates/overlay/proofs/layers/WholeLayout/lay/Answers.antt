@@ -23,4 +23,4 @@ returns c =
     let ms = held_maps (the_layers a.layers) in
     c.from_cut.ensures
     ∙ ap (λ (o : Overlay). laid_out ms o (lengths_of (tables_by a.vertices.now a.halves.now a.sources.now a.faces.now)))
-        (overlay_in_lem ms (the_cut a.cut) p.fact_2 p.fact_3.few_vertices p.fact_3.few_edges)
+    (overlay_in_lem ms (the_cut a.cut) p.fact_2 p.fact_3.few_vertices p.fact_3.few_edges)
