@@ -6,12 +6,12 @@ ghost use Rattle.paper.specs.Tables.{counts_of, tables_of};
 ghost use Rattle.paper.specs.Melt.{melted_of};
 ghost use Rattle.tables.specs.Values.{tables_by, outcome_of};
 ghost use Rattle.overlay_cut.specs.PieceRows.{piece_width};
-ghost use Rattle.overlay_maps.specs.Held.{Held, held_maps};
+ghost use Rattle.overlay_maps.specs.Held.{held_maps};
 ghost use Rattle.overlay_maps.specs.Given.{the_layers};
-ghost use Rattle.overlay_graph.specs.Cut.{CutOf, DrawableCut};
+ghost use Rattle.overlay_graph.specs.Cut.{CutOf};
 ghost use Rattle.overlay_graph.specs.Given.{the_cut};
 ghost use Rattle.overlay_pairs.specs.Pairs.{Outlined};
-ghost use Rattle.overlay_fill.specs.Judged.{done_with, Within};
+ghost use Rattle.overlay_fill.specs.Judged.{done_with, Ready, Within};
 ghost use Rattle.melt.specs.Melted.{melted_in, FacesIn};
 
 use limits::{
@@ -81,11 +81,9 @@ fn melt_cut_in<
     sources: &mut [u32],
     faces: &mut [u16],
 ) -> Answer
-    requires fact_1 { Held (the_layers layers) }
-    requires fact_2 { CutOf (held_maps (the_layers layers)) (the_cut cut) }
-    requires fact_3 { DrawableCut (held_maps (the_layers layers)) (the_cut cut) }
-    requires fact_4 { Within (the_cut cut) (lengths_of (tables_by vertices.old halves.old sources.old faces.old)) }
-    requires fact_5 { (2 * cut.edges ≤ H) × (4 * cut.edges ≤ C) × (2 * cut.edges < F) × ((count : ℕ) → count ≤ H → count + 1 ≤ overlay_faces → maps * (count + 1) ≤ L) × (4 * cut.vertices ≤ P) × (piece_width * cut.edges ≤ R) × (H + C + F + L + P + R < 2 ^ 32) }
+    requires ready { Ready (the_layers layers) (the_cut cut) (lengths_of (tables_by vertices.old halves.old sources.old faces.old)) }
+    requires cut_of { CutOf (held_maps (the_layers layers)) (the_cut cut) }
+    requires rooms { (2 * cut.edges ≤ H) × (4 * cut.edges ≤ C) × (2 * cut.edges < F) × ((count : ℕ) → count ≤ H → count + 1 ≤ overlay_faces → maps * (count + 1) ≤ L) × (4 * cut.vertices ≤ P) × (piece_width * cut.edges ≤ R) × (H + C + F + L + P + R < 2 ^ 32) }
     ensures { outcome_of result (tables_by vertices.new halves.new sources.new faces.new) ≡ melted_in (held_maps (the_layers layers.entry)) (lengths_of (tables_by vertices.old halves.old sources.old faces.old)) }
 {
     let mut ends = [0u16; H];
@@ -135,10 +133,8 @@ pub fn melt_cut(
     sources: &mut [u32],
     faces: &mut [u16],
 ) -> Answer
-    requires fact_1 { Held (the_layers layers) }
-    requires fact_2 { CutOf (held_maps (the_layers layers)) (the_cut cut) }
-    requires fact_3 { DrawableCut (held_maps (the_layers layers)) (the_cut cut) }
-    requires fact_4 { Within (the_cut cut) (lengths_of (tables_by vertices.old halves.old sources.old faces.old)) }
+    requires ready { Ready (the_layers layers) (the_cut cut) (lengths_of (tables_by vertices.old halves.old sources.old faces.old)) }
+    requires cut_of { CutOf (held_maps (the_layers layers)) (the_cut cut) }
     ensures { outcome_of result (tables_by vertices.new halves.new sources.new faces.new) ≡ melted_in (held_maps (the_layers layers.entry)) (lengths_of (tables_by vertices.old halves.old sources.old faces.old)) }
 {
     if cut.vertices <= SMALL_VERTICES && cut.edges <= SMALL_EDGES {

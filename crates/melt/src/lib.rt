@@ -13,7 +13,7 @@ ghost use Rattle.melt.specs.Laws.Judged.{room_refused};
 use crate::left::melt_cut;
 use limits::{LAYER_CARRIER_CELLS, LAYER_HALVES, LAYER_POINT_CELLS, LAYER_STARTS};
 use overlay_fill::{Layout, from_layers, refuse};
-use overlay_graph::{Cut, Way};
+use overlay_graph::Cut;
 use overlay_maps::{Layers, lay_maps};
 use tables::Answer;
 
@@ -78,7 +78,7 @@ pub fn melt(
                 carriers: &carriers,
                 labels: &labels,
             };
-            from_layers::<Melted>(Way::Swept, true, layers, vertices, halves, sources, faces)
+            from_layers::<Melted>(None, layers, vertices, halves, sources, faces)
         }
     }
 }

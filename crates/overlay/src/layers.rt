@@ -1,13 +1,9 @@
 // From files to tables: the maps laid one after the other in tables that are lent for them, which are small where the maps are, and the overlay from there.
 ghost use Rattle.std.specs.Prelude.{◌≡◌, [], ◌∷◌, ◌+◌, ◌^◌, ◌<◌};
 ghost use Rattle.paper.specs.Lent.{lengths_of};
-ghost use Rattle.tables.specs.Values.{tables_by, outcome_of};
+ghost use Rattle.tables.specs.Values.{tables_by};
 ghost use Rattle.tables.specs.Promise.{Promised};
-ghost use Rattle.overlay_maps.specs.Held.{Held, held_maps};
-ghost use Rattle.overlay_maps.specs.Given.{the_layers};
-ghost use Rattle.overlay_graph.specs.Cut.{CutOf, DrawableCut};
-ghost use Rattle.overlay_graph.specs.Given.{the_cut};
-ghost use Rattle.overlay_fill.specs.Judged.{overlaid, overlaid-refuses, Within};
+ghost use Rattle.overlay_fill.specs.Judged.{overlaid, overlaid-refuses};
 ghost use Rattle.overlay.specs.Layers.{few_rows, RoomOf};
 
 use limits::{
@@ -56,8 +52,7 @@ impl Layout for Whole {
 
 // The overlay of three files of any bytes in the lent tables, the maps laid in tables of P cells of corners, H half-edges and C cells of carriers, which have room for them.
 fn overlay_in<const P: usize, const H: usize, const C: usize>(
-    way: Way,
-    small: bool,
+    way: Option<Way>,
     zones: &[u8],
     blocks: &[u8],
     bed: &[u8],
@@ -98,15 +93,14 @@ fn overlay_in<const P: usize, const H: usize, const C: usize>(
                 carriers: &carriers,
                 labels: &labels,
             };
-            from_layers::<Whole>(way, small, layers, vertices, halves, sources, faces)
+            from_layers::<Whole>(way, layers, vertices, halves, sources, faces)
         }
     }
 }
 
-// The same in small tables where the headers count few rows. A small sheet may be cut in small tables, the plain way, if `small` says so.
+// The same, the maps laid in small tables where the headers count few rows.
 pub fn overlay_with(
-    way: Way,
-    small: bool,
+    way: Option<Way>,
     zones: &[u8],
     blocks: &[u8],
     bed: &[u8],
@@ -119,11 +113,11 @@ pub fn overlay_with(
 {
     if few_rows(zones, blocks, bed) {
         overlay_in::<SMALL_CORNER_CELLS, SMALL_HALVES, SMALL_CARRIER_CELLS>(
-            way, small, zones, blocks, bed, vertices, halves, sources, faces,
+            way, zones, blocks, bed, vertices, halves, sources, faces,
         )
     } else {
         overlay_in::<LAYER_POINT_CELLS, LAYER_HALVES, LAYER_CARRIER_CELLS>(
-            way, small, zones, blocks, bed, vertices, halves, sources, faces,
+            way, zones, blocks, bed, vertices, halves, sources, faces,
         )
     }
 }

@@ -27,7 +27,14 @@ pub fn overlay_by(
     ensures { Promised (lengths_of (tables_by vertices.old halves.old sources.old faces.old)) (zones.now ∷ blocks.now ∷ bed.now ∷ []) result (tables_by vertices.new halves.new sources.new faces.new) }
 {
     overlay_with(
-        way, false, zones, blocks, bed, vertices, halves, sources, faces,
+        Some(way),
+        zones,
+        blocks,
+        bed,
+        vertices,
+        halves,
+        sources,
+        faces,
     )
 }
 
@@ -44,15 +51,5 @@ pub fn overlay(
 ) -> Answer
     ensures { Promised (lengths_of (tables_by vertices.old halves.old sources.old faces.old)) (zones.now ∷ blocks.now ∷ bed.now ∷ []) result (tables_by vertices.new halves.new sources.new faces.new) }
 {
-    overlay_with(
-        Way::Swept,
-        true,
-        zones,
-        blocks,
-        bed,
-        vertices,
-        halves,
-        sources,
-        faces,
-    )
+    overlay_with(None, zones, blocks, bed, vertices, halves, sources, faces)
 }

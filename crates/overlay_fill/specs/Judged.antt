@@ -9,7 +9,9 @@ use Rattle.paper.specs.Faces.{Overlay, overlay_of}
 use Rattle.paper.specs.Tables.{Counts, counts_of, Tables, tables_of}
 use Rattle.paper.specs.Lent.{Lengths, room_in, room_faults, padded_tables, zero_tables, outcome, Outcome}
 use Rattle.overlay_cut.specs.PieceRows.{piece_width}
-use Rattle.overlay_graph.specs.Cut.{Cut}
+use Rattle.overlay_maps.specs.Layers.{Layers}
+use Rattle.overlay_maps.specs.Held.{Held, held_maps}
+use Rattle.overlay_graph.specs.Cut.{Cut, DrawableCut}
 
 -- of an overlay o of the maps ms, in tables of these lengths
 abbrev pub laid_out : List Map → Overlay → Lengths → Outcome
@@ -42,3 +44,9 @@ pub record Within (c : Cut) (l : Lengths) : Type 0 where
 pub record Rowed (c : Cut) : Type 0 where
   pub points : c.vertices ≤ overlay_vertices → 4 * c.vertices ≤ length c.points
   pub pieces : c.edges ≤ overlay_edges → piece_width * c.edges ≤ length c.pieces
+
+-- what the tables are filled from: maps that keep the rules, and vertices and edges within the room that an overlay can be drawn from
+pub record Ready (l : Layers) (c : Cut) (n : Lengths) : Type 0 where
+  pub held : Held l
+  pub drawable : DrawableCut (held_maps l) c
+  pub within : Within c n

@@ -4,11 +4,11 @@ ghost use Rattle.paper.specs.Limits.{maps};
 ghost use Rattle.paper.specs.Tables.{counts_of, tables_of};
 ghost use Rattle.paper.specs.Lent.{lengths_of, room_in};
 ghost use Rattle.tables.specs.Values.{tables_by, outcome_of};
-ghost use Rattle.overlay_maps.specs.Held.{Held, held_maps};
+ghost use Rattle.overlay_maps.specs.Held.{held_maps};
 ghost use Rattle.overlay_maps.specs.Given.{the_layers};
-ghost use Rattle.overlay_graph.specs.Cut.{overlay_in, DrawableCut};
+ghost use Rattle.overlay_graph.specs.Cut.{overlay_in};
 ghost use Rattle.overlay_graph.specs.Given.{the_cut, NetOf};
-ghost use Rattle.overlay_fill.specs.Judged.{done_with, Within};
+ghost use Rattle.overlay_fill.specs.Judged.{done_with, Ready};
 
 use graph::first_places;
 use limits::{
@@ -36,11 +36,9 @@ fn fill_in<const H: usize, const V: usize, const L: usize, const F: usize>(
     sources: &mut [u32],
     faces: &mut [u16],
 ) -> Answer
-    requires fact_1 { Held (the_layers layers) }
-    requires fact_2 { DrawableCut (held_maps (the_layers layers)) (the_cut cut) }
-    requires fact_3 { Within (the_cut cut) (lengths_of (tables_by vertices.old halves.old sources.old faces.old)) }
-    requires fact_4 { NetOf (overlay_in (held_maps (the_layers layers)) (the_cut cut)) (the_cut cut) net }
-    requires fact_5 { (net.count + 1 ≤ (room_in maps (lengths_of (tables_by vertices.old halves.old sources.old faces.old))).faces) × (2 * cut.edges ≤ H) × (cut.vertices ≤ V) × (maps * (net.count + 1) ≤ L) × (net.count + 1 ≤ F) × (H + V + L + F < 2 ^ 32) }
+    requires ready { Ready (the_layers layers) (the_cut cut) (lengths_of (tables_by vertices.old halves.old sources.old faces.old)) }
+    requires traced { NetOf (overlay_in (held_maps (the_layers layers)) (the_cut cut)) (the_cut cut) net }
+    requires rooms { (net.count + 1 ≤ (room_in maps (lengths_of (tables_by vertices.old halves.old sources.old faces.old))).faces) × (2 * cut.edges ≤ H) × (cut.vertices ≤ V) × (maps * (net.count + 1) ≤ L) × (net.count + 1 ≤ F) × (H + V + L + F < 2 ^ 32) }
     ensures { let ms = held_maps (the_layers layers.entry) in let o = overlay_in ms (the_cut cut.entry) in outcome_of result (tables_by vertices.new halves.new sources.new faces.new) ≡ done_with (lengths_of (tables_by vertices.old halves.old sources.old faces.old)) (counts_of o) (tables_of ms o) }
 {
     let mut prev = [0u16; H];
@@ -75,11 +73,9 @@ pub fn fill(
     sources: &mut [u32],
     faces: &mut [u16],
 ) -> Answer
-    requires fact_1 { Held (the_layers layers) }
-    requires fact_2 { DrawableCut (held_maps (the_layers layers)) (the_cut cut) }
-    requires fact_3 { Within (the_cut cut) (lengths_of (tables_by vertices.old halves.old sources.old faces.old)) }
-    requires fact_4 { NetOf (overlay_in (held_maps (the_layers layers)) (the_cut cut)) (the_cut cut) net }
-    requires fact_5 { net.count + 1 ≤ (room_in maps (lengths_of (tables_by vertices.old halves.old sources.old faces.old))).faces }
+    requires ready { Ready (the_layers layers) (the_cut cut) (lengths_of (tables_by vertices.old halves.old sources.old faces.old)) }
+    requires traced { NetOf (overlay_in (held_maps (the_layers layers)) (the_cut cut)) (the_cut cut) net }
+    requires rooms { net.count + 1 ≤ (room_in maps (lengths_of (tables_by vertices.old halves.old sources.old faces.old))).faces }
     ensures { let ms = held_maps (the_layers layers.entry) in let o = overlay_in ms (the_cut cut.entry) in outcome_of result (tables_by vertices.new halves.new sources.new faces.new) ≡ done_with (lengths_of (tables_by vertices.old halves.old sources.old faces.old)) (counts_of o) (tables_of ms o) }
 {
     if cut.vertices <= SMALL_VERTICES && cut.edges <= SMALL_EDGES && net.count < SMALL_FACES {

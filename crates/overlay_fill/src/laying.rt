@@ -3,11 +3,11 @@ ghost use Rattle.std.specs.Prelude.{◌≡◌, ◌+◌, ◌*◌, ◌^◌, ◌<�
 ghost use Rattle.paper.specs.Lent.{lengths_of};
 ghost use Rattle.map_file.specs.Verdict.{refusal_of};
 ghost use Rattle.tables.specs.Values.{tables_by, outcome_of};
-ghost use Rattle.overlay_maps.specs.Held.{Held, held_maps};
+ghost use Rattle.overlay_maps.specs.Held.{held_maps};
 ghost use Rattle.overlay_maps.specs.Given.{the_layers};
-ghost use Rattle.overlay_graph.specs.Cut.{overlay_in, DrawableCut};
+ghost use Rattle.overlay_graph.specs.Cut.{overlay_in};
 ghost use Rattle.overlay_graph.specs.Given.{the_cut};
-ghost use Rattle.overlay_fill.specs.Judged.{laid_out, refused_with, Within};
+ghost use Rattle.overlay_fill.specs.Judged.{laid_out, refused_with, Ready};
 
 use crate::fill::fill;
 use limits::{CARRIER_CELLS, FACE_ROWS, HALVES, SMALL_CARRIER_CELLS, SMALL_EDGES, SMALL_HALVES};
@@ -43,10 +43,8 @@ fn from_cut_in<const H: usize, const C: usize, const F: usize>(
     sources: &mut [u32],
     faces: &mut [u16],
 ) -> Answer
-    requires fact_1 { Held (the_layers layers) }
-    requires fact_2 { DrawableCut (held_maps (the_layers layers)) (the_cut cut) }
-    requires fact_3 { Within (the_cut cut) (lengths_of (tables_by vertices.old halves.old sources.old faces.old)) }
-    requires fact_4 { (2 * cut.edges ≤ H) × (4 * cut.edges ≤ C) × (2 * cut.edges < F) × (H + C + F < 2 ^ 32) }
+    requires ready { Ready (the_layers layers) (the_cut cut) (lengths_of (tables_by vertices.old halves.old sources.old faces.old)) }
+    requires rooms { (2 * cut.edges ≤ H) × (4 * cut.edges ≤ C) × (2 * cut.edges < F) × (H + C + F < 2 ^ 32) }
     ensures { let ms = held_maps (the_layers layers.entry) in outcome_of result (tables_by vertices.new halves.new sources.new faces.new) ≡ laid_out ms (overlay_in ms (the_cut cut.entry)) (lengths_of (tables_by vertices.old halves.old sources.old faces.old)) }
 {
     let mut ends = [0u16; H];
@@ -96,9 +94,7 @@ pub fn from_cut(
     sources: &mut [u32],
     faces: &mut [u16],
 ) -> Answer
-    requires fact_1 { Held (the_layers layers) }
-    requires fact_2 { DrawableCut (held_maps (the_layers layers)) (the_cut cut) }
-    requires fact_3 { Within (the_cut cut) (lengths_of (tables_by vertices.old halves.old sources.old faces.old)) }
+    requires { Ready (the_layers layers) (the_cut cut) (lengths_of (tables_by vertices.old halves.old sources.old faces.old)) }
     ensures { let ms = held_maps (the_layers layers.entry) in outcome_of result (tables_by vertices.new halves.new sources.new faces.new) ≡ laid_out ms (overlay_in ms (the_cut cut.entry)) (lengths_of (tables_by vertices.old halves.old sources.old faces.old)) }
 {
     if cut.edges <= SMALL_EDGES {

@@ -6,9 +6,9 @@ ghost use Rattle.paper.specs.Lent.{Lengths, Outcome, lengths_of};
 ghost use Rattle.tables.specs.Values.{tables_by, outcome_of};
 ghost use Rattle.overlay_maps.specs.Held.{Held, held_maps};
 ghost use Rattle.overlay_maps.specs.Given.{the_layers};
-ghost use Rattle.overlay_graph.specs.Cut.{CutOf, DrawableCut};
+ghost use Rattle.overlay_graph.specs.Cut.{CutOf};
 ghost use Rattle.overlay_graph.specs.Given.{the_cut};
-ghost use Rattle.overlay_fill.specs.Judged.{Rowed, Within, RefusesOver};
+ghost use Rattle.overlay_fill.specs.Judged.{Ready, RefusesOver, Rowed};
 
 use crate::judge::over_room;
 use crate::laying::refuse;
@@ -32,10 +32,8 @@ pub trait Layout {
         sources: &mut [u32],
         faces: &mut [u16],
     ) -> Answer
-        requires fact_1 { Held (the_layers layers) }
-        requires fact_2 { CutOf (held_maps (the_layers layers)) (the_cut cut) }
-        requires fact_3 { DrawableCut (held_maps (the_layers layers)) (the_cut cut) }
-        requires fact_4 { Within (the_cut cut) (lengths_of (tables_by vertices.old halves.old sources.old faces.old)) }
+        requires ready { Ready (the_layers layers) (the_cut cut) (lengths_of (tables_by vertices.old halves.old sources.old faces.old)) }
+        requires cut_of { CutOf (held_maps (the_layers layers)) (the_cut cut) }
         ensures { outcome_of result (tables_by vertices.new halves.new sources.new faces.new) ≡ laid (held_maps (the_layers layers.entry)) (lengths_of (tables_by vertices.old halves.old sources.old faces.old)) };
 
     ghost refuses: { RefusesOver laid };
@@ -89,7 +87,6 @@ fn from_many<L: Layout>(
 
 // The same in small tables, which are soon cleared, the vertices collected the plain way; where these tables are too small, anew in large ones.
 fn from_few<L: Layout>(
-    way: Way,
     layers: Layers,
     vertices: &mut [i64],
     halves: &mut [u16],
@@ -111,14 +108,14 @@ fn from_few<L: Layout>(
         };
         lay_cut::<L>(layers, cut, vertices, halves, sources, faces)
     } else {
-        from_many::<L>(way, layers, vertices, halves, sources, faces)
+        from_many::<L>(Way::Swept, layers, vertices, halves, sources, faces)
     }
 }
 
-// From the layers to the tables. With few input edges small tables are tried, if `small` says so: these edges make a small sheet unless they cross each other often.
+// From the layers to the tables, the vertices collected by the way that is asked for. If none is, with few input edges small tables are tried, which these edges need no more than unless they cross each other often; and
+// otherwise the way is taken that is faster on full sheets.
 pub fn from_layers<L: Layout>(
-    way: Way,
-    small: bool,
+    way: Option<Way>,
     layers: Layers,
     vertices: &mut [i64],
     halves: &mut [u16],
@@ -128,9 +125,11 @@ pub fn from_layers<L: Layout>(
     requires { Held (the_layers layers) }
     ensures { outcome_of result (tables_by vertices.new halves.new sources.new faces.new) ≡ L.laid (held_maps (the_layers layers.entry)) (lengths_of (tables_by vertices.old halves.old sources.old faces.old)) }
 {
-    if small && layers.edges[MAPS] <= FEW_EDGES {
-        from_few::<L>(way, layers, vertices, halves, sources, faces)
-    } else {
-        from_many::<L>(way, layers, vertices, halves, sources, faces)
+    match way {
+        Some(way) => from_many::<L>(way, layers, vertices, halves, sources, faces),
+        None if layers.edges[MAPS] <= FEW_EDGES => {
+            from_few::<L>(layers, vertices, halves, sources, faces)
+        }
+        None => from_many::<L>(Way::Swept, layers, vertices, halves, sources, faces),
     }
 }

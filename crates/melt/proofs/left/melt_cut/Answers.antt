@@ -10,22 +10,18 @@ melt_cut_in-requires c =
     let few : c.args.cut.vertices ≤ small_vertices = omega arith in
     let short : c.args.cut.edges ≤ small_edges = omega arith in
     record {
-      fact_1 = p.fact_1;
-      fact_2 = p.fact_2;
-      fact_3 = p.fact_3;
-      fact_4 = p.fact_4;
-      fact_5 = (omega (arith, short), omega (arith, short), omega (arith, short), λ count h r. omega (arith, h), omega (arith, few), omega (arith, short), omega arith);
+      ready = p.ready;
+      cut_of = p.cut_of;
+      rooms = (omega (arith, short), omega (arith, short), omega (arith, short), λ count h r. omega (arith, h), omega (arith, few), omega (arith, short), omega arith);
     }
 
 pub melt_cut_in-requires-else-cut-le-SMALL_VERTICES : goal.melt_cut_in-requires-else-cut-le-SMALL_VERTICES
 melt_cut_in-requires-else-cut-le-SMALL_VERTICES c =
     let p = c.requires in
-    let few = p.fact_3.few_vertices in
-    let short = p.fact_3.few_edges in
+    let few = p.ready.drawable.few_vertices in
+    let short = p.ready.drawable.few_edges in
     record {
-      fact_1 = p.fact_1;
-      fact_2 = p.fact_2;
-      fact_3 = p.fact_3;
-      fact_4 = p.fact_4;
-      fact_5 = (omega (arith, short), omega (arith, short), omega (arith, short), λ count h r. omega (arith, r), omega (arith, few), omega (arith, short), omega arith);
+      ready = p.ready;
+      cut_of = p.cut_of;
+      rooms = (omega (arith, short), omega (arith, short), omega (arith, short), λ count h r. omega (arith, r), omega (arith, few), omega (arith, short), omega arith);
     }

@@ -41,32 +41,32 @@ module _ (g : Over) (s : Start g) where
   lent = let a = s.args in lengths_of (tables_by a.vertices.now a.halves.now a.sources.now a.faces.now)
 
   few : k.vertices ≤ overlay_vertices
-  few = s.requires.fact_3.few_vertices
+  few = s.requires.ready.drawable.few_vertices
 
   short : k.edges ≤ overlay_edges
-  short = s.requires.fact_3.few_edges
+  short = s.requires.ready.drawable.few_edges
 
   module _ (os : List ℕ) (bs : List ℤ) (N : NetBy (overlay_in ms k) k os bs) where
     planar : Plane (flat_graph k.points os bs k.vertices k.edges)
-    planar = net-planar ms k s.requires.fact_3 os bs N
+    planar = net-planar ms k s.requires.ready.drawable os bs N
 
     -- followers and faces, in tables that were zero
     faced : (next face outers holes : List ℕ) (n : ℕ) → FacesOver (faces_of (flat_graph k.points os bs k.vertices k.edges)) (replicate g.row.H 0) (replicate g.row.H 0) (replicate g.row.H 0) (replicate g.row.F 0) next face outers holes n → FacesBy (overlay_in ms k) next face outers holes n
     faced =
-        let z = s.requires.fact_5 in
+        let z = s.requires.rooms in
         let e = 2 * k.edges in
-        faces_by ms k s.requires.fact_3 os bs N _ _ _ _ e e e (e + 1) (blank e g.row.H z.0) (blank e g.row.H z.0) (blank e g.row.H z.0) (blank (e + 1) g.row.F (omega (arith, z.2)))
+        faces_by ms k s.requires.ready.drawable os bs N _ _ _ _ e e e (e + 1) (blank e g.row.H z.0) (blank e g.row.H z.0) (blank e g.row.H z.0) (blank (e + 1) g.row.F (omega (arith, z.2)))
 
 -- ── the needs ──
 pub lay_net-requires : goal.lay_net-requires
 lay_net-requires g c =
     let p = c.requires in
-    record { fact_1 = p.fact_1; fact_2 = p.fact_3; fact_3 = (omega (arith, p.fact_5.0, length-replicate {A = ℕ} g.row.H 0), omega (arith, p.fact_5.1, length-replicate {A = ℤ} g.row.C (pos 0))) }
+    record { fact_1 = p.ready.held; fact_2 = p.ready.drawable; fact_3 = (omega (arith, p.rooms.0, length-replicate {A = ℕ} g.row.H 0), omega (arith, p.rooms.1, length-replicate {A = ℤ} g.row.C (pos 0))) }
 
 pub walk_net-count-requires : goal.walk_net-count-requires
 walk_net-count-requires g c =
     let s = (goal.at.walk_net-count-requires g c).Start in
-    let z = s.requires.fact_5 in
+    let z = s.requires.rooms in
     let b = c.lay_net in
     let h : 2 * s.args.cut.edges ≤ length (replicate g.row.H 0) = omega (arith, z.0, length-replicate {A = ℕ} g.row.H 0) in record {
       fact_1 = b.ensures.flat;
@@ -84,12 +84,12 @@ melt_faces-requires g c =
     let room = ap (λ (n : Counts). n.faces) c.room_in-room.ensures in
     let left = c.if-room-count.false in
     let f = faced g s b.new.ends b.new.lines b.ensures w.new.next w.new.face w.new.outers w.new.holes w.result w.ensures in
-    let long = p.fact_5 in
+    let long = p.rooms in
     let most : w.result ≤ g.row.H = omega (arith, f.count_is, zeroed_long (overlay_in (ms g s) (k g s)).outers w.new.outers f.outers_is, w.auto.outers, length-replicate {A = ℕ} g.row.H 0) in record {
-      fact_1 = p.fact_2;
-      fact_2 = record { held = p.fact_1; cut = p.fact_3; net_by = b.ensures; next_is = f.next_is; outers_is = f.outers_is; count_is = f.count_is };
+      fact_1 = p.cut_of;
+      fact_2 = record { held = p.ready.held; cut = p.ready.drawable; net_by = b.ensures; next_is = f.next_is; outers_is = f.outers_is; count_is = f.count_is };
       fact_3 = f.face_is;
-      fact_4 = p.fact_4;
+      fact_4 = p.ready.within;
       fact_5 = (omega (arith, room, left), long.3 w.result most (omega (arith, room, left)), long.4, long.5, omega (arith, long.6));
     }
 
@@ -100,7 +100,7 @@ returns-then-room-count g c =
     let w = c.walk_net-count in
     let room = ap (λ (n : Counts). n.faces) c.room_in-room.ensures in
     let f = faced g s b.new.ends b.new.lines b.ensures w.new.next w.new.face w.new.outers w.new.holes w.result w.ensures in
-    c.refuse.ensures ∙ room_refused (ms g s) (lent g s) _ (faces_over (ms g s) (k g s) s.requires.fact_2 (few g s) (short g s) (lent g s) s.requires.fact_4 w.result f.count_is (omega (arith, room, c.if-room-count.true)))
+    c.refuse.ensures ∙ room_refused (ms g s) (lent g s) _ (faces_over (ms g s) (k g s) s.requires.cut_of (few g s) (short g s) (lent g s) s.requires.ready.within w.result f.count_is (omega (arith, room, c.if-room-count.true)))
 
 pub returns : goal.returns
 returns g c =
@@ -109,4 +109,4 @@ returns g c =
     let w = c.walk_net-count in
     let room = ap (λ (n : Counts). n.faces) c.room_in-room.ensures in
     let f = faced g s b.new.ends b.new.lines b.ensures w.new.next w.new.face w.new.outers w.new.holes w.result w.ensures in
-    c.melt_faces.ensures ∙ room_done (ms g s) (lent g s) (faces-fit (ms g s) (k g s) s.requires.fact_2 (few g s) (short g s) (lent g s) s.requires.fact_4 w.result f.count_is (omega (arith, room, c.if-room-count.false)))
+    c.melt_faces.ensures ∙ room_done (ms g s) (lent g s) (faces-fit (ms g s) (k g s) s.requires.cut_of (few g s) (short g s) (lent g s) s.requires.ready.within w.result f.count_is (omega (arith, room, c.if-room-count.false)))

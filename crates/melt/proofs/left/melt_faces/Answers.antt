@@ -74,11 +74,11 @@ from_cut-requires g c =
     let t = c.thin-kept in
     let k = cut_by t.result.vertices t.new.newpoints t.result.edges t.new.newpieces in
     let long = s.requires.fact_5 in record {
-      fact_1 = (O g s).held;
-      fact_2 =
+      held = (O g s).held;
+      drawable =
           left_drawable (L g s) (C g s) s.requires.fact_1 n.ends.now n.lines.now n.next.now n.outers.now n.count (O g s) n.face.now s.requires.fact_3 c.lay_labels.new.out _ c.lay_labels.ensures k t.ensures
           (omega (arith, long.2, t.auto.newpoints, length-replicate {A = ℤ} g.row.P (pos 0))) (omega (arith, long.3, t.auto.newpieces, length-replicate {A = ℕ} g.row.R 0));
-      fact_3 = left_within (L g s) (C g s) s.requires.fact_1 n.ends.now n.lines.now n.next.now n.outers.now n.count (O g s) n.face.now s.requires.fact_3 c.lay_labels.new.out _ c.lay_labels.ensures k t.ensures (lent g s) s.requires.fact_4;
+      within = left_within (L g s) (C g s) s.requires.fact_1 n.ends.now n.lines.now n.next.now n.outers.now n.count (O g s) n.face.now s.requires.fact_3 c.lay_labels.new.out _ c.lay_labels.ensures k t.ensures (lent g s) s.requires.fact_4;
     }
 
 pub returns : goal.returns

@@ -32,16 +32,16 @@ module _ (g : Over) (s : Start g) where
   lent = let a = s.args in lengths_of (tables_by a.vertices.now a.halves.now a.sources.now a.faces.now)
 
   few : s.args.cut.vertices ≤ overlay_vertices
-  few = s.requires.fact_2.few_vertices
+  few = s.requires.ready.drawable.few_vertices
 
   short : s.args.cut.edges ≤ overlay_edges
-  short = s.requires.fact_2.few_edges
+  short = s.requires.ready.drawable.few_edges
 
   whole : Whole L C s.args.net.ends.now s.args.net.lines.now s.args.net.next.now s.args.net.outers.now s.args.net.holes.now s.args.net.count
   whole =
-      let F = s.requires.fact_4.1 in
+      let F = s.requires.traced.1 in
       record {
-        outlined = record { held = s.requires.fact_1; cut = s.requires.fact_2; net_by = s.requires.fact_4.0; next_is = F.next_is; outers_is = F.outers_is; count_is = F.count_is };
+        outlined = record { held = s.requires.ready.held; cut = s.requires.ready.drawable; net_by = s.requires.traced.0; next_is = F.next_is; outers_is = F.outers_is; count_is = F.count_is };
         holes_is = F.holes_is;
       }
 
@@ -60,9 +60,9 @@ pub first_places-requires : goal.first_places-requires
 first_places-requires g c =
     let s = (goal.at.first_places-requires g c).Start in
     let n = c.args.net in record {
-      fact_1 = next_named (held_maps (L g s)) (C g s) c.requires.fact_2 n.ends.now n.lines.now c.requires.fact_4.0 n.next.now n.face.now n.outers.now n.holes.now n.count c.requires.fact_4.1;
+      fact_1 = next_named (held_maps (L g s)) (C g s) c.requires.ready.drawable n.ends.now n.lines.now c.requires.traced.0 n.next.now n.face.now n.outers.now n.holes.now n.count c.requires.traced.1;
       fact_2 = omega (arith, short g s);
-      fact_3 = omega (arith, c.requires.fact_5.1, long g.row.H);
+      fact_3 = omega (arith, c.requires.rooms.1, long g.row.H);
     }
 
 pub overflow_mul-cut-3 : goal.overflow_mul-cut-3
@@ -70,11 +70,11 @@ overflow_mul-cut-3 g c = omega (arith, short g (goal.at.overflow_mul-cut-3 g c).
 
 pub first_places-requires-2 : goal.first_places-requires-2
 first_places-requires-2 g c =
-    record { fact_1 = c.requires.fact_4.0.flat.origins; fact_2 = omega (arith, short g (goal.at.first_places-requires-2 g c).Start); fact_3 = omega (arith, c.requires.fact_5.2, long g.row.V) }
+    record { fact_1 = c.requires.traced.0.flat.origins; fact_2 = omega (arith, short g (goal.at.first_places-requires-2 g c).Start); fact_3 = omega (arith, c.requires.rooms.2, long g.row.V) }
 
 pub rows_in-requires : goal.rows_in-requires
 rows_in-requires g c =
-    let r = c.requires.fact_5 in
+    let r = c.requires.rooms in
     record { fact_1 = whole g (goal.at.rows_in-requires g c).Start; fact_2 = (omega (arith, r.3, long g.row.L), omega (arith, r.4, long g.row.F), omega (arith, r.4, long g.row.F)) }
 
 pub overflow_cast-v : goal.overflow_cast-v
@@ -84,35 +84,35 @@ pub overflow_cast-e : goal.overflow_cast-e
 overflow_cast-e g c = omega (arith, short g (goal.at.overflow_cast-e g c).Start)
 
 pub overflow_add-f : goal.overflow_add-f
-overflow_add-f g c = omega (arith, c.requires.fact_5.0)
+overflow_add-f g c = omega (arith, c.requires.rooms.0)
 
 pub overflow_cast-f : goal.overflow_cast-f
-overflow_cast-f g c = omega (arith, c.requires.fact_5.0)
+overflow_cast-f g c = omega (arith, c.requires.rooms.0)
 
 pub store_vertices-requires : goal.store_vertices-requires
 store_vertices-requires g c =
-    (omega (arith, c.requires.fact_3.vertices), c.requires.fact_4.0.flat.points.long, omega (arith, c.requires.fact_5.2, c.first_places-2.auto.out, long g.row.V))
+    (omega (arith, c.requires.ready.within.vertices), c.requires.traced.0.flat.points.long, omega (arith, c.requires.rooms.2, c.first_places-2.auto.out, long g.row.V))
 
 pub store_halves-requires : goal.store_halves-requires
 store_halves-requires g c =
     let s = (goal.at.store_halves-requires g c).Start in
     let n = s.args.net in
-    let N = s.requires.fact_4.0 in
-    let F = s.requires.fact_4.1 in (
+    let N = s.requires.traced.0 in
+    let F = s.requires.traced.1 in (
       short g s,
-      omega (arith, s.requires.fact_3.edges),
+      omega (arith, s.requires.ready.within.edges),
       N.flat.origins.long,
-      (next_named (held_maps (L g s)) (C g s) s.requires.fact_2 n.ends.now n.lines.now N n.next.now n.face.now n.outers.now n.holes.now n.count F).long,
-      omega (arith, s.requires.fact_5.1, c.first_places.auto.out, long g.row.H),
-      face_long (held_maps (L g s)) (C g s) s.requires.fact_2 n.ends.now n.lines.now N n.next.now n.face.now n.outers.now n.holes.now n.count F,
+      (next_named (held_maps (L g s)) (C g s) s.requires.ready.drawable n.ends.now n.lines.now N n.next.now n.face.now n.outers.now n.holes.now n.count F).long,
+      omega (arith, s.requires.rooms.1, c.first_places.auto.out, long g.row.H),
+      face_long (held_maps (L g s)) (C g s) s.requires.ready.drawable n.ends.now n.lines.now N n.next.now n.face.now n.outers.now n.holes.now n.count F,
     )
 
 pub store_sources-requires : goal.store_sources-requires
-store_sources-requires g c = (omega (arith, c.requires.fact_3.edges), c.requires.fact_2.pieces_long)
+store_sources-requires g c = (omega (arith, c.requires.ready.within.edges), c.requires.ready.drawable.pieces_long)
 
 pub store_faces-requires : goal.store_faces-requires
 store_faces-requires g c =
-    let r = c.requires.fact_5 in
+    let r = c.requires.rooms in
     let kept = c.rows_in.auto in
     (omega (arith, r.0), omega (arith, r.3, kept.triples, long g.row.L), omega (arith, r.4, kept.outer, long g.row.F), omega (arith, r.4, kept.counts, long g.row.F))
 
@@ -122,19 +122,19 @@ module _ (g : Over) (c : After-rows_in g) (s : Start g) (prev : PrevBy (overlay_
   T = let n = s.args.net in traced_by n.ends.now n.lines.now n.next.now c.first_places.new.out c.first_places-2.new.out n.face.now n.outers.now n.holes.now n.count
 
   traced : TracedOf (held_maps (L g s)) (C g s) T
-  traced = record { net_by = s.requires.fact_4.0; faces_by = s.requires.fact_4.1; prev_is = prev; least_is = least }
+  traced = record { net_by = s.requires.traced.0; faces_by = s.requires.traced.1; prev_is = prev; least_is = least }
 
 pub returns : goal.returns
 returns g c =
     let s = (goal.at.returns g c).Start in
     let r : After-rows_in g = (goal.at.returns g c).After-rows_in in
     let n = s.args.net in
-    let N = s.requires.fact_4.0 in
-    let F = s.requires.fact_4.1 in
+    let N = s.requires.traced.0 in
+    let F = s.requires.traced.1 in
     let x = r.rows_in.new in
     let ms = held_maps (L g s) in
-    let P = prev_by ms (C g s) s.requires.fact_2 n.ends.now n.lines.now N n.next.now n.face.now n.outers.now n.holes.now n.count F _ _ c.first_places.ensures in
-    let Q = least_by ms (C g s) s.requires.fact_2 n.ends.now n.lines.now N _ _ c.first_places-2.ensures in
+    let P = prev_by ms (C g s) s.requires.ready.drawable n.ends.now n.lines.now N n.next.now n.face.now n.outers.now n.holes.now n.count F _ _ c.first_places.ensures in
+    let Q = least_by ms (C g s) s.requires.ready.drawable n.ends.now n.lines.now N _ _ c.first_places-2.ensures in
     let counted = counts-are ms (C g s) (T g r s P Q) (traced g r s P Q) x.triples x.outer x.counts r.rows_in.ensures in
     let stored = stored_is ms (C g s) (T g r s P Q) (traced g r s P Q) x.triples x.outer x.counts r.rows_in.ensures in
     λ i. record {

@@ -4,12 +4,10 @@ use Rattle.overlay_fill.proofs.laying.from_cut.Goals as goal
 
 pub from_cut_in-requires : goal.from_cut_in-requires
 from_cut_in-requires c =
-    let p = c.requires in
     let few = c.if-cut-le-SMALL_EDGES.true in
-    record { fact_1 = p.fact_1; fact_2 = p.fact_2; fact_3 = p.fact_3; fact_4 = (omega (arith, few), omega (arith, few), omega (arith, few), omega arith) }
+    record { ready = c.requires; rooms = (omega (arith, few), omega (arith, few), omega (arith, few), omega arith) }
 
 pub from_cut_in-requires-else-cut-le-SMALL_EDGES : goal.from_cut_in-requires-else-cut-le-SMALL_EDGES
 from_cut_in-requires-else-cut-le-SMALL_EDGES c =
-    let p = c.requires in
-    let few = p.fact_2.few_edges in
-    record { fact_1 = p.fact_1; fact_2 = p.fact_2; fact_3 = p.fact_3; fact_4 = (omega (arith, few), omega (arith, few), omega (arith, few), omega arith) }
+    let few = c.requires.drawable.few_edges in
+    record { ready = c.requires; rooms = (omega (arith, few), omega (arith, few), omega (arith, few), omega arith) }

@@ -41,33 +41,33 @@ module _ (g : Over) (s : Start g) where
   lent = let a = s.args in lengths_of (tables_by a.vertices.now a.halves.now a.sources.now a.faces.now)
 
   short : k.edges ≤ overlay_edges
-  short = s.requires.fact_2.few_edges
+  short = s.requires.ready.drawable.few_edges
 
   module _ (os : List ℕ) (bs : List ℤ) (N : NetBy (overlay_in ms k) k os bs) where
     planar : Plane (flat_graph k.points os bs k.vertices k.edges)
-    planar = net-planar ms k s.requires.fact_2 os bs N
+    planar = net-planar ms k s.requires.ready.drawable os bs N
 
     -- followers and faces, in tables that were zero
     faced : (next face outers holes : List ℕ) (n : ℕ) → FacesOver (faces_of (flat_graph k.points os bs k.vertices k.edges)) (replicate g.row.H 0) (replicate g.row.H 0) (replicate g.row.H 0) (replicate g.row.F 0) next face outers holes n → FacesBy (overlay_in ms k) next face outers holes n
     faced =
-        let b = s.requires.fact_4 in
+        let b = s.requires.rooms in
         let e = 2 * k.edges in
-        faces_by ms k s.requires.fact_2 os bs N _ _ _ _ e e e (e + 1) (blank e g.row.H b.0) (blank e g.row.H b.0) (blank e g.row.H b.0) (blank (e + 1) g.row.F (omega (arith, b.2)))
+        faces_by ms k s.requires.ready.drawable os bs N _ _ _ _ e e e (e + 1) (blank e g.row.H b.0) (blank e g.row.H b.0) (blank e g.row.H b.0) (blank (e + 1) g.row.F (omega (arith, b.2)))
 
 -- ── the needs ──
 pub lay_net-requires : goal.lay_net-requires
 lay_net-requires g c =
     let p = c.requires in
-    record { fact_1 = p.fact_1; fact_2 = p.fact_2; fact_3 = (omega (arith, p.fact_4.0, length-replicate {A = ℕ} g.row.H 0), omega (arith, p.fact_4.1, length-replicate {A = ℤ} g.row.C (pos 0))) }
+    record { fact_1 = p.ready.held; fact_2 = p.ready.drawable; fact_3 = (omega (arith, p.rooms.0, length-replicate {A = ℕ} g.row.H 0), omega (arith, p.rooms.1, length-replicate {A = ℤ} g.row.C (pos 0))) }
 
 pub walk_net-count-requires : goal.walk_net-count-requires
 walk_net-count-requires g c =
     let s = (goal.at.walk_net-count-requires g c).Start in
-    let z = s.requires.fact_4 in
+    let z = s.requires.rooms in
     let b = c.lay_net in
     let h : 2 * s.args.cut.edges ≤ length (replicate g.row.H 0) = omega (arith, z.0, length-replicate {A = ℕ} g.row.H 0) in record {
       fact_1 = b.ensures.flat;
-      fact_2 = (s.requires.fact_2.few_vertices, short g s);
+      fact_2 = (s.requires.ready.drawable.few_vertices, short g s);
       fact_3 = planar g s b.new.ends b.new.lines b.ensures;
       fact_4 = (h, h, h, omega (arith, z.2, length-replicate {A = ℕ} g.row.F 0));
     }
@@ -80,7 +80,7 @@ fill-requires g c =
     let w = c.walk_net-count in
     let room = ap (λ (n : Counts). n.faces) c.room_in-room.ensures in
     let f = faced g s b.new.ends b.new.lines b.ensures w.new.next w.new.face w.new.outers w.new.holes w.result w.ensures in
-    record { fact_1 = p.fact_1; fact_2 = p.fact_2; fact_3 = p.fact_3; fact_4 = (b.ensures, f); fact_5 = omega (arith, room, c.if-room-count.false) }
+    record { ready = p.ready; traced = (b.ensures, f); rooms = omega (arith, room, c.if-room-count.false) }
 
 pub returns-then-room-count : goal.returns-then-room-count
 returns-then-room-count g c =
@@ -89,7 +89,7 @@ returns-then-room-count g c =
     let w = c.walk_net-count in
     let room = ap (λ (n : Counts). n.faces) c.room_in-room.ensures in
     let f = faced g s b.new.ends b.new.lines b.ensures w.new.next w.new.face w.new.outers w.new.holes w.result w.ensures in
-    c.refuse.ensures ∙ faces-refused (ms g s) (k g s) (lent g s) s.requires.fact_3 w.result f.count_is (omega (arith, room, c.if-room-count.true))
+    c.refuse.ensures ∙ faces-refused (ms g s) (k g s) (lent g s) s.requires.ready.within w.result f.count_is (omega (arith, room, c.if-room-count.true))
 
 pub returns : goal.returns
 returns g c =
@@ -98,4 +98,4 @@ returns g c =
     let w = c.walk_net-count in
     let room = ap (λ (n : Counts). n.faces) c.room_in-room.ensures in
     let f = faced g s b.new.ends b.new.lines b.ensures w.new.next w.new.face w.new.outers w.new.holes w.result w.ensures in
-    c.fill.ensures ∙ all_within (ms g s) (k g s) (lent g s) s.requires.fact_3 w.result f.count_is (omega (arith, room, c.if-room-count.false))
+    c.fill.ensures ∙ all_within (ms g s) (k g s) (lent g s) s.requires.ready.within w.result f.count_is (omega (arith, room, c.if-room-count.false))

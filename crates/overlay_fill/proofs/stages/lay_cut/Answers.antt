@@ -46,10 +46,13 @@ lay-requires g c =
     let p = c.requires in
     let w = cut_within (ms g s) (k g s) p.fact_2 (lent g s) (sym (c.over_room-check.ensures ∙ ap (judging g s) c.room_in-room.ensures) ∙ ap verdict c.in-Ok.is) in
     record {
-      fact_1 = p.fact_1;
-      fact_2 = p.fact_2;
-      fact_3 = cut-drawable (l g s) p.fact_1 (k g s) p.fact_2 (omega (arith, w.vertices)) (omega (arith, w.edges)) (p.fact_3.points (omega (arith, w.vertices))) (p.fact_3.pieces (omega (arith, w.edges)));
-      fact_4 = w;
+      ready =
+          record {
+            held = p.fact_1;
+            drawable = cut-drawable (l g s) p.fact_1 (k g s) p.fact_2 (omega (arith, w.vertices)) (omega (arith, w.edges)) (p.fact_3.points (omega (arith, w.vertices))) (p.fact_3.pieces (omega (arith, w.edges)));
+            within = w;
+          };
+      cut_of = p.fact_2;
     }
 
 pub returns-in-Err : goal.returns-in-Err

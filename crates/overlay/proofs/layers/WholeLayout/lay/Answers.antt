@@ -12,9 +12,7 @@ use Rattle.overlay_fill.specs.Judged.{laid_out}
 use Rattle.overlay.proofs.layers.WholeLayout.lay.Goals as goal
 
 pub from_cut-requires : goal.from_cut-requires
-from_cut-requires c =
-    let p = c.requires in
-    record { fact_1 = p.fact_1; fact_2 = p.fact_3; fact_3 = p.fact_4 }
+from_cut-requires c = c.requires.ready
 
 pub returns : goal.returns
 returns c =
@@ -23,4 +21,4 @@ returns c =
     let ms = held_maps (the_layers a.layers) in
     c.from_cut.ensures
     ∙ ap (λ (o : Overlay). laid_out ms o (lengths_of (tables_by a.vertices.now a.halves.now a.sources.now a.faces.now)))
-    (overlay_in_lem ms (the_cut a.cut) p.fact_2 p.fact_3.few_vertices p.fact_3.few_edges)
+    (overlay_in_lem ms (the_cut a.cut) p.cut_of p.ready.drawable.few_vertices p.ready.drawable.few_edges)
