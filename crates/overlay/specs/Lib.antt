@@ -1,2 +1,2 @@
-pub mod Layers
+pub mod Whole
 pub mod Unique

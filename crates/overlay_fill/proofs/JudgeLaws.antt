@@ -107,9 +107,6 @@ module _ (ms : List Map) (c : Cut) (C : CutOf ms c) where
     pub cut_over : (r : Refusal) → judged ≡ some r → first_of (room_faults (room_in maps l) (counts_of (overlay_of ms))) ≡ some r
     cut_over r e = judged_first ∙ ap (λ (x : Option Refusal). first_of (x ∷ given 11 3 (ltb room.faces (counts_of o).faces) ∷ [])) e
 
-    pub cut-refused : (r : Refusal) → judged ≡ some r → refused_with l r ≡ overlaid ms l
-    cut-refused r e = sym (ap (outcome l (counts_of o) (tables_of ms o)) (cut_over r e))
-
     pub cut_within : judged ≡ none → Within c l
     cut_within e =
         let n = nothing (given 11 1 (ltb room.vertices c.vertices) ∷ given 11 2 (ltb room.edges c.edges) ∷ []) e in

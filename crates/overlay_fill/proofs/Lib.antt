@@ -1,2 +1,3 @@
 pub mod StoredLaws
 pub mod JudgeLaws
+pub mod FilesLaws

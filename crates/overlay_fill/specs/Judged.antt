@@ -1,10 +1,11 @@
 -- What comes out of maps that pass: "room comes last". Assumes nothing.
 use Rattle.std.specs.Prelude.{◌≡◌, ◌≤◌, ◌*◌}
 use Rattle.std.proofs.Common.{sym, ap}
-use Rattle.seq.specs.Seq.{List, some, length}
+use Rattle.seq.specs.Seq.{List, map, none, some, ℕ, length}
 use Rattle.paper.specs.Limits.{maps, overlay_vertices, overlay_edges}
 use Rattle.paper.specs.Refusal.{Refusal, first_of, done, refused}
-use Rattle.paper.specs.Map.{Map}
+use Rattle.paper.specs.Map.{Map, map_of}
+use Rattle.paper.specs.Overlay.{map_faults}
 use Rattle.paper.specs.Faces.{Overlay, overlay_of}
 use Rattle.paper.specs.Tables.{Counts, counts_of, Tables, tables_of}
 use Rattle.paper.specs.Lent.{Lengths, room_in, room_faults, padded_tables, zero_tables, outcome, Outcome}
@@ -31,6 +32,13 @@ refused_with l r = record { answer = refused r; tables = zero_tables l }
 -- what is laid, by the maps and the lengths of the tables, is a refusal where the overlay has not room
 abbrev pub RefusesOver : (List Map → Lengths → Outcome) → Type 0
 RefusesOver laid = (ms : List Map) (l : Lengths) (r : Refusal) → first_of (room_faults (room_in maps l) (counts_of (overlay_of ms))) ≡ some r → refused_with l r ≡ laid ms l
+
+-- and what is promised of files, a refusal where a map is refused, and where none is what is laid of the maps
+abbrev pub RefusesFiles : (List (List ℕ) → Lengths → Outcome) → Type 0
+RefusesFiles promised = (files : List (List ℕ)) (l : Lengths) (r : Refusal) → first_of (map_faults files) ≡ some r → refused_with l r ≡ promised files l
+
+abbrev pub PassesFiles : (List Map → Lengths → Outcome) → (List (List ℕ) → Lengths → Outcome) → Type 0
+PassesFiles laid promised = (files : List (List ℕ)) (l : Lengths) → length files ≡ maps → first_of (map_faults files) ≡ none → laid (map map_of files) l ≡ promised files l
 
 pub overlaid-refuses : RefusesOver overlaid
 overlaid-refuses ms l r e = let o = overlay_of ms in sym (ap (outcome l (counts_of o) (tables_of ms o)) e)

@@ -5,6 +5,8 @@ mod judge; // counts over the room
 mod fill; // the lent tables filled
 mod laying; // from points and pieces to tables
 mod stages; // from layers to tables
+mod files; // from files to tables
 
+pub use files::from_files;
 pub use laying::{from_cut, refuse};
-pub use stages::{Layout, from_layers};
+pub use stages::Layout;

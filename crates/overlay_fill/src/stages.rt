@@ -1,6 +1,6 @@
 // From the layers of maps that keep the rules to the lent tables. Each stage ends in a refusal or hands on to the next; "room comes last".
 ghost use Rattle.std.specs.Prelude.{◌≡◌};
-ghost use Rattle.seq.specs.Seq.{List};
+ghost use Rattle.seq.specs.Seq.{List, ℕ};
 ghost use Rattle.paper.specs.Map.{Map};
 ghost use Rattle.paper.specs.Lent.{Lengths, Outcome, lengths_of};
 ghost use Rattle.tables.specs.Values.{tables_by, outcome_of};
@@ -8,7 +8,7 @@ ghost use Rattle.overlay_maps.specs.Held.{Held, held_maps};
 ghost use Rattle.overlay_maps.specs.Given.{the_layers};
 ghost use Rattle.overlay_graph.specs.Cut.{CutOf};
 ghost use Rattle.overlay_graph.specs.Given.{the_cut};
-ghost use Rattle.overlay_fill.specs.Judged.{Ready, RefusesOver, Rowed};
+ghost use Rattle.overlay_fill.specs.Judged.{PassesFiles, Ready, RefusesFiles, RefusesOver, Rowed};
 
 use crate::judge::over_room;
 use crate::laying::refuse;
@@ -20,9 +20,11 @@ use overlay_graph::{Cut, Way, cut_few, cut_maps};
 use overlay_maps::Layers;
 use tables::{Answer, room_in};
 
-// What becomes of the overlay's vertices and edges within the room: `laid` of the maps. The room is that of the overlay (`refuses`).
+// What becomes of the overlay's vertices and edges within the room: `laid` of the maps, and so of files what is `promised` of them. The room is that of the overlay (`refuses`).
 pub trait Layout {
     ghost laid: { List Map → Lengths → Outcome };
+
+    ghost promised: { List (List ℕ) → Lengths → Outcome };
 
     fn lay(
         layers: Layers,
@@ -37,6 +39,10 @@ pub trait Layout {
         ensures { outcome_of result (tables_by vertices.new halves.new sources.new faces.new) ≡ laid (held_maps (the_layers layers.entry)) (lengths_of (tables_by vertices.old halves.old sources.old faces.old)) };
 
     ghost refuses: { RefusesOver laid };
+
+    ghost refuses_files: { RefusesFiles promised };
+
+    ghost passes_files: { PassesFiles laid promised };
 }
 
 // The maps' vertices and edges, in tables of any length that have their rows: more of them than room are refused.

@@ -15,8 +15,7 @@ fn sourced_along(pieces: &[u16], next: &[u16], m: usize, h: usize) -> usize
     ensures { Sourced pieces.now next.now m h result }
 {
     let mut x = h;
-    let mut left = next.len();
-    while 0 < left {
+    for _ in 0..next.len() {
         if 0 < source_in(pieces, x / 2, m) {
             return x;
         }
@@ -24,7 +23,6 @@ fn sourced_along(pieces: &[u16], next: &[u16], m: usize, h: usize) -> usize
         if x == h {
             return h;
         }
-        left -= 1;
     }
     h
 }

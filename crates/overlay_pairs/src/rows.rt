@@ -42,9 +42,7 @@ fn lay_holes(holes: &[u16], n: usize, out: &mut [u16])
     requires fact_2 { n ≤ length out.old }
     ensures { out.new ≡ filled n (λ f. get_or holes.now f 0) out.old }
 {
-    for f in 0..n {
-        out[f] = holes[f];
-    }
+    out[..n].copy_from_slice(&holes[..n]);
 }
 
 // The row of every face of the overlay of the maps that the layers hold: its labels, a cell for each map, and two columns.

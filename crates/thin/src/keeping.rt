@@ -16,14 +16,7 @@ fn differ(triples: &[u16], f: usize, g: usize) -> bool
     requires fact_2 { maps * g + maps ≤ length triples.now }
     ensures { result ≡ differ_in triples.now f g }
 {
-    for i in 0..MAPS {
-        let one = triples[MAPS * f + i];
-        let other = triples[MAPS * g + i];
-        if one != other {
-            return true;
-        }
-    }
-    false
+    (0..MAPS).any(|i| triples[MAPS * f + i] != triples[MAPS * g + i])
 }
 
 // Whether edge k stays: it has not "the same pair on both sides".

@@ -17,7 +17,7 @@ use Rattle.laws_overlay.specs.Maps.{AllKeep}
 use Rattle.laws_melt.specs.Whole.{melted_fits}
 use Rattle.overlay_graph.specs.Cut.{Cut, CutOf, overlay_in}
 use Rattle.overlay_graph.specs.Laws.Drawing.{overlay_in_lem}
-use Rattle.overlay_fill.specs.Judged.{laid_out, done_with, refused_with, Within}
+use Rattle.overlay_fill.specs.Judged.{laid_out, done_with, refused_with, Within, RefusesFiles, PassesFiles}
 use Rattle.overlay_fill.proofs.JudgeLaws.{faces_last}
 use Rattle.melt.specs.Melted.{melted_in}
 
@@ -38,6 +38,15 @@ module _ (files : List (List ℕ)) (l : Lengths) where
 
   pub files-pass : length files ≡ maps → first_of (map_faults files) ≡ none → melted_in (map map_of files) l ≡ lent_melted l files
   files-pass every e = ap (λ (n : ℕ). left (first_of (faults n))) (sym every) ∙ sym (ap left (first_none (map_faults files) (faults (length files)) e))
+
+abbrev pub lent_melted_of : List (List ℕ) → Lengths → Outcome
+lent_melted_of files l = lent_melted l files
+
+pub melted-refused : RefusesFiles lent_melted_of
+melted-refused = files-refused
+
+pub melted-passes : PassesFiles melted_in lent_melted_of
+melted-passes = files-pass
 
 -- ── the room ──
 

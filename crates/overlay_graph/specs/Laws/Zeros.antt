@@ -9,9 +9,6 @@ use Rattle.overlay_graph.specs.Traced.{Blank, Zeroed}
 pub blank : (n cells : ℕ) → n ≤ cells → Blank n (replicate cells 0)
 blank n cells h = record { cells = cells; room = h; is = refl }
 
-pub blank_long : (n : ℕ) (t : List ℕ) → Blank n t → n ≤ length t
-blank_long n t B = omega (arith, B.room, ap length B.is, length-replicate {A = ℕ} B.cells 0)
-
 pub zeroed_long : (xs t : List ℕ) → Zeroed xs t → length xs ≤ length t
 zeroed_long xs t Z = omega (arith, ap length Z.is, length-append xs (replicate (Z.cells - length xs) 0))
 

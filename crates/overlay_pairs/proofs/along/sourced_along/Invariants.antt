@@ -2,8 +2,5 @@
 use Rattle.overlay_pairs.specs.Labels.{OnWalk}
 use Rattle.overlay_pairs.proofs.along.sourced_along.Given as goal
 
-abbrev pub invariant-loop-left : goal.invariant-loop-left
-invariant-loop-left l = OnWalk l.next l.h l.x
-
-abbrev pub decreases-loop-left : goal.decreases-loop-left
-decreases-loop-left l = l.left
+abbrev pub invariant-loop : goal.invariant-loop
+invariant-loop l = OnWalk l.next l.h l.x

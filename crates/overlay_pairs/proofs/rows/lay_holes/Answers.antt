@@ -1,14 +1,9 @@
 -- `overlay_pairs::rows::lay_holes` meets its contract. Assumes nothing.
-use mathlib.Core.Path.{refl}
-use borrow.Author.Rules.{rules}
-use Rattle.seq.specs.Loops.Filling.{fill_starts, fill_turns, fill_ends}
+use Rattle.std.proofs.Common.{◌∙◌, ◌++◌, List, ℕ, ap, drop}
+use Rattle.seq.proofs.Ranges.{copied}
 use Rattle.overlay_pairs.proofs.rows.lay_holes.Goals as goal
 
-pub loop-f-init : goal.loop-f-init
-loop-f-init c = fill_starts (search rules)
-
-pub loop-f-preserved : goal.loop-f-preserved
-loop-f-preserved c = fill_turns c.loop-f.invariant c.loop-f-test.true refl
-
 pub returns : goal.returns
-returns c = fill_ends c.loop-f.invariant (search rules)
+returns c =
+    ap (λ (xs : List ℕ). xs ++ drop c.args.n c.args.out.now) c.copy_from_slice.ensures.after
+    ∙ copied 0 c.args.n c.args.holes.now c.args.out.now c.requires.fact_1

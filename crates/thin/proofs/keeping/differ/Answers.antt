@@ -1,22 +1,15 @@
--- `thin::keeping::differ` meets its contract: none of the labels that the loop has passed differs. Assumes nothing.
-use mathlib.Core.Path.{ap}
-use borrow.Author.Tests.{eq-eqb, ne_eqb}
-use Rattle.seq.specs.Seq.{not}
-use Rattle.seq.specs.Loops.Searching.{search_starts}
-use Rattle.seq.proofs.Loops.Searching.{search_turns, search_has, search_lacks}
-use native.Mathlib.Omega.{arith}
+-- `thin::keeping::differ` meets its contract. Assumes nothing.
+use Rattle.std.proofs.Common.{refl, ◌∙◌, arith, rules}
+use Rattle.std.proofs.lemmas.Iterator.{YieldsList-from_range}
+use Rattle.std.proofs.lemmas.Iterator.Search.{any_from_yields_List}
+use borrow.Author.Tests.{tests}
+use Rattle.seq.specs.Seq.{Bool, ℕ, not, eqb, cell}
+use Rattle.seq.proofs.Ranges.{any-some}
+use Rattle.paper.specs.Limits.{maps}
 use Rattle.thin.proofs.keeping.differ.Goals as goal
 
-pub loop-i-init : goal.loop-i-init
-loop-i-init c = search_starts
-
-pub returns-then-one-other : goal.returns-then-one-other
-returns-then-one-other c =
-    search_has c.loop-i.invariant (omega arith) (ap not (ne_eqb _ _ c.if-one-other.true))
-
-pub loop-i-preserved : goal.loop-i-preserved
-loop-i-preserved c =
-    search_turns c.loop-i.invariant (omega arith) (ap not (eq-eqb _ _ c.if-one-other.false))
-
 pub returns : goal.returns
-returns c = search_lacks c.loop-i.invariant (omega arith)
+returns c =
+    let a = c.args in
+    let p : ℕ → Bool = λ i. not (eqb (cell 0 maps a.triples.now a.f i) (cell 0 maps a.triples.now a.g i)) in
+    any_from_yields_List p _ _ _ c.any.ensures.ran (YieldsList-from_range 0 maps maps refl (omega arith)) (λ x b q k. search (rules, tests)) ∙ any-some p maps

@@ -1,4 +1,4 @@
--- `lay` of `overlay::layers::Whole` meets its contract. Assumes nothing.
+-- `lay` of `overlay::Whole` meets its contract. Assumes nothing.
 use mathlib.Core.Path.{◌∙◌, ap}
 use native.Mathlib.Omega.{arith}
 use Rattle.paper.specs.Faces.{Overlay}
@@ -9,7 +9,7 @@ use Rattle.overlay_maps.specs.Given.{the_layers}
 use Rattle.overlay_graph.specs.Given.{the_cut}
 use Rattle.overlay_graph.specs.Laws.Drawing.{overlay_in_lem}
 use Rattle.overlay_fill.specs.Judged.{laid_out}
-use Rattle.overlay.proofs.layers.WholeLayout.lay.Goals as goal
+use Rattle.overlay.proofs.WholeLayout.lay.Goals as goal
 
 pub from_cut-requires : goal.from_cut-requires
 from_cut-requires c = c.requires.ready

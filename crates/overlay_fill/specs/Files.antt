@@ -1,4 +1,4 @@
--- Maps that have room in small tables, by the counts in the headers of their files. Assumes nothing.
+-- Maps that have room in small tables, by the counts in the headers of their files; and that have room in cleared tables. Assumes nothing.
 use Rattle.std.specs.Prelude.{◌&&◌}
 use Rattle.seq.specs.Seq.{Bool, List, ℕ, leb, replicate, pos}
 use Rattle.seq.specs.Total.{total}

@@ -1,18 +1,17 @@
-// From files to tables: the maps laid one after the other in tables that are lent for them, which are small where the maps are, and the overlay from there.
+// From files to the lent tables: the maps laid one after the other in tables of their own, which are small where the maps are, and what becomes of their overlay from there.
 ghost use Rattle.std.specs.Prelude.{◌≡◌, [], ◌∷◌, ◌+◌, ◌^◌, ◌<◌};
 ghost use Rattle.paper.specs.Lent.{lengths_of};
-ghost use Rattle.tables.specs.Values.{tables_by};
-ghost use Rattle.tables.specs.Promise.{Promised};
-ghost use Rattle.overlay_fill.specs.Judged.{overlaid, overlaid-refuses};
-ghost use Rattle.overlay.specs.Layers.{few_rows, RoomOf};
+ghost use Rattle.tables.specs.Values.{tables_by, outcome_of};
+ghost use Rattle.overlay_fill.specs.Files.{few_rows, RoomOf};
 
+use crate::laying::refuse;
+use crate::stages::{Layout, from_layers};
 use limits::{
     LAYER_CARRIER_CELLS, LAYER_HALVES, LAYER_POINT_CELLS, LAYER_STARTS, POINT_WIDTH,
     SMALL_CARRIER_CELLS, SMALL_EDGES, SMALL_HALVES, SMALL_VERTICES,
 };
 use map_file::{edge_count, vertex_count};
-use overlay_fill::{Layout, from_cut, from_layers, refuse};
-use overlay_graph::{Cut, Way};
+use overlay_graph::Way;
 use overlay_maps::{Layers, lay_maps};
 use tables::Answer;
 
@@ -30,28 +29,8 @@ fn few_rows(zones: &[u8], blocks: &[u8], bed: &[u8]) -> bool
 // The corners of a small sheet.
 const SMALL_CORNER_CELLS: usize = POINT_WIDTH * SMALL_VERTICES;
 
-// The overlay as it is.
-struct Whole;
-
-impl Layout for Whole {
-    ghost laid = { overlaid };
-
-    fn lay(
-        layers: Layers,
-        cut: Cut,
-        vertices: &mut [i64],
-        halves: &mut [u16],
-        sources: &mut [u32],
-        faces: &mut [u16],
-    ) -> Answer {
-        from_cut(layers, cut, vertices, halves, sources, faces)
-    }
-
-    ghost refuses = { overlaid-refuses };
-}
-
-// The overlay of three files of any bytes in the lent tables, the maps laid in tables of P cells of corners, H half-edges and C cells of carriers, which have room for them.
-fn overlay_in<const P: usize, const H: usize, const C: usize>(
+// The maps of three files of any bytes, laid in tables of P cells of corners, H half-edges and C cells of carriers, which have room for them; and what becomes of their overlay.
+fn from_files_in<L: Layout, const P: usize, const H: usize, const C: usize>(
     way: Option<Way>,
     zones: &[u8],
     blocks: &[u8],
@@ -63,7 +42,7 @@ fn overlay_in<const P: usize, const H: usize, const C: usize>(
 ) -> Answer
     requires fact_1 { RoomOf (zones.now ∷ blocks.now ∷ bed.now ∷ []) P H C }
     requires fact_2 { P + H + C < 2 ^ 32 }
-    ensures { Promised (lengths_of (tables_by vertices.old halves.old sources.old faces.old)) (zones.now ∷ blocks.now ∷ bed.now ∷ []) result (tables_by vertices.new halves.new sources.new faces.new) }
+    ensures { outcome_of result (tables_by vertices.new halves.new sources.new faces.new) ≡ L.promised (zones.now ∷ blocks.now ∷ bed.now ∷ []) (lengths_of (tables_by vertices.old halves.old sources.old faces.old)) }
 {
     let mut vertex_starts = [0usize; LAYER_STARTS];
     let mut edge_starts = [0usize; LAYER_STARTS];
@@ -82,6 +61,7 @@ fn overlay_in<const P: usize, const H: usize, const C: usize>(
         &mut carriers,
         &mut labels,
     );
+    // A refusal wipes all lent tables, so it does not leave by `?`.
     match c {
         Err(r) => refuse(r, vertices, halves, sources, faces),
         Ok(()) => {
@@ -93,13 +73,13 @@ fn overlay_in<const P: usize, const H: usize, const C: usize>(
                 carriers: &carriers,
                 labels: &labels,
             };
-            from_layers::<Whole>(way, layers, vertices, halves, sources, faces)
+            from_layers::<L>(way, layers, vertices, halves, sources, faces)
         }
     }
 }
 
 // The same, the maps laid in small tables where the headers count few rows.
-pub fn overlay_with(
+pub fn from_files<L: Layout>(
     way: Option<Way>,
     zones: &[u8],
     blocks: &[u8],
@@ -109,14 +89,14 @@ pub fn overlay_with(
     sources: &mut [u32],
     faces: &mut [u16],
 ) -> Answer
-    ensures { Promised (lengths_of (tables_by vertices.old halves.old sources.old faces.old)) (zones.now ∷ blocks.now ∷ bed.now ∷ []) result (tables_by vertices.new halves.new sources.new faces.new) }
+    ensures { outcome_of result (tables_by vertices.new halves.new sources.new faces.new) ≡ L.promised (zones.now ∷ blocks.now ∷ bed.now ∷ []) (lengths_of (tables_by vertices.old halves.old sources.old faces.old)) }
 {
     if few_rows(zones, blocks, bed) {
-        overlay_in::<SMALL_CORNER_CELLS, SMALL_HALVES, SMALL_CARRIER_CELLS>(
+        from_files_in::<L, SMALL_CORNER_CELLS, SMALL_HALVES, SMALL_CARRIER_CELLS>(
             way, zones, blocks, bed, vertices, halves, sources, faces,
         )
     } else {
-        overlay_in::<LAYER_POINT_CELLS, LAYER_HALVES, LAYER_CARRIER_CELLS>(
+        from_files_in::<L, LAYER_POINT_CELLS, LAYER_HALVES, LAYER_CARRIER_CELLS>(
             way, zones, blocks, bed, vertices, halves, sources, faces,
         )
     }

@@ -9,7 +9,7 @@ use Rattle.seq.specs.Total.{total}
 use Rattle.exact.specs.Tests.{never}
 use Rattle.paper.specs.Map.{vertex_count, edges_in}
 use Rattle.graph.specs.Small.{small_vertices, small_edges}
-use Rattle.overlay.specs.Layers.{few_rows}
+use Rattle.overlay_fill.specs.Files.{few_rows}
 
 -- both of two tests
 both : (a b : Bool) → (a && b) ≡ true → (a ≡ true) × (b ≡ true)

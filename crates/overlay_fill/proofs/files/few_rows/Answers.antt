@@ -1,12 +1,12 @@
--- `overlay::layers::few_rows` meets its contract. Assumes nothing.
+-- `overlay_fill::files::few_rows` meets its contract. Assumes nothing.
 use Rattle.std.specs.Prelude.{◌∷◌, ◌+◌}
 use mathlib.Core.Path.{◌∙◌}
 use native.Mathlib.Omega.{arith}
 use borrow.Author.Tests.{lt-leb}
 use Rattle.graph.specs.Small.{small_vertices}
 use Rattle.seq.specs.Seq.{[]}
-use Rattle.overlay.proofs.LayersLaws.{few_rows_lem, many-rows}
-use Rattle.overlay.proofs.layers.few_rows.Goals as goal
+use Rattle.overlay_fill.proofs.FilesLaws.{few_rows_lem, many-rows}
+use Rattle.overlay_fill.proofs.files.few_rows.Goals as goal
 
 pub returns-then-v-le-SMALL_VERTICES : goal.returns-then-v-le-SMALL_VERTICES
 returns-then-v-le-SMALL_VERTICES c =
