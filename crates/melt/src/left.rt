@@ -66,6 +66,7 @@ fn melt_faces<const L: usize, const P: usize, const R: usize>(
 }
 
 // Half-edges, walks and faces of the overlay, of vertices and edges within the room; then what is left of it. They are made in tables of H half-edges, C cells of carriers and F faces.
+// Up to the faces that are judged it is overlay_fill's from_cut_in: what follows here asks for the maps' own cut (`CutOf`), and a trait's clause cannot leave open which fact an `impl` asks for.
 fn melt_cut_in<
     const H: usize,
     const C: usize,

@@ -61,7 +61,6 @@ fn from_files_in<L: Layout, const P: usize, const H: usize, const C: usize>(
         &mut carriers,
         &mut labels,
     );
-    // A refusal wipes all lent tables, so it does not leave by `?`.
     match c {
         Err(r) => refuse(r, vertices, halves, sources, faces),
         Ok(()) => {

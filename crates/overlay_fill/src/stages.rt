@@ -20,6 +20,8 @@ use overlay_graph::{Cut, Way, cut_few, cut_maps};
 use overlay_maps::Layers;
 use tables::{Answer, room_in};
 
+// The four lent tables stay parameters one by one: `overlay`, `overlay_by` and `melt` take them so, which README.md and docs/ name. A refusal wipes them, so it leaves by `refuse` and not by `?`.
+
 // What becomes of the overlay's vertices and edges within the room: `laid` of the maps, and so of files what is `promised` of them. The room is that of the overlay (`refuses`).
 pub trait Layout {
     ghost laid: { List Map → Lengths → Outcome };

@@ -16,6 +16,7 @@ use overlay_sweep::{Swept, sweep};
 
 // The plain way tests each edge with all edges of the maps before its own, and puts the points in order at the end. The other is "a line that passes over the plane
 // from the smallest point upward" (02, Ask 10).
+// An enum and no closure: README.md and docs/ name the two ways, and programs ask for one by its name.
 #[derive(Clone, Copy)]
 pub enum Way {
     Plain,

@@ -41,6 +41,8 @@ fn of_map(map: u16, c: Checked) -> Check
     }
 }
 
+// The tables that maps are laid in are lent one by one, here and below: a function that takes a struct of `&mut` has to ensure that each field lends on what it lent, so it is no plainer.
+
 // The map of one more file, behind v vertices and e edges; it is the map of this number.
 fn lay_behind(
     file: &[u8],
