@@ -1,7 +1,7 @@
 -- What 02 says of mending, over what comes out in the lent file and the lent list of any operation that keeps the promise: f and x of n bytes and l numbers, with the
 -- answer m. Refused, all is zero; a file that passes the check comes out the same; done, the mended file is refused with 8 or 10 or not at all, mending it again
 -- changes nothing, and the list tells all. Assumes nothing.
-use Rattle.std.specs.Prelude.{◌≡◌, ◌⊎◌, ◌≤◌, ◌∷◌}
+use Rattle.std.specs.Prelude.{◌≡◌, ◌⊎◌, ◌≤◌, ◌∷◌, Result}
 use Rattle.std.proofs.Common.{sym, ◌∙◌, ap, subst}
 use Rattle.seq.specs.Seq.{List, [], none, some, ℕ, length, take, gather, padded}
 use Rattle.paper.specs.Map.{map_of, fault}
@@ -12,14 +12,15 @@ use Rattle.laws_file.specs.Bytes.{Bytes}
 use Rattle.laws_mend.specs.Mends.{Mends}
 use Rattle.laws_mend.specs.Outcome.{passes-mend, refused-zero, done-list, done-count, mend-again}
 use Rattle.laws_mend.proofs.Outcome.{done-refusal, done-mends}
-use Rattle.mend.specs.declared.answer.Mended.{Mended}
+use Rattle.mend.specs.declared.answer.Mending.{Mending}
+use Rattle.map_file.specs.declared.refusal.Refusal as code
 use Rattle.mend.specs.Answers.{answer_of, mending_of}
 
 -- the operation's promise
-abbrev pub Promised : ℕ → ℕ → List ℕ → Mended → List ℕ → List ℕ → Type 0
+abbrev pub Promised : ℕ → ℕ → List ℕ → Result Mending code.Refusal → List ℕ → List ℕ → Type 0
 Promised n l s m f x = mending_of m f x ≡ mend n l s
 
-module _ (n l : ℕ) (s : List ℕ) (m : Mended) (f x : List ℕ) (promise : Promised n l s m f x) where
+module _ (n l : ℕ) (s : List ℕ) (m : Result Mending code.Refusal) (f x : List ℕ) (promise : Promised n l s m f x) where
   file_is : f ≡ (mend n l s).file
   file_is = ap (λ (o : paper.Mending). o.file) promise
 

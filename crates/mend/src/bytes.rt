@@ -13,6 +13,7 @@ ghost use Rattle.mend.specs.Stored.{point_in, row_in, the_edge_in, file_in, Coun
 
 use crate::merge::{from_now, to_now};
 use crate::steps::is_step;
+use crate::tables::Tables;
 use limits::MAP_HEAD;
 use map_file::{map_length, vertex_place};
 use ovfile::{at_or, put, put_fields, twos, vertex_cell};
@@ -34,9 +35,7 @@ fn put_head(vertices: u16, edges: u16, out: &mut [u8])
     ensures { out.new ≡ sets out.old 0 (ascii "ZMP" ++ gather (le 2) (1 ∷ vertices ∷ edges ∷ [])) }
 {
     put_mark(out);
-    let v = vertices as u32;
-    let e = edges as u32;
-    let fields = [1, v, e];
+    let fields = [1, vertices as u32, edges as u32];
     put_fields(out, 3, &fields);
 }
 
@@ -66,69 +65,41 @@ fn put_corners(points: &[i64], steps: &[u16], n: u16, out: &mut [u8])
 }
 
 // Edge k: the new numbers of its two ends, and its two labels.
-fn put_edge(labels: &[u16], ends: &[u16], numbers: &[u16], k: u16, out: &mut [u8], at: usize)
+fn put_edge<'a>(t: Tables<'a>, k: u16, out: &mut [u8], at: usize)
     requires { at + 8 ≤ length out.old }
-    ensures { out.new ≡ sets out.old at (gather (le 2) (row_in labels.now ends.now numbers.now k)) }
+    ensures { out.new ≡ sets out.old at (gather (le 2) (row_in t.entry.labels.now t.entry.ends.now t.entry.numbers.now k)) }
 {
-    let a = from_now(ends, k) as usize;
-    let b = to_now(ends, k) as usize;
-    let from = at_or(numbers, a, 0) as u32;
-    let to = at_or(numbers, b, 0) as u32;
-    let left = at_or(labels, 2 * k as usize, 0) as u32;
-    let right = at_or(labels, 2 * k as usize + 1, 0) as u32;
+    let a = from_now(t.ends, k) as usize;
+    let b = to_now(t.ends, k) as usize;
+    let from = at_or(t.numbers, a, 0) as u32;
+    let to = at_or(t.numbers, b, 0) as u32;
+    let left = at_or(t.labels, 2 * k as usize, 0) as u32;
+    let right = at_or(t.labels, 2 * k as usize + 1, 0) as u32;
     let fields = [from, to, left, right];
     put_fields(out, at, &fields);
 }
 
 // "and no kept label changes"
-fn put_edges(
-    labels: &[u16],
-    ends: &[u16],
-    numbers: &[u16],
-    steps: &[u16],
-    e: u16,
-    out: &mut [u8],
-    start: usize,
-)
-    requires { (e ≤ length steps.now) × (start + 8 * count (step_is steps.now 0) e ≤ length out.old) }
-    ensures { out.new ≡ sets out.old start (rows (the_edge_in labels.now ends.now numbers.now steps.now) e) }
+fn put_edges<'a>(t: Tables<'a>, out: &mut [u8], start: usize)
+    requires { (t.e ≤ length t.pieces.now) × (start + 8 * count (step_is t.pieces.now 0) t.e ≤ length out.old) }
+    ensures { out.new ≡ sets out.old start (rows (the_edge_in t.entry.labels.now t.entry.ends.now t.entry.numbers.now t.entry.pieces.now) t.entry.e) }
 {
     let mut at = start;
-    for k in 0..e {
-        if is_step(steps, 0, k) {
-            put_edge(labels, ends, numbers, k, out, at);
+    for k in 0..t.e {
+        if is_step(t.pieces, 0, k) {
+            put_edge(t, k, out, at);
             at += 8;
         }
     }
 }
 
-// The whole file, and zeros past it: so many of n vertices and e edges are kept, by the tables of their steps.
-pub fn put_file(
-    points: &[i64],
-    labels: &[u16],
-    ends: &[u16],
-    numbers: &[u16],
-    corners: &[u16],
-    pieces: &[u16],
-    n: u16,
-    e: u16,
-    vertices: u16,
-    edges: u16,
-    out: &mut [u8],
-)
-    requires { Corners points.now n × Counted corners.now pieces.now n e vertices edges × (vertex_place vertices + 8 * edges ≤ length out.old) }
-    ensures { out.new ≡ padded 0 (length out.old) (file_in points.now labels.now ends.now numbers.now corners.now pieces.now n e) }
+// The whole file, and zeros past it.
+pub fn put_file<'a>(t: Tables<'a>, out: &mut [u8])
+    requires { Corners t.points.now t.n × Counted t.corners.now t.pieces.now t.n t.e t.vertices t.edges × (vertex_place t.vertices + 8 * t.edges ≤ length out.old) }
+    ensures { out.new ≡ padded 0 (length out.old) (file_in t.entry.points.now t.entry.labels.now t.entry.ends.now t.entry.numbers.now t.entry.corners.now t.entry.pieces.now t.entry.n t.entry.e) }
 {
-    put_head(vertices, edges, out);
-    put_corners(points, corners, n, out);
-    put_edges(
-        labels,
-        ends,
-        numbers,
-        pieces,
-        e,
-        out,
-        vertex_place(vertices),
-    );
-    wipe_from(out, map_length(vertices, edges), 0);
+    put_head(t.vertices, t.edges, out);
+    put_corners(t.points, t.corners, t.n, out);
+    put_edges(t, out, vertex_place(t.vertices));
+    wipe_from(out, map_length(t.vertices, t.edges), 0);
 }

@@ -16,7 +16,7 @@ fn no_vertex(origins: &[u16], n: usize, k: usize) -> bool
 {
     let a = origins[2 * k] as usize;
     let b = origins[2 * k + 1] as usize;
-    (n <= a) | (n <= b)
+    n <= a || n <= b
 }
 
 // The least such of e edges, or e.
@@ -24,12 +24,7 @@ fn first_no_vertex(origins: &[u16], n: usize, e: usize) -> usize
     requires { 2 * e ≤ length origins.now }
     ensures { result ≡ least (no_vertex_at origins.now n) e }
 {
-    for k in 0..e {
-        if no_vertex(origins, n, k) {
-            return k;
-        }
-    }
-    e
+    (0..e).position(|k| no_vertex(origins, n, k)).unwrap_or(e)
 }
 
 // 5 and 7 of a map of n vertices and e edges.

@@ -7,12 +7,13 @@ mod packed; // pairs of numbers as one number each
 mod merge; // step 1: into which vertex, and the ends afterwards
 mod steps; // the step that drops each vertex and edge
 mod numbers; // what is kept, counted
+mod tables; // the tables of what a map becomes
 mod bytes; // the mended file
 mod entries; // the list
 mod answer; // what is answered
 mod outcome; // the operation
 
-pub use answer::{Mended, Mending};
+pub use answer::Mending;
 use limits::{MAP_EDGE_SIZE, MAP_EDGES, MAP_HEAD, MAP_VERTEX_SIZE, MAP_VERTICES};
 pub use outcome::mend;
 

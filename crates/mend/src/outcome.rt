@@ -11,13 +11,14 @@ ghost use Rattle.mend.specs.Steps.{file_faults};
 ghost use Rattle.mend.specs.Ready.{Ready};
 ghost use Rattle.mend.specs.Answers.{mending_of, all_zero};
 
-use crate::answer::{Mended, Mending};
+use crate::answer::Mending;
 use crate::bytes::put_file;
 use crate::entries::put_list;
 use crate::faults::table_fault;
 use crate::merge::{merge, move_ends};
 use crate::numbers::{count_kept, number};
 use crate::steps::{edge_steps, vertex_steps};
+use crate::tables::Tables;
 use limits::{
     MAP_EDGES, MAP_HALVES, MAP_POINT_CELLS, MAP_VERTICES, SMALL_EDGES, SMALL_HALVES,
     SMALL_POINT_CELLS, SMALL_VERTICES,
@@ -25,12 +26,12 @@ use limits::{
 use map_file::{Check, Header, Refusal, form_fault, given, map_length, read_header, read_map};
 
 // "with file and list left all zero"
-fn refuse(r: Refusal, out: &mut [u8], list: &mut [u16]) -> Mended
+fn refuse(r: Refusal, out: &mut [u8], list: &mut [u16]) -> Result<Mending, Refusal>
     ensures { mending_of result out.new list.new ≡ all_zero (length out.old) (length list.old) (refusal_of r) }
 {
     out.fill(0);
     list.fill(0);
-    Mended::Refused(r)
+    Err(r)
 }
 
 // "11 with place 4 for a lent file too short, then place 5 for a list too short"
@@ -41,37 +42,25 @@ fn judge(n: usize, l: usize, long: usize, many: u16) -> Check
     given(11, 5, l / 2 < many as usize)
 }
 
-// By the tables of a file that can be mended: so many of its n vertices and e edges are kept, and `corners` and `pieces` say in which step each of the others is dropped.
-fn finish(
+// By the tables of what a file that can be mended becomes.
+fn finish<'a>(
     file: &[u8],
-    points: &[i64],
-    labels: &[u16],
-    ends: &[u16],
-    numbers: &[u16],
-    corners: &[u16],
-    pieces: &[u16],
-    n: u16,
-    e: u16,
-    vertices: u16,
-    edges: u16,
+    t: Tables<'a>,
     out: &mut [u8],
     list: &mut [u16],
-) -> Mended
-    requires { (n ≡ vertex_count file.now) × (e ≡ edges_in file.now) × Ready file.now points.now labels.now ends.now numbers.now corners.now pieces.now vertices edges }
+) -> Result<Mending, Refusal>
+    requires { (t.n ≡ vertex_count file.now) × (t.e ≡ edges_in file.now) × Ready file.now t.points.now t.labels.now t.ends.now t.numbers.now t.corners.now t.pieces.now t.vertices t.edges }
     ensures { mending_of result out.new list.new ≡ mend (length out.old) (length list.old) file.now }
 {
-    let bytes = map_length(vertices, edges);
+    let bytes = map_length(t.vertices, t.edges);
     let length = bytes as u16;
-    let entries = (n - vertices) + (e - edges);
-    let check = judge(out.len(), list.len(), bytes, entries);
-    match check {
+    let entries = (t.n - t.vertices) + (t.e - t.edges);
+    match judge(out.len(), list.len(), bytes, entries) {
         Err(r) => refuse(r, out, list),
         Ok(()) => {
-            put_file(
-                points, labels, ends, numbers, corners, pieces, n, e, vertices, edges, out,
-            );
-            put_list(corners, pieces, n, e, list);
-            Mended::Done(Mending { length, entries })
+            put_file(t, out);
+            put_list(t.corners, t.pieces, t.n, t.e, list);
+            Ok(Mending { length, entries })
         }
     }
 }
@@ -85,7 +74,7 @@ fn mend_map(
     labels: &[u16],
     out: &mut [u8],
     list: &mut [u16],
-) -> Mended
+) -> Result<Mending, Refusal>
     requires fact_1 { h ≡ header_of file.now }
     requires fact_2 { first_of (file_faults file.now) ≡ none }
     requires fact_3 { MapRead file.now points.now origins.now labels.now }
@@ -104,9 +93,19 @@ fn mend_map(
     let mut numbers = [0u16; MAP_VERTICES as usize];
     let vertices = number(&corners, n, &mut numbers);
     let edges = count_kept(&pieces, e);
-    finish(
-        file, points, labels, &ends, &numbers, &corners, &pieces, n, e, vertices, edges, out, list,
-    )
+    let t = Tables {
+        points,
+        labels,
+        ends: &ends,
+        numbers: &numbers,
+        corners: &corners,
+        pieces: &pieces,
+        n,
+        e,
+        vertices,
+        edges,
+    };
+    finish(file, t, out, list)
 }
 
 // A file that passes rules 1 to 4: its map is read once, front to back, into lent tables.
@@ -118,27 +117,26 @@ fn mend_in(
     labels: &mut [u16],
     out: &mut [u8],
     list: &mut [u16],
-) -> Mended
+) -> Result<Mending, Refusal>
     requires fact_1 { h ≡ header_of file.now }
     requires fact_2 { first_of (form_faults file.now) ≡ none }
     requires fact_3 { (4 * vertex_count file.now ≤ length points.old) × (2 * edges_in file.now ≤ length origins.old) × (2 * edges_in file.now ≤ length labels.old) }
     ensures { mending_of result out.new list.new ≡ mend (length out.old) (length list.old) file.now }
 {
     read_map(file, h, points, origins, labels);
-    let check = table_fault(points, origins, h.vertices as usize, h.edges as usize);
-    match check {
+    match table_fault(points, origins, h.vertices as usize, h.edges as usize) {
         Err(r) => refuse(r, out, list),
         Ok(()) => mend_map(file, h, points, origins, labels, out, list),
     }
 }
 
 // The same, with tables of its own. A small map takes small ones: less to clear.
-fn mend_read(file: &[u8], h: Header, out: &mut [u8], list: &mut [u16]) -> Mended
+fn mend_read(file: &[u8], h: Header, out: &mut [u8], list: &mut [u16]) -> Result<Mending, Refusal>
     requires fact_1 { h ≡ header_of file.now }
     requires fact_2 { first_of (form_faults file.now) ≡ none }
     ensures { mending_of result out.new list.new ≡ mend (length out.old) (length list.old) file.now }
 {
-    if (h.vertices as usize <= SMALL_VERTICES) & (h.edges as usize <= SMALL_EDGES) {
+    if h.vertices as usize <= SMALL_VERTICES && h.edges as usize <= SMALL_EDGES {
         let mut points = [0i64; SMALL_POINT_CELLS];
         let mut origins = [0u16; SMALL_HALVES];
         let mut labels = [0u16; SMALL_HALVES];
@@ -152,12 +150,11 @@ fn mend_read(file: &[u8], h: Header, out: &mut [u8], list: &mut [u16]) -> Mended
 }
 
 // Mends a map file of any bytes into a lent file and a lent list, which has two numbers an entry: the step and the original number.
-pub fn mend(file: &[u8], out: &mut [u8], list: &mut [u16]) -> Mended
+pub fn mend(file: &[u8], out: &mut [u8], list: &mut [u16]) -> Result<Mending, Refusal>
     ensures { mending_of result out.new list.new ≡ mend (length out.old) (length list.old) file.now }
 {
     let h = read_header(file);
-    let check = form_fault(file, h);
-    match check {
+    match form_fault(file, h) {
         Err(r) => refuse(r, out, list),
         Ok(()) => mend_read(file, h, out, list),
     }

@@ -59,7 +59,7 @@ pub fn seen(keys: &[u32], i: usize) -> bool
     let key = keys[i];
     let mut found = false;
     for j in 0..i {
-        found = found | (key == keys[j]);
+        found |= key == keys[j];
     }
     found
 }
@@ -70,10 +70,5 @@ pub fn first_like(keys: &[u32], i: usize) -> usize
     ensures { result ≡ least (like_in keys.now i) i }
 {
     let key = keys[i];
-    for j in 0..i {
-        if key == keys[j] {
-            return j;
-        }
-    }
-    i
+    (0..i).position(|j| key == keys[j]).unwrap_or(i)
 }

@@ -35,12 +35,12 @@ fn edge_step(ends: &[u16], keys: &[u32], k: u16) -> u16
     ensures { result ≡ edge_step (shrunk_in ends.now k) (the_some_below (like_in keys.now k) k) }
 {
     if shrunk(ends, k) {
-        return 2;
+        2
+    } else if seen(keys, k as usize) {
+        3
+    } else {
+        0
     }
-    if seen(keys, k as usize) {
-        return 3;
-    }
-    0
 }
 
 // The step of each of e edges, by their keys.

@@ -7,7 +7,7 @@ use Rattle.mend.proofs.bytes.put_edge.Goals as goal
 
 pub returns : goal.returns
 returns c =
-    let ns = c.args.numbers.now in
+    let ns = c.args.t.numbers.now in
     let a = c.at_or-from.ensures ∙ ap (λ (j : ℕ). get_or ns j 0) c.from_now-a.ensures in
     let b = c.at_or-to.ensures ∙ ap (λ (j : ℕ). get_or ns j 0) c.to_now-b.ensures in
     c.put_fields.ensures

@@ -15,13 +15,13 @@ use Rattle.mend.proofs.bytes.put_edges.Goals.{else-is_step, then-is_step}
 pub put_edge-requires : goal.put_edge-requires
 put_edge-requires c =
     let r = c.loop-k.invariant in
-    let more = count_below (step_is c.args.steps.now 0) c.args.e c.loop-k.k (omega arith) (sym c.is_step.ensures ∙ c.if-is_step.true) in
+    let more = count_below (step_is c.args.t.pieces.now 0) c.args.t.e c.loop-k.k (omega arith) (sym c.is_step.ensures ∙ c.if-is_step.true) in
     omega (arith, r.place, r.room, r.kept, more)
 
 pub overflow_add-at : goal.overflow_add-at
 overflow_add-at c =
     let r = c.loop-k.invariant in
-    let more = count_below (step_is c.args.steps.now 0) c.args.e c.loop-k.k (omega arith) (sym c.is_step.ensures ∙ c.if-is_step.true) in
+    let more = count_below (step_is c.args.t.pieces.now 0) c.args.t.e c.loop-k.k (omega arith) (sym c.is_step.ensures ∙ c.if-is_step.true) in
     omega (arith, r.place, r.room, r.kept, more)
 
 pub loop-k-preserved : goal.loop-k-preserved

@@ -13,4 +13,4 @@ use Rattle.mend.proofs.AppendLaws.{Appending, append_starts, append_takes, appen
 use Rattle.mend.proofs.bytes.put_edges.Given as goal
 
 abbrev pub invariant-loop-k : goal.invariant-loop-k
-invariant-loop-k l = Appending 8 (step_is l.steps 0) (λ j. gather (le 2) (row_in l.labels l.ends l.numbers j)) l.start l.e l.initial.out l.out l.at l.k
+invariant-loop-k l = Appending 8 (step_is l.t.pieces.now 0) (λ j. gather (le 2) (row_in l.t.labels.now l.t.ends.now l.t.numbers.now j)) l.start l.t.e l.initial.out l.out l.at l.k

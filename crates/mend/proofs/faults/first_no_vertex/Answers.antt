@@ -1,22 +1,16 @@
--- `mend::faults::first_no_vertex` meets its contract: nothing below the counter has been found. Assumes nothing.
-use Rattle.std.specs.Prelude.{◌-◌}
-use mathlib.Core.Path.{sym, ◌∙◌}
-use native.Mathlib.Omega.{arith}
-use Rattle.seq.specs.Loops.Searching.{Searching, search_starts}
-use Rattle.seq.proofs.Loops.Searching.{search_turns, search_finds, search_ends}
+-- `mend::faults::first_no_vertex` meets its contract. Assumes nothing.
+use Rattle.std.specs.Prelude.{refl}
+use Rattle.std.proofs.Common.{◌∙◌, arith, rules}
+use Rattle.std.proofs.lemmas.Iterator.{YieldsList-from_range}
+use Rattle.std.proofs.lemmas.Iterator.Search.{position_from_yields_List}
+use borrow.Author.Tests.{tests}
+use Rattle.seq.proofs.Ranges.{position-least}
 use Rattle.mend.specs.Steps.{no_vertex_at}
 use Rattle.mend.proofs.faults.first_no_vertex.Goals as goal
 
-pub returns-then-no_vertex : goal.returns-then-no_vertex
-returns-then-no_vertex c =
-    search_finds c.loop-k.invariant (omega arith) (sym c.no_vertex.ensures ∙ c.if-no_vertex.true)
-
-pub loop-k-preserved : goal.loop-k-preserved
-loop-k-preserved c =
-    search_turns c.loop-k.invariant (omega arith) (sym c.no_vertex.ensures ∙ c.if-no_vertex.false)
-
-pub loop-k-init : goal.loop-k-init
-loop-k-init c = search_starts
-
 pub returns : goal.returns
-returns c = search_ends c.loop-k.invariant (omega arith)
+returns c =
+    let n = c.args.e in
+    let p = no_vertex_at c.args.origins.now c.args.n in
+    c.unwrap_or.ensures
+    ∙ position-least p n c.position.result (position_from_yields_List p _ _ _ c.position.ensures.ran (YieldsList-from_range 0 n n refl (omega arith)) (λ x b q k. search (rules, tests)))

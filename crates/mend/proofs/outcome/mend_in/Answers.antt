@@ -15,8 +15,8 @@ use Rattle.mend.proofs.outcome.mend_in.Goals as goal
 as_many : (k : ℕ) {n w m : ℕ} → n ≡ w → k * w ≤ m → k * n ≤ m
 as_many k {m = m} e h = subst (λ (y : ℕ). k * y ≤ m) (sym e) h
 
-pub table_fault-check-requires : goal.table_fault-check-requires
-table_fault-check-requires c =
+pub table_fault-requires : goal.table_fault-requires
+table_fault-requires c =
     let a = c.args in
     let v = ap (λ (h : Header). h.vertices) c.requires.fact_1 in
     let e = ap (λ (h : Header). h.edges) c.requires.fact_1 in
@@ -40,7 +40,7 @@ mend_map-requires c =
     let x = a.file.now in
     let is = c.read_map.ensures in
     let R = is_read x _ _ _ _ _ _ c.requires.fact_3.0 c.requires.fact_3.1 c.requires.fact_3.2 is.0 is.1 is.2 in
-    record { fact_1 = c.requires.fact_1; fact_2 = sym (faults-found R _ _ v e form) ∙ sym c.table_fault-check.ensures ∙ ap verdict c.in-Ok.is; fact_3 = R }
+    record { fact_1 = c.requires.fact_1; fact_2 = sym (faults-found R _ _ v e form) ∙ sym c.table_fault.ensures ∙ ap verdict c.in-Ok.is; fact_3 = R }
 
 pub returns-in-Err : goal.returns-in-Err
 returns-in-Err c =
@@ -51,7 +51,7 @@ returns-in-Err c =
     let x = a.file.now in
     let is = c.read_map.ensures in
     let R = is_read x _ _ _ _ _ _ c.requires.fact_3.0 c.requires.fact_3.1 c.requires.fact_3.2 is.0 is.1 is.2 in
-    c.refuse.ensures ∙ mend-unread (length a.out.now) (length a.list.now) x _ (sym (faults-found R _ _ v e form) ∙ sym c.table_fault-check.ensures ∙ ap verdict c.in-Err.is)
+    c.refuse.ensures ∙ mend-unread (length a.out.now) (length a.list.now) x _ (sym (faults-found R _ _ v e form) ∙ sym c.table_fault.ensures ∙ ap verdict c.in-Err.is)
 
 pub returns-in-Ok : goal.returns-in-Ok
 returns-in-Ok c = c.mend_map.ensures

@@ -1,22 +1,16 @@
--- `mend::packed::first_like` meets its contract: nothing below the counter has been found. Assumes nothing.
-use Rattle.std.specs.Prelude.{◌-◌}
-use borrow.Author.Tests.{eq-eqb, ne_eqb}
-use native.Mathlib.Omega.{arith}
-use Rattle.seq.specs.Loops.Searching.{Searching, search_starts}
-use Rattle.seq.proofs.Loops.Searching.{search_turns, search_finds, search_ends}
+-- `mend::packed::first_like` meets its contract. Assumes nothing.
+use Rattle.std.specs.Prelude.{refl}
+use Rattle.std.proofs.Common.{◌∙◌, arith, rules}
+use Rattle.std.proofs.lemmas.Iterator.{YieldsList-from_range}
+use Rattle.std.proofs.lemmas.Iterator.Search.{position_from_yields_List}
+use borrow.Author.Tests.{tests}
+use Rattle.seq.proofs.Ranges.{position-least}
 use Rattle.mend.specs.Keys.{like_in}
 use Rattle.mend.proofs.packed.first_like.Goals as goal
 
-pub returns-then-key-keys : goal.returns-then-key-keys
-returns-then-key-keys c =
-    search_finds c.loop-j.invariant (omega arith) (eq-eqb _ _ c.if-key-keys.true)
-
-pub loop-j-preserved : goal.loop-j-preserved
-loop-j-preserved c =
-    search_turns c.loop-j.invariant (omega arith) (ne_eqb _ _ c.if-key-keys.false)
-
-pub loop-j-init : goal.loop-j-init
-loop-j-init c = search_starts
-
 pub returns : goal.returns
-returns c = search_ends c.loop-j.invariant (omega arith)
+returns c =
+    let n = c.args.i in
+    let p = like_in c.args.keys.now c.args.i in
+    c.unwrap_or.ensures
+    ∙ position-least p n c.position.result (position_from_yields_List p _ _ _ c.position.ensures.ran (YieldsList-from_range 0 n n refl (omega arith)) (λ x b q k. search (rules, tests)))
