@@ -29,26 +29,27 @@ impl Digest {
         Digest(sum)
     }
 
-    // Numbers, low byte first.
-    fn all<T: Copy, const N: usize, F: Fn(T) -> [u8; N]>(self, numbers: &[T], bytes: F) -> Self
-        requires { F.IsAlwaysCallable bytes }
-    {
-        let mut sum = self;
-        for n in numbers {
-            sum = sum.bytes(&bytes(*n));
-        }
-        sum
+    // Numbers, low byte first. One function for each type: a closure that gives an array of any length is not covered by the borrow check yet.
+    fn u16s(self, numbers: &[u16]) -> Self {
+        numbers
+            .iter()
+            .fold(self, |sum, n| sum.bytes(&n.to_le_bytes()))
     }
 
-    fn u16s(self, numbers: &[u16]) -> Self {
-        self.all(numbers, u16::to_le_bytes)
+    fn u32s(self, numbers: &[u32]) -> Self {
+        numbers
+            .iter()
+            .fold(self, |sum, n| sum.bytes(&n.to_le_bytes()))
+    }
+
+    fn i64s(self, numbers: &[i64]) -> Self {
+        numbers
+            .iter()
+            .fold(self, |sum, n| sum.bytes(&n.to_le_bytes()))
     }
 
     fn tables(self, vertices: &[i64], halves: &[u16], sources: &[u32], faces: &[u16]) -> Self {
-        self.all(vertices, i64::to_le_bytes)
-            .u16s(halves)
-            .all(sources, u32::to_le_bytes)
-            .u16s(faces)
+        self.i64s(vertices).u16s(halves).u32s(sources).u16s(faces)
     }
 
     // The counts, and the rows that they count.
