@@ -87,7 +87,7 @@ pub fn twos(z: i64, width: usize) -> u64
     }
 }
 
-// Stores the low bytes of a number at a place.
+// Stores the low bytes of a number at a place. Byte by byte, since the width is a version's and may be any, where `to_le_bytes` has eight.
 pub fn put(buffer: &mut [u8], at: usize, width: usize, n: u64)
     requires { at + width ≤ length buffer.old }
     ensures { buffer.new ≡ sets buffer.old at (le width n) }
