@@ -2,7 +2,7 @@
 use crate::digest::Digest;
 use crate::pack::Pack;
 use console::Refused;
-use mend::{MEND_FILE, MEND_LIST, Mended};
+use mend::{MEND_FILE, MEND_LIST};
 use std::io::{Print, Result};
 
 // The next file: how many bytes and numbers are lent, its length, the file. What is lent is full of other numbers.
@@ -13,8 +13,8 @@ pub fn next(rt: &(impl AllocGlobal + Print), pack: &mut Pack<'_>) -> Result<()> 
     let mut out = vec![in rt.alloc(); 255u8; room as usize]?;
     let mut list = vec![in rt.alloc(); 65535u16; numbers as usize]?;
     match mend::mend(pack.bytes(n), &mut out, &mut list) {
-        Mended::Done(m) => print!(rt; "done {} {}", m.length, m.entries)?,
-        Mended::Refused(r) => rt.print(Refused(r))?,
+        Ok(m) => print!(rt; "done {} {}", m.length, m.entries)?,
+        Err(r) => rt.print(Refused(r))?,
     }
     println!(rt; " {}", Digest::of_lent(&out, &list))
 }

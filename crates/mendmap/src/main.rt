@@ -5,7 +5,7 @@
 mod step; // what was done
 
 use console::{Input, MendSentence};
-use mend::{MEND_FILE, MEND_LIST, Mended, Mending};
+use mend::{MEND_FILE, MEND_LIST, Mending};
 use std::io;
 use std::io::{Eprint, Print};
 use std::rt::Files;
@@ -30,8 +30,8 @@ fn mend(rt: &(impl Files + Print + Eprint), file: &[u8], out: &[u8]) -> io::Resu
     let mut mended = [0u8; MEND_FILE];
     let mut list = [0u16; MEND_LIST];
     match mend::mend(file, &mut mended, &mut list) {
-        Mended::Done(m) => say_mended(rt, m, &mended, &list, out),
-        Mended::Refused(r) => {
+        Ok(m) => say_mended(rt, m, &mended, &list, out),
+        Err(r) => {
             console::say_refused(rt, r)?;
             rt.println(MendSentence(r))
         }
