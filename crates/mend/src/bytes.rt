@@ -13,7 +13,7 @@ ghost use Rattle.mend.specs.Stored.{point_in, row_in, the_edge_in, file_in, Coun
 
 use crate::merge::{from_now, to_now};
 use crate::steps::is_step;
-use crate::tables::Tables;
+use crate::laid::Tables;
 use limits::MAP_HEAD;
 use map_file::{map_length, vertex_place};
 use ovfile::{at_or, put, put_fields, twos, vertex_cell};

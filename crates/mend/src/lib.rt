@@ -7,7 +7,7 @@ mod packed; // pairs of numbers as one number each
 mod merge; // step 1: into which vertex, and the ends afterwards
 mod steps; // the step that drops each vertex and edge
 mod numbers; // what is kept, counted
-mod tables; // the tables of what a map becomes
+mod laid; // the tables of what a map becomes
 mod bytes; // the mended file
 mod entries; // the list
 mod answer; // what is answered

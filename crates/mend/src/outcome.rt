@@ -18,7 +18,7 @@ use crate::faults::table_fault;
 use crate::merge::{merge, move_ends};
 use crate::numbers::{count_kept, number};
 use crate::steps::{edge_steps, vertex_steps};
-use crate::tables::Tables;
+use crate::laid::Tables;
 use limits::{
     MAP_EDGES, MAP_HALVES, MAP_POINT_CELLS, MAP_VERTICES, SMALL_EDGES, SMALL_HALVES,
     SMALL_POINT_CELLS, SMALL_VERTICES,
