@@ -35,6 +35,7 @@ const SMALL_LABELS: usize = MAPS * SMALL_ROWS;
 
 // "Every edge with the same pair on both sides is dropped, then vertices left without an edge, and vertices, edges, followers and faces are numbered afresh by 01's
 // rules": of an overlay within the room, with its half-edges, walks and faces. What is left is made in tables of L labels, P cells of points and R cells of pieces.
+// The four lent tables stay parameters, as in `melt`, which README.md and docs/ name.
 fn melt_faces<const L: usize, const P: usize, const R: usize>(
     layers: Layers,
     cut: Cut,

@@ -11,9 +11,9 @@ ghost use Rattle.map_check.specs.Parts.{corner_in, Corners};
 ghost use Rattle.mend.specs.Steps.{step_is};
 ghost use Rattle.mend.specs.Stored.{point_in, row_in, the_edge_in, file_in, Counted};
 
+use crate::laid::Tables;
 use crate::merge::{from_now, to_now};
 use crate::steps::is_step;
-use crate::laid::Tables;
 use limits::MAP_HEAD;
 use map_file::{map_length, vertex_place};
 use ovfile::{at_or, put, put_fields, twos, vertex_cell};

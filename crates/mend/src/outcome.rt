@@ -15,10 +15,10 @@ use crate::answer::Mending;
 use crate::bytes::put_file;
 use crate::entries::put_list;
 use crate::faults::table_fault;
+use crate::laid::Tables;
 use crate::merge::{merge, move_ends};
 use crate::numbers::{count_kept, number};
 use crate::steps::{edge_steps, vertex_steps};
-use crate::laid::Tables;
 use limits::{
     MAP_EDGES, MAP_HALVES, MAP_POINT_CELLS, MAP_VERTICES, SMALL_EDGES, SMALL_HALVES,
     SMALL_POINT_CELLS, SMALL_VERTICES,
@@ -109,6 +109,7 @@ fn mend_map(
 }
 
 // A file that passes rules 1 to 4: its map is read once, front to back, into lent tables.
+// The buffer and the list stay parameters, as C lends them to `bonnetewe_mend`; the three tables are arrays of `mend_map`.
 fn mend_in(
     file: &[u8],
     h: Header,

@@ -74,6 +74,18 @@ module _ (s : Seg) (p : Pt) where
   by_across : the_left_by s p ≡ across -ℤ level
   by_across = ring (s.foot.x ∷ s.foot.y ∷ s.up.x ∷ s.up.y ∷ p.X ∷ p.Y ∷ p.D ∷ []) (search reify depth 20) tt
 
+  pub line_yes : s.up.x *ℤ p.Y -ℤ s.up.y *ℤ p.X ≡ (s.up.x *ℤ s.foot.y -ℤ s.up.y *ℤ s.foot.x) *ℤ p.D → the_left_by s p ≡ pos 0
+  line_yes e = by_across ∙ none across level e
+    where
+      none : (a b : ℤ) → a ≡ b → a -ℤ b ≡ pos 0
+      none a b q = zomega (a ∷ b ∷ []) {A = a ≡ b → a -ℤ b ≡ pos 0} (search sq depth 20) (omega arith) q
+
+  pub line_no : (s.up.x *ℤ p.Y -ℤ s.up.y *ℤ p.X ≡ (s.up.x *ℤ s.foot.y -ℤ s.up.y *ℤ s.foot.x) *ℤ p.D → ⊥) → the_left_by s p ≡ pos 0 → ⊥
+  line_no f e = f (some across level (sym by_across ∙ e))
+    where
+      some : (a b : ℤ) → a -ℤ b ≡ pos 0 → a ≡ b
+      some a b q = zomega (a ∷ b ∷ []) {A = a -ℤ b ≡ pos 0 → a ≡ b} (search sq depth 20) (omega arith) q
+
   -- the test of the machine
   pub line_test : eq_z across level ≡ the_on_line s p
   line_test = eq-sign across level ∙ ap (λ (z : ℤ). is_zer (sgn z)) (sym by_across)

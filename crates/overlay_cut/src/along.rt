@@ -11,6 +11,7 @@ use crate::cutting::link;
 use limits::MAPS;
 
 // Puts in the pieces of edge `number` of map m, whose thread starts at the link x.
+// The tables that are written stay parameters: put.rt says why.
 fn cut_thread(
     nodes: &[u16],
     x: usize,
@@ -42,6 +43,7 @@ fn cut_thread(
 }
 
 // Puts in the pieces of the e edges of map m, whose threads stand from cell `from` on.
+// The tables that are written stay parameters: put.rt says why.
 fn thread_map(
     last: &[u16],
     nodes: &[u16],
@@ -69,6 +71,7 @@ fn thread_map(
 }
 
 // Puts in the pieces of all edges.
+// The tables that are written stay parameters: put.rt says why.
 pub fn thread_all(
     starts: &[usize],
     last: &[u16],

@@ -20,6 +20,7 @@ use limits::{
 };
 
 // Puts in the pieces of all edges: along t nodes if there are fewer than `limit`, or by tests.
+// The tables that are written stay parameters: put.rt says why.
 fn cut(
     chart: Chart,
     last: &[u16],
@@ -42,6 +43,7 @@ fn cut(
 }
 
 // The pieces of all edges, in order, by way of tables that nothing is put into yet.
+// The tables that are written stay parameters: put.rt says why.
 fn pieces_in(
     chart: Chart,
     last: &[u16],

@@ -20,6 +20,7 @@ use limits::MAPS;
 use plane::Seg;
 
 // Puts in the piece from v to the vertex above it, where there is one: `next` is n where there is none.
+// The tables that are written stay parameters: put.rt says why.
 pub fn link(
     rows: &mut [u16],
     links: &mut [u16],
@@ -55,6 +56,7 @@ pub fn link(
 }
 
 // Puts in the pieces of the edge s, which is edge `number` of map m: its ends stand in the table, and of the rows from one to the other those on its line are on it.
+// The tables that are written stay parameters: put.rt says why.
 fn cut_edge(
     chart: Chart,
     s: Seg,
@@ -85,6 +87,7 @@ fn cut_edge(
 }
 
 // Puts in the pieces of the e edges of map m, whose carriers stand from row `from` on.
+// The tables that are written stay parameters: put.rt says why.
 fn cut_map(
     chart: Chart,
     from: usize,

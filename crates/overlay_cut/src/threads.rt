@@ -42,6 +42,7 @@ fn remember(
 }
 
 // The same of the edges in the cells from `from` to `to`.
+// last, nodes and t stay parameters, as in `remember`.
 pub fn remember_all(
     cells: &[u16],
     from: usize,

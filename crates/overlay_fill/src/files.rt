@@ -78,6 +78,7 @@ fn from_files_in<L: Layout, const P: usize, const H: usize, const C: usize>(
 }
 
 // The same, the maps laid in small tables where the headers count few rows.
+// The four lent tables stay parameters: stages.rt says why.
 pub fn from_files<L: Layout>(
     way: Option<Way>,
     zones: &[u8],

@@ -64,6 +64,7 @@ fn fill_in<const H: usize, const V: usize, const L: usize, const F: usize>(
 }
 
 // The same in tables as large as the overlay may need them, or small ones where these are enough.
+// The four lent tables stay parameters: stages.rt says why.
 pub fn fill(
     layers: Layers,
     cut: Cut,

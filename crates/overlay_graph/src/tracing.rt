@@ -75,6 +75,7 @@ fn walk_in<const N: usize>(
 }
 
 // The followers, and the faces: of each half-edge, the least half-edges of the outer walks and how many there are, and the hole walks of each face. A small sheet is walked in small tables: less to clear.
+// What is written goes table by table, since a `Net` is lent to read only: a struct of `&mut` would stand for a moment in which its facts do not hold.
 pub fn walk_net(
     cut: Cut,
     ends: &[u16],

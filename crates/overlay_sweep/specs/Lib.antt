@@ -5,6 +5,7 @@ pub mod Numbers
 pub mod Falling
 pub mod Queue
 pub mod Splice
+pub mod Splicing
 pub mod Fans
 pub mod Meets
 pub mod Ahead

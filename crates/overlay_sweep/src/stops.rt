@@ -32,6 +32,7 @@ fn guess_at(points: &[i64], n: usize) -> usize
 }
 
 // All stops, from the first on. The corners stand in the first k of `rows`, and the first `known` of `points` are the queue.
+// The tables that are written stay parameters: turn.rt says why.
 fn all_turns(
     sheet: Sheet,
     rows: &[i64],

@@ -37,6 +37,7 @@ pub fn edges_through(cut: Cut, waits: &[u16], w: usize, p: Point, guess: usize) 
 }
 
 // Remembers that vertex v is on the edges `at` it. Answers how many nodes there are, or `room` where they are no longer kept.
+// last, nodes and t stay parameters: threads.rt of overlay_cut says why.
 pub fn thread(
     waits: &[u16],
     status: &[u16],

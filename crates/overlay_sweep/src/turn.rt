@@ -26,6 +26,7 @@ pub struct Line {
 }
 
 // The edges `at` p exchanged for those that leave it, and new neighbours tested. The known points are those left in the queue.
+// The tables that are written stay parameters: each step writes another two or three of them, so a record that holds `&mut` would be taken apart at each call.
 fn exchange(
     sheet: Sheet,
     waits: &[u16],
@@ -63,6 +64,7 @@ fn exchange(
 }
 
 // The line goes on to p, which is vertex v, and for which `guess` edges of the status may be in the west. The known points are those left in the queue; of `room` nodes the threads have `line.nodes`.
+// The tables that are written stay parameters, as in `exchange`.
 pub fn turn(
     sheet: Sheet,
     waits: &[u16],

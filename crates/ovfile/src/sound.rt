@@ -11,7 +11,7 @@ ghost use Rattle.ovfile.specs.Firsts.{column, FirstPlaces, Followed};
 use crate::cells::{at_or, half_cell, source_cell};
 use tables::Counts;
 
-// "Half-edge 2k goes from lower to upper, 2k+1 back"
+// "Half-edge 2k goes from lower to upper, 2k+1 back". Of any number of 32 bits, as a file may hold one; `twin` of graph is of the numbers of a table, so that neither casts.
 pub fn twin(h: u32) -> u32
     ensures { result ≡ twin h }
 {

@@ -44,6 +44,17 @@ module _ (ls : List ℕ) (n : ℕ) where
       at zero l = refl
       at (suc k) l = ap not (ordered-rows ls cs n o k (suc k) (omega arith) l)
 
+-- as the code asks
+pub falls_first : (ls : List ℕ) (i : ℕ) → i ≡ 0 → false ≡ falls_at ls i
+falls_first ls i e = sym (ap (falls_at ls) e)
+
+pub falls-later : (ls : List ℕ) (i : ℕ) (b : Bool) → (i ≡ 0 → ⊥) → b ≡ less_list (the_labels_at ls (i - 1)) (get_or ls (pair_width * i) 0 ∷ get_or ls (pair_width * i + 1) 0 ∷ []) → not b ≡ falls_at ls i
+falls-later ls zero b q e = absurd (q refl)
+falls-later ls (suc i) b q e =
+    let one : suc i - 1 ≡ i = omega arith in
+    let z : pair_width * suc i ≡ pair_width * suc i + 0 = omega arith in
+    ap not (e ∙ (λ t. less_list (the_labels_at ls (one t)) (get_or ls (z t) 0 ∷ get_or ls (pair_width * suc i + 1) 0 ∷ [])))
+
 -- ── the sum ──
 
 total_more : (xs : List Entry) (e : Entry) → total (xs ++ (e ∷ [])) ≡ total xs + e.times
@@ -59,3 +70,13 @@ pub record Summing (cs : List ℕ) (n t i : ℕ) : Type 0 where
   pub within : i ≤ n
   pub is : t ≡ sum_of cs i
   pub few : t ≤ most_times * i
+
+pub sum_starts : (cs : List ℕ) (n : ℕ) → Summing cs n 0 0
+sum_starts cs n = record { within = omega arith; is = refl; few = omega arith }
+
+module _ {cs : List ℕ} {n t i : ℕ} (s : Summing cs n t i) where
+  pub sum_turns : (x : ℕ) → i < n → x ≡ get_or cs i 0 → x ≤ most_times → Summing cs n (t + x) (i + 1)
+  sum_turns x l e h = record { within = omega arith; is = (λ j. s.is j + e j) ∙ sym (ap (sum_of cs) (add-one i)); few = omega (arith, s.few) }
+
+  pub sum_ends : n ≤ i → t ≡ sum_of cs n
+  sum_ends h = let e : i ≡ n = omega (arith, s.within) in s.is ∙ ap (sum_of cs) e

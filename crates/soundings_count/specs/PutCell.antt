@@ -49,9 +49,38 @@ module _ (ls : List ℕ) (r a b : ℕ) where
   first_is : first ≡ cell 0 pair_width ls r 0
   first_is = ap (λ (i : ℕ). get_or ls i 0) (sym (add-zero (pair_width * r)))
 
+  last_less : (x y : ℕ) → ltb x y ≡ (ltb x y || (eqb x y && false))
+  last_less x y = go (ltb x y) (eqb x y)
+    where
+      go : (c d : Bool) → c ≡ (c || (d && false))
+      go true d = refl
+      go false true = refl
+      go false false = refl
+
+  pub less_level : first ≡ a → ltb second b ≡ less_list (the_labels_at ls r) (a ∷ b ∷ [])
+  less_level e =
+      let f : cell 0 pair_width ls r 0 ≡ a = sym first_is ∙ e in
+      last_less second b ∙ sym (rw (le-ltb (cell 0 pair_width ls r 0) a (omega arith), eq-eqb (cell 0 pair_width ls r 0) a f))
+
+  pub less_apart : (first ≡ a → ⊥) → ltb first a ≡ less_list (the_labels_at ls r) (a ∷ b ∷ [])
+  less_apart n = ap (λ (x : ℕ). ltb x a) first_is ∙ go (ltb (cell 0 pair_width ls r 0) a) refl
+    where
+      go : (c : Bool) → ltb (cell 0 pair_width ls r 0) a ≡ c → ltb (cell 0 pair_width ls r 0) a ≡ less_list (the_labels_at ls r) (a ∷ b ∷ [])
+      go true e = e ∙ sym (rw e)
+      go false e = e ∙ sym (rw (e, ne_eqb (cell 0 pair_width ls r 0) a (λ f. n (first_is ∙ f))))
+
   module _ (n : ℕ) where
     abbrev pub stands_in : Bool
     stands_in = ltb r n && (eqb (cell 0 pair_width ls r 0) a && eqb (cell 0 pair_width ls r 1) b)
+
+    pub stands_past : n ≤ r → false ≡ stands_in
+    stands_past h = sym (rw (le-ltb r n h))
+
+    pub stands-level : r < n → first ≡ a → eqb second b ≡ stands_in
+    stands-level h e = sym (rw (lt-ltb r n h, eq-eqb (cell 0 pair_width ls r 0) a (sym first_is ∙ e)))
+
+    pub stands-apart : r < n → (first ≡ a → ⊥) → false ≡ stands_in
+    stands-apart h e = sym (rw (lt-ltb r n h, ne_eqb (cell 0 pair_width ls r 0) a (λ f. e (first_is ∙ f))))
 
 -- ── at the place ──
 

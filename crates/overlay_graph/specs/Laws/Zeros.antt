@@ -6,6 +6,9 @@ use Rattle.seq.specs.Seq.{List, ℕ, length, replicate, over}
 use Rattle.seq.specs.Wiped.{over_zeros}
 use Rattle.overlay_graph.specs.Traced.{Blank, Zeroed}
 
+pub blank_long : (n : ℕ) (t : List ℕ) → Blank n t → n ≤ length t
+blank_long n t B = omega (arith, B.room, ap length B.is, length-replicate {A = ℕ} B.cells 0)
+
 pub blank : (n cells : ℕ) → n ≤ cells → Blank n (replicate cells 0)
 blank n cells h = record { cells = cells; room = h; is = refl }
 

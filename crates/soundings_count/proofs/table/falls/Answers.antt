@@ -1,5 +1,5 @@
 -- `soundings_count::table::falls` meets its contract. Assumes nothing.
-use Rattle.std.proofs.Common.{refl, ◌∙◌, ◌-◌, ◌≡◌, arith, rules}
+use Rattle.std.proofs.Common.{refl, ◌∙◌, arith, rules}
 use Rattle.std.proofs.lemmas.Iterator.{YieldsList-from_range}
 use Rattle.std.proofs.lemmas.Iterator.Search.{any_from_yields_List}
 use borrow.Author.Tests.{tests}
