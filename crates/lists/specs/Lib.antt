@@ -1,3 +1,4 @@
 pub mod Listed
+pub mod Outcomes
 pub mod Filed
 pub mod Laws

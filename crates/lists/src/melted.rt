@@ -4,14 +4,16 @@ ghost use Rattle.paper.specs.Melt.{melt};
 ghost use Rattle.lists.specs.Listed.{ListedOf, full_tables};
 ghost use Rattle.ovfile_write.specs.Answers.{written_of};
 ghost use Rattle.lists.specs.Filed.{filed};
+ghost use Rattle.lists.specs.Outcomes.{outcome_in};
 
-use crate::answer::{Listed, put};
+use crate::answer::Listed;
+use crate::laid::{Laid, file_of, list_of};
 use limits::{FACE_CELLS, HALF_CELLS, LISTING, SOURCE_CELLS, VERTEX_CELLS};
 use map_file::Refusal;
 
-// The listing of the melted tables of three map files of any bytes, or the line of what is refused.
-pub fn list(zones: &[u8], blocks: &[u8], bed: &[u8], out: &mut [u8; LISTING]) -> Listed
-    ensures { ListedOf (melt full_tables zones.now blocks.now bed.now) out.old out.new result }
+// Three map files of any bytes laid over each other and melted.
+fn lay(zones: &[u8], blocks: &[u8], bed: &[u8]) -> Laid
+    ensures { outcome_in result ≡ melt full_tables zones.now blocks.now bed.now }
 {
     let mut vertices = [0i64; VERTEX_CELLS];
     let mut halves = [0u16; HALF_CELLS];
@@ -26,32 +28,27 @@ pub fn list(zones: &[u8], blocks: &[u8], bed: &[u8], out: &mut [u8; LISTING]) ->
         &mut sources,
         &mut faces,
     );
-    let length = put(answer, &faces, out);
-    Listed { length, answer }
+    Laid {
+        answer,
+        vertices,
+        halves,
+        sources,
+        faces,
+    }
+}
+
+// The listing of the melted tables of three map files of any bytes, or the line of what is refused.
+pub fn list(zones: &[u8], blocks: &[u8], bed: &[u8], out: &mut [u8; LISTING]) -> Listed
+    ensures { ListedOf (melt full_tables zones.now blocks.now bed.now) out.old out.new result }
+{
+    let laid = lay(zones, blocks, bed);
+    list_of(&laid, out)
 }
 
 // The overlay file of the melted tables of three map files of any bytes, into a buffer of any length: its length, or what is refused.
 pub fn file(zones: &[u8], blocks: &[u8], bed: &[u8], buffer: &mut [u8]) -> Result<usize, Refusal>
     ensures { written_of result buffer.new ≡ filed (length buffer.old) (melt full_tables zones.now blocks.now bed.now) }
 {
-    let mut vertices = [0i64; VERTEX_CELLS];
-    let mut halves = [0u16; HALF_CELLS];
-    let mut sources = [0u32; SOURCE_CELLS];
-    let mut faces = [0u16; FACE_CELLS];
-    let answer = melt::melt(
-        zones,
-        blocks,
-        bed,
-        &mut vertices,
-        &mut halves,
-        &mut sources,
-        &mut faces,
-    );
-    match answer {
-        Ok(c) => ovfile_write::write(c, &vertices, &halves, &sources, &faces, buffer),
-        Err(r) => {
-            buffer.fill(0);
-            Err(r)
-        }
-    }
+    let laid = lay(zones, blocks, bed);
+    file_of(&laid, buffer)
 }

@@ -1,32 +1,8 @@
 -- `lists::from_maps::file` meets its contract. Assumes nothing.
-use mathlib.Core.Path.{sym, ◌∙◌, ap}
+use mathlib.Core.Path.{◌∙◌, ap}
 use Rattle.seq.specs.Seq.{length}
-use Rattle.seq.specs.Wiped.{padded_none}
-use Rattle.paper.specs.Refusal.{refused}
-use Rattle.paper.specs.Overlay.{overlay}
-use Rattle.map_file.specs.Verdict.{refusal_of}
-use Rattle.tables.specs.Values.{answer_of}
-use Rattle.lists.specs.Listed.{full_tables}
-use Rattle.lists.specs.Filed.{filed_by_lem}
+use Rattle.lists.specs.Filed.{filed}
 use Rattle.lists.proofs.from_maps.file.Goals as goal
 
-pub returns-in-Ok : goal.returns-in-Ok
-returns-in-Ok c =
-    let a = c.args in
-    filed_by_lem
-    (length a.buffer.now)
-    (overlay full_tables a.zones.now a.blocks.now a.bed.now)
-    c.overlay-answer.ensures
-    (ap answer_of c.in-Ok.is)
-    c.write.ensures
-
-pub returns-in-Err : goal.returns-in-Err
-returns-in-Err c =
-    let a = c.args in
-    let n = length a.buffer.now in
-    filed_by_lem
-    n
-    (overlay full_tables a.zones.now a.blocks.now a.bed.now)
-    c.overlay-answer.ensures
-    (ap answer_of c.in-Err.is)
-    (λ i. record { answer = refused (refusal_of c.in-Err.r); buffer = (c.fill.ensures.after (λ y e. e) ∙ sym (padded_none 0 n)) i })
+pub returns : goal.returns
+returns c = c.file_of.ensures ∙ ap (filed (length c.args.buffer.now)) c.lay-laid.ensures
