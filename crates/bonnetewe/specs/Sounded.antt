@@ -1,5 +1,5 @@
 -- Soundings by cell, for C: one number, the lent tables of pairs and counts, and the edges that the looks read in a lent table of any length; and that in batches the same is told (`told_batches`). Assumes nothing.
-use Rattle.std.specs.Prelude.{◌≡◌, refl, ◌∷◌}
+use Rattle.std.specs.Prelude.{◌≡◌, refl, Result, Ok, Err, ◌∷◌}
 use Rattle.std.proofs.Common.{sym, ◌∙◌, ap, subst}
 use Rattle.seq.specs.Seq.{List, [], ℕ, table, get_or}
 use Rattle.paper.specs.Refusal.{Answer, done, refused}
@@ -12,8 +12,8 @@ use Rattle.soundings.specs.Answer.{counted_of}
 use Rattle.soundings.specs.State.{run_of}
 use Rattle.soundings.specs.Unique.{After}
 use Rattle.soundings.specs.declared.state.Count.{Count}
-use Rattle.soundings.specs.declared.answer.Counted.{Counted}
-use Rattle.soundings.specs.declared.answer.Counted.TheVariants.{Done, Refused}
+use Rattle.soundings.specs.declared.answer.Cells.{Cells}
+use Rattle.map_file.specs.declared.refusal.Refusal.{Refusal}
 use Rattle.bonnetewe.specs.Told.{four}
 
 -- 0, how many pairs occur and how many soundings there are; or the refusal's number, map, place and other edge
@@ -27,13 +27,13 @@ told_read (done c) = c.read
 told_read (refused r) = 0
 
 -- the two by what `soundings` gives
-abbrev pub told_counted : Counted → ℕ
-told_counted (Done c) = four 0 c.entries c.soundings 0
-told_counted (Refused r) = four r.number r.map r.place r.other
+abbrev pub told_counted : Result Cells Refusal → ℕ
+told_counted (Ok c) = four 0 c.entries c.soundings 0
+told_counted (Err r) = four r.number r.map r.place r.other
 
-abbrev pub read_of : Counted → ℕ
-read_of (Done c) = c.read
-read_of (Refused r) = 0
+abbrev pub read_of : Result Cells Refusal → ℕ
+read_of (Ok c) = c.read
+read_of (Err r) = 0
 
 -- cell i of the lent table: the number of edges, and zeros behind
 abbrev pub read_cell : ℕ → ℕ → ℕ
@@ -49,23 +49,23 @@ pub record ToldCells (o : paper.Counted) (n : ℕ) (ls cs q : List ℕ) (r : ℕ
 -- ── by what `soundings` promises ──
 
 module _ (ls cs : List ℕ) where
-  answer-told : (a : Counted) → told_counted a ≡ told_cells (counted_of a ls cs).answer
-  answer-told (Done c) = refl
-  answer-told (Refused r) = refl
+  answer-told : (a : Result Cells Refusal) → told_counted a ≡ told_cells (counted_of a ls cs).answer
+  answer-told (Ok c) = refl
+  answer-told (Err r) = refl
 
-  read_told : (a : Counted) → read_of a ≡ told_read (counted_of a ls cs).answer
-  read_told (Done c) = refl
-  read_told (Refused r) = refl
+  read_told : (a : Result Cells Refusal) → read_of a ≡ told_read (counted_of a ls cs).answer
+  read_told (Ok c) = refl
+  read_told (Err r) = refl
 
-  labels_in : (a : Counted) → ls ≡ (counted_of a ls cs).labels
-  labels_in (Done c) = refl
-  labels_in (Refused r) = refl
+  labels_in : (a : Result Cells Refusal) → ls ≡ (counted_of a ls cs).labels
+  labels_in (Ok c) = refl
+  labels_in (Err r) = refl
 
-  counts_in_lem : (a : Counted) → cs ≡ (counted_of a ls cs).counts
-  counts_in_lem (Done c) = refl
-  counts_in_lem (Refused r) = refl
+  counts_in_lem : (a : Result Cells Refusal) → cs ≡ (counted_of a ls cs).counts
+  counts_in_lem (Ok c) = refl
+  counts_in_lem (Err r) = refl
 
-pub told-cells : (o : paper.Counted) (a : Counted) {ls cs q : List ℕ} {n k r : ℕ} → counted_of a ls cs ≡ o → k ≡ read_of a → q ≡ table (read_cell k) n → r ≡ told_counted a → ToldCells o n ls cs q r
+pub told-cells : (o : paper.Counted) (a : Result Cells Refusal) {ls cs q : List ℕ} {n k r : ℕ} → counted_of a ls cs ≡ o → k ≡ read_of a → q ≡ table (read_cell k) n → r ≡ told_counted a → ToldCells o n ls cs q r
 told-cells o a {ls} {cs} {q} {n} {k} {r} e f g h = record {
   answer = h ∙ answer-told ls cs a ∙ ap (λ (x : paper.Counted). told_cells x.answer) e;
   labels = labels_in ls cs a ∙ ap (λ (x : paper.Counted). x.labels) e;

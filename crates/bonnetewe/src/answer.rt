@@ -9,7 +9,7 @@ ghost use Rattle.bonnetewe.specs.Told.{four, told, told_map, told_length, Short}
 
 use map_check::Checked;
 use map_file::Refusal;
-use mend::Mended;
+use mend::Mending;
 use tables::Answer;
 
 fn wide(x: u16) -> u64
@@ -54,11 +54,11 @@ pub fn of_checked(answer: Checked) -> u64
 }
 
 // The file's length and the number of entries both fit 16 bits.
-pub fn of_mended(answer: Mended) -> u64
+pub fn of_mended(answer: Result<Mending, Refusal>) -> u64
     ensures { result ≡ told_map (mended_answer answer) }
 {
     match answer {
-        Mended::Done(m) => join(0, m.length, m.entries, 0),
-        Mended::Refused(r) => join(r.number, r.map, r.place, r.other),
+        Ok(m) => join(0, m.length, m.entries, 0),
+        Err(r) => join(r.number, r.map, r.place, r.other),
     }
 }

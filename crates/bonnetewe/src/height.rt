@@ -4,7 +4,8 @@ ghost use Rattle.tide.specs.Answer.{rule_of, reading_of, answer_of as tide_answe
 ghost use Rattle.bonnetewe.specs.ToldTide.{rule_by, reading_by, told_millimetres, told_tide, told_height};
 
 use crate::answer::join;
-use tide::{Reading, TideAnswer, TideRule};
+use map_file::Refusal;
+use tide::{Height, TideRule};
 
 // 0 none, 1 a ratio, any other a pair of weights.
 pub fn rule_by(kind: u16, a: f64, b: f64) -> TideRule
@@ -20,13 +21,13 @@ pub fn rule_by(kind: u16, a: f64, b: f64) -> TideRule
 }
 
 // The least number of 32 bits stands for a missing reading.
-pub fn reading_by(x: i32) -> Reading
+pub fn reading_by(x: i32) -> Option<i32>
     ensures { reading_of result ≡ reading_by x }
 {
     if x == -2147483648 {
-        return Reading::Missing;
+        return None;
     }
-    Reading::At(x)
+    Some(x)
 }
 
 // The sign and the magnitude of the millimetres, above a 0.
@@ -41,21 +42,21 @@ fn of_millimetres(n: i32) -> u64
 }
 
 // The millimetres, or the refusal.
-pub fn of_tide(answer: TideAnswer) -> u64
+pub fn of_tide(answer: Result<Height, Refusal>) -> u64
     ensures { result ≡ told_tide (tide_answer answer) }
 {
     match answer {
-        TideAnswer::Done(h) => of_millimetres(h.millimetres),
-        TideAnswer::Refused(r) => join(r.number, r.map, r.place, r.other),
+        Ok(h) => of_millimetres(h.millimetres),
+        Err(r) => join(r.number, r.map, r.place, r.other),
     }
 }
 
 // The height before rounding, 0 where it is refused.
-pub fn height_of(answer: TideAnswer) -> f64
+pub fn height_of(answer: Result<Height, Refusal>) -> f64
     ensures { result ≡ told_height (tide_answer answer) }
 {
     match answer {
-        TideAnswer::Done(h) => h.height,
-        TideAnswer::Refused(_) => 0.0,
+        Ok(h) => h.height,
+        Err(_) => 0.0,
     }
 }

@@ -10,25 +10,26 @@ ghost use Rattle.soundings.specs.State.{run_of};
 ghost use Rattle.bonnetewe.specs.Sounded.{told_counted, read_of, read_cell, ToldCells};
 
 use crate::answer::join;
-use soundings::{Count, Counted};
+use map_file::Refusal;
+use soundings::{Cells, Count};
 
 // The pairs and the soundings above a 0, or the refusal. Both fit 16 bits.
-fn of_counted(answer: Counted) -> u64
+fn of_counted(answer: Result<Cells, Refusal>) -> u64
     ensures { result ≡ told_counted answer }
 {
     match answer {
-        Counted::Done(c) => join(0, c.entries, c.soundings, 0),
-        Counted::Refused(r) => join(r.number, r.map, r.place, r.other),
+        Ok(c) => join(0, c.entries, c.soundings, 0),
+        Err(r) => join(r.number, r.map, r.place, r.other),
     }
 }
 
 // How many edges the looks read, 0 where it is refused.
-fn read_of(answer: Counted) -> u32
+fn read_of(answer: Result<Cells, Refusal>) -> u32
     ensures { result ≡ read_of answer }
 {
     match answer {
-        Counted::Done(c) => c.read,
-        Counted::Refused(_) => 0,
+        Ok(c) => c.read,
+        Err(_) => 0,
     }
 }
 

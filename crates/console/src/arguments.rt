@@ -32,3 +32,16 @@ pub fn word(args: &[Vec<u8>], i: usize) -> &[u8] {
         None => &[],
     }
 }
+
+// Whether one that is longer than any path begins like an option.
+pub fn any_long_option(rt: &impl Env) -> bool {
+    for i in 1..usize::MAX {
+        let mut buf = io::buffer();
+        match rt.arg(i, &mut buf) {
+            Err(FillError::TooLong) if buf.starts_with(b"--") => return true,
+            Err(FillError::NotPresent) => return false,
+            _ => {}
+        }
+    }
+    false
+}

@@ -12,7 +12,7 @@ mod place; // where a map file is refused
 mod records; // files of records
 mod sentence; // a refusal in a sentence
 
-pub use arguments::{args, word};
+pub use arguments::{any_long_option, args, word};
 pub use clash::Clash;
 pub use edges::say_edges;
 pub use files::{Input, each_input, fail, open, read_full, save};

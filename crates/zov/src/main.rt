@@ -19,7 +19,7 @@ use words::{Task, USAGE};
 fn main(rt: HostRuntime) -> io::Result<()> {
     let args = console::args(&rt)?;
     let words: Vec<&[u8]> = args.iter().map(Vec::as_slice).collect(rt.alloc())?;
-    match words::asked(&words) {
+    match words::asked(&words, console::any_long_option(&rt)) {
         Ok(Task::Help) => print!(rt; "zov: an exact, proved overlay of maps\n{USAGE}"),
         Ok(Task::Version) => rt.println("zov 0.13"),
         Ok(Task::List(name)) => overlays::list(&rt, name),

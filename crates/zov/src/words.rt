@@ -53,8 +53,8 @@ impl Display for Misuse {
     }
 }
 
-// The task of the words behind the program's name.
-pub fn asked<'a>(words: &'a [&'a [u8]]) -> Result<Task<'a>, Misuse> {
+// The task of the words behind the program's name, and whether a word is too long to be read but begins like an option: no map has such a name.
+pub fn asked<'a>(words: &'a [&'a [u8]], long_option: bool) -> Result<Task<'a>, Misuse> {
     match words {
         [b"--help"] => Ok(Task::Help),
         [b"--version"] => Ok(Task::Version),
@@ -62,6 +62,7 @@ pub fn asked<'a>(words: &'a [&'a [u8]]) -> Result<Task<'a>, Misuse> {
         [b"--edges", name] => Ok(Task::Edges(name)),
         [b"--list" | b"--edges", _, ..] => Err(Misuse::OneFile),
         [b"--check", names @ ..] if !names.is_empty() => Ok(Task::Check(names)),
+        _ if long_option => Err(Misuse::Unknown),
         [b"--melt", b"--bed", bed, maps @ ..] => overlay(true, Some(bed), maps),
         [b"--melt", maps @ ..] => overlay(true, None, maps),
         [b"--bed", bed, maps @ ..] => overlay(false, Some(bed), maps),

@@ -5,16 +5,18 @@ use mir.Val.{SFits}
 use mir.ValLaws.{to_z-of_z}
 use lib.IntN.{ℤ}
 use borrow.Author.Rules.{rules}
-use Rattle.tide.specs.declared.rule.TideAnswer.{TideAnswer}
+use Rattle.std.specs.Prelude.{Result}
+use Rattle.map_file.specs.declared.refusal.Refusal.{Refusal}
+use Rattle.tide.specs.declared.rule.Height.{Height}
 use Rattle.tide.specs.Answer.{answer_of}
 use Rattle.bonnetewe.specs.ToldTide.{told_millimetres, told_tide}
 use Rattle.bonnetewe.proofs.height.of_tide.Goals as goal
 
-pub returns-in-Done : goal.returns-in-Done
-returns-in-Done c =
-    let z : ℤ = c.in-Done.h.millimetres in
+pub returns-in-Ok : goal.returns-in-Ok
+returns-in-Ok c =
+    let z : ℤ = c.in-Ok.h.millimetres in
     let f : SFits w32 z = search rules in
-    c.of_millimetres.ensures ∙ ap told_millimetres (to_z-of_z w32 z f) ∙ sym (ap (λ (a : TideAnswer). told_tide (answer_of a)) c.in-Done.is)
+    c.of_millimetres.ensures ∙ ap told_millimetres (to_z-of_z w32 z f) ∙ sym (ap (λ (a : Result Height Refusal). told_tide (answer_of a)) c.in-Ok.is)
 
-pub returns-in-Refused : goal.returns-in-Refused
-returns-in-Refused c = c.join.ensures ∙ sym (ap (λ (a : TideAnswer). told_tide (answer_of a)) c.in-Refused.is)
+pub returns-in-Err : goal.returns-in-Err
+returns-in-Err c = c.join.ensures ∙ sym (ap (λ (a : Result Height Refusal). told_tide (answer_of a)) c.in-Err.is)

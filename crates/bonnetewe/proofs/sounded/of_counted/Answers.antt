@@ -4,8 +4,8 @@ use mathlib.Core.Path.{sym, ◌∙◌, ap}
 use Rattle.bonnetewe.specs.Sounded.{told_counted}
 use Rattle.bonnetewe.proofs.sounded.of_counted.Goals as goal
 
-pub returns-in-Done : goal.returns-in-Done
-returns-in-Done c = c.join.ensures ∙ sym (ap told_counted c.in-Done.is)
+pub returns-in-Ok : goal.returns-in-Ok
+returns-in-Ok c = c.join.ensures ∙ sym (ap told_counted c.in-Ok.is)
 
-pub returns-in-Refused : goal.returns-in-Refused
-returns-in-Refused c = c.join-in-Refused.ensures ∙ sym (ap told_counted c.in-Refused.is)
+pub returns-in-Err : goal.returns-in-Err
+returns-in-Err c = c.join-in-Err.ensures ∙ sym (ap told_counted c.in-Err.is)

@@ -4,5 +4,5 @@ use mathlib.Core.Path.{sym, ap}
 use Rattle.bonnetewe.specs.Sounded.{read_of}
 use Rattle.bonnetewe.proofs.sounded.read_of.Goals as goal
 
-pub returns-in-Refused : goal.returns-in-Refused
-returns-in-Refused c = sym (ap read_of c.in-Refused.is)
+pub returns-in-Err : goal.returns-in-Err
+returns-in-Err c = sym (ap read_of c.in-Err.is)
