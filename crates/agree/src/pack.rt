@@ -40,9 +40,17 @@ pub fn each<R: Files + AllocGlobal + Print + Eprint, F: FnMut(&mut Pack<'_>) -> 
         Ok(file) => file,
         Err(why) => return console::fail(rt, name.as_bytes(), why),
     };
+    // The count by itself: of a file that never ends, with a count of 0, no more is read.
+    let mut head = [0u8; 2];
+    let n = console::read_full(&mut file, &mut head);
+    let mut front = Pack { rest: &head[..n] };
+    let count = front.number();
+    if count == 0 {
+        return Ok(());
+    }
     let bytes = read(rt, &mut file)?;
     let mut pack = Pack { rest: &bytes };
-    for i in 0..pack.number() {
+    for i in 0..count {
         print!(rt; "{i} ")?;
         entry(&mut pack)?;
     }

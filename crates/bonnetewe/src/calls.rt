@@ -1,4 +1,4 @@
-// The operations, as C calls them.
+// The operations, as C calls them: the parameters are those of include/bonnetewe.h.
 ghost use Rattle.std.specs.Prelude.{◌≡◌, [], length};
 ghost use Rattle.paper.specs.Map.{check};
 ghost use Rattle.paper.specs.Meeting.{meet};

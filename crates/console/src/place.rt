@@ -12,7 +12,7 @@ pub enum Place {
 }
 
 impl Place {
-    // None for a refusal of which the file says no more.
+    // None for a refusal of which the file says no more. A refusal keeps its number: the rules are counted so.
     pub fn new(file: &[u8], r: Refusal) -> Option<Self> {
         match r.number {
             5 => Some(Place::Vertex(Corner::beyond(file, r.place))),

@@ -3,7 +3,7 @@ use map_file::Refusal;
 use std::fmt;
 use std::fmt::Display;
 
-// What rule 11 found too little room for.
+// What rule 11 found too little room for. Refusals keep their numbers, here and below: the rules are counted so.
 fn room(place: u16) -> &'static str {
     match place {
         1 => "the overlay has more vertices than there is room for",

@@ -12,6 +12,7 @@ use limits::{FACE_CELLS, HALF_CELLS, LISTING, SOURCE_CELLS, VERTEX_CELLS};
 use map_file::Refusal;
 
 // Three map files of any bytes laid over each other and melted.
+// This stands for the overlay and for melting: two lines differ, and a closure over four `&mut` tables would have to carry the promise.
 fn lay(zones: &[u8], blocks: &[u8], bed: &[u8]) -> Laid
     ensures { outcome_in result ≡ melt full_tables zones.now blocks.now bed.now }
 {

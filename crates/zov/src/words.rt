@@ -16,6 +16,7 @@ zov --help, zov --version    this; the version
 // An overlay that is asked for: whether it is to be melted, the names of the maps, and where it is to be written.
 #[derive(Clone, Copy)]
 pub struct Order<'a> {
+    // a word of the user's, asked in two places: closures would be no plainer
     pub melts: bool,
     pub zones: &'a [u8],
     pub blocks: &'a [u8],
