@@ -24,6 +24,7 @@ pub fn join(a: u16, b: u16, c: u16, d: u16) -> u64
     wide(a) + 65536 * (wide(b) + 65536 * (wide(c) + 65536 * wide(d)))
 }
 
+// A function for each answer, here and in the modules beside: over a closure for what is done it would be one, but each promise would then speak of the closure's result, which is no plainer.
 pub fn of_answer(answer: Answer) -> u64
     ensures { result ≡ told (answer_of answer) }
 {

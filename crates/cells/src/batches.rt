@@ -15,7 +15,7 @@ fn count_batch(count: Count, batch: &[u8]) -> Count
     add(count, batch)
 }
 
-// Reads one batch more, and counts it. Where nothing is left it has no bytes.
+// Reads one batch more, and counts it. Where nothing is left it has no bytes. A buffer and no vector: `Read` has no place for an allocation that fails.
 fn read_batch<F: io::Read>(file: &mut F, count: Count) -> Count
     ensures { Read count result }
 {

@@ -74,7 +74,8 @@ pub fn each_input<R: Files + Env + AllocGlobal, F: Fn(&[u8]) -> Result<()>>(
     Ok(())
 }
 
-// Reads until a buffer is full, the input ends or a read fails, and answers how many bytes stand at the buffer's start. No `for`: how much a read gives is not known before.
+// Reads until a buffer is full, the input ends or a read fails, and answers how many bytes stand at the buffer's start.
+// A `while` and a length: no iterator reads on like that, and the clause IsPrefixLen is what those that lend a buffer stand on.
 pub fn read_full<R: Read>(file: &mut R, buf: &mut [u8]) -> usize
     ensures { IsPrefixLen result buf.new }
 {

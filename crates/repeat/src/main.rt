@@ -25,7 +25,7 @@ fn say_answer(rt: &impl Print, answer: Answer) -> io::Result<()> {
     }
 }
 
-// One run, in tables of its own; the third map is empty.
+// One run, in tables of its own, of fixed memory so that no allocation is measured; the third map is empty.
 fn run(way: Way, zones: &[u8], blocks: &[u8]) -> Answer {
     let mut vertices = [0i64; VERTEX_CELLS];
     let mut halves = [0u16; HALF_CELLS];

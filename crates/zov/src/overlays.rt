@@ -39,7 +39,7 @@ fn explain(rt: &impl Print, answer: Answer) -> Result<()> {
     }
 }
 
-// The map files of an overlay that is asked for.
+// The map files of an overlay that is asked for. `melts` stays a switch: the user's word sets it, and two closures in its place would be no plainer than the two methods that ask it.
 #[derive(Drop)]
 struct Sheet<'a> {
     melts: bool,
