@@ -123,3 +123,32 @@ pub fn fail(rt: &impl Eprint, name: &[u8], why: Error) -> Result<()> {
     let name = text_of(name).unwrap_or("the file");
     eprintln!(rt; "{name}: {words}")
 }
+
+#[cfg(test)]
+mod tests {
+    use super::*;
+    use crate::arguments::word;
+    use std::result;
+    use std::test::Fail;
+
+    // With memory enough, a file is there as far as is asked for, and one that cannot be opened counts as empty.
+    #[test]
+    fn loads_what_is_asked_for(rt: HostRuntime) -> result::Result<(), Fail> {
+        let most = Input::load(&rt, b"/dev/zero")?;
+        assert_eq!(rt; most.bytes.len(), MOST);
+        let some = Input::load_most(&rt, b"/dev/zero", 9)?;
+        assert_eq!(rt; some.bytes.len(), 9);
+        let missing = Input::load(&rt, b"no such file")?;
+        assert_eq!(rt; missing.bytes.len(), 0);
+        assert_eq!(rt; missing.is_missing, true);
+        Ok(())
+    }
+
+    // An argument that is not there counts as empty.
+    #[test]
+    fn takes_the_arguments(rt: HostRuntime) -> result::Result<(), Fail> {
+        let words = args(&rt)?;
+        assert_eq!(rt; word(&words, words.len()).len(), 0);
+        Ok(())
+    }
+}
