@@ -1,6 +1,20 @@
 // A part of the status exchanged for another list.
 ghost use Rattle.std.specs.Prelude.{◌≡◌, ◌++◌, ◌+◌, ◌-◌, ◌≤◌, length, take, drop};
 ghost use Rattle.overlay_sweep.specs.Numbers.{numbers_in};
+ghost use Rattle.overlay_sweep.specs.Splice.{Shifted};
+
+// Moves the cells b to n so that they start at c. Where they do already, as at most stops, nothing moves.
+fn shift(t: &mut [u16], n: usize, b: usize, c: usize)
+    requires fact_1 { b ≤ n }
+    requires fact_2 { n ≤ length t.old }
+    requires fact_3 { c + (n - b) ≤ length t.old }
+    ensures moved { Shifted n b c t.old t.new }
+    ensures long { length t.new ≡ length t.old }
+{
+    if b != c {
+        t.copy_within(b..n, c);
+    }
+}
 
 // The cells a to b of n exchanged for the first m of another table. Answers how many there are then.
 pub fn splice(t: &mut [u16], n: usize, a: usize, b: usize, fan: &[u16], m: usize) -> usize
@@ -12,7 +26,7 @@ pub fn splice(t: &mut [u16], n: usize, a: usize, b: usize, fan: &[u16], m: usize
     ensures count { result ≡ a + m + (n - b) }
     ensures is { numbers_in t.new (a + m + (n - b)) ≡ take a (numbers_in t.old n) ++ (numbers_in fan.now m ++ drop b (numbers_in t.old n)) }
 {
-    t.copy_within(b..n, a + m);
+    shift(t, n, b, a + m);
     t[a..a + m].copy_from_slice(&fan[..m]);
     a + m + (n - b)
 }

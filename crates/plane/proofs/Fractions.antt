@@ -1,8 +1,9 @@
 -- Two coordinates n/d and m/e on the machine. First what is read back of one, and what small and middling ones are bounded by; then that the products
 -- n·e and m·d fit by the short way (`first_fits`, `second_fits`) and are what they say (`short`, `short_test`); that they are factors of `products` in any case (`factors`,
--- `long`); one denominator (`level-number`); last the coordinates of two points, and their order where they have one denominator (`level-order`). Assumes nothing.
-use mathlib.Core.Path.{◌≡◌, sym, ◌∙◌, ap, subst}
-use mathlib.Core.Bool.{true, ◌&&◌}
+-- `long`); one denominator (`level-number`); two points by their numbers alone (`first_level`, `same_level`); last the coordinates of two points, and their order where they have one
+-- denominator (`level-order`). Assumes nothing.
+use mathlib.Core.Path.{◌≡◌, refl, sym, ◌∙◌, ap, subst}
+use mathlib.Core.Bool.{true, false, ◌&&◌}
 use mathlib.Core.List.{[], ◌∷◌}
 use mathlib.Core.Logic.{◌⊎◌, inl, inr}
 use Prim.Native.Nat.{◌≤◌}
@@ -14,9 +15,9 @@ use mir.Val.{SFits, of_z, to_z}
 use Rattle.exact.specs.Lowest.{pt}
 use Rattle.exact.specs.Mach.{tr, tru, fits, plain, atmost, under, abs_of}
 use Rattle.exact.specs.Order.{zomega, sq}
-use Rattle.exact.specs.Tests.{and_parts, lt_t, lt-sign}
+use Rattle.exact.specs.Tests.{never, not-true, and_parts, lt_t, eq_z, eq_t, lt-sign, eq-sign}
 use Rattle.seq.specs.Tests.{or_cases}
-use Rattle.exact.specs.Sign.{sgn, is_neg, pick}
+use Rattle.exact.specs.Sign.{Sign, neg, zer, plus, sgn, is_neg, is_zer, pick, lex_s}
 use Rattle.exact.specs.Signs.{sgn-scale}
 use Rattle.exact.specs.Solve.{ring, reify}
 use Rattle.exact.specs.Words.{Factors}
@@ -139,6 +140,37 @@ module _ (n d m e : ℤ) (P : Coordinate n d) (Q : Coordinate m e) where
 
   pub level-number : of_z w64 d ≡ of_z w64 e → sgn (n -ℤ m) ≡ sgn (n *ℤ e -ℤ m *ℤ d)
   level-number q = sym (sgn-scale (n -ℤ m) d P.positive) ∙ ap sgn (common n d m) ∙ (λ i. sgn (n *ℤ one_read q i -ℤ m *ℤ d))
+
+  pub level-read : of_z w64 d ≡ of_z w64 e → sgn (back n -ℤ back m) ≡ sgn (n *ℤ e -ℤ m *ℤ d)
+  level-read q = (λ i. sgn (number_read n d P i -ℤ number_read m e Q i)) ∙ level-number q
+
+level_none : (y : ℤ) → y -ℤ y ≡ pos 0
+level_none y = ring (y ∷ []) (search reify depth 20) tt
+
+-- two points by their numbers: the test of y first, then that of x
+module _ (px py qx qy : ℤ) where
+  as_high : py ≡ qy → lex_s (py -ℤ qy) (px -ℤ qx) ≡ sgn (px -ℤ qx)
+  as_high e = ap (λ (s : Sign). pick s (sgn (px -ℤ qx))) (ap (λ (y : ℤ). sgn (y -ℤ qy)) e ∙ ap sgn (level_none qy))
+
+  pub first_level : py ≡ qy → lt_z px qx ≡ is_neg (lex_s (py -ℤ qy) (px -ℤ qx))
+  first_level e = lt-sign px qx ∙ sym (ap is_neg (as_high e))
+
+  pub same_level : py ≡ qy → eq_z px qx ≡ is_zer (lex_s (py -ℤ qy) (px -ℤ qx))
+  same_level e = eq-sign px qx ∙ sym (ap is_zer (as_high e))
+
+  not_zero : (s t : Sign) → is_zer s ≡ false → (is_neg s ≡ is_neg (pick s t)) × (false ≡ is_zer (pick s t))
+  not_zero neg t e = (refl, refl)
+  not_zero zer t e = never (sym e)
+  not_zero plus t e = (refl, refl)
+
+  apart : (py ≡ qy → ⊥) → is_zer (sgn (py -ℤ qy)) ≡ false
+  apart d = sym (eq-sign py qy) ∙ not-true (eq_z py qy) (λ e. d (eq_t py qy e))
+
+  pub first_apart : (py ≡ qy → ⊥) → lt_z py qy ≡ is_neg (lex_s (py -ℤ qy) (px -ℤ qx))
+  first_apart d = lt-sign py qy ∙ (not_zero (sgn (py -ℤ qy)) (sgn (px -ℤ qx)) (apart d)).0
+
+  pub same_apart : (py ≡ qy → ⊥) → false ≡ is_zer (lex_s (py -ℤ qy) (px -ℤ qx))
+  same_apart d = (not_zero (sgn (py -ℤ qy)) (sgn (px -ℤ qx)) (apart d)).1
 
 -- the coordinates of two points, and how far apart the machine finds them
 module _ (px py pd qx qy qd : ℤ) (P : Near (pt px py pd)) (Q : Near (pt qx qy qd)) where

@@ -1,10 +1,10 @@
 // "Order: smaller y first, then smaller x".
 ghost use Rattle.std.specs.Prelude.{◌≡◌, ◌-ℤ◌, ◌*ℤ◌};
 ghost use Rattle.exact.specs.Compare.{sign_of};
-ghost use Rattle.exact.specs.Exact.{sgn};
+ghost use Rattle.exact.specs.Exact.{sgn, is_neg, is_zer};
 ghost use Rattle.paper.specs.Plane.{order, before, same, below};
 ghost use Rattle.plane.specs.Values.{pt_of};
-ghost use Rattle.plane.specs.Bounds.{Near, Coordinate, small, middling, short_way};
+ghost use Rattle.plane.specs.Bounds.{Near, Coordinate, small, middling, short_way, level};
 
 use super::point::Point;
 use std::cmp::Ordering;
@@ -55,12 +55,32 @@ pub fn order(p: Point, q: Point) -> Ordering
     }
 }
 
-// Whether p comes first.
+// Whether p comes first, of two points with one denominator, as corners have: by their numbers.
+fn level_before(p: Point, q: Point) -> bool
+    requires { Near (pt_of p) × Near (pt_of q) }
+    ensures { result ≡ is_neg (level (pt_of p) (pt_of q)) }
+{
+    if p.y == q.y { p.x < q.x } else { p.y < q.y }
+}
+
+// Whether these are one point.
+fn level_same(p: Point, q: Point) -> bool
+    requires { Near (pt_of p) × Near (pt_of q) }
+    ensures { result ≡ is_zer (level (pt_of p) (pt_of q)) }
+{
+    p.y == q.y && p.x == q.x
+}
+
+// Whether p comes first. Only of two denominators is `order` called: most points that are asked for are corners.
 pub fn before(p: Point, q: Point) -> bool
     requires { Near (pt_of p) × Near (pt_of q) }
     ensures { result ≡ before (pt_of p) (pt_of q) }
 {
-    order(p, q).is_lt()
+    if p.d == q.d {
+        level_before(p, q)
+    } else {
+        order(p, q).is_lt()
+    }
 }
 
 // Whether p and q are one point.
@@ -68,7 +88,11 @@ pub fn same(p: Point, q: Point) -> bool
     requires { Near (pt_of p) × Near (pt_of q) }
     ensures { result ≡ same (pt_of p) (pt_of q) }
 {
-    order(p, q).is_eq()
+    if p.d == q.d {
+        level_same(p, q)
+    } else {
+        order(p, q).is_eq()
+    }
 }
 
 // Whether p has the smaller y.
