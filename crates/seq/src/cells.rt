@@ -15,14 +15,17 @@ pub fn wipe_from<T: Copy>(t: &mut [T], n: usize, zero: T)
     }
 }
 
-// Moves the cells from `from` to `to` up by `by` cells.
+// Moves the cells from `from` to `to` up by `by` cells, the last first.
 #[inline]
 pub fn lift<T: Copy>(t: &mut [T], from: usize, to: usize, by: usize)
     requires fact_1 { from ≤ to }
     requires fact_2 { to + by ≤ length t.old }
     ensures { t.new ≡ lifted from to by t.old }
 {
-    t.copy_within(from..to, from + by);
+    // Not `copy_within`: it calls memmove, which an archive for C would then ask for, and mostly few cells move.
+    for i in (from..to).rev() {
+        t[i + by] = t[i];
+    }
 }
 
 // Stores a row.
