@@ -8,5 +8,6 @@ mod stages; // from layers to tables
 mod files; // from files to tables
 
 pub use files::from_files;
+pub use judge::over_room;
 pub use laying::{from_cut, refuse};
 pub use stages::Layout;
