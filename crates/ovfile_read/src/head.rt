@@ -4,15 +4,13 @@ ghost use Rattle.paper.specs.Limits.{overlay_head};
 ghost use Rattle.paper.specs.Bytes.{ascii, marked, u16};
 ghost use Rattle.paper.specs.Refusal.{first_of};
 ghost use Rattle.paper.specs.Ovfile.{layouts, layout_of};
-ghost use Rattle.paper.specs.Reader.{counts_in, head_faults};
+ghost use Rattle.paper.specs.Reader.{head_faults};
 ghost use Rattle.map_file.specs.Verdict.{verdict};
-ghost use Rattle.tables.specs.Values.{counts_of};
 
-use crate::stored::Stored;
+use crate::stored::{Stored, counts};
 use limits::{OVERLAY_HEAD, VERSION};
 use map_file::{Refusal, byte_at, given, u16_at};
 use ovfile::{Layout, numbers, over};
-use tables::Counts;
 
 // "under 11 bytes or wrong mark"
 fn bad_mark(file: &[u8]) -> bool
@@ -30,16 +28,6 @@ fn bad_version(file: &[u8]) -> bool
 {
     let version = u16_at(file, 3);
     version == 0 || VERSION < version
-}
-
-fn counts(file: &[u8]) -> Counts
-    ensures { counts_of result ≡ counts_in file.now }
-{
-    Counts {
-        vertices: u16_at(file, 5),
-        edges: u16_at(file, 7),
-        faces: u16_at(file, 9),
-    }
 }
 
 // The file of right form, or the first of rules 1 to 4 that it breaks.

@@ -8,4 +8,4 @@ mod fill; // the tables that a file holds
 mod reader; // the reader
 
 pub use reader::{judge, read};
-pub use stored::Stored;
+pub use stored::{Stored, counts, faces_start, label, layout_in};

@@ -4,7 +4,10 @@ ghost use Rattle.paper.specs.Bytes.{u16};
 ghost use Rattle.paper.specs.Limits.{overlay_vertices, overlay_edges, overlay_faces};
 ghost use Rattle.paper.specs.Ovfile.{layouts, layout_of, edges_at, faces_at};
 ghost use Rattle.paper.specs.Reader.{counts_in, edge_field, face_field, stored_origin, stored_follower, stored_face, stored_source, stored_label};
+ghost use Rattle.tables.specs.Values.{counts_of};
 ghost use Rattle.ovfile.specs.Values.{layout_from};
+ghost use Rattle.ovfile.specs.Known.{Known};
+ghost use Rattle.ovfile_read.specs.Starts.{FacesFrom};
 
 use map_file::u16_at;
 use ovfile::{Layout, field_at};
@@ -30,6 +33,32 @@ pub struct Stored<'a> {
     pub ghost faces_start: { faces ≡ faces_at (layout_from layout) (counts_in file.now) },
 }
 
+// Of a file of any bytes: the layout of the version that it names.
+pub fn layout_in(file: &[u8]) -> Layout
+    ensures { (layout_from result ≡ layout_of layouts (u16 file.now 3)) × Known (layout_from result) }
+{
+    Layout::of(u16_at(file, 3))
+}
+
+// The counts that it states.
+pub fn counts(file: &[u8]) -> Counts
+    ensures { counts_of result ≡ counts_in file.now }
+{
+    Counts {
+        vertices: u16_at(file, 5),
+        edges: u16_at(file, 7),
+        faces: u16_at(file, 9),
+    }
+}
+
+// Where its faces start in a layout.
+pub fn faces_start(layout: Layout, file: &[u8]) -> usize
+    requires { Known (layout_from layout) }
+    ensures { FacesFrom (layout_from layout) file.now result }
+{
+    layout.faces_at(counts(file))
+}
+
 fn wide(x: u8) -> u16
     ensures { (result ≡ x) × (result < 256) }
 {
@@ -45,6 +74,18 @@ pub fn field(file: &[u8], at: usize) -> u16
         return wide(file[at]) + 256 * wide(file[at + 1]);
     }
     u16_at(file, at)
+}
+
+// Of a file of any bytes, the label of face f in map i + 1, or 0, where the faces start.
+pub fn label(layout: Layout, file: &[u8], start: usize, f: u32, i: u32) -> u16
+    requires { FacesFrom (layout_from layout) file.now start }
+    ensures { result ≡ stored_label (layout_from layout) file.now f i }
+{
+    if i < layout.maps as u32 {
+        field(file, field_at(start, layout.face_size(), f, i))
+    } else {
+        0
+    }
 }
 
 impl Stored<'_> {
