@@ -72,6 +72,9 @@ pub fn lay_both(
 ) -> Check
     ensures { (verdict result ≡ first_of (map_faults (zones.now ∷ blocks.now ∷ []))) × (verdict result ≡ none → Ready zones.now rails.new easts.new) × (verdict result ≡ none → Ready blocks.now rails2.new easts2.new) }
 {
-    lay_one(zones, 1, rails, easts)?;
-    lay_one(blocks, 2, rails2, easts2)
+    // The second map is laid where the first is refused too: the state's fields are open to callers in C.
+    let first = lay_one(zones, 1, rails, easts);
+    let second = lay_one(blocks, 2, rails2, easts2);
+    first?;
+    second
 }
