@@ -10,3 +10,4 @@ pub mod Closing
 pub mod Unique
 pub mod Looks
 pub mod Tally
+pub mod Adding
