@@ -38,6 +38,8 @@ pub fn too_far(bytes: &[u8]) -> bool
 }
 
 // The labels of a sounding at c in both maps, "look west with edges through p counted as west", and how many edges are read for them.
+// A function by itself also where it is built into a program: the two loops below then have the registers to themselves.
+#[inline(never)]
 pub fn cell<'a>(maps: Maps<'a>, c: Vector) -> Labels
     requires { Corner (vec_of c) }
     ensures labels { labels_of result ≡ (look_of maps.entry).cell (vec_of c) }
