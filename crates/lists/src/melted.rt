@@ -10,32 +10,34 @@ use crate::answer::Listed;
 use crate::laid::{Laid, file_of, list_of};
 use limits::{FACE_CELLS, HALF_CELLS, LISTING, SOURCE_CELLS, VERTEX_CELLS};
 use map_file::Refusal;
+use tables::Counts;
 
 // Three map files of any bytes laid over each other and melted.
 // This stands for the overlay and for melting: two lines differ, and a closure over four `&mut` tables would have to carry the promise.
 fn lay(zones: &[u8], blocks: &[u8], bed: &[u8]) -> Laid
     ensures { outcome_in result ≡ melt full_tables zones.now blocks.now bed.now }
 {
-    let mut vertices = [0i64; VERTEX_CELLS];
-    let mut halves = [0u16; HALF_CELLS];
-    let mut sources = [0u32; SOURCE_CELLS];
-    let mut faces = [0u16; FACE_CELLS];
-    let answer = melt::melt(
+    let mut laid = Laid {
+        answer: Ok(Counts {
+            vertices: 0,
+            edges: 0,
+            faces: 0,
+        }),
+        vertices: [0; VERTEX_CELLS],
+        halves: [0; HALF_CELLS],
+        sources: [0; SOURCE_CELLS],
+        faces: [0; FACE_CELLS],
+    };
+    laid.answer = melt::melt(
         zones,
         blocks,
         bed,
-        &mut vertices,
-        &mut halves,
-        &mut sources,
-        &mut faces,
+        &mut laid.vertices,
+        &mut laid.halves,
+        &mut laid.sources,
+        &mut laid.faces,
     );
-    Laid {
-        answer,
-        vertices,
-        halves,
-        sources,
-        faces,
-    }
+    laid
 }
 
 // The listing of the melted tables of three map files of any bytes, or the line of what is refused.
