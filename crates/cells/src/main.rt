@@ -15,7 +15,7 @@ fn main(rt: HostRuntime) -> io::Result<()> {
             "cells ZONES BLOCKS LIST   count the soundings of a list by zone and block",
         );
     };
-    let zones = Input::load(&rt, zones)?;
-    let blocks = Input::load(&rt, blocks)?;
+    let zones = Input::load_map(&rt, zones)?;
+    let blocks = Input::load_map(&rt, blocks)?;
     maps::count(&rt, &zones.bytes, &blocks.bytes, list)
 }

@@ -4,5 +4,5 @@
 use std::io;
 
 fn main(rt: HostRuntime) -> io::Result<()> {
-    console::each_input(&rt, |file| console::say_check(&rt, file))
+    console::each_map(&rt, |file| console::say_check(&rt, file))
 }

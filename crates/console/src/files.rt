@@ -7,8 +7,11 @@ use std::fs;
 use std::io::{Eprint, Error, ErrorKind, Print, Read, Result};
 use std::rt::{Env, Files};
 
-// More bytes than the longest map or overlay file has. So many are enough: a longer file is refused as its whole length would be.
+// More bytes than the longest overlay file has. So many are enough: a longer file is refused as its whole length would be.
 const MOST: usize = 65536;
+
+// The same of a map file. No more is read of one, so that what is no map and does not end is refused at once.
+const MAP_MOST: usize = 4096;
 
 // A file that is asked for by name, and its first bytes.
 #[derive(Drop)]
@@ -21,6 +24,11 @@ pub struct Input<'a> {
 impl<'a> Input<'a> {
     pub fn load<R: Files + AllocGlobal>(rt: &R, name: &'a [u8]) -> Result<Self> {
         Input::load_most(rt, name, MOST)
+    }
+
+    // Of a map file.
+    pub fn load_map<R: Files + AllocGlobal>(rt: &R, name: &'a [u8]) -> Result<Self> {
+        Input::load_most(rt, name, MAP_MOST)
     }
 
     // At most so many bytes of it.
@@ -42,10 +50,8 @@ impl<'a> Input<'a> {
         })
     }
 
-    // "NAME: "
     pub fn say_name(&self, rt: &impl Print) -> Result<()> {
-        rt.write_all(self.name)?;
-        rt.print(": ")
+        say_name(rt, self.name)
     }
 
     // "cannot open NAME", if that is so. It is said after the answer, which has taken it as a file of 0 bytes.
@@ -59,6 +65,12 @@ impl<'a> Input<'a> {
     }
 }
 
+// "NAME: "
+pub fn say_name(rt: &impl Print, name: &[u8]) -> Result<()> {
+    rt.write_all(name)?;
+    rt.print(": ")
+}
+
 // The same done with the bytes of each file that an argument names.
 pub fn each_input<R: Files + Env + AllocGlobal, F: Fn(&[u8]) -> Result<()>>(
     rt: &R,
@@ -66,9 +78,29 @@ pub fn each_input<R: Files + Env + AllocGlobal, F: Fn(&[u8]) -> Result<()>>(
 ) -> Result<()>
     requires { F.IsAlwaysCallable each }
 {
+    each_most(rt, MOST, each)
+}
+
+// Of map files.
+pub fn each_map<R: Files + Env + AllocGlobal, F: Fn(&[u8]) -> Result<()>>(
+    rt: &R,
+    each: F,
+) -> Result<()>
+    requires { F.IsAlwaysCallable each }
+{
+    each_most(rt, MAP_MOST, each)
+}
+
+fn each_most<R: Files + Env + AllocGlobal, F: Fn(&[u8]) -> Result<()>>(
+    rt: &R,
+    most: usize,
+    each: F,
+) -> Result<()>
+    requires { F.IsAlwaysCallable each }
+{
     let names = args(rt)?;
     for name in &names {
-        let input = Input::load(rt, name)?;
+        let input = Input::load_most(rt, name, most)?;
         each(&input.bytes)?;
     }
     Ok(())
@@ -136,6 +168,8 @@ mod tests {
     fn loads_what_is_asked_for(rt: HostRuntime) -> result::Result<(), Fail> {
         let most = Input::load(&rt, b"/dev/zero")?;
         assert_eq!(rt; most.bytes.len(), MOST);
+        let map = Input::load_map(&rt, b"/dev/zero")?;
+        assert_eq!(rt; map.bytes.len(), MAP_MOST);
         let some = Input::load_most(&rt, b"/dev/zero", 9)?;
         assert_eq!(rt; some.bytes.len(), 9);
         let missing = Input::load(&rt, b"no such file")?;

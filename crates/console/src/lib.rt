@@ -15,7 +15,7 @@ mod sentence; // a refusal in a sentence
 pub use arguments::{any_long_option, args, word};
 pub use clash::Clash;
 pub use edges::say_edges;
-pub use files::{Input, each_input, fail, open, read_full, save};
+pub use files::{Input, each_input, each_map, fail, open, read_full, save, say_name};
 pub use lines::{Refused, say_check, say_refused};
 pub use place::Place;
 pub use records::each_record;

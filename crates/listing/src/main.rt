@@ -8,8 +8,8 @@ use overlay_maps::EMPTY;
 use std::io;
 
 fn main(rt: HostRuntime) -> io::Result<()> {
-    let zones = Input::load(&rt, b"zones.zmp")?;
-    let blocks = Input::load(&rt, b"blocks.zmp")?;
+    let zones = Input::load_map(&rt, b"zones.zmp")?;
+    let blocks = Input::load_map(&rt, b"blocks.zmp")?;
     let mut out = [0u8; LISTING];
     let listed = lists::from_maps::list(&zones.bytes, &blocks.bytes, &EMPTY, &mut out);
     let length = listed.length;

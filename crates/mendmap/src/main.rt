@@ -46,6 +46,6 @@ fn main(rt: HostRuntime) -> io::Result<()> {
     if from == to {
         return rt.println("the mended file would overwrite the map; nothing is read or written");
     }
-    let file = Input::load(&rt, from)?;
+    let file = Input::load_map(&rt, from)?;
     mend(&rt, &file.bytes, to)
 }

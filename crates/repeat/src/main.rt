@@ -79,8 +79,8 @@ fn main(rt: HostRuntime) -> io::Result<()> {
             "repeat ZONES BLOCKS N   the seconds of one overlay of two map files, the plain way and by the sweep, by N runs of each",
         );
     }
-    let zones = Input::load(&rt, word(&args, 0))?;
-    let blocks = Input::load(&rt, word(&args, 1))?;
+    let zones = Input::load_map(&rt, word(&args, 0))?;
+    let blocks = Input::load_map(&rt, word(&args, 1))?;
     measure(&rt, "plain", Way::Plain, &zones.bytes, &blocks.bytes, n - 1)?;
     measure(&rt, "swept", Way::Swept, &zones.bytes, &blocks.bytes, n - 1)
 }

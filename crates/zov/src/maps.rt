@@ -15,8 +15,9 @@ fn say_bad(rt: &impl Print, r: Refusal, file: &[u8]) -> Result<()> {
 
 // A line for a map file: its name, and `ok V E` or what it is refused for. Answers whether it is good.
 fn check_one(rt: &(impl Files + AllocGlobal + Print), name: &[u8]) -> Result<bool> {
-    let file = Input::load(rt, name)?;
-    file.say_name(rt)?;
+    // The name first: where the file does not end it is known which one it is.
+    console::say_name(rt, name)?;
+    let file = Input::load_map(rt, name)?;
     match map_check::check(&file.bytes) {
         Ok(c) => {
             println!(rt; "ok {} {}", c.vertices, c.edges)?;

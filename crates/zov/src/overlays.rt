@@ -50,10 +50,10 @@ struct Sheet<'a> {
 
 impl<'a> Sheet<'a> {
     fn load<R: Files + AllocGlobal>(rt: &R, order: Order<'a>) -> Result<Self> {
-        let zones = Input::load(rt, order.zones)?;
-        let blocks = Input::load(rt, order.blocks)?;
+        let zones = Input::load_map(rt, order.zones)?;
+        let blocks = Input::load_map(rt, order.blocks)?;
         let bed = match order.bed {
-            Some(name) => Some(Input::load(rt, name)?),
+            Some(name) => Some(Input::load_map(rt, name)?),
             None => None,
         };
         Ok(Sheet {
