@@ -14,8 +14,8 @@ use std::io;
 
 fn main(rt: HostRuntime) -> io::Result<()> {
     pack::each(&rt, "pairs", |pack| {
-        let (maps, rows) = sheets::next(pack);
-        if !sheets::ways_agree(rt.alloc(), maps, rows)? {
+        let (maps, rows) = sheets::next(rt.alloc(), pack)?;
+        if !sheets::ways_agree(rt.alloc(), &maps, rows)? {
             rt.print("the ways differ: ")?;
         }
         let mut tables = Tables::new(rt.alloc(), rows, 0, 0)?;
@@ -24,7 +24,7 @@ fn main(rt: HostRuntime) -> io::Result<()> {
     })?;
     pack::each(&rt, "mends", |pack| mends::next(&rt, pack))?;
     pack::each(&rt, "melts", |pack| {
-        let (maps, rows) = sheets::next(pack);
+        let (maps, rows) = sheets::next(rt.alloc(), pack)?;
         let mut tables = Tables::new(rt.alloc(), rows, 0, 0)?;
         let answer = maps.melt(&mut tables);
         sheets::say_answer(&rt, answer, &tables)

@@ -1,67 +1,47 @@
-// The numbers and files of a pack, one behind the other. Past its end all numbers are 0.
+// The numbers and files of a pack, one behind the other, read as they are asked for. Past its end all numbers are 0.
+use std::alloc::{AllocError, Global};
 use std::fs;
-use std::io::{Eprint, ErrorKind, Print, Read, Result};
+use std::io::{Eprint, Print, Read, Result};
 use std::rt::Files;
 
 // What is left of it.
 #[derive(Drop)]
-pub struct Pack<'a> {
-    rest: &'a [u8],
+pub struct Pack<F: Read + Drop> {
+    rest: F,
 }
 
-impl<'a> Pack<'a> {
+impl<F: Read + Drop> Pack<F> {
     // The next n bytes, or as many as there are.
-    pub fn bytes(&mut self, n: u16) -> &'a [u8] {
-        let rest = self.rest;
-        let (bytes, behind) = rest.split_at(rest.len().min(n as usize));
-        self.rest = behind;
-        bytes
+    pub fn bytes(&mut self, alloc: Global, n: u16) -> std::result::Result<Vec<u8>, AllocError> {
+        let mut bytes = vec![in alloc; 0u8; n as usize]?;
+        let k = console::read_full(&mut self.rest, &mut bytes);
+        bytes.truncate(k);
+        Ok(bytes)
     }
 
     // A number of 16 bits, low byte first.
     pub fn number(&mut self) -> u16 {
-        match self.bytes(2) {
-            [low, high] => u16::from_le_bytes([*low, *high]),
-            [low] => u16::from(*low),
-            _ => 0,
-        }
+        let mut bytes = [0u8; 2];
+        console::read_full(&mut self.rest, &mut bytes);
+        u16::from_le_bytes(bytes)
     }
 }
 
 // A line for each entry of the pack of a name, which the entry's number begins.
-pub fn each<R: Files + AllocGlobal + Print + Eprint, F: FnMut(&mut Pack<'_>) -> Result<()>>(
+pub fn each<R: Files + AllocGlobal + Print + Eprint, F: FnMut(&mut Pack<R::File>) -> Result<()>>(
     rt: &R,
     name: &str,
     mut entry: F,
 ) -> Result<()>
     requires { F.IsAlwaysCallable entry }
 {
-    let mut file = match fs::open(rt, name) {
-        Ok(file) => file,
+    let mut pack = match fs::open(rt, name) {
+        Ok(rest) => Pack { rest },
         Err(why) => return console::fail(rt, name.as_bytes(), why),
     };
-    // The count by itself: of a file that never ends, with a count of 0, no more is read.
-    let mut head = [0u8; 2];
-    let n = console::read_full(&mut file, &mut head);
-    let mut front = Pack { rest: &head[..n] };
-    let count = front.number();
-    if count == 0 {
-        return Ok(());
-    }
-    let bytes = read(rt, &mut file)?;
-    let mut pack = Pack { rest: &bytes };
-    for i in 0..count {
+    for i in 0..pack.number() {
         print!(rt; "{i} ")?;
         entry(&mut pack)?;
     }
     Ok(())
-}
-
-// All that a file holds. One that cannot be read ends there.
-fn read<R: AllocGlobal, F: Read>(rt: &R, file: &mut F) -> Result<Vec<u8>> {
-    let mut bytes = Vec::new(rt.alloc());
-    match file.read_to_end(&mut bytes) {
-        Err(e) if e.kind() == ErrorKind::OutOfMemory => Err(e),
-        _ => Ok(bytes),
-    }
 }

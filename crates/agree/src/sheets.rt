@@ -6,23 +6,23 @@ use console::Refused;
 use overlay_graph::Way;
 use std::alloc::{AllocError, Global};
 use std::io;
-use std::io::Print;
+use std::io::{Print, Read};
 use tables::Answer;
 
 // Three map files.
-#[derive(Clone, Copy)]
-pub struct Maps<'a> {
-    zones: &'a [u8],
-    blocks: &'a [u8],
-    bed: &'a [u8],
+#[derive(Drop)]
+pub struct Maps {
+    zones: Vec<u8>,
+    blocks: Vec<u8>,
+    bed: Vec<u8>,
 }
 
-impl Maps<'_> {
+impl Maps {
     pub fn lay(&self, t: &mut Tables) -> Answer {
         overlay::overlay(
-            self.zones,
-            self.blocks,
-            self.bed,
+            &self.zones,
+            &self.blocks,
+            &self.bed,
             &mut t.vertices,
             &mut t.halves,
             &mut t.sources,
@@ -32,9 +32,9 @@ impl Maps<'_> {
 
     pub fn melt(&self, t: &mut Tables) -> Answer {
         melt::melt(
-            self.zones,
-            self.blocks,
-            self.bed,
+            &self.zones,
+            &self.blocks,
+            &self.bed,
             &mut t.vertices,
             &mut t.halves,
             &mut t.sources,
@@ -45,9 +45,9 @@ impl Maps<'_> {
     fn lay_by(&self, way: Way, t: &mut Tables) -> Answer {
         overlay::overlay_by(
             way,
-            self.zones,
-            self.blocks,
-            self.bed,
+            &self.zones,
+            &self.blocks,
+            &self.bed,
             &mut t.vertices,
             &mut t.halves,
             &mut t.sources,
@@ -57,7 +57,7 @@ impl Maps<'_> {
 }
 
 // The next three maps, behind their lent tables' rows and their lengths.
-pub fn next<'a>(pack: &mut Pack<'a>) -> (Maps<'a>, Rows) {
+pub fn next<F: Read + Drop>(alloc: Global, pack: &mut Pack<F>) -> Result<(Maps, Rows), AllocError> {
     let rows = Rows {
         vertices: pack.number(),
         halves: pack.number(),
@@ -68,22 +68,22 @@ pub fn next<'a>(pack: &mut Pack<'a>) -> (Maps<'a>, Rows) {
     let m = pack.number();
     let k = pack.number();
     let maps = Maps {
-        zones: pack.bytes(n),
-        blocks: pack.bytes(m),
-        bed: pack.bytes(k),
+        zones: pack.bytes(alloc, n)?,
+        blocks: pack.bytes(alloc, m)?,
+        bed: pack.bytes(alloc, k)?,
     };
-    (maps, rows)
+    Ok((maps, rows))
 }
 
 // The digest of the answer and of every lent cell, by one way. What is lent is full of other numbers.
-fn outcome(alloc: Global, way: Way, maps: Maps, rows: Rows) -> Result<Digest, AllocError> {
+fn outcome(alloc: Global, way: Way, maps: &Maps, rows: Rows) -> Result<Digest, AllocError> {
     let mut tables = Tables::new(alloc, rows, -1, 65535)?;
     let answer = maps.lay_by(way, &mut tables);
     Ok(Digest::of_outcome(answer, &tables))
 }
 
 // Whether both ways to collect the vertices agree, with so many rows lent: "For all files both give the same answer and the same tables, refusals included" (02, Ask 10).
-pub fn ways_agree(alloc: Global, maps: Maps, rows: Rows) -> Result<bool, AllocError> {
+pub fn ways_agree(alloc: Global, maps: &Maps, rows: Rows) -> Result<bool, AllocError> {
     Ok(outcome(alloc, Way::Plain, maps, rows)? == outcome(alloc, Way::Swept, maps, rows)?)
 }
 
