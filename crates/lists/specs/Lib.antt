@@ -1,4 +1,3 @@
 pub mod Listed
-pub mod Outcomes
 pub mod Filed
 pub mod Laws

@@ -4,54 +4,51 @@ ghost use Rattle.paper.specs.Overlay.{overlay};
 ghost use Rattle.lists.specs.Listed.{ListedOf, full_tables};
 ghost use Rattle.ovfile_write.specs.Answers.{written_of};
 ghost use Rattle.lists.specs.Filed.{filed};
-ghost use Rattle.lists.specs.Outcomes.{outcome_in};
 
-use crate::answer::Listed;
-use crate::laid::{Laid, file_of, list_of};
+use crate::answer::{Listed, put};
+use crate::filed::file_of;
 use limits::{FACE_CELLS, HALF_CELLS, LISTING, SOURCE_CELLS, VERTEX_CELLS};
 use map_file::Refusal;
-use tables::Counts;
 
-// Three map files of any bytes laid over each other.
-// This stands for the overlay and for melting: two lines differ, and a closure over four `&mut` tables would have to carry the promise.
-fn lay(zones: &[u8], blocks: &[u8], bed: &[u8]) -> Laid
-    ensures { outcome_in result ≡ overlay full_tables zones.now blocks.now bed.now }
-{
-    let mut laid = Laid {
-        answer: Ok(Counts {
-            vertices: 0,
-            edges: 0,
-            faces: 0,
-        }),
-        vertices: [0; VERTEX_CELLS],
-        halves: [0; HALF_CELLS],
-        sources: [0; SOURCE_CELLS],
-        faces: [0; FACE_CELLS],
-    };
-    laid.answer = overlay::overlay(
-        zones,
-        blocks,
-        bed,
-        &mut laid.vertices,
-        &mut laid.halves,
-        &mut laid.sources,
-        &mut laid.faces,
-    );
-    laid
-}
+// The tables are arrays of the two functions below, and not of one that hands them up: they would be moved, and `listing` would take half as much stack again.
 
 // The listing of the overlay of three map files of any bytes, or the line of what is refused.
 pub fn list(zones: &[u8], blocks: &[u8], bed: &[u8], out: &mut [u8; LISTING]) -> Listed
     ensures { ListedOf (overlay full_tables zones.now blocks.now bed.now) out.old out.new result }
 {
-    let laid = lay(zones, blocks, bed);
-    list_of(&laid, out)
+    let mut vertices = [0i64; VERTEX_CELLS];
+    let mut halves = [0u16; HALF_CELLS];
+    let mut sources = [0u32; SOURCE_CELLS];
+    let mut faces = [0u16; FACE_CELLS];
+    let answer = overlay::overlay(
+        zones,
+        blocks,
+        bed,
+        &mut vertices,
+        &mut halves,
+        &mut sources,
+        &mut faces,
+    );
+    let length = put(answer, &faces, out);
+    Listed { length, answer }
 }
 
 // The overlay file of the overlay of three map files of any bytes, into a buffer of any length: its length, or what is refused.
 pub fn file(zones: &[u8], blocks: &[u8], bed: &[u8], buffer: &mut [u8]) -> Result<usize, Refusal>
     ensures { written_of result buffer.new ≡ filed (length buffer.old) (overlay full_tables zones.now blocks.now bed.now) }
 {
-    let laid = lay(zones, blocks, bed);
-    file_of(&laid, buffer)
+    let mut vertices = [0i64; VERTEX_CELLS];
+    let mut halves = [0u16; HALF_CELLS];
+    let mut sources = [0u32; SOURCE_CELLS];
+    let mut faces = [0u16; FACE_CELLS];
+    let answer = overlay::overlay(
+        zones,
+        blocks,
+        bed,
+        &mut vertices,
+        &mut halves,
+        &mut sources,
+        &mut faces,
+    );
+    file_of(answer, &vertices, &halves, &sources, &faces, buffer)
 }

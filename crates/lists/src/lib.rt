@@ -2,7 +2,7 @@
 #![tactic(auto)]
 
 mod answer; // the text of an answer
-mod laid; // the listing and the file of what came out
+mod filed; // the file of what came out
 pub mod from_file; // an overlay file, listed
 pub mod from_maps; // two map files laid over each other: the listing, the overlay file
 pub mod melted; // the same melted: the listing, the overlay file

@@ -5,4 +5,4 @@ use Rattle.lists.specs.Filed.{filed}
 use Rattle.lists.proofs.melted.file.Goals as goal
 
 pub returns : goal.returns
-returns c = c.file_of.ensures ∙ ap (filed (length c.args.buffer.now)) c.lay-laid.ensures
+returns c = c.file_of.ensures ∙ ap (filed (length c.args.buffer.now)) c.melt-answer.ensures
