@@ -1,6 +1,7 @@
 -- Rules 8 to 10 of a map in flat tables: what the searches find is what the rules name (`flat-clashing`, `flat-lonely`); where rule 8 finds nothing in a graph laid
 -- in corners it is plane (`clear-plane`); and the order of the rules. Assumes nothing.
-use Rattle.std.specs.Prelude.{◌&&◌, ◌∷◌, ◌*◌}
+use Rattle.std.specs.Prelude.{◌&&◌, ◌∷◌, ◌*◌, Result, Ok, Err}
+use Rattle.std.specs.Result.{result_and}
 use mathlib.Core.Path.{◌≡◌, refl, sym, ap, ◌∙◌, subst}
 use Prim.Native.Nat.{◌<◌}
 use borrow.Author.Tests.{ltb-true}
@@ -11,6 +12,8 @@ use Rattle.paper.specs.Plane.{Seg, clash}
 use Rattle.paper.specs.Refusal.{Refusal, beside, given, first_at, first_of}
 use Rattle.paper.specs.Graph.{Graph, edge_count, the_half_count, leaves, followers}
 use Rattle.paper.specs.Map.{Map, clashes, clashing, clash_place, clash_other, clash_fault, lonely, disagrees, net_faults}
+use Rattle.map_file.specs.declared.refusal.Refusal as code
+use Rattle.map_file.specs.Verdict.{verdict}
 use Rattle.laws_refusals.specs.Refusals.{first_one, first_none, first_some, nothing, none_below}
 use Rattle.laws_plane.specs.Cone.{UpV}
 use Rattle.laws_graph.specs.Laid.{Laid, carrier_up}
@@ -92,13 +95,11 @@ module _ (ps : List ℤ) (os : List ℕ) (cs : List ℤ) (n e : ℕ) where
     pub net_none : first_of (eight ∷ nine ∷ []) ≡ none → first_of (net_faults m) ≡ ten
     net_none e = first_none (eight ∷ nine ∷ []) (ten ∷ []) e ∙ first_one ten
 
-    -- rule 8 gives the refusal, or rule 9 after it
-    pub eight-some : {r : Refusal} → some r ≡ clash_fault_at cs e → some r ≡ first_of (net_faults m)
-    eight-some p = sym (net_some (ap (λ (x : Option Refusal). first_of (x ∷ nine ∷ [])) (sym (gives-eight p))))
-
-    pub nine-some : {r : Refusal} {v : ℕ} → none ≡ clash_fault_at cs e → some r ≡ given 9 v (ltb v n) → v ≡ least (lonely_at os (2 * e)) n → some r ≡ first_of (net_faults m)
-    nine-some p q f = sym (net_some (λ i. first_of (sym (gives-eight p) i ∷ sym (gives-nine q f) i ∷ [])))
-
-  -- neither does
-  pub neither : {v : ℕ} → none ≡ clash_fault_at cs e → none ≡ given 9 v (ltb v n) → v ≡ least (lonely_at os (2 * e)) n → first_of (eight ∷ nine ∷ []) ≡ none
-  neither p q f = λ i. first_of (sym (gives-eight p) i ∷ sym (gives-nine q f) i ∷ [])
+  -- rules 8 and 9 as the code has them, in this order
+  pub eight-nine : {T : Type 0} {v : ℕ} (x y : Result T code.Refusal) → verdict x ≡ clash_fault_at cs e → verdict y ≡ given 9 v (ltb v n) → v ≡ least (lonely_at os (2 * e)) n → verdict (result_and x y) ≡ first_of (eight ∷ nine ∷ [])
+  eight-nine x y p q f = of_two x y ∙ (λ i. first_of (gives-eight p i ∷ gives-nine q f i ∷ []))
+    where
+      of_two : {T : Type 0} (x y : Result T code.Refusal) → verdict (result_and x y) ≡ first_of (verdict x ∷ verdict y ∷ [])
+      of_two (Ok u) (Ok v) = refl
+      of_two (Ok u) (Err r) = refl
+      of_two (Err r) y = refl

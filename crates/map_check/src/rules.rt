@@ -105,8 +105,9 @@ pub fn net_fault(g: FlatGraph, labels: &[u16]) -> Check
     requires fact_5 { Laid (graph_of g) }
     ensures { verdict result ≡ first_of (net_faults (flat_map g.entry.points.now g.entry.origins.now g.entry.carriers.now (take (2 * g.entry.edges) labels.now) g.entry.vertices g.entry.edges)) }
 {
-    edges_clash(g.carriers, g.edges)?;
+    let eight = edges_clash(g.carriers, g.edges);
     let lonely = first_lonely(g.origins, 2 * g.edges, g.vertices);
-    given(9, lonely as u16, lonely < g.vertices)?;
+    let nine = given(9, lonely as u16, lonely < g.vertices);
+    eight.and(nine)?;
     labels_disagree(g, labels)
 }

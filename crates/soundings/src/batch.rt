@@ -13,28 +13,28 @@ use crate::tally::Tally;
 pub fn add(count: Count, batch: &[u8]) -> Count
     ensures { run_of result ≡ next (run_of count) batch.now }
 {
-    if count.progress.bad != 0 || !sound(&count) {
-        return count;
-    }
-    let maps = Maps {
-        zones: Edges {
-            rails: &count.rails,
-            easts: &count.easts,
-            count: count.edges,
-        },
-        blocks: Edges {
-            rails: &count.rails2,
-            easts: &count.easts2,
-            count: count.edges2,
-        },
-    };
     let mut t = Tally {
         labels: count.labels,
         counts: count.counts,
         bytes: count.bytes,
         progress: count.progress,
     };
-    add_bytes(maps, batch, &mut t);
+    // No early `return count`: a state handed through whole is copied once more, by memmove, which an archive for C would then ask for.
+    if count.progress.bad == 0 && sound(&count) {
+        let maps = Maps {
+            zones: Edges {
+                rails: &count.rails,
+                easts: &count.easts,
+                count: count.edges,
+            },
+            blocks: Edges {
+                rails: &count.rails2,
+                easts: &count.easts2,
+                count: count.edges2,
+            },
+        };
+        add_bytes(maps, batch, &mut t);
+    }
     Count {
         labels: t.labels,
         counts: t.counts,

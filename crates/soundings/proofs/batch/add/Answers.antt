@@ -11,7 +11,7 @@ use Rattle.soundings.specs.Sound.{sound}
 use Rattle.soundings.specs.Fits.{sound-rows, sound_fits, stays-bad, stays-unsound, goes_on}
 use Rattle.soundings.specs.declared.state.Count.{Count}
 use Rattle.soundings.proofs.batch.add.Goals as goal
-use Rattle.soundings.proofs.batch.add.Goals.{then-count-ne0-via-then-count-ne0, then-count-ne0-via-else-count-ne0+then-not-sound}
+use Rattle.soundings.proofs.batch.add.Goals.{then-count-eq0+then-sound, else-count-eq0, else-count-eq0-via-then-count-eq0+else-sound, else-count-eq0-via-else-count-eq0}
 
 -- the rows of both maps of a count that is sound
 both : (x : Count) → length x.rails ≡ 4 * map_edges → length x.easts ≡ map_edges → length x.rails2 ≡ 4 * map_edges → length x.easts2 ≡ map_edges
@@ -19,34 +19,36 @@ both : (x : Count) → length x.rails ≡ 4 * map_edges → length x.easts ≡ m
 both x r e s f h =
     sound-rows x.rails x.easts x.edges x.rails2 x.easts2 x.edges2 x.labels x.counts x.progress h (record { rows = omega (arith, r); labels = omega (arith, e) }) (record { rows = omega (arith, s); labels = omega (arith, f) })
 
-pub returns-then-count-ne0 : goal.returns-then-count-ne0
-returns-then-count-ne0 c =
-    let x = c.args.count in
-    let b = c.args.batch.now in
-    elim c.then-count-ne0.branch [
-      | then-count-ne0-via-then-count-ne0 w ↦ stays-bad x.rails x.easts x.edges x.rails2 x.easts2 x.edges2 x.labels x.counts x.progress x.bytes b w.if-count-ne0.true
-      | then-count-ne0-via-else-count-ne0+then-not-sound w ↦ stays-unsound x.rails x.easts x.edges x.rails2 x.easts2 x.edges2 x.labels x.counts x.progress x.bytes b w.if-count-ne0.false (sym w.sound.ensures ∙ w.if-not-sound.true)
-    ]
-
 pub invariant_of-maps : goal.invariant_of-maps
-invariant_of-maps c = record { rows = (both c.args.count (search rules) (search rules) (search rules) (search rules) (sym c.sound.ensures ∙ c.if-not-sound.false)).0 }
+invariant_of-maps c = record { rows = (both c.args.count (search rules) (search rules) (search rules) (search rules) (sym c.sound.ensures ∙ c.if-sound.true)).0 }
 
-pub invariant_of-maps-2 : goal.invariant_of-maps-2
-invariant_of-maps-2 c = record { rows = (both c.args.count (search rules) (search rules) (search rules) (search rules) (sym c.sound.ensures ∙ c.if-not-sound.false)).1 }
+pub invariant_of-maps-then-sound : goal.invariant_of-maps-then-sound
+invariant_of-maps-then-sound c = record { rows = (both c.args.count (search rules) (search rules) (search rules) (search rules) (sym c.sound.ensures ∙ c.if-sound.true)).1 }
 
 pub add_bytes-requires : goal.add_bytes-requires
 add_bytes-requires c =
     let x = c.args.count in
-    let h = sym c.sound.ensures ∙ c.if-not-sound.false in
+    let h = sym c.sound.ensures ∙ c.if-sound.true in
     let r = both x (search rules) (search rules) (search rules) (search rules) h in
     sound_fits x.rails x.easts x.edges x.rails2 x.easts2 x.edges2 x.labels x.counts x.progress x.bytes h r.0 r.1
 
 pub returns : goal.returns
 returns c =
     let x = c.args.count in
-    let y = c.add_bytes in
-    let h = sym c.sound.ensures ∙ c.if-not-sound.false in
-    let r = both x (search rules) (search rules) (search rules) (search rules) h in
-    let four : length y.new.t.bytes ≡ 4 = y.new.t.four in
-    goes_on x.rails x.easts x.edges x.rails2 x.easts2 x.edges2 x.bytes x.labels x.counts y.new.t.bytes y.new.t.labels y.new.t.counts x.progress y.new.t.progress c.args.batch.now r.0 r.1 (omega (arith, four)) h
-    (sound_fits x.rails x.easts x.edges x.rails2 x.easts2 x.edges2 x.labels x.counts x.progress x.bytes h r.0 r.1) y.ensures
+    let b = c.args.batch.now in
+    elim c.if-count-eq0.branch [
+      | then-count-eq0+then-sound w ↦
+          let y = w.add_bytes in
+          let h = sym w.sound.ensures ∙ w.if-sound.true in
+          let r = both x (search rules) (search rules) (search rules) (search rules) h in
+          let four : length y.new.t.bytes ≡ 4 = y.new.t.four in
+          rw w.t-is (goes_on x.rails x.easts x.edges x.rails2 x.easts2 x.edges2 x.bytes x.labels x.counts y.new.t.bytes y.new.t.labels y.new.t.counts x.progress y.new.t.progress b r.0 r.1 (omega (arith, four)) h
+          (sound_fits x.rails x.easts x.edges x.rails2 x.easts2 x.edges2 x.labels x.counts x.progress x.bytes h r.0 r.1) y.ensures)
+      | else-count-eq0 w ↦
+          elim w.else-count-eq0.branch [
+            | else-count-eq0-via-then-count-eq0+else-sound v ↦
+                rw w.t-is (stays-unsound x.rails x.easts x.edges x.rails2 x.easts2 x.edges2 x.labels x.counts x.progress x.bytes b v.if-count-eq0.true (sym v.sound.ensures ∙ v.if-sound.false))
+            | else-count-eq0-via-else-count-eq0 v ↦
+                rw w.t-is (stays-bad x.rails x.easts x.edges x.rails2 x.easts2 x.edges2 x.labels x.counts x.progress x.bytes b v.if-count-eq0.false)
+          ]
+    ]
